@@ -1,0 +1,47 @@
+-- Normal words and the faults of tables.
+use Rattle.std.proofs.Common.{◌≡◌, ℕ, ◌+◌, ◌<◌, Bool, true, false, cond, ◌&&◌, List, [], ◌∷◌, ◌++◌, map, length, get_or, drop, Option, Some, None, refl, ap, ◌∙◌, sym, add-one, arith, rules}
+use Rattle.std.proofs.Math.Seq.{drop-cons}
+use Rattle.codec_graph.specs.declared.raw.RawNode.{RawNode}
+use Rattle.codec_graph.specs.declared.raw.RawCodec.{RawCodec}
+use Rattle.codec_graph.specs.declared.fault.GraphFault.{GraphFault}
+use Rattle.codec_graph.specs.Widget.{normal_node, normal}
+use Rattle.codec_graph.specs.Faults.{node_faults, nodes_faults, first_fault, table_faults}
+
+cond_twice : {X : Type 0} (b : Bool) (x d : X) → cond b (cond b x d) d ≡ cond b x d
+cond_twice true x d = refl
+cond_twice false x d = refl
+
+and_twice : (b c : Bool) → (b && (b && c)) ≡ (b && c)
+and_twice true c = refl
+and_twice false c = refl
+
+-- a normal node has no word left to drop
+pub normal_node-normal_node : (node : RawNode) → normal_node (normal_node node) ≡ normal_node node
+normal_node-normal_node node = simp (cond_twice, and_twice)
+
+map_normal_twice : (nodes : List RawNode) → map normal_node (map normal_node nodes) ≡ map normal_node nodes
+map_normal_twice [] = refl
+map_normal_twice (node ∷ nodes) = rw (normal_node-normal_node node, map_normal_twice nodes)
+
+-- a normal codec has none either
+pub normal-normal : (codec : RawCodec) → normal (normal codec) ≡ normal codec
+normal-normal codec = rw (map_normal_twice codec.nodes)
+
+-- without a first fault there is none
+pub no_fault_from_none : (faults : List GraphFault) → first_fault faults ≡ None → faults ≡ []
+no_fault_from_none [] e = refl
+no_fault_from_none (fault ∷ faults) e = cc
+
+-- the faults from a place of the nodes on are those of its node and then those of the rest
+pub nodes_faults-drop : (codec : RawCodec) (nid : ℕ) (nodes : List RawNode) (i : ℕ) (node : RawNode) → i < length nodes → node ≡ get_or nodes i node → nodes_faults codec nid (drop i nodes) ≡ node_faults codec nid node ++ nodes_faults codec (nid + 1) (drop (i + 1) nodes)
+nodes_faults-drop codec nid nodes i node within e =
+    rw (drop-cons nodes i node, ← e, add-one i) refl
+
+-- the first fault of two lists, the first of which has one, or has none
+pub first_fault-append_some : (a b : List GraphFault) (fault : GraphFault) → Some fault ≡ first_fault a → first_fault (a ++ b) ≡ Some fault
+first_fault-append_some [] b fault e = cc
+first_fault-append_some (x ∷ a) b fault e = sym e
+
+pub first_fault-append_none : (a b : List GraphFault) → None ≡ first_fault a → first_fault (a ++ b) ≡ first_fault b
+first_fault-append_none [] b e = refl
+first_fault-append_none (x ∷ a) b e = cc

@@ -1,0 +1,5 @@
+pub mod Words
+pub mod Widget
+pub mod Faults
+pub mod Cycles
+pub mod Candidates

@@ -1,0 +1,164 @@
+//! A checked graph, and the check that makes it.
+ghost use Rattle.std.specs.Prelude.{◌≡◌, ◌<◌, ◌+◌, IfOk, IfErr, Some, false, length, nat_lt, not};
+ghost use Rattle.std.specs.List.{list_all};
+ghost use Rattle.codec_graph.specs.Words as words;
+ghost use Rattle.codec_graph.specs.Widget as widget;
+ghost use Rattle.codec_graph.specs.Faults as faults;
+ghost use Rattle.codec_graph.specs.Candidates as candidates;
+
+use crate::fault::GraphFault;
+use crate::raw::{RawCodec, RawNode};
+use crate::words::bits_of;
+use hda_items::Items;
+use std::marker::Model;
+
+/// A codec's graph whose tables have no fault. Contracts see the normalised words that [`Graph::raw`] gives.
+#[derive(Debug, Drop)]
+pub struct Graph {
+    raw: RawCodec,
+}
+
+impl Model for Graph {
+    ghost use Rattle.codec_graph.specs.declared.raw.RawCodec.{RawCodec};
+    ghost use Rattle.codec_graph.specs.Cycles.{HasSoundTables};
+
+    ghost Value = { RawCodec };
+
+    ghost view = { λ graph. graph.raw };
+
+    ghost invariant = { λ graph. HasSoundTables graph.raw };
+}
+
+impl Graph {
+    ghost use Rattle.codec_graph.specs.Cycles.{HasSoundTables};
+
+    /// Checks a codec's words and makes the graph of those that apply: every other word is 0, and a node without a
+    /// connection list has none.
+    ///
+    /// # Errors
+    /// The first fault of the tables, in the order of [`GraphFault`]'s variants: the group's type, the count, and then
+    /// the group and each widget ascending.
+    pub fn check(raw: RawCodec) -> Result<Graph, GraphFault>
+        ensures graph { IfOk result (λ graph. graph ≡ widget.normal raw) }
+        ensures sound { IfOk result HasSoundTables }
+        ensures fault { IfErr result (λ fault. faults.first_fault (faults.table_faults (widget.normal raw)) ≡ Some fault) }
+    {
+        let raw = normalised(raw);
+        check_tables(&raw)?;
+        Ok(Graph { raw })
+    }
+
+    /// The normalised words.
+    pub fn raw(&self) -> &RawCodec
+        ensures value { result.now ≡ self.now }
+        ensures sound { HasSoundTables self.now }
+    {
+        &self.raw
+    }
+
+    /// Whether the node identifier is that of a candidate pin: a stereo analog output pin that is connected to something,
+    /// is a line out, speaker or headphone and belongs to an association.
+    pub fn is_candidate(&self, nid: u8) -> bool
+        ensures { result ≡ candidates.is_candidate self.now nid }
+    {
+        match self.raw.node(nid) {
+            Some(node) => node.is_candidate(),
+            None => false,
+        }
+    }
+}
+
+/// The codec with each word that does not apply set to 0.
+fn normalised(raw: RawCodec) -> RawCodec
+    ensures { result ≡ widget.normal raw }
+{
+    let mut raw = raw;
+    let mut nodes = raw.nodes.into_vec();
+    for node in nodes.iter_mut() {
+        node.normalise();
+    }
+    raw.nodes = Items::from_vec(nodes);
+    raw
+}
+
+/// Whether the codec has no fault of its tables, or the first.
+fn check_tables(codec: &RawCodec) -> Result<(), GraphFault>
+    ensures { faults.fault_of result ≡ faults.first_fault (faults.table_faults codec.now) }
+{
+    if bits_of(codec.group_type, 0, 8) != 1 {
+        return Err(GraphFault::NoAudioGroup(codec.group));
+    }
+    if has_bad_count(codec) {
+        return Err(GraphFault::BadCount(0));
+    }
+    if has_bad_offset(codec.group_words.amp_in) || has_bad_offset(codec.group_words.amp_out) {
+        return Err(GraphFault::AmpOffset(codec.group));
+    }
+    check_nodes(codec)
+}
+
+/// Whether no widget has a fault, or the first fault of the first widget that has one.
+fn check_nodes(codec: &RawCodec) -> Result<(), GraphFault>
+    requires { faults.has_bad_count codec.now ≡ false }
+    ensures { faults.fault_of result ≡ faults.first_fault (faults.nodes_faults codec.now codec.now.first codec.now.nodes) }
+{
+    let mut nid = codec.first;
+    for node in codec.nodes.as_slice() {
+        check_node(codec, nid, node)?;
+        nid += 1;
+    }
+    Ok(())
+}
+
+/// Whether the widget has no fault, or its first.
+fn check_node(codec: &RawCodec, nid: u8, node: &RawNode) -> Result<(), GraphFault>
+    ensures { faults.fault_of result ≡ faults.first_fault (faults.node_faults codec.now nid node.now) }
+{
+    if lists_outside(codec, node) {
+        return Err(GraphFault::ConnectionOutside(nid));
+    }
+    if lists_too_many(node) {
+        return Err(GraphFault::ListTooLong(nid));
+    }
+    if has_bad_offset(node.amp_in) || has_bad_offset(node.amp_out) {
+        return Err(GraphFault::AmpOffset(nid));
+    }
+    Ok(())
+}
+
+/// Whether the widget lists a node that is no widget.
+fn lists_outside(codec: &RawCodec, node: &RawNode) -> bool
+    ensures { result ≡ not (list_all (widget.is_widget codec.now) node.now.list) }
+{
+    !node.list.as_slice().iter().all(|to| codec.is_widget(*to))
+}
+
+/// Whether the widget lists more connections than its type may.
+fn lists_too_many(node: &RawNode) -> bool
+    ensures { result ≡ nat_lt (faults.most_connections node.now) (length node.now.list) }
+{
+    let most = if node.is_mixer() { 16 } else { 64 };
+    node.list.len() > most
+}
+
+/// Whether the widgets are none or misplaced, the nodes are not as many as the count says, or the group has no
+/// identifier of its own.
+fn has_bad_count(codec: &RawCodec) -> bool
+    ensures { result ≡ faults.has_bad_count codec.now }
+{
+    let end = u16::from(codec.first) + u16::from(codec.count);
+    codec.count == 0
+        || codec.first == 0
+        || end > 128
+        || codec.nodes.len() != usize::from(codec.count)
+        || codec.group == 0
+        || codec.group > 127
+        || codec.is_widget(codec.group)
+}
+
+/// Whether the amplifier's 0 dB step is above its steps.
+fn has_bad_offset(word: u32) -> bool
+    ensures { result ≡ faults.has_bad_offset word }
+{
+    bits_of(word, 8, 7) < bits_of(word, 0, 7)
+}

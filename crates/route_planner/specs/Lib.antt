@@ -1,0 +1,4 @@
+pub mod Formats
+pub mod Order
+pub mod Paths
+pub mod Plans

@@ -1,0 +1,39 @@
+-- The order of the candidate pins, and the channel pair of each. This project's own, over the configuration default's
+-- association and sequence (High Definition Audio 1.0a, 7.3.3.31).
+use Rattle.std.specs.Prelude.{◌≡◌, ◌↔◌, ℕ, Bool, true, ◌==◌, ◌&&◌, ◌||◌, ◌/◌, ◌%◌, nat_lt, List, Option, Some, None, AllPairs, Contains, count_by}
+use Rattle.std.specs.List.{range_with_len}
+use Rattle.codec_graph.specs.declared.raw.RawNode.{RawNode}
+use Rattle.codec_graph.specs.declared.raw.RawCodec.{RawCodec}
+use Rattle.codec_graph.specs.Widget.{node_at}
+use Rattle.codec_graph.specs.Candidates.{association, sequence, is_candidate}
+
+abbrev pub association_of : Option RawNode → ℕ
+association_of None = 0
+association_of (Some node) = association node
+
+abbrev pub sequence_of : Option RawNode → ℕ
+sequence_of None = 0
+sequence_of (Some node) = sequence node
+
+-- a pin comes before another by association, then by sequence, then by node identifier
+abbrev pub comes_before : RawCodec → ℕ → ℕ → Bool
+comes_before codec pin other =
+    let p = node_at codec pin in
+    let q = node_at codec other in
+    nat_lt (association_of p) (association_of q)
+    || (association_of p == association_of q
+    && (nat_lt (sequence_of p) (sequence_of q) || (sequence_of p == sequence_of q && nat_lt pin other)))
+
+-- the pins are the codec's candidates, each once and in order
+pub record IsOrder (codec : RawCodec) (pins : List ℕ) : Type 0 where
+  pub ascending : AllPairs (λ pin other. comes_before codec pin other ≡ true) pins
+  pub exactly : (nid : ℕ) → Contains pins nid ↔ (is_candidate codec nid ≡ true)
+
+-- a candidate of the same association that comes before the pin
+abbrev pub is_earlier_companion : RawCodec → ℕ → ℕ → Bool
+is_earlier_companion codec pin other =
+    is_candidate codec other && association_of (node_at codec other) == association_of (node_at codec pin) && comes_before codec other pin
+
+-- the channel pair of a pin: its rank among the candidates of its association, round the stream's pairs of channels
+abbrev pub pair_of : RawCodec → ℕ → ℕ → ℕ
+pair_of codec channels pin = count_by (is_earlier_companion codec pin) (range_with_len 0 128) % (channels / 2)

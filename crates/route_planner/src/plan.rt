@@ -1,0 +1,44 @@
+//! Routes and plans.
+use hda_items::Items;
+
+/// One step of a route: the node that it leaves, by the connection at this index of the node's list.
+#[derive(Clone, Copy, Debug, PartialEq, Eq)]
+pub struct Hop {
+    pub nid: u8,
+    pub index: u8,
+}
+
+/// A path from a pin to an output converter: the hops that leave the pin and each mixer or selector on the way.
+#[derive(Debug, Drop)]
+pub struct Route {
+    pub hops: Items<Hop>,
+    /// The node identifier of the converter.
+    pub converter: u8,
+}
+
+/// What the planner found for a pin.
+#[derive(Debug, Drop)]
+pub enum Outcome {
+    /// The least admissible path that the routes of earlier pins leave open.
+    Route(Route),
+    /// The pin has admissible paths, and routes of earlier pins block each.
+    Blocked,
+    /// The pin has no admissible path.
+    NoPath,
+}
+
+/// The plan of one candidate pin.
+#[derive(Debug, Drop)]
+pub struct PinPlan {
+    /// The node identifier of the pin.
+    pub pin: u8,
+    /// The pair of channels that the pin plays, from 0.
+    pub pair: u8,
+    pub outcome: Outcome,
+}
+
+/// The plan of a graph: its candidate pins in order.
+#[derive(Debug, Drop)]
+pub struct Plan {
+    pub pins: Items<PinPlan>,
+}
