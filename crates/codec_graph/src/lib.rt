@@ -11,3 +11,6 @@ pub use fault::GraphFault;
 pub use graph::Graph;
 pub use raw::{GroupWords, RawCodec, RawNode};
 pub use words::{bits_of, has_bit};
+
+#[cfg(test)]
+mod tests;
