@@ -2,3 +2,8 @@ pub mod Formats
 pub mod Order
 pub mod Paths
 pub mod Plans
+pub mod Search
+pub mod Levels
+pub mod Ways
+pub mod Places
+pub mod Found

@@ -4,8 +4,8 @@ use Rattle.std.specs.Prelude.{◌≡◌, ◌≢◌, ◌<◌, ◌⊎◌, ℕ, Boo
 use Rattle.codec_graph.specs.declared.raw.RawNode.{RawNode}
 use Rattle.codec_graph.specs.declared.raw.RawCodec.{RawCodec}
 use Rattle.codec_graph.specs.Widget.{node_at, is_mixer, is_selector, is_inner, is_output_converter, is_stereo, is_digital, has_input_amplifier, input_amplifier_word, can_mute}
-use Rattle.route_planner.specs.declared.plan.Hop.{Hop}
-use Rattle.route_planner.specs.declared.plan.Route.{Route}
+use Rattle.route_planner.specs.declared.routes.Hop.{Hop}
+use Rattle.route_planner.specs.declared.routes.Route.{Route}
 use Rattle.route_planner.specs.declared.format.Format.{Format}
 use Rattle.route_planner.specs.Formats.{supports}
 

@@ -3,11 +3,11 @@
 use Rattle.std.specs.Prelude.{◌≡◌, ℕ, List, [], ◌∷◌, ◌++◌, map, All}
 use Rattle.codec_graph.specs.declared.raw.RawCodec.{RawCodec}
 use Rattle.route_planner.specs.declared.format.Format.{Format}
-use Rattle.route_planner.specs.declared.plan.Route as declared_route
-use Rattle.route_planner.specs.declared.plan.Outcome.{Outcome}
-use Rattle.route_planner.specs.declared.plan.Outcome.TheVariants as outcome
-use Rattle.route_planner.specs.declared.plan.PinPlan.{PinPlan}
-use Rattle.route_planner.specs.declared.plan.Plan.{Plan}
+use Rattle.route_planner.specs.declared.routes.Route as declared_route
+use Rattle.route_planner.specs.declared.routes.Outcome.{Outcome}
+use Rattle.route_planner.specs.declared.routes.Outcome.TheVariants as outcome
+use Rattle.route_planner.specs.declared.routes.PinPlan.{PinPlan}
+use Rattle.route_planner.specs.declared.routes.Plan.{Plan}
 use Rattle.route_planner.specs.Order.{IsOrder, pair_of}
 use Rattle.route_planner.specs.Paths.{IsAdmissible, IsCompatible, IsNoLarger}
 

@@ -1,8 +1,18 @@
 //! Routes from the candidate pins of a codec to its output converters.
 #![tactic(auto)]
 
+mod allowed;
 mod format;
-mod plan;
+mod left;
+mod levels;
+mod pin_order;
+mod planner;
+mod routes;
+#[cfg(test)]
+mod tests;
+mod walk;
 
 pub use format::{Bits, Format, Rate};
-pub use plan::{Hop, Outcome, PinPlan, Plan, Route};
+pub use pin_order::order;
+pub use planner::plan;
+pub use routes::{Hop, Outcome, PinPlan, Plan, Route};

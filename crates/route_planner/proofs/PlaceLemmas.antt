@@ -1,0 +1,80 @@
+-- The places of the candidates while they are gathered.
+use Rattle.std.proofs.Common.{◌≡◌, ◌≢◌, ◌<◌, ◌≤◌, ◌+◌, ℕ, true, false, List, [], ◌∷◌, ◌++◌, get_or, Some, None, refl, sym, ap, subst, ◌∙◌, inl, inr, arith}
+use Rattle.std.specs.Prelude.{All, AllPairs, Contains, is_some}
+use Rattle.std.proofs.lemmas.Bool.{cases_eq, false≢true}
+use Rattle.std.proofs.lemmas.List.Elements.{All-push, All-nil, Contains-push, Contains-push_cases, Contains-append_left, Contains-get_or}
+use Rattle.std.proofs.lemmas.List.Quantifiers.{all_pairs_push}
+use Rattle.codec_graph.specs.declared.raw.RawCodec.{RawCodec}
+use Rattle.codec_graph.specs.Widget.{node_at}
+use Rattle.codec_graph.specs.Candidates.{is_candidate_at, is_candidate}
+use Rattle.route_planner.specs.declared.pin_order.Place.{Place}
+use Rattle.route_planner.specs.Search.{IsBounded}
+use Rattle.route_planner.specs.Places.{IsPlace, IsPlaceOf, nids, ArePlaces}
+
+-- the places are those of the candidates below a node, each once
+pub record ArePlacesBelow (codec : RawCodec) (places : List Place) (nid : ℕ) : Type 0 where
+  pub each : All (IsPlace codec) places
+  pub once : AllPairs (λ one other. one ≢ other) (nids places)
+  pub low : (other : ℕ) → Contains (nids places) other → other < nid
+  pub sound : (other : ℕ) → Contains (nids places) other → is_candidate codec other ≡ true
+  pub complete : (other : ℕ) → other < nid → is_candidate codec other ≡ true → Contains (nids places) other
+
+nids-push : (places : List Place) (place : Place) → nids (places ++ place ∷ []) ≡ nids places ++ place.nid ∷ []
+nids-push [] place = refl
+nids-push (first ∷ places) place = ap (λ rest. first.nid ∷ rest) (nids-push places place)
+
+nothing_there : (x : ℕ) → Contains [] x → ⊥
+nothing_there x h = omega (arith, h.1)
+
+pub ArePlacesBelow-none : (codec : RawCodec) → ArePlacesBelow codec [] 0
+ArePlacesBelow-none codec = record {
+  each = All-nil (IsPlace codec);
+  once = λ i j d l h. absurd (omega arith);
+  low = λ other h. absurd (nothing_there other h);
+  sound = λ other h. absurd (nothing_there other h);
+  complete = λ other h. absurd (omega arith);
+}
+
+pub ArePlacesBelow-yes : (codec : RawCodec) (places : List Place) (nid : ℕ) (place : Place) → ArePlacesBelow codec places nid → IsPlaceOf codec nid place → ArePlacesBelow codec (places ++ place ∷ []) (nid + 1)
+ArePlacesBelow-yes codec places nid place before new_place =
+    let of_nid : place.nid ≡ nid = new_place.of_nid in
+    let pushed = nids-push places place in
+    let split : (other : ℕ) → Contains (nids (places ++ place ∷ [])) other → Contains (nids places ++ place.nid ∷ []) other = λ other h. subst (λ (xs : List ℕ). Contains xs other) pushed h in
+    let join : (other : ℕ) → Contains (nids places ++ place.nid ∷ []) other → Contains (nids (places ++ place ∷ [])) other = λ other h. subst (λ (xs : List ℕ). Contains xs other) (sym pushed) h in
+    record {
+      each = All-push (IsPlace codec) places place before.each new_place.right;
+      once = subst (λ (xs : List ℕ). AllPairs (λ one other. one ≢ other) xs) (sym pushed) (all_pairs_push (λ one other. one ≢ other) (nids places) place.nid before.once (λ k d h e. omega (arith, of_nid, e, before.low (get_or (nids places) k d) (Contains-get_or (nids places) k d h))));
+      low = λ other h. elim (Contains-push_cases (nids places) place.nid other (split other h)) [ inl old ↦ omega (arith, before.low other old) | inr new ↦ omega (arith, of_nid) ];
+      sound = λ other h. elim (Contains-push_cases (nids places) place.nid other (split other h)) [
+        | inl old ↦ before.sound other old
+        | inr new ↦ subst (λ (n : ℕ). is_candidate codec n ≡ true) (sym of_nid ∙ new) new_place.is
+      ];
+      complete = λ other h e. elim (cases_eq other nid) [
+        | inl same ↦ join other (subst (λ (n : ℕ). Contains (nids places ++ place.nid ∷ []) n) (of_nid ∙ sym same) (Contains-push (nids places) place.nid))
+        | inr ne ↦ join other (Contains-append_left (nids places) (place.nid ∷ []) other (before.complete other (omega arith) e))
+      ];
+    }
+
+pub ArePlacesBelow-no : (codec : RawCodec) (places : List Place) (nid : ℕ) → ArePlacesBelow codec places nid → is_candidate codec nid ≡ false → ArePlacesBelow codec places (nid + 1)
+ArePlacesBelow-no codec places nid before is = record {
+  each = before.each;
+  once = before.once;
+  low = λ other h. omega (arith, before.low other h);
+  sound = before.sound;
+  complete = λ other h e. elim (cases_eq other nid) [
+    | inl same ↦ absurd (false≢true (sym is ∙ subst (λ (n : ℕ). is_candidate codec n ≡ true) same e))
+    | inr ne ↦ before.complete other (omega arith) e
+  ];
+}
+
+-- a candidate has a node identifier below 128
+is_candidate-below : (codec : RawCodec) (nid : ℕ) → IsBounded codec → is_candidate codec nid ≡ true → nid < 128
+is_candidate-below codec nid bounded e =
+    bounded.within nid (elim (node_at codec nid) as (λ o. is_candidate_at o ≡ true → is_some o ≡ true) [ Some node ↦ λ w. refl | None ↦ λ w. cc ] e)
+
+pub ArePlaces-all : (codec : RawCodec) (places : List Place) (nid : ℕ) → IsBounded codec → 128 ≤ nid → ArePlacesBelow codec places nid → ArePlaces codec places
+ArePlaces-all codec places nid bounded all before = record {
+  each = before.each;
+  once = before.once;
+  exactly = λ other. (before.sound other, λ e. before.complete other (omega (arith, is_candidate-below codec other bounded e)) e);
+}

@@ -1,0 +1,15 @@
+use Rattle.std.proofs.Common.{◌≡◌, ◌≤◌, ◌+◌, ℕ, Bool, length}
+use Rattle.route_planner.specs.Search.{is_inner_at, target, count_far}
+use Rattle.route_planner.specs.Levels.{AreEndLevels}
+use Rattle.route_planner.proofs.Nearest.{IsAway}
+use Rattle.route_planner.proofs.levels.nearest_level.Given as goal
+
+abbrev pub invariant-loop-from : goal.invariant-loop-from
+invariant-loop-from l = record {
+  whole : length l.levels ≡ 256;
+  counted : l.level + count_far l.levels ≤ 256;
+  away : (end : ℕ → Bool) → AreEndLevels end l.initial.levels → IsAway (is_inner_at l.codec) (target l.codec l.lefts) end l.levels l.from l.level;
+}
+
+abbrev pub decreases-loop-from : goal.decreases-loop-from
+decreases-loop-from l = count_far l.levels

@@ -1,0 +1,84 @@
+-- How the planner searches: which connections it may take, how far each node is from an allowed converter, and the ways
+-- along allowed connections. This project's own.
+use Rattle.std.specs.Prelude.{◌≡◌, ◌<◌, ◌≤◌, ℕ, Bool, true, false, ◌&&◌, ◌||◌, ◌==◌, not, List, length, Option, None, is_some, slice_index_or, if◌then◌else◌, count_by}
+use Rattle.std.specs.List.{list_all}
+use Rattle.codec_graph.specs.declared.raw.RawNode.{RawNode}
+use Rattle.codec_graph.specs.declared.raw.RawCodec.{RawCodec}
+use Rattle.codec_graph.specs.Widget.{node_at, is_inner, is_output_converter}
+use Rattle.route_planner.specs.declared.left.Left.{Left}
+use Rattle.route_planner.specs.declared.left.Left.TheVariants.{Free, By, Never}
+use Rattle.route_planner.specs.declared.routes.Hop.{Hop}
+use Rattle.route_planner.specs.declared.routes.Outcome.{Outcome}
+use Rattle.route_planner.specs.declared.routes.Outcome.TheVariants as outcome
+use Rattle.route_planner.specs.declared.routes.PinPlan.{PinPlan}
+use Rattle.route_planner.specs.declared.format.Format.{Format}
+use Rattle.route_planner.specs.Formats.{supports}
+use Rattle.route_planner.specs.Paths.{passes, list_of, connection, is_analog_stereo, can_be_left}
+
+-- whether a node may be left by a connection
+abbrev pub allows : Left → ℕ → Bool
+allows Free index = true
+allows (By kept) index = index == kept
+allows Never index = false
+
+-- by which connections a node may be left
+abbrev pub left_at : List Left → ℕ → Left
+left_at lefts nid = slice_index_or lefts nid Free
+
+-- the hop doesn't leave the node, or by this index
+abbrev pub is_alike : ℕ → ℕ → Hop → Bool
+is_alike nid index hop = not (hop.nid == nid) || index == hop.index
+
+-- the entry's route, if it has one, leaves the node by this index alone
+abbrev pub outcome_alike : ℕ → ℕ → Outcome → Bool
+outcome_alike nid index (outcome.Route other) = list_all (is_alike nid index) other.hops
+outcome_alike nid index outcome.Blocked = true
+outcome_alike nid index outcome.NoPath = true
+
+abbrev pub leaves_alike : ℕ → ℕ → PinPlan → Bool
+leaves_alike nid index entry = outcome_alike nid index entry.outcome
+
+-- the entry's route, if it has one, ends in another converter or has the same pair of channels
+abbrev pub outcome_carries : ℕ → ℕ → ℕ → Outcome → Bool
+outcome_carries pair nid other_pair (outcome.Route other) = not (other.converter == nid) || pair == other_pair
+outcome_carries pair nid other_pair outcome.Blocked = true
+outcome_carries pair nid other_pair outcome.NoPath = true
+
+abbrev pub carries_alike : ℕ → ℕ → PinPlan → Bool
+carries_alike pair nid entry = outcome_carries pair nid entry.pair entry.outcome
+
+-- whether a route may leave the node by the connection at an index
+abbrev pub can_leave : RawCodec → Left → ℕ → RawNode → Bool
+can_leave codec left index node =
+    is_analog_stereo node && can_be_left codec index node && (not (is_inner node) || allows left index)
+
+-- the node to which an allowed connection leads
+unfoldable pub target : RawCodec → List Left → ℕ → ℕ → Option ℕ
+target codec lefts nid index =
+    if passes (can_leave codec (left_at lefts nid) index) (node_at codec nid) then connection codec nid index else None
+
+unfoldable pub is_inner_at : RawCodec → ℕ → Bool
+is_inner_at codec nid = passes is_inner (node_at codec nid)
+
+-- a converter that can take the format
+abbrev pub can_end : RawCodec → Format → RawNode → Bool
+can_end codec format node =
+    is_output_converter node && is_analog_stereo node && supports codec format.rate format.bits node
+
+-- a converter at which a route with this pair of channels may end, beside those of the earlier entries
+unfoldable pub is_end : RawCodec → Format → List PinPlan → ℕ → ℕ → Bool
+is_end codec format earlier pair nid =
+    passes (can_end codec format) (node_at codec nid) && list_all (carries_alike pair nid) earlier
+
+-- the widgets have node identifiers below 128, and at most 64 connections each
+pub record IsBounded (codec : RawCodec) : Type 0 where
+  pub within : (nid : ℕ) → is_some (node_at codec nid) ≡ true → nid < 128
+  pub short : (nid : ℕ) → length (list_of (node_at codec nid)) ≤ 64
+
+-- how many hops lead from a node to an end; 65535 where none are known
+abbrev pub level_of : List ℕ → ℕ → ℕ
+level_of levels nid = slice_index_or levels nid 65535
+
+-- how many nodes have no level
+abbrev pub count_far : List ℕ → ℕ
+count_far levels = count_by (λ level. level == 65535) levels

@@ -1,0 +1,117 @@
+//! Which connections a route may take, and where it may end.
+ghost use Rattle.std.specs.Prelude.{◌≡◌, ◌<◌};
+ghost use Rattle.route_planner.specs.Formats as formats;
+ghost use Rattle.route_planner.specs.Paths as paths;
+ghost use Rattle.route_planner.specs.Search as spec;
+
+use crate::format::{Bits, Format, Rate};
+use crate::left::Left;
+use crate::routes::{Outcome, PinPlan};
+use codec_graph::{RawCodec, RawNode, has_bit};
+
+/// Whether the node has two channels and carries no digital stream.
+fn is_analog_stereo(node: &RawNode) -> bool
+    ensures { result ≡ paths.is_analog_stereo node.now }
+{
+    node.is_stereo() && !node.is_digital()
+}
+
+/// Whether set-up can open the node for the connection at this index alone.
+fn can_be_left(codec: &RawCodec, index: usize, node: &RawNode) -> bool
+    ensures { result ≡ paths.can_be_left codec.now index node.now }
+{
+    let mixes = node.is_mixer() && node.list.len() >= 2;
+    let mutes = node.has_input_amplifier() && has_bit(codec.input_amplifier_word(node), 31);
+    let selects_amplifier = node.is_selector() && node.has_input_amplifier();
+    (!mixes || mutes) && (!selects_amplifier || index <= 15)
+}
+
+/// Whether a route may leave the node by the connection at this index.
+pub(crate) fn can_leave(codec: &RawCodec, left: Left, index: usize, node: &RawNode) -> bool
+    ensures { result ≡ spec.can_leave codec.now left index node.now }
+{
+    is_analog_stereo(node)
+        && can_be_left(codec, index, node)
+        && (!node.is_inner() || left.allows(index))
+}
+
+/// The bit of the PCM word for a sample rate (HDA 1.0a, 7.3.4.7).
+fn rate_bit(rate: Rate) -> u32
+    ensures value { result ≡ formats.rate_bit rate }
+    ensures below { result < 32 }
+{
+    match rate {
+        Rate::R8 => 0,
+        Rate::R16 => 2,
+        Rate::R44 => 5,
+        Rate::R48 => 6,
+        Rate::R96 => 8,
+        Rate::R192 => 10,
+    }
+}
+
+/// The bit of the PCM word for a sample size (HDA 1.0a, 7.3.4.7).
+fn size_bit(bits: Bits) -> u32
+    ensures value { result ≡ formats.size_bit bits }
+    ensures below { result < 32 }
+{
+    match bits {
+        Bits::B16 => 17,
+        Bits::B24 => 19,
+        Bits::B32 => 20,
+    }
+}
+
+/// Whether the converter takes PCM of the format's rate and sample size.
+fn supports(codec: &RawCodec, format: Format, node: &RawNode) -> bool
+    ensures { result ≡ formats.supports codec.now format.rate format.bits node.now }
+{
+    let pcm = codec.pcm_word(node);
+    has_bit(codec.formats_word(node), 0)
+        && has_bit(pcm, rate_bit(format.rate))
+        && has_bit(pcm, size_bit(format.bits))
+}
+
+/// Whether the node is a converter that can end a route of the format.
+fn can_end(codec: &RawCodec, format: Format, node: &RawNode) -> bool
+    ensures { result ≡ spec.can_end codec.now format node.now }
+{
+    node.is_output_converter() && is_analog_stereo(node) && supports(codec, format, node)
+}
+
+/// Whether the entry's route, if it has one, ends elsewhere or carries the same pair of channels.
+fn carries_alike(pair: u8, nid: u8, entry: &PinPlan) -> bool
+    ensures { result ≡ spec.carries_alike pair nid entry.now }
+{
+    match &entry.outcome {
+        Outcome::Route(other) => other.converter != nid || pair == entry.pair,
+        Outcome::Blocked | Outcome::NoPath => true,
+    }
+}
+
+/// Whether a route with this pair of channels may end at the node, beside the routes of the earlier entries.
+pub(crate) fn is_end(
+    codec: &RawCodec,
+    format: Format,
+    earlier: &[PinPlan],
+    pair: u8,
+    nid: u8,
+) -> bool
+    ensures { result ≡ spec.is_end codec.now format earlier.now pair nid }
+{
+    match codec.node(nid) {
+        Some(node) => can_end(codec, format, node)
+            && earlier.iter().all(|entry| carries_alike(pair, nid, entry)),
+        None => false,
+    }
+}
+
+/// Whether the node is a mixer or a selector.
+pub(crate) fn is_inner(codec: &RawCodec, nid: u8) -> bool
+    ensures { result ≡ spec.is_inner_at codec.now nid }
+{
+    match codec.node(nid) {
+        Some(node) => node.is_inner(),
+        None => false,
+    }
+}

@@ -1,0 +1,91 @@
+//! The plan of a graph.
+ghost use Rattle.std.specs.Prelude.{◌≡◌, ◌≤◌, IfOk, MatchOption, ◌++◌, [], ◌∷◌};
+ghost use Rattle.route_planner.specs.Plans as plans;
+ghost use Rattle.route_planner.specs.Found as found;
+ghost use Rattle.route_planner.specs.Search as spec;
+
+use crate::format::Format;
+use crate::left::lefts_of;
+use crate::levels::{end_levels, nearest_level};
+use crate::pin_order::{order, pair_of};
+use crate::routes::{Outcome, PinPlan, Plan, Route};
+use crate::walk::walk;
+use codec_graph::{Graph, RawCodec};
+use hda_items::Items;
+use std::alloc::{AllocError, Global};
+
+/// The plan of a graph for a stream format: for each candidate pin, in order, the least admissible path that the routes of
+/// earlier pins leave open, by the number of hops and then by the indexes in order. This project's own.
+///
+/// # Errors
+/// Want of memory.
+pub fn plan(alloc: Global, graph: &Graph, format: Format) -> Result<Plan, AllocError>
+    ensures { IfOk result (plans.IsPlan graph.now format) }
+{
+    let codec = graph.raw();
+    let mut pins = Items::new(alloc);
+    let ordered = order(alloc, graph)?;
+    for pin in &ordered {
+        pins.push(pin_plan(alloc, codec, format, pins.as_slice(), *pin)?)?;
+    }
+    Ok(Plan { pins })
+}
+
+/// The plan of a pin after some earlier entries.
+fn pin_plan(
+    alloc: Global,
+    codec: &RawCodec,
+    format: Format,
+    earlier: &[PinPlan],
+    pin: u8,
+) -> Result<PinPlan, AllocError>
+    requires { spec.IsBounded codec.now }
+    ensures { IfOk result (found.IsEntry codec.now format earlier.now pin) }
+{
+    let pair = pair_of(codec, format.channels, pin);
+    let outcome = outcome_of(alloc, codec, format, earlier, pair, pin)?;
+    Ok(PinPlan { pin, pair, outcome })
+}
+
+/// The outcome of a pin after some earlier entries.
+fn outcome_of(
+    alloc: Global,
+    codec: &RawCodec,
+    format: Format,
+    earlier: &[PinPlan],
+    pair: u8,
+    pin: u8,
+) -> Result<Outcome, AllocError>
+    requires { spec.IsBounded codec.now }
+    ensures { IfOk result (plans.IsOutcome codec.now format earlier.now pair pin) }
+{
+    if let Some(route) = least_open(alloc, codec, format, earlier, pair, pin)? {
+        return Ok(Outcome::Route(route));
+    }
+    match least_open(alloc, codec, format, &[], pair, pin)? {
+        Some(_) => Ok(Outcome::Blocked),
+        None => Ok(Outcome::NoPath),
+    }
+}
+
+/// The least admissible path of a pin that the earlier entries leave open.
+fn least_open(
+    alloc: Global,
+    codec: &RawCodec,
+    format: Format,
+    earlier: &[PinPlan],
+    pair: u8,
+    pin: u8,
+) -> Result<Option<Route>, AllocError>
+    requires { spec.IsBounded codec.now }
+    ensures { IfOk result (λ least. MatchOption least
+        (found.HasNoOpenPath codec.now format earlier.now pair pin)
+        (found.IsLeastOpen codec.now format earlier.now pair pin)) }
+{
+    let lefts = lefts_of(earlier);
+    let mut levels = end_levels(codec, format, earlier, pair);
+    match nearest_level(codec, &lefts, &mut levels, pin) {
+        Some(level) => Ok(Some(walk(alloc, codec, &lefts, &levels, pin, level)?)),
+        None => Ok(None),
+    }
+}
