@@ -1,10 +1,12 @@
 -- The values of an array, item by item.
-use Rattle.std.proofs.Common.{◌≡◌, ℕ, ◌<◌, ◌≤◌, ◌&&◌, Bool, true, false, List, [], ◌∷◌, length, map, refl, ap, Option, Some, Result, Ok, Err, Vec, Global, rules, arith}
+use Rattle.std.proofs.Common.{◌≡◌, ℕ, ◌<◌, ◌≤◌, ◌+◌, get_or, drop, ◌&&◌, Bool, true, false, List, [], ◌∷◌, length, map, refl, ap, Option, Some, Result, Ok, Err, Vec, Global, rules, arith}
+use Rattle.std.proofs.lemmas.List.{drop_all}
 use Rattle.std.proofs.lemmas.Bool.Decides.{nat_tests}
-use Rattle.std.specs.List.{list_all, filter_map}
-use Rattle.toml.specs.Data.{Data, Items, as_array}
+use Rattle.std.specs.List.{list_all, filter_map, cons_option}
+use Rattle.toml.specs.Data.{Data, Items, Members, as_array, as_table}
 use Rattle.toml.specs.View.{view, items_view, array_view}
 use Rattle.toml.specs.declared.value.Value.{Value}
+use Rattle.toml.proofs.Views.{items_view-drop}
 use Rattle.hda_files.specs.declared.fault.Place.{Place}
 use Rattle.hda_files.specs.declared.fault.Key.{Key}
 use Rattle.hda_files.specs.declared.fault.FileFault.TheVariants.{OutOfRange}
@@ -52,3 +54,14 @@ pub tables_of-long : (place : Place) (key : Key) (most : ℕ) (value : Data) (ar
     → most < length array.items → tables_of place key most value ≡ Err (OutOfRange place key)
 tables_of-long place key most value array e all many =
     rw (e, all, up_to-long place key most (values_in array) (rw length-view many))
+
+-- the tables among some values
+abbrev pub tables_of_list : List Value → List Members
+tables_of_list values = filter_map as_table (values_of (items_view values))
+
+-- the tables from a place on
+pub tables_of_list-drop : (values : List Value) (i : ℕ) (value : Value) → i < length values → value ≡ get_or values i value → tables_of_list (drop i values) ≡ cons_option (as_table (view value)) (tables_of_list (drop (i + 1) values))
+tables_of_list-drop values i value within e = rw (items_view-drop values i value within, ← e)
+
+pub tables_of_list-end : (values : List Value) (i : ℕ) → length values ≤ i → tables_of_list (drop i values) ≡ []
+tables_of_list-end values i past = rw (drop_all i values past)

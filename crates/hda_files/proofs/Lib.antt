@@ -1,1 +1,3 @@
 pub mod ArrayLemmas
+pub mod Meant
+pub mod NodeLemmas

@@ -1,3 +1,5 @@
 pub mod Keys
 pub mod Values
+pub mod Memory
 pub mod Arrays
+pub mod Nodes

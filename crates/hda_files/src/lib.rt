@@ -2,6 +2,7 @@
 #![tactic(auto)]
 
 mod fault;
+mod node;
 mod values;
 
 pub use fault::{FileFault, Key, Place};
