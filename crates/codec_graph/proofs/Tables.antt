@@ -1,11 +1,13 @@
 -- Normal words and the faults of tables.
-use Rattle.std.proofs.Common.{◌≡◌, ℕ, ◌+◌, ◌<◌, Bool, true, false, cond, ◌&&◌, List, [], ◌∷◌, ◌++◌, map, length, get_or, drop, Option, Some, None, refl, ap, ◌∙◌, sym, add-one, arith, rules}
+use Rattle.std.proofs.Common.{◌≡◌, ℕ, ◌+◌, ◌-◌, ◌<◌, ◌≤◌, Bool, true, false, cond, ◌&&◌, List, [], ◌∷◌, ◌++◌, map, length, get_or, drop, Some, None, refl, sym, add-one, arith}
 use Rattle.std.proofs.Math.Seq.{drop-cons}
 use Rattle.codec_graph.specs.declared.raw.RawNode.{RawNode}
 use Rattle.codec_graph.specs.declared.raw.RawCodec.{RawCodec}
 use Rattle.codec_graph.specs.declared.fault.GraphFault.{GraphFault}
-use Rattle.codec_graph.specs.Widget.{normal_node, normal}
-use Rattle.codec_graph.specs.Faults.{node_faults, nodes_faults, first_fault, table_faults}
+use Rattle.codec_graph.specs.Widget.{normal_node, normal, node_at}
+use Rattle.std.proofs.lemmas.Option.{slice_get_past}
+use Rattle.std.proofs.lemmas.Bool.Decides.{nat_tests}
+use Rattle.codec_graph.specs.Faults.{has_bad_count, node_faults, nodes_faults, first_fault}
 
 cond_twice : {X : Type 0} (b : Bool) (x d : X) → cond b (cond b x d) d ≡ cond b x d
 cond_twice true x d = refl
@@ -45,3 +47,26 @@ first_fault-append_some (x ∷ a) b fault e = sym e
 pub first_fault-append_none : (a b : List GraphFault) → None ≡ first_fault a → first_fault (a ++ b) ≡ first_fault b
 first_fault-append_none [] b e = refl
 first_fault-append_none (x ∷ a) b e = cc
+
+-- what a good count says
+pub record IsCounted (codec : RawCodec) : Type 0 where
+  pub some : 1 ≤ codec.count
+  pub begins : 1 ≤ codec.first
+  pub ends : codec.first + codec.count ≤ 128
+  pub as_many : length codec.nodes ≡ codec.count
+
+pub counted : (codec : RawCodec) → has_bad_count codec ≡ false → IsCounted codec
+counted codec good = record {
+  some = grind (arith, nat_tests);
+  begins = grind (arith, nat_tests);
+  ends = grind (arith, nat_tests);
+  as_many = grind (arith, nat_tests);
+}
+
+-- no widget has a node identifier above 7Fh
+pub node_at-past : (codec : RawCodec) → IsCounted codec → (nid : ℕ) → 128 ≤ nid → node_at codec nid ≡ None
+node_at-past codec c nid high =
+    let past : length codec.nodes ≤ nid - codec.first = omega (arith, c.ends, c.as_many) in
+    let e = slice_get_past codec.nodes (nid - codec.first) past in
+    let above : codec.first ≤ nid = omega (arith, c.ends) in
+    grind (arith, nat_tests)

@@ -1,6 +1,6 @@
 -- The pins that can get a route. Pin capabilities: High Definition Audio 1.0a, 7.3.4.9. Configuration default: 7.3.3.31.
 -- That these pins are the candidates, and their order, is this project's own.
-use Rattle.std.specs.Prelude.{◌≡◌, ℕ, Bool, false, ◌==◌, ◌&&◌, not, Option, Some, None, nat_le, IsTrue}
+use Rattle.std.specs.Prelude.{ℕ, Bool, false, ◌==◌, ◌&&◌, not, Option, Some, None, nat_le}
 use Rattle.codec_graph.specs.declared.raw.RawNode.{RawNode}
 use Rattle.codec_graph.specs.declared.raw.RawCodec.{RawCodec}
 use Rattle.codec_graph.specs.Words.{has_bit, bits_of}

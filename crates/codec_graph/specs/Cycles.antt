@@ -20,9 +20,13 @@ abbrev pub Leads : RawCodec → ℕ → List ℕ → ℕ → Type 0
 Leads codec from [] to = Contains (inner_list codec from) to
 Leads codec from (next ∷ through) to = Contains (inner_list codec from) next × Leads codec next through to
 
+-- connections lead from one mixer or selector to another node, through mixers and selectors alone
+abbrev pub Reaches : RawCodec → ℕ → ℕ → Type 0
+Reaches codec from to = (through : List ℕ) × Leads codec from through to
+
 -- connections lead from the node through mixers and selectors alone back to it
 abbrev pub IsOnCycle : RawCodec → ℕ → Type 0
-IsOnCycle codec nid = (through : List ℕ) × Leads codec nid through nid
+IsOnCycle codec nid = Reaches codec nid nid
 
 -- the node is the least one on a cycle
 abbrev pub IsLeastOnCycle : RawCodec → ℕ → Type 0

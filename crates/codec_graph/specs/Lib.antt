@@ -3,3 +3,4 @@ pub mod Widget
 pub mod Faults
 pub mod Cycles
 pub mod Candidates
+pub mod Marks

@@ -1,11 +1,13 @@
 //! A checked graph, and the check that makes it.
-ghost use Rattle.std.specs.Prelude.{◌≡◌, ◌<◌, ◌+◌, IfOk, IfErr, Some, false, length, nat_lt, not};
+ghost use Rattle.std.specs.Prelude.{◌≡◌, ◌<◌, ◌+◌, IfOk, OnOk, IfErr, Some, false, length, nat_lt, not};
 ghost use Rattle.std.specs.List.{list_all};
 ghost use Rattle.codec_graph.specs.Words as words;
 ghost use Rattle.codec_graph.specs.Widget as widget;
 ghost use Rattle.codec_graph.specs.Faults as faults;
+ghost use Rattle.codec_graph.specs.Cycles.{IsWellFormed, IsFirstFault};
 ghost use Rattle.codec_graph.specs.Candidates as candidates;
 
+use crate::cycles::check_cycles;
 use crate::fault::GraphFault;
 use crate::raw::{RawCodec, RawNode};
 use crate::words::bits_of;
@@ -20,37 +22,38 @@ pub struct Graph {
 
 impl Model for Graph {
     ghost use Rattle.codec_graph.specs.declared.raw.RawCodec.{RawCodec};
-    ghost use Rattle.codec_graph.specs.Cycles.{HasSoundTables};
+    ghost use Rattle.codec_graph.specs.Cycles.{IsWellFormed};
 
     ghost Value = { RawCodec };
 
     ghost view = { λ graph. graph.raw };
 
-    ghost invariant = { λ graph. HasSoundTables graph.raw };
+    ghost invariant = { λ graph. IsWellFormed graph.raw };
 }
 
 impl Graph {
-    ghost use Rattle.codec_graph.specs.Cycles.{HasSoundTables};
+    ghost use Rattle.codec_graph.specs.Cycles.{HasSoundTables, IsWellFormed, IsFirstFault};
 
     /// Checks a codec's words and makes the graph of those that apply: every other word is 0, and a node without a
     /// connection list has none.
     ///
     /// # Errors
-    /// The first fault of the tables, in the order of [`GraphFault`]'s variants: the group's type, the count, and then
-    /// the group and each widget ascending.
+    /// The first fault: the group's type, the count, then at the group and at each widget ascending its connections, their
+    /// number and its amplifier words, and last the cycle with the least node.
     pub fn check(raw: RawCodec) -> Result<Graph, GraphFault>
         ensures graph { IfOk result (λ graph. graph ≡ widget.normal raw) }
-        ensures sound { IfOk result HasSoundTables }
-        ensures fault { IfErr result (λ fault. faults.first_fault (faults.table_faults (widget.normal raw)) ≡ Some fault) }
+        ensures well_formed { IfOk result IsWellFormed }
+        ensures fault { IfErr result (IsFirstFault (widget.normal raw)) }
     {
         let raw = normalised(raw);
-        check_tables(&raw)?;
+        check_normal(&raw)?;
         Ok(Graph { raw })
     }
 
     /// The normalised words.
     pub fn raw(&self) -> &RawCodec
         ensures value { result.now ≡ self.now }
+        ensures well_formed { IsWellFormed self.now }
         ensures sound { HasSoundTables self.now }
     {
         &self.raw
@@ -79,6 +82,16 @@ fn normalised(raw: RawCodec) -> RawCodec
     }
     raw.nodes = Items::from_vec(nodes);
     raw
+}
+
+/// Whether the codec, whose words are normal, has no fault, or its first.
+fn check_normal(codec: &RawCodec) -> Result<(), GraphFault>
+    requires { widget.normal codec.now ≡ codec.now }
+    ensures well_formed { OnOk result (IsWellFormed codec.now) }
+    ensures fault { IfErr result (IsFirstFault codec.now) }
+{
+    check_tables(codec)?;
+    check_cycles(codec)
 }
 
 /// Whether the codec has no fault of its tables, or the first.

@@ -1,6 +1,7 @@
 //! The graph of a codec's widgets: its words as read, the normalised and checked graph, and its candidate pins.
 #![tactic(auto)]
 
+mod cycles;
 mod fault;
 mod graph;
 mod raw;

@@ -3,6 +3,7 @@ ghost use Rattle.std.specs.Prelude.{◌≡◌, if◌then◌else◌, [], option_c
 ghost use Rattle.codec_graph.specs.Widget as widget;
 ghost use Rattle.codec_graph.specs.Words as words;
 ghost use Rattle.codec_graph.specs.Candidates as candidates;
+ghost use Rattle.codec_graph.specs.Cycles as cycles;
 
 use crate::words::{bits_of, has_bit, kept_word};
 use hda_items::Items;
@@ -244,6 +245,16 @@ impl RawCodec {
             return None;
         }
         self.nodes.as_slice().get(usize::from(nid - self.first))
+    }
+
+    /// The connections of a mixer or selector, and none of any other node.
+    pub(crate) fn inner_list(&self, nid: u8) -> &[u8]
+        ensures { result.now ≡ cycles.inner_list self.now nid }
+    {
+        match self.node(nid) {
+            Some(node) if node.is_inner() => node.list.as_slice(),
+            _ => &[],
+        }
     }
 
     /// The input amplifier capabilities that hold at a widget.

@@ -1,4 +1,4 @@
-use Rattle.std.proofs.Common.{◌≡◌, ◌++◌, ◌+◌, drop, length, Some, sym, ap, ◌∙◌, arith}
+use Rattle.std.proofs.Common.{◌+◌, drop, length, sym, ap, ◌∙◌, arith}
 use Rattle.std.proofs.lemmas.Result.{err_from_is_err_and}
 use Rattle.codec_graph.specs.Faults.{first_fault, nodes_faults}
 use Rattle.codec_graph.proofs.Tables.{nodes_faults-drop, first_fault-append_some}
