@@ -97,6 +97,14 @@ pub(crate) fn given_byte(table: &Table, place: Place, key: Key, least: u8, most:
     }
 }
 
+/// The whole number at a key, from `least` to `most`, or what holds where the key is not given.
+pub(crate) fn byte_or(table: &Table, place: Place, key: Key, least: u8, most: u8, default: u8) -> Result<u8, FileFault>
+    ensures { result ≡ values.number_or (table_view table.now) place key least most default }
+{
+    let given = given_byte(table, place, key, least, most)?;
+    Ok(given.unwrap_or(default))
+}
+
 /// The value as an array.
 pub(crate) fn array_of(value: &Value, place: Place, key: Key) -> Result<&Array, FileFault>
     ensures { MatchResult result
