@@ -5,7 +5,7 @@ use Rattle.toml.specs.Data.{Members}
 use Rattle.toml.specs.Parse.{parse_document}
 use Rattle.hda_files.specs.declared.machine.Machine.{Machine}
 use Rattle.hda_files.specs.declared.fault.FileFault.{FileFault}
-use Rattle.hda_files.specs.declared.fault.FileFault.TheVariants.{OutOfMemory}
+use Rattle.hda_files.specs.Memory.{OrMemory}
 use Rattle.hda_files.specs.Machines.{HasTable, IsReadingOf, IsReadingOfBytes, Reads}
 
 -- bytes have one top table at most
@@ -18,6 +18,6 @@ IsReadingOfBytes-from_table bytes top result has reading = record {
   of_none = λ none. absurd (none top has);
 }
 
-pub Reads-from_table : (bytes : List ℕ) (top : Members) (result : Result Machine FileFault) → HasTable bytes top → (result ≡ Err OutOfMemory) ⊎ IsReadingOf top result → Reads bytes result
+pub Reads-from_table : (bytes : List ℕ) (top : Members) (result : Result Machine FileFault) → HasTable bytes top → OrMemory result (IsReadingOf top result) → Reads bytes result
 Reads-from_table bytes top result has (inl memory) = inl memory
 Reads-from_table bytes top result has (inr reading) = inr (IsReadingOfBytes-from_table bytes top result has reading)

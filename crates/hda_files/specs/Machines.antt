@@ -1,5 +1,5 @@
 -- What a codec file means: a machine, or its first fault. This project's own format.
-use Rattle.std.specs.Prelude.{◌≡◌, ◌≤◌, ◌<◌, ◌⊎◌, ℕ, List, [], ◌∷◌, count_by, Option, Some, None, Result, Ok, Err, IsUtf8}
+use Rattle.std.specs.Prelude.{◌≡◌, ◌≤◌, ◌<◌, ℕ, List, [], ◌∷◌, count_by, Option, Some, None, Result, Ok, Err, IsUtf8}
 use Rattle.std.specs.List.{range_with_len}
 use Rattle.toml.specs.Data.{Members}
 use Rattle.toml.specs.Parse.{parse_document}
@@ -12,7 +12,8 @@ use Rattle.hda_files.specs.declared.machine.CodecFile.{CodecFile}
 use Rattle.hda_files.specs.declared.fault.Place.TheVariants.{Top}
 use Rattle.hda_files.specs.declared.fault.Key.TheVariants.{Codec}
 use Rattle.hda_files.specs.declared.fault.FileFault.{FileFault}
-use Rattle.hda_files.specs.declared.fault.FileFault.TheVariants.{Toml, OutOfRange, Graph, TooManyPins, OutOfMemory}
+use Rattle.hda_files.specs.declared.fault.FileFault.TheVariants.{Toml, OutOfRange, Graph, TooManyPins}
+use Rattle.hda_files.specs.Memory.{OrMemory}
 use Rattle.hda_files.specs.Values.{◌>>=◌, tables_at}
 use Rattle.hda_files.specs.Codecs.{codec_of}
 
@@ -67,4 +68,4 @@ pub record IsReadingOfBytes (bytes : List ℕ) (result : Result Machine FileFaul
 
 -- the result says what the bytes mean, or memory was wanting
 abbrev pub Reads : List ℕ → Result Machine FileFault → Type 0
-Reads bytes result = (result ≡ Err OutOfMemory) ⊎ IsReadingOfBytes bytes result
+Reads bytes result = OrMemory result (IsReadingOfBytes bytes result)

@@ -60,7 +60,9 @@ fn least_nid(nodes: &[NodeTable]) -> u8
 fn greatest_nid(nodes: &[NodeTable]) -> u8
     ensures { result ≡ codecs.greatest_nid nodes.now }
 {
-    nodes.iter().fold(0, |greatest, node| greatest.max(node.nid))
+    nodes
+        .iter()
+        .fold(0, |greatest, node| greatest.max(node.nid))
 }
 
 /// How many node identifiers there are from the least of the tables to the greatest.
@@ -129,7 +131,12 @@ fn widget_at(alloc: Global, nodes: &[NodeTable], nid: u16) -> Result<RawNode, Al
 }
 
 /// The widgets with the `count` node identifiers from `first` on.
-fn widgets_inside(alloc: Global, first: u8, count: u8, nodes: &[NodeTable]) -> Result<Vec<RawNode>, AllocError>
+fn widgets_inside(
+    alloc: Global,
+    first: u8,
+    count: u8,
+    nodes: &[NodeTable],
+) -> Result<Vec<RawNode>, AllocError>
     ensures { IfOk result (λ widgets. widgets.items ≡ map (codecs.widget_at nodes.now) (range_with_len first count)) }
 {
     let mut widgets = Vec::new(alloc);
@@ -149,7 +156,12 @@ fn is_outside(first: u8, count: u8, node: &NodeTable) -> bool
 }
 
 /// The widgets from `first` on, and after them those of the tables outside.
-fn lay_out(alloc: Global, first: u8, count: u8, nodes: &[NodeTable]) -> Result<Vec<RawNode>, AllocError>
+fn lay_out(
+    alloc: Global,
+    first: u8,
+    count: u8,
+    nodes: &[NodeTable],
+) -> Result<Vec<RawNode>, AllocError>
     ensures { IfOk result (λ widgets. widgets.items ≡ codecs.widgets_of first count nodes.now) }
 {
     let mut widgets = widgets_inside(alloc, first, count, nodes)?;

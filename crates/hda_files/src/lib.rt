@@ -9,3 +9,6 @@ mod values;
 
 pub use fault::{FileFault, Key, Place};
 pub use machine::{CodecFile, Machine, read_machine};
+
+#[cfg(test)]
+mod tests;

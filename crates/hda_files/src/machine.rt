@@ -1,11 +1,9 @@
 //! Reads a whole codec file.
-ghost use Rattle.std.specs.Prelude.{◌≡◌, ◌⊎◌, IfErr, IfOk, Ok, Err};
+ghost use Rattle.std.specs.Prelude.{◌≡◌};
 ghost use Rattle.toml.specs.View.{table_view};
-ghost use Rattle.codec_graph.specs.Widget.{normal};
-ghost use Rattle.codec_graph.specs.Cycles.{IsWellFormed};
 ghost use Rattle.hda_files.specs.Machines as machines;
 ghost use Rattle.hda_files.specs.Machines.{Reads};
-ghost use Rattle.hda_files.specs.Memory.{IsMeant};
+ghost use Rattle.hda_files.specs.Memory.{IsMeant, OrMemory};
 
 use crate::codec::read_codec;
 use crate::fault::{FileFault, Key, Place};
@@ -50,7 +48,7 @@ pub fn read_machine(alloc: Global, bytes: &[u8]) -> Result<Machine, FileFault>
 
 /// Reads the top table.
 fn read_top(alloc: Global, top: &Table) -> Result<Machine, FileFault>
-    ensures { (result ≡ Err FileFault.OutOfMemory) ⊎ machines.IsReadingOf (table_view top.now) result }
+    ensures { OrMemory result (machines.IsReadingOf (table_view top.now) result) }
 {
     let raw = read_raw_codec(alloc, top)?;
     judge(alloc, raw)
@@ -69,7 +67,7 @@ fn read_raw_codec(alloc: Global, top: &Table) -> Result<RawCodec, FileFault>
 
 /// Checks the codec's graph and its number of candidate pins.
 fn judge(alloc: Global, raw: RawCodec) -> Result<Machine, FileFault>
-    ensures { (result ≡ Err FileFault.OutOfMemory) ⊎ machines.IsJudgedCodec raw result }
+    ensures { OrMemory result (machines.IsJudgedCodec raw result) }
 {
     let address = raw.address;
     let graph = match Graph::check(raw) {

@@ -31,7 +31,9 @@ fn long_at(table: &Table, place: Place) -> Result<bool, FileFault>
     let Some(value) = value_at(table, Key::Long) else {
         return Ok(false);
     };
-    let long = value.as_bool().ok_or(FileFault::WrongType(place, Key::Long))?;
+    let long = value
+        .as_bool()
+        .ok_or(FileFault::WrongType(place, Key::Long))?;
     if long {
         return Err(FileFault::OutOfRange(place, Key::Long));
     }
@@ -101,7 +103,10 @@ fn entries_in(alloc: Global, array: &Array) -> Result<Items<u8>, FileFault>
     ensures list { IfOk result (λ list. list ≡ filter_map (λ value. nodes.entry_of (view value)) array.now.items) }
     ensures memory { IfErr result (λ fault. fault ≡ FileFault.OutOfMemory) }
 {
-    let entries = array.iter().filter_map(|value| entry_of(value)).collect(alloc)?;
+    let entries = array
+        .iter()
+        .filter_map(|value| entry_of(value))
+        .collect(alloc)?;
     Ok(Items::from_vec(entries))
 }
 
@@ -149,7 +154,12 @@ fn nid_at(table: &Table, place: Place, earlier: &[NodeTable]) -> Result<u8, File
 }
 
 /// Reads the widget of one table, after the earlier ones of the codec at this place.
-fn read_node(alloc: Global, table: &Table, codec: u8, earlier: &[NodeTable]) -> Result<NodeTable, FileFault>
+fn read_node(
+    alloc: Global,
+    table: &Table,
+    codec: u8,
+    earlier: &[NodeTable],
+) -> Result<NodeTable, FileFault>
     requires { length earlier.now < 256 }
     ensures value { IsMeant result (nodes.node_of codec earlier.now (table_view table.now)) }
     ensures bound { IfOk result (λ node. node.nid ≤ 127) }
@@ -168,12 +178,20 @@ fn wide(alloc: Global, list: &Items<u8>) -> Result<Items<u16>, FileFault>
     ensures list { IfOk result (λ wide. wide ≡ list.now) }
     ensures memory { IfErr result (λ fault. fault ≡ FileFault.OutOfMemory) }
 {
-    let entries = list.as_slice().iter().map(|nid| u16::from(*nid)).collect(alloc)?;
+    let entries = list
+        .as_slice()
+        .iter()
+        .map(|nid| u16::from(*nid))
+        .collect(alloc)?;
     Ok(Items::from_vec(entries))
 }
 
 /// Reads the widgets of an array of tables in order, each after the earlier ones of the codec at this place.
-pub(crate) fn read_nodes(alloc: Global, array: &Array, codec: u8) -> Result<Vec<NodeTable>, FileFault>
+pub(crate) fn read_nodes(
+    alloc: Global,
+    array: &Array,
+    codec: u8,
+) -> Result<Vec<NodeTable>, FileFault>
     requires { vec_len array.now ≤ 126 }
     ensures value { IsMeant (items_of result) (nodes.nodes_after codec [] (tables_in array.now)) }
     ensures bound { IfOk result (λ nodes. All (λ node. node.nid ≤ 127) nodes.items) }

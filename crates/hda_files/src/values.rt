@@ -38,7 +38,13 @@ fn number_of(value: &Value, place: Place, key: Key, least: u32, most: u32) -> Re
 }
 
 /// The whole number at a key that must be given, from `least` to `most`.
-fn required_number(table: &Table, place: Place, key: Key, least: u32, most: u32) -> Result<u32, FileFault>
+fn required_number(
+    table: &Table,
+    place: Place,
+    key: Key,
+    least: u32,
+    most: u32,
+) -> Result<u32, FileFault>
     ensures value { result ≡ values.required_number (table_view table.now) place key least most }
     ensures bound { IfOk result (λ n. n ≤ most) }
 {
@@ -49,7 +55,13 @@ fn required_number(table: &Table, place: Place, key: Key, least: u32, most: u32)
 }
 
 /// The whole number at a key, from `least` to `most`, if the key is given.
-fn given_number(table: &Table, place: Place, key: Key, least: u32, most: u32) -> Result<Option<u32>, FileFault>
+fn given_number(
+    table: &Table,
+    place: Place,
+    key: Key,
+    least: u32,
+    most: u32,
+) -> Result<Option<u32>, FileFault>
     ensures value { result ≡ values.given_number (table_view table.now) place key least most }
     ensures bound { IfOk result (λ given. IfSome given (λ n. n ≤ most)) }
 {
@@ -78,7 +90,13 @@ pub(crate) fn word_or(table: &Table, place: Place, key: Key, default: u32) -> Re
 }
 
 /// The whole number at a key that must be given, from `least` to `most`.
-pub(crate) fn required_byte(table: &Table, place: Place, key: Key, least: u8, most: u8) -> Result<u8, FileFault>
+pub(crate) fn required_byte(
+    table: &Table,
+    place: Place,
+    key: Key,
+    least: u8,
+    most: u8,
+) -> Result<u8, FileFault>
     ensures value { result ≡ values.required_number (table_view table.now) place key least most }
     ensures bound { IfOk result (λ n. n ≤ most) }
 {
@@ -87,7 +105,13 @@ pub(crate) fn required_byte(table: &Table, place: Place, key: Key, least: u8, mo
 }
 
 /// The whole number at a key, from `least` to `most`, if the key is given.
-pub(crate) fn given_byte(table: &Table, place: Place, key: Key, least: u8, most: u8) -> Result<Option<u8>, FileFault>
+pub(crate) fn given_byte(
+    table: &Table,
+    place: Place,
+    key: Key,
+    least: u8,
+    most: u8,
+) -> Result<Option<u8>, FileFault>
     ensures value { result ≡ values.given_number (table_view table.now) place key least most }
     ensures bound { IfOk result (λ given. IfSome given (λ n. n ≤ most)) }
 {
@@ -98,7 +122,14 @@ pub(crate) fn given_byte(table: &Table, place: Place, key: Key, least: u8, most:
 }
 
 /// The whole number at a key, from `least` to `most`, or what holds where the key is not given.
-pub(crate) fn byte_or(table: &Table, place: Place, key: Key, least: u8, most: u8, default: u8) -> Result<u8, FileFault>
+pub(crate) fn byte_or(
+    table: &Table,
+    place: Place,
+    key: Key,
+    least: u8,
+    most: u8,
+    default: u8,
+) -> Result<u8, FileFault>
     ensures { result ≡ values.number_or (table_view table.now) place key least most default }
 {
     let given = given_byte(table, place, key, least, most)?;
@@ -140,7 +171,12 @@ fn tables_of(value: &Value, place: Place, key: Key, most: usize) -> Result<&Arra
 }
 
 /// The array of 1 to `most` tables at a key that must be given.
-pub(crate) fn tables_at(table: &Table, place: Place, key: Key, most: usize) -> Result<&Array, FileFault>
+pub(crate) fn tables_at(
+    table: &Table,
+    place: Place,
+    key: Key,
+    most: usize,
+) -> Result<&Array, FileFault>
     ensures value { MatchResult result
         (λ array. values.tables_at (table_view table.now) place key most ≡ Ok (tables_in array.now))
         (λ fault. values.tables_at (table_view table.now) place key most ≡ Err fault) }

@@ -9,6 +9,5 @@ use Rattle.hda_files.proofs.node.entries_in.Goals as goal
 
 pub returns-clause-list : goal.returns-clause-list
 returns-clause-list c =
-    let source = YieldsList-from_slice c.args.array.now.items cc in
-    let found = items_from_collect _ c.collect.ensures.ran (YieldsList-from_filter_map _ (λ value. entry_of (view value)) source c.filter_map.ensures.closure (λ x r q k. search (rules, tests))) in
+    let found = items_from_collect _ c.collect.ensures.ran (YieldsList-from_filter_map _ (λ value. entry_of (view value)) (YieldsList-from_slice c.args.array.now.items cc) c.filter_map.ensures.closure (λ x r q k. search (rules, tests))) in
     c.from_vec.ensures ∙ IfOk-at_ok (λ vector. vec_items vector ≡ filter_map (λ value. entry_of (view value)) c.args.array.now.items) c.in_ok-entries.was found

@@ -18,17 +18,17 @@ loop-value-preserved c =
     let so_far = c.loop-value.invariant.rest ∙ ap (nodes_after c.args.codec nodes) here in
     elim c.match-as_table.branch [
       | in-Some+in_ok-node+in_ok-push w ↦
-        let node = w.in_ok-node.node in
-        let meant = rw w.as_slice.ensures.value at w.in_ok-node.ensures.value in
-        rw (w.nodes-is, w.in_ok-push.ensures.items) (record {
-          few = omega (arith, length_push nodes node, c.loop-value.invariant.few);
-          bound = All-push (λ n. n.nid ≤ 127) nodes node c.loop-value.invariant.bound w.in_ok-node.ensures.bound;
-          rest = so_far ∙ ap (λ o. nodes_after c.args.codec nodes (cons_option o left)) (sym w.in-Some.ensures) ∙ nodes_after-good c.args.codec nodes (table_view w.in-Some.table.now) left node meant;
-        })
+          let node = w.in_ok-node.node in
+          let meant = rw w.as_slice.ensures.value at w.in_ok-node.ensures.value in
+          rw (w.nodes-is, w.in_ok-push.ensures.items) (record {
+            few = omega (arith, length_push nodes node, c.loop-value.invariant.few);
+            bound = All-push (λ n. n.nid ≤ 127) nodes node c.loop-value.invariant.bound w.in_ok-node.ensures.bound;
+            rest = so_far ∙ ap (λ o. nodes_after c.args.codec nodes (cons_option o left)) (sym w.in-Some.ensures) ∙ nodes_after-good c.args.codec nodes (table_view w.in-Some.table.now) left node meant;
+          })
       | in_default w ↦
-        rw w.nodes-is (record {
-          few = omega (arith, c.loop-value.invariant.few);
-          bound = c.loop-value.invariant.bound;
-          rest = so_far ∙ ap (λ o. nodes_after c.args.codec nodes (cons_option o left)) (sym w.in_default.ensures);
-        })
+          rw w.nodes-is (record {
+            few = omega (arith, c.loop-value.invariant.few);
+            bound = c.loop-value.invariant.bound;
+            rest = so_far ∙ ap (λ o. nodes_after c.args.codec nodes (cons_option o left)) (sym w.in_default.ensures);
+          })
     ]
