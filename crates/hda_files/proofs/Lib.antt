@@ -1,0 +1,4 @@
+pub mod ArrayLemmas
+pub mod Meant
+pub mod NodeLemmas
+pub mod Readings

@@ -1,0 +1,190 @@
+//! Reads the table of a codec, and lays its widgets out by their node identifiers.
+ghost use Rattle.std.specs.Prelude.{◌≡◌, ◌==◌, ◌≤◌, ◌++◌, All, IfOk, filter, map, option_copied};
+ghost use Rattle.std.specs.List.{find, range_with_len};
+ghost use Rattle.toml.specs.View.{table_view};
+ghost use Rattle.hda_files.specs.Codecs as codecs;
+ghost use Rattle.hda_files.specs.Memory.{IsMeant};
+
+use crate::fault::{FileFault, Key, Place};
+use crate::node::{NodeTable, read_nodes};
+use crate::values::{byte_or, given_byte, required_byte, required_word, tables_at, word_or};
+use codec_graph::{GroupWords, RawCodec, RawNode};
+use hda_items::Items;
+use std::alloc::{AllocError, Global};
+use toml::Table;
+
+/// The PCM sizes and rates of a function group whose table does not give them: 16 bits at 48 kHz.
+const USUAL_PCM: u32 = 0x0002_0040;
+
+/// Reads the words of a codec and of its function group, with no widget.
+fn read_codec_words(alloc: Global, table: &Table, place: Place) -> Result<RawCodec, FileFault>
+    ensures { result ≡ codecs.codec_words_of (table_view table.now) place }
+{
+    let address = required_byte(table, place, Key::Address, 0, 14)?;
+    let vendor = required_word(table, place, Key::Vendor)?;
+    let revision = word_or(table, place, Key::Revision, 0)?;
+    let amp_in = word_or(table, place, Key::AmpIn, 0)?;
+    let amp_out = word_or(table, place, Key::AmpOut, 0)?;
+    let power = word_or(table, place, Key::Power, 0)?;
+    let group = byte_or(table, place, Key::Group, 1, 127, 1)?;
+    let group_type = word_or(table, place, Key::GroupType, 1)?;
+    let formats = word_or(table, place, Key::Formats, 1)?;
+    let pcm = word_or(table, place, Key::Pcm, USUAL_PCM)?;
+    Ok(RawCodec {
+        address,
+        vendor,
+        revision,
+        group,
+        group_type,
+        group_words: GroupWords {
+            pcm,
+            formats,
+            amp_in,
+            amp_out,
+            power,
+        },
+        first: 0,
+        count: 0,
+        nodes: Items::new(alloc),
+    })
+}
+
+/// The least node identifier of the tables.
+fn least_nid(nodes: &[NodeTable]) -> u8
+    ensures { result ≡ codecs.least_nid nodes.now }
+{
+    nodes.iter().fold(127, |least, node| least.min(node.nid))
+}
+
+/// The greatest node identifier of the tables.
+fn greatest_nid(nodes: &[NodeTable]) -> u8
+    ensures { result ≡ codecs.greatest_nid nodes.now }
+{
+    nodes
+        .iter()
+        .fold(0, |greatest, node| greatest.max(node.nid))
+}
+
+/// How many node identifiers there are from the least of the tables to the greatest.
+fn nid_span(nodes: &[NodeTable]) -> u8
+    requires { All (λ node. node.nid ≤ 127) nodes.now }
+    ensures { result ≡ codecs.nid_span nodes.now }
+{
+    greatest_nid(nodes).saturating_sub(least_nid(nodes)) + 1
+}
+
+/// A vendor defined widget, without words and connections.
+fn vendor_widget(alloc: Global) -> RawNode
+    ensures { result ≡ codecs.vendor_widget }
+{
+    RawNode {
+        caps: 0x00F0_0000,
+        pcm: 0,
+        formats: 0,
+        pin_caps: 0,
+        amp_in: 0,
+        amp_out: 0,
+        power: 0,
+        default: 0,
+        long: false,
+        entries: Items::new(alloc),
+        list: Items::new(alloc),
+    }
+}
+
+/// A copy of a widget.
+fn copy_of(alloc: Global, widget: &RawNode) -> Result<RawNode, AllocError>
+    ensures { IfOk result (λ copy. copy ≡ widget.now) }
+{
+    let entries = Items::from_slice(alloc, widget.entries.as_slice())?;
+    let list = Items::from_slice(alloc, widget.list.as_slice())?;
+    Ok(RawNode {
+        caps: widget.caps,
+        pcm: widget.pcm,
+        formats: widget.formats,
+        pin_caps: widget.pin_caps,
+        amp_in: widget.amp_in,
+        amp_out: widget.amp_out,
+        power: widget.power,
+        default: widget.default,
+        long: widget.long,
+        entries,
+        list,
+    })
+}
+
+/// The table with this node identifier.
+fn table_with(nodes: &[NodeTable], nid: u16) -> Option<&NodeTable>
+    ensures { option_copied result ≡ find (λ node. node.nid == nid) nodes.now }
+{
+    nodes.iter().find(|node| u16::from(node.nid) == nid)
+}
+
+/// The widget with this node identifier.
+fn widget_at(alloc: Global, nodes: &[NodeTable], nid: u16) -> Result<RawNode, AllocError>
+    ensures { IfOk result (λ widget. widget ≡ codecs.widget_at nodes.now nid) }
+{
+    match table_with(nodes, nid) {
+        Some(node) => copy_of(alloc, &node.widget),
+        None => Ok(vendor_widget(alloc)),
+    }
+}
+
+/// The widgets with the `count` node identifiers from `first` on.
+fn widgets_inside(
+    alloc: Global,
+    first: u8,
+    count: u8,
+    nodes: &[NodeTable],
+) -> Result<Vec<RawNode>, AllocError>
+    ensures { IfOk result (λ widgets. widgets.items ≡ map (codecs.widget_at nodes.now) (range_with_len first count)) }
+{
+    let mut widgets = Vec::new(alloc);
+    let first = u16::from(first);
+    for nid in first..first + u16::from(count) {
+        widgets.push(widget_at(alloc, nodes, nid)?)?;
+    }
+    Ok(widgets)
+}
+
+/// Whether a table's node identifier is none of the `count` from `first` on.
+fn is_outside(first: u8, count: u8, node: &NodeTable) -> bool
+    ensures { result ≡ codecs.is_outside first count node.now }
+{
+    let end = u16::from(first) + u16::from(count);
+    !(first <= node.nid && u16::from(node.nid) < end)
+}
+
+/// The widgets from `first` on, and after them those of the tables outside.
+fn lay_out(
+    alloc: Global,
+    first: u8,
+    count: u8,
+    nodes: &[NodeTable],
+) -> Result<Vec<RawNode>, AllocError>
+    ensures { IfOk result (λ widgets. widgets.items ≡ codecs.widgets_of first count nodes.now) }
+{
+    let mut widgets = widgets_inside(alloc, first, count, nodes)?;
+    for node in nodes {
+        if is_outside(first, count, node) {
+            widgets.push(copy_of(alloc, &node.widget)?)?;
+        }
+    }
+    Ok(widgets)
+}
+
+/// Reads the table of the codec at this place of the array.
+pub(crate) fn read_codec(alloc: Global, table: &Table, codec: u8) -> Result<RawCodec, FileFault>
+    ensures { IsMeant result (codecs.codec_of codec (table_view table.now)) }
+{
+    let place = Place::Codec(codec);
+    let mut raw = read_codec_words(alloc, table, place)?;
+    let first = given_byte(table, place, Key::First, 0, 127)?;
+    let count = given_byte(table, place, Key::Count, 0, 127)?;
+    let array = tables_at(table, place, Key::Node, 126)?;
+    let nodes = read_nodes(alloc, array, codec)?;
+    raw.first = first.unwrap_or(least_nid(&nodes));
+    raw.count = count.unwrap_or(nid_span(&nodes));
+    raw.nodes = Items::from_vec(lay_out(alloc, raw.first, raw.count, &nodes)?);
+    Ok(raw)
+}

@@ -1,0 +1,179 @@
+use crate::{FileFault, Key, Place, read_machine};
+use codec_graph::GraphFault;
+use std::alloc::Global;
+use std::test::Fail;
+
+const THREE_NODES: &str = "[[codec]]
+address = 0
+vendor = 0x10EC0889
+[[codec.node]]
+nid = 0x02
+caps = 0x00000001
+[[codec.node]]
+nid = 0x0C
+caps = 0x0020010B
+amp_in = 0x80000000
+list = [0x02, 0x0B]
+[[codec.node]]
+nid = 0x14
+caps = 0x0040010D
+amp_out = 0x80000000
+pin_caps = 0x10
+default = 0x01014010
+list = [0x0C]
+";
+
+#[test]
+fn reads_three_nodes_and_the_gaps_between(rt: HostRuntime) -> Result<(), Fail> {
+    let machine = read_machine(rt.alloc(), THREE_NODES.as_bytes())?;
+    let codec = machine
+        .codecs
+        .as_slice()
+        .first()
+        .ok_or("a codec")?
+        .graph
+        .raw();
+    assert_eq!(rt;
+        (codec.address, codec.vendor, codec.revision),
+        (0, 0x10EC_0889, 0)
+    );
+    assert_eq!(rt; (codec.group, codec.group_type), (1, 1));
+    assert_eq!(rt;
+        (codec.group_words.pcm, codec.group_words.formats),
+        (0x0002_0040, 1)
+    );
+    assert_eq!(rt; (codec.first, codec.count, codec.nodes.len()), (2, 19, 19));
+    let mixer = codec.node(0x0C).ok_or("the mixer")?;
+    assert_eq!(rt; (mixer.caps, mixer.amp_in), (0x0020_010B, 0x8000_0000));
+    assert!(rt; mixer.list.as_slice() == [0x02, 0x0B].as_slice());
+    assert!(rt; mixer.entries.as_slice() == [0x02, 0x0B].as_slice());
+    let pin = codec.node(0x14).ok_or("the pin")?;
+    assert_eq!(rt;
+        (pin.pin_caps, pin.default, pin.amp_out),
+        (0x10, 0x0101_4010, 0x8000_0000)
+    );
+    assert_eq!(rt; codec.node(0x0B).ok_or("a gap")?.caps, 0x00F0_0000);
+    Ok(())
+}
+
+/// The fault of a text, if it has one.
+fn fault_of(alloc: Global, text: &str) -> Option<FileFault> {
+    read_machine(alloc, text.as_bytes()).err()
+}
+
+#[test]
+fn refuses_by_the_first_fault(rt: HostRuntime) -> Result<(), Fail> {
+    let top = Place::Top;
+    let codec = Place::Codec(0);
+    let node = Place::Node(0, 0);
+    let cases = [
+        ("codec", FileFault::Toml),
+        ("", FileFault::MissingKey(top, Key::Codec)),
+        ("codec = 1", FileFault::WrongType(top, Key::Codec)),
+        ("codec = [{}, {}, 1]", FileFault::WrongType(top, Key::Codec)),
+        ("codec = []", FileFault::OutOfRange(top, Key::Codec)),
+        ("codec = [{}, {}]", FileFault::OutOfRange(top, Key::Codec)),
+        (
+            "codec = [{vendor = 1.5}]",
+            FileFault::MissingKey(codec, Key::Address),
+        ),
+        (
+            "codec = [{address = 15}]",
+            FileFault::OutOfRange(codec, Key::Address),
+        ),
+        (
+            "codec = [{address = 0, vendor = -1}]",
+            FileFault::OutOfRange(codec, Key::Vendor),
+        ),
+        (
+            "codec = [{address = 0, vendor = 1.0}]",
+            FileFault::WrongType(codec, Key::Vendor),
+        ),
+        (
+            "codec = [{address = 0, vendor = 1, group = 0, pcm = ''}]",
+            FileFault::OutOfRange(codec, Key::Group),
+        ),
+        (
+            "codec = [{address = 0, vendor = 1}]",
+            FileFault::MissingKey(codec, Key::Node),
+        ),
+        (
+            "codec = [{address = 0, vendor = 1, node = []}]",
+            FileFault::OutOfRange(codec, Key::Node),
+        ),
+        (
+            "codec = [{address = 0, vendor = 1, node = [{nid = 128}]}]",
+            FileFault::OutOfRange(node, Key::Nid),
+        ),
+        (
+            "codec = [{address = 0, vendor = 1, node = [{nid = 2}]}]",
+            FileFault::MissingKey(node, Key::Caps),
+        ),
+        (
+            "codec = [{address = 0, vendor = 1, node = [{nid = 2, caps = 0x100000000}]}]",
+            FileFault::OutOfRange(node, Key::Caps),
+        ),
+        (
+            "codec = [{address = 0, vendor = 1, node = [{nid = 2, caps = 1, long = 0}]}]",
+            FileFault::WrongType(node, Key::Long),
+        ),
+        (
+            "codec = [{address = 0, vendor = 1, node = [{nid = 2, caps = 1, long = true}]}]",
+            FileFault::OutOfRange(node, Key::Long),
+        ),
+        (
+            "codec = [{address = 0, vendor = 1, node = [{nid = 2, caps = 1, list = ['']}]}]",
+            FileFault::WrongType(node, Key::List),
+        ),
+        (
+            "codec = [{address = 0, vendor = 1, node = [{nid = 2, caps = 1, list = []}]}]",
+            FileFault::OutOfRange(node, Key::List),
+        ),
+        (
+            "codec = [{address = 0, vendor = 1, node = [{nid = 2, caps = 0x200101, list = [128]}]}]",
+            FileFault::OutOfRange(node, Key::List),
+        ),
+        (
+            "codec = [{address = 0, vendor = 1, node = [{nid = 2, caps = 1}, {nid = 2}]}]",
+            FileFault::Doubled(Place::Node(0, 1), Key::Nid),
+        ),
+        (
+            "codec = [{address = 3, vendor = 1, group_type = 2, node = [{nid = 2, caps = 1}]}]",
+            FileFault::Graph(3, GraphFault::NoAudioGroup(1)),
+        ),
+        (
+            "codec = [{address = 3, vendor = 1, first = 2, node = [{nid = 3, caps = 1}]}]",
+            FileFault::Graph(3, GraphFault::BadCount(0)),
+        ),
+    ];
+    for (text, fault) in cases {
+        assert_eq!(rt; fault_of(rt.alloc(), text), Some(fault), "{text}");
+    }
+    assert_eq!(rt;
+        read_machine(rt.alloc(), b"# \xFF").err(),
+        Some(FileFault::Toml)
+    );
+    Ok(())
+}
+
+#[test]
+fn takes_sixteen_pins_and_no_more(rt: HostRuntime) -> Result<(), Fail> {
+    let alloc = rt.alloc();
+    let mut text = String::from_str(alloc, "codec = [{address = 0, vendor = 1, node = [")?;
+    for nid in 2..18u8 {
+        let pin = format!(in alloc;
+            "{{nid = {nid}, caps = 0x400001, pin_caps = 0x10, default = 0x10}},"
+        )?;
+        text.push_str(pin.as_str())?;
+    }
+    let most = format!(in alloc; "{text}]}}]")?;
+    assert_eq!(rt; fault_of(alloc, most.as_str()), None);
+    let many = format!(in alloc;
+        "{text}{{nid = 18, caps = 0x400001, pin_caps = 0x10, default = 0x10}}]}}]"
+    )?;
+    assert_eq!(rt;
+        fault_of(alloc, many.as_str()),
+        Some(FileFault::TooManyPins)
+    );
+    Ok(())
+}
