@@ -15,8 +15,8 @@ taken_with-append (Some before) xs ys = ap Some (append_assoc before xs ys)
 
 -- a piece that runs on from the first `done` bytes
 pub taken_more : (before then now : Option (List ℕ)) (bytes : List ℕ) (done m n : ℕ) → n ≤ length (take m (drop done bytes))
-  → then ≡ taken_with before (take done bytes) → now ≡ taken_with then (take n (take m (drop done bytes)))
-  → now ≡ taken_with before (take (done + n) bytes)
+    → then ≡ taken_with before (take done bytes) → now ≡ taken_with then (take n (take m (drop done bytes)))
+    → now ≡ taken_with before (take (done + n) bytes)
 taken_more before then now bytes done m n within past step =
     step ∙ ap (taken_with then) (take-front (drop done bytes) m n within)
     ∙ ap (λ t. taken_with t (take n (drop done bytes))) past

@@ -1,12 +1,23 @@
 -- What shelves and sinks in memory hold, and what is known of the machine's.
-use Rattle.std.specs.Prelude.{ℕ, List, [], ◌∷◌, Vec, String, string_bytes, is_some, if◌then◌else◌}
+use Rattle.std.specs.Prelude.{ℕ, ◌+◌, ◌-◌, ◌^◌, min, List, [], ◌∷◌, ◌++◌, take, Vec, String, string_bytes, is_some, if◌then◌else◌, Result, Ok, Err}
 use Rattle.std.specs.declared.alloc.Global.{Global}
+use Rattle.hda_outside.specs.declared.fault.Fault.{Fault}
+use Rattle.hda_outside.specs.declared.fault.Fault.TheVariants.{Failed, OutOfMemory}
+use Rattle.hda_outside.specs.Faults.{counted}
 use Rattle.hda_outside.specs.Shelf.{Files, file_of}
 
 -- files as they stand in memory, as plain bytes
 abbrev pub plain_files : List (String Global × Vec ℕ Global) → Files
 plain_files [] = []
 plain_files (file ∷ files) = (string_bytes file.0, file.1.items) ∷ plain_files files
+
+-- the bytes given, once n more are: the greatest count is 2 ^ 64 - 1
+abbrev pub given_with : ℕ → ℕ → ℕ
+given_with given n = min (given + n) (2 ^ 64 - 1)
+
+-- one count for the names that are there, another for those that aren't
+abbrev pub fault_count : Files → ℕ → ℕ → List ℕ → ℕ
+fault_count files faults missing name = if is_some (file_of files name) then faults else missing
 
 -- a shelf whose calls of some numbers fail
 pub record PlannedShelf : Type 0 where
@@ -21,6 +32,16 @@ pub record PlannedShelf : Type 0 where
   -- bytes given
   pub given : ℕ
 
+-- a planned shelf after a call under that name
+abbrev pub after_planned_read : PlannedShelf → List ℕ → Result ℕ Fault → PlannedShelf
+after_planned_read shelf name (Ok n) = record shelf { calls = counted shelf.calls; given = given_with shelf.given n }
+after_planned_read shelf name (Err _) =
+    record shelf {
+      calls = counted shelf.calls;
+      faults = if is_some (file_of shelf.files name) then counted shelf.faults else shelf.faults;
+      missing = if is_some (file_of shelf.files name) then shelf.missing else counted shelf.missing;
+    }
+
 -- a shelf that fails only under names that aren't there
 pub record SteadyShelf : Type 0 where
   pub files : Files
@@ -29,9 +50,10 @@ pub record SteadyShelf : Type 0 where
   -- bytes given
   pub given : ℕ
 
--- one count for the names that are there, another for those that aren't
-abbrev pub fault_count : Files → ℕ → ℕ → List ℕ → ℕ
-fault_count files faults missing name = if is_some (file_of files name) then faults else missing
+-- a steady shelf after a call
+abbrev pub after_steady_read : SteadyShelf → Result ℕ Fault → SteadyShelf
+after_steady_read shelf (Ok n) = record shelf { given = given_with shelf.given n }
+after_steady_read shelf (Err _) = record shelf { missing = counted shelf.missing }
 
 -- a sink whose calls of some numbers fail
 pub record PlannedSink : Type 0 where
@@ -44,8 +66,20 @@ pub record PlannedSink : Type 0 where
   pub calls : ℕ
   pub faults : ℕ
 
+-- a planned sink after a call with these bytes
+abbrev pub after_planned_write : PlannedSink → List ℕ → Result ℕ Fault → PlannedSink
+after_planned_write sink bytes (Ok n) = record sink { taken = sink.taken ++ take n bytes; calls = counted sink.calls }
+after_planned_write sink bytes (Err Failed) = record sink { faults = counted sink.faults; calls = counted sink.calls }
+after_planned_write sink bytes (Err OutOfMemory) = record sink { calls = counted sink.calls }
+
 -- what is counted of the machine's files
 pub record MachineShelf : Type 0 where
   pub faults : ℕ
   -- bytes given
   pub given : ℕ
+
+-- what is counted of the machine's files after a call
+abbrev pub after_machine_read : MachineShelf → Result ℕ Fault → MachineShelf
+after_machine_read shelf (Ok n) = record shelf { given = given_with shelf.given n }
+after_machine_read shelf (Err Failed) = record shelf { faults = counted shelf.faults }
+after_machine_read shelf (Err OutOfMemory) = shelf

@@ -1,5 +1,6 @@
-ghost use Rattle.std.specs.Prelude.{◌≡◌, ◌≤◌, length, IfOk, None};
-ghost use Rattle.hda_outside.specs.Faults.{Rose};
+ghost use Rattle.std.specs.Prelude.{◌≡◌, ◌≢◌, ◌<◌, ◌≤◌, length, IfOk, None};
+ghost use Rattle.hda_outside.specs.Faults.{counted};
+ghost use Rattle.hda_outside.specs.Memory.{after_machine_read};
 
 use crate::fault::Fault;
 use crate::shelf::Shelf;
@@ -55,7 +56,14 @@ impl<R: Files> Shelf for FileShelf<R> {
         name: &str,
         from: u64,
         buf: &mut [u8],
-    ) -> Result<usize, Fault> {
+    ) -> Result<usize, Fault>
+        ensures bound { IfOk result (λ n. n ≤ length buf.new) }
+
+        // Exactly this is counted.
+        ensures after { self.new ≡ after_machine_read self.old result }
+        ensures given_rises { self.old.given ≤ self.new.given }
+        ensures later { self.old.faults ≤ self.new.faults }
+    {
         match read_piece(&self.files, name, from, buf) {
             Ok(n) => {
                 self.given = self.given.saturating_add(n as u64);
@@ -98,7 +106,15 @@ impl<R: Print> Sink for OutSink<R> {
 
     ghost faults = { λ s. s };
 
-    fn write(&mut self, _alloc: Global, bytes: &[u8]) -> Result<usize, Fault> {
+    fn write(&mut self, _alloc: Global, bytes: &[u8]) -> Result<usize, Fault>
+        ensures bound { IfOk result (λ n. n ≤ length bytes.now) }
+        ensures some { 0 < length bytes.now → IfOk result (λ n. 0 < n) }
+
+        // Exactly its failures are counted.
+        ensures failed { result ≡ Err Fault.Failed → self.new ≡ counted self.old }
+        ensures not_failed { result ≢ Err Fault.Failed → self.new ≡ self.old }
+        ensures later { self.old ≤ self.new }
+    {
         match self.out.write_some(bytes) {
             Ok(0) if !bytes.is_empty() => {
                 self.faults = self.faults.saturating_add(1);
@@ -119,8 +135,9 @@ fn read_piece<R: Files>(files: &R, name: &str, from: u64, buf: &mut [u8]) -> io:
 }
 
 fn fault_of(error: &io::Error, faults: &mut u64) -> Fault
+    ensures failed { result ≡ Fault.Failed → faults.new ≡ counted faults.old }
+    ensures not_failed { result ≢ Fault.Failed → faults.new ≡ faults.old }
     ensures later { faults.old ≤ faults.new }
-    ensures failed { result ≡ Fault.Failed → Rose faults.old faults.new }
 {
     if error.kind() == ErrorKind::OutOfMemory {
         return Fault::OutOfMemory;

@@ -1,6 +1,6 @@
-ghost use Rattle.std.specs.Prelude.{◌≡◌, ◌≤◌, length, option_copied, Some};
+ghost use Rattle.std.specs.Prelude.{◌≡◌, ℕ, ◌≤◌, List, length, option_copied, Some, IfOk, IfSome, IsNone, IsSome, IsOk, Contains};
 ghost use Rattle.hda_outside.specs.Shelf.{file_of, IsPiece};
-ghost use Rattle.hda_outside.specs.Memory.{plain_files, fault_count};
+ghost use Rattle.hda_outside.specs.Memory.{plain_files, fault_count, after_planned_read, after_steady_read};
 
 use crate::fault::Fault;
 use crate::shelf::Shelf;
@@ -27,12 +27,12 @@ impl Model for MemShelf {
     ghost Value = { PlannedShelf };
 
     ghost view = { λ s. record {
-        files = plain_files s.files.items;
-        fail = s.fail.items;
-        calls = s.calls;
-        faults = s.faults;
-        missing = s.missing;
-        given = s.given
+      files = plain_files s.files.items;
+      fail = s.fail.items;
+      calls = s.calls;
+      faults = s.faults;
+      missing = s.missing;
+      given = s.given;
     } };
 }
 
@@ -41,12 +41,12 @@ impl MemShelf {
     /// from 0 on, stand in `fail` fail, and so does each call for a name that isn't there.
     pub fn new(files: Vec<(String, Vec<u8>)>, fail: Vec<u64>) -> Self
         ensures { result ≡ record {
-            files = plain_files files.items;
-            fail = fail.items;
-            calls = 0;
-            faults = 0;
-            missing = 0;
-            given = 0
+          files = plain_files files.items;
+          fail = fail.items;
+          calls = 0;
+          faults = 0;
+          missing = 0;
+          given = 0;
         } }
     {
         MemShelf {
@@ -73,7 +73,24 @@ impl Shelf for MemShelf {
         name: &str,
         from: u64,
         buf: &mut [u8],
-    ) -> Result<usize, Fault> {
+    ) -> Result<usize, Fault>
+        ensures bound { IfOk result (λ n. n ≤ length buf.new) }
+        ensures piece { IfSome (file_of self.old.files name.now) (λ file.
+            IfOk result (λ n. IsPiece file from buf.new n)) }
+
+        // It fails where the name isn't there or the call's number is one of those that fail.
+        ensures missing { IsNone (file_of self.old.files name.now) → result ≡ Err Fault.Failed }
+        ensures planned { Contains self.old.fail self.old.calls → result ≡ Err Fault.Failed }
+        ensures sure { IsSome (file_of self.old.files name.now) →
+            ¬ Contains self.old.fail self.old.calls → IsOk result }
+
+        // Exactly this is counted.
+        ensures after { self.new ≡ after_planned_read self.old name.now result }
+        ensures given_rises { self.old.given ≤ self.new.given }
+        ensures later { (other : List ℕ) →
+            fault_count self.old.files self.old.faults self.old.missing other
+            ≤ fault_count self.new.files self.new.faults self.new.missing other }
+    {
         let call = self.calls;
         self.calls = self.calls.saturating_add(1);
         let Some(file) = find_file(&self.files, name) else {
@@ -134,7 +151,20 @@ impl Shelf for SureShelf {
         name: &str,
         from: u64,
         buf: &mut [u8],
-    ) -> Result<usize, Fault> {
+    ) -> Result<usize, Fault>
+        ensures bound { IfOk result (λ n. n ≤ length buf.new) }
+        ensures piece { IfSome (file_of self.old.files name.now) (λ file.
+            IfOk result (λ n. IsPiece file from buf.new n)) }
+
+        // It fails only where the name isn't there.
+        ensures missing { IsNone (file_of self.old.files name.now) → result ≡ Err Fault.Failed }
+        ensures sure { IsSome (file_of self.old.files name.now) → IsOk result }
+
+        // Exactly this is counted.
+        ensures after { self.new ≡ after_steady_read self.old result }
+        ensures given_rises { self.old.given ≤ self.new.given }
+        ensures later { self.old.missing ≤ self.new.missing }
+    {
         let Some(file) = find_file(&self.files, name) else {
             self.missing = self.missing.saturating_add(1);
             return Err(Fault::Failed);

@@ -1,4 +1,5 @@
-ghost use Rattle.std.specs.Prelude.{◌≡◌, ◌≤◌, Some, []};
+ghost use Rattle.std.specs.Prelude.{◌≡◌, ◌<◌, ◌≤◌, min, Some, [], ◌++◌, length, Contains, IfOk, OnOk, OnErr, IsOkUnless};
+ghost use Rattle.hda_outside.specs.Memory.{after_planned_write};
 
 use crate::fault::Fault;
 use crate::sink::Sink;
@@ -22,11 +23,11 @@ impl Model for MemSink {
     ghost Value = { PlannedSink };
 
     ghost view = { λ s. record {
-        taken = s.taken.items;
-        most = s.most;
-        fail = s.fail.items;
-        calls = s.calls;
-        faults = s.faults
+      taken = s.taken.items;
+      most = s.most;
+      fail = s.fail.items;
+      calls = s.calls;
+      faults = s.faults;
     } };
 
     ghost invariant = { λ s. 1 ≤ s.most };
@@ -61,7 +62,19 @@ impl Sink for MemSink {
 
     ghost faults = { λ s. s.faults };
 
-    fn write(&mut self, _alloc: Global, bytes: &[u8]) -> Result<usize, Fault> {
+    fn write(&mut self, _alloc: Global, bytes: &[u8]) -> Result<usize, Fault>
+        ensures bound { IfOk result (λ n. n ≤ length bytes.now) }
+        ensures some { 0 < length bytes.now → IfOk result (λ n. 0 < n) }
+
+        // It takes all that it may, and fails where the call's number is one of those that fail.
+        ensures most { IfOk result (λ n. n ≡ min (length bytes.now) self.old.most) }
+        ensures planned { Contains self.old.fail self.old.calls → result ≡ Err Fault.Failed }
+        ensures memory { ¬ Contains self.old.fail self.old.calls → IsOkUnless result Fault.OutOfMemory }
+
+        // Exactly this is taken and counted.
+        ensures after { self.new ≡ after_planned_write self.old bytes.now result }
+        ensures later { self.old.faults ≤ self.new.faults }
+    {
         let call = self.calls;
         self.calls = self.calls.saturating_add(1);
         if self.fail.contains(&call) {
@@ -111,7 +124,12 @@ impl Sink for SureSink {
 
     ghost faults = { λ _. 0 };
 
-    fn write(&mut self, _alloc: Global, bytes: &[u8]) -> Result<usize, Fault> {
+    fn write(&mut self, _alloc: Global, bytes: &[u8]) -> Result<usize, Fault>
+        ensures all { IfOk result (λ n. n ≡ length bytes.now) }
+        ensures memory { IsOkUnless result Fault.OutOfMemory }
+        ensures taken { OnOk result (self.new ≡ self.old ++ bytes.now) }
+        ensures not_taken { OnErr result (self.new ≡ self.old) }
+    {
         self.taken.extend_from_slice(bytes)?;
         Ok(bytes.len())
     }

@@ -1,5 +1,4 @@
-use Rattle.std.proofs.Common.{arith, rules, length-take, ◌≡◌, ◌∙◌, ◌++◌, ◌+◌, take, vec_len, length, ◌<◌}
-use Rattle.std.proofs.lemmas.Grind.{common_steps}
+use Rattle.std.proofs.Common.{arith, rules, length-take, vec_len}
 use Rattle.hda_outside.proofs.PieceLemmas.{front_more, place_more, whole_file}
 use Rattle.hda_outside.proofs.reading.read_all.Goals as goal
 
@@ -16,11 +15,11 @@ loop-bytes-preserved g c =
       within = search rules;
       told = search rules;
       front =
-        front_more (g.S.Shelf.told c.args.shelf.now) (g.S.Shelf.told c.loop-bytes.shelf) c.args.name.now c.loop-bytes.bytes.items
-        c.read_at.new.buf (vec_len c.loop-bytes.bytes) c.len-from.result c.in_ok-n.n _ _ c.loop-bytes.invariant.told c.loop-bytes.invariant.front c.len-from.ensures
-        c.in_ok-n.ensures.piece c.in_ok-extend_from_slice.ensures.items
-        (place_more _ _ _ c.read_at.new.buf c.in_ok-extend_from_slice.ensures.len c.in_ok-n.ensures.bound);
+          front_more (g.S.Shelf.told c.args.shelf.now) (g.S.Shelf.told c.loop-bytes.shelf) c.args.name.now c.loop-bytes.bytes.items
+          c.read_at.new.buf (vec_len c.loop-bytes.bytes) c.len-from.result c.in_ok-n.n _ _ c.loop-bytes.invariant.told c.loop-bytes.invariant.front c.len-from.ensures
+          c.in_ok-n.ensures.piece c.in_ok-extend_from_slice.ensures.items
+          (place_more _ _ _ c.read_at.new.buf c.in_ok-extend_from_slice.ensures.len c.in_ok-n.ensures.bound);
       given = search rules;
       given_rises = search rules;
-      later = search rules
+      later = search rules;
     }

@@ -10,10 +10,10 @@ invariant-loop-bytes g l =
       within : vec_len l.bytes ≤ l.most;
       told : g.S.Shelf.told l.shelf ≡ g.S.Shelf.told l.fn.shelf;
       front : (files : Files) → g.S.Shelf.told l.fn.shelf ≡ Some files → (file : List ℕ) → file_of files l.name ≡ Some file
-        → l.bytes.items ++ drop (vec_len l.bytes) file ≡ file;
+          → l.bytes.items ++ drop (vec_len l.bytes) file ≡ file;
       given : g.S.Shelf.given l.shelf ≤ g.S.Shelf.given l.fn.shelf + vec_len l.bytes;
       given_rises : g.S.Shelf.given l.fn.shelf ≤ g.S.Shelf.given l.shelf;
-      later : (other : List ℕ) → g.S.Shelf.faults l.fn.shelf other ≤ g.S.Shelf.faults l.shelf other
+      later : (other : List ℕ) → g.S.Shelf.faults l.fn.shelf other ≤ g.S.Shelf.faults l.shelf other;
     }
 
 abbrev pub decreases-loop-bytes : goal.decreases-loop-bytes

@@ -7,7 +7,7 @@ loop-done-preserved g c =
     record {
       within = omega (arith, simp (length-take, length-drop) at c.in_ok-done.ensures.bound);
       taken = taken_more _ _ _ c.args.bytes.now c.loop-done.done _ c.in_ok-done.field-0 c.in_ok-done.ensures.bound
-        c.loop-done.invariant.taken
-        c.in_ok-done.ensures.takes;
-      later = omega arith
+          c.loop-done.invariant.taken
+          c.in_ok-done.ensures.takes;
+      later = omega arith;
     }

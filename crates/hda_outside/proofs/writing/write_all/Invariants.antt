@@ -8,7 +8,7 @@ invariant-loop-done g l =
     record {
       within : l.done ≤ length l.bytes;
       taken : g.K.Sink.taken l.out ≡ taken_with (g.K.Sink.taken l.fn.out) (take l.done l.bytes);
-      later : g.K.Sink.faults l.fn.out ≤ g.K.Sink.faults l.out
+      later : g.K.Sink.faults l.fn.out ≤ g.K.Sink.faults l.out;
     }
 
 abbrev pub decreases-loop-done : goal.decreases-loop-done
