@@ -23,3 +23,6 @@ pub use reading::{ReadAll, read_all};
 pub use shelf::Shelf;
 pub use sink::Sink;
 pub use writing::write_all;
+
+#[cfg(test)]
+mod tests;
