@@ -36,18 +36,18 @@ piece_of told name buffer from n files here file there gives =
 
 -- one more piece of it
 pub front_more : (before then : Option Files) (name bytes buffer : List ℕ) (place from n : ℕ) (bytes' : List ℕ) (place' : ℕ)
-    → then ≡ before → IsFront before name bytes place → from ≡ place → GivesPiece then name from buffer n
+    → then ≡ before → IsFront before name bytes place → GivesPiece then name from buffer n → from ≡ place
     → bytes' ≡ bytes ++ take n buffer → place' ≡ place + n → IsFront before name bytes' place'
-front_more before then name bytes buffer place from n bytes' place' same front asked gives more further files here file there =
+front_more before then name bytes buffer place from n bytes' place' same front gives asked more further files here file there =
     let At : ℕ → Type 0 = λ p. IsPiece file p buffer n in
     let piece : IsPiece file place buffer n = subst At asked (piece_of then name buffer from n files (same ∙ here) file there gives) in
     rw (more, further, piece.front, ← drop-drop n place file, append_assoc, take-append-drop) (front files here file there)
 
 -- nothing more of it is left
 pub whole_file : (before then : Option Files) (name bytes buffer : List ℕ) (place from n : ℕ)
-    → then ≡ before → IsFront before name bytes place → from ≡ place → GivesPiece then name from buffer n → n ≡ 0
+    → then ≡ before → IsFront before name bytes place → GivesPiece then name from buffer n → from ≡ place → n ≡ 0
     → 0 < length buffer → IfSome before (λ files. file_of files name ≡ Some bytes)
-whole_file before then name bytes buffer place from n same front asked gives none room =
+whole_file before then name bytes buffer place from n same front gives asked none room =
     if_some_intro before (λ files. file_of files name ≡ Some bytes)
     (λ files here.
     some_and_cases (file_of files name) (λ file. IsPiece file from buffer n) (piece_in then name buffer from n files (same ∙ here) gives)

@@ -1,5 +1,5 @@
 -- What a sink has taken, piece after piece.
-use Rattle.std.proofs.Common.{◌≡◌, ℕ, ◌+◌, ◌≤◌, List, ◌++◌, take, drop, length, Option, Some, None, is_some, refl, sym, ap, ◌∙◌, append_assoc, arith, length-append}
+use Rattle.std.proofs.Common.{◌≡◌, ℕ, ◌+◌, ◌≤◌, List, ◌++◌, take, drop, length, Option, Some, None, is_some, refl, sym, ap, ◌∙◌, append_assoc, arith, length-append, length-take, length-drop}
 use Rattle.std.proofs.lemmas.List.{take-append-drop, take-append-le}
 use Rattle.std.proofs.Math.Seq.{take-add, take-append-add, take-length}
 use Rattle.hda_outside.specs.Sink.{taken_with, TookFront}
@@ -14,14 +14,13 @@ taken_with-append None xs ys = refl
 taken_with-append (Some before) xs ys = ap Some (append_assoc before xs ys)
 
 -- a piece that runs on from the first `done` bytes
-pub taken_more : (before then now : Option (List ℕ)) (bytes : List ℕ) (done m n : ℕ) → n ≤ length (take m (drop done bytes))
-    → then ≡ taken_with before (take done bytes) → now ≡ taken_with then (take n (take m (drop done bytes)))
-    → now ≡ taken_with before (take (done + n) bytes)
-taken_more before then now bytes done m n within past step =
-    step ∙ ap (taken_with then) (take-front (drop done bytes) m n within)
-    ∙ ap (λ t. taken_with t (take n (drop done bytes))) past
-    ∙ taken_with-append before (take done bytes) (take n (drop done bytes))
-    ∙ ap (taken_with before) (sym (take-add done n bytes))
+pub taken_with-more : (taken : Option (List ℕ)) (bytes : List ℕ) (done n : ℕ)
+    → taken_with taken (take (done + n) bytes) ≡ taken_with (taken_with taken (take done bytes)) (take n (drop done bytes))
+taken_with-more taken bytes done n =
+    ap (taken_with taken) (take-add done n bytes) ∙ sym (taken_with-append taken (take done bytes) (take n (drop done bytes)))
+
+-- what a loop over pieces needs
+pub ruleset piece_steps = (taken_with-more, take-front, length-take, length-drop)
 
 -- a sink tells after it took bytes where it told before
 pub is_some-taken_with : (taken : Option (List ℕ)) (bytes : List ℕ) → is_some (taken_with taken bytes) ≡ is_some taken

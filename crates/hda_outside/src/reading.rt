@@ -41,6 +41,7 @@ impl From<AllocError> for ReadAll {
 /// The most bytes that one read asks for.
 const BUFFER_LEN: usize = 65_536;
 
+// A buffer to read into.
 fn zeroes(alloc: Global, len: usize) -> Result<Vec<u8>, AllocError>
     ensures { IfOk result (λ buffer. vec_len buffer ≡ len) }
 {
@@ -69,7 +70,7 @@ pub fn read_all<S: Shelf>(
     ensures too_long { IfSome (S.told shelf.old) (λ files.
         result ≡ Err ReadAll.TooLong → IsSomeAnd (file_of files name.now) (λ file. most < length file)) }
 
-    // No more is asked for than is given back, or by one byte at a file that's too long.
+    // It's given no more than it answers, and at most one byte beyond `most`.
     ensures given { IfOk result (λ bytes. S.given shelf.new ≤ S.given shelf.old + vec_len bytes) }
     ensures given_at_most { S.given shelf.new ≤ S.given shelf.old + most + 1 }
     ensures given_rises { S.given shelf.old ≤ S.given shelf.new }

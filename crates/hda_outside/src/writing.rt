@@ -14,6 +14,7 @@ const PIECE_LEN: usize = 4_096;
 /// # Errors
 ///
 /// The sink's fault. The sink then took the first of the bytes, maybe none.
+#[tactic(auto, using(crate::proofs::TakenLemmas::piece_steps))]
 pub fn write_all<K: Sink>(alloc: Global, out: &mut K, bytes: &[u8]) -> Result<(), Fault>
     ensures all { OnOk result (K.taken out.new ≡ taken_with (K.taken out.old) bytes.now) }
     ensures front { OnErr result (TookFront (K.taken out.old) (K.taken out.new) bytes.now) }
