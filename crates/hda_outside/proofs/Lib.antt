@@ -1,3 +1,3 @@
-pub mod FaultLemmas
+pub mod CountLemmas
 pub mod PieceLemmas
 pub mod TakenLemmas

@@ -1,6 +1,6 @@
 ghost use Rattle.std.specs.Prelude.{◌≡◌, ◌≢◌, ◌<◌, ◌≤◌, length, IfOk, None};
-ghost use Rattle.hda_outside.specs.Faults.{counted};
-ghost use Rattle.hda_outside.specs.Memory.{after_machine_read};
+ghost use Rattle.hda_outside.specs.Counts.{counted};
+ghost use Rattle.hda_outside.specs.Machine.{after_machine_read};
 
 use crate::fault::Fault;
 use crate::shelf::Shelf;
@@ -23,7 +23,7 @@ pub struct FileShelf<R> {
 }
 
 impl<R> Model for FileShelf<R> {
-    ghost use Rattle.hda_outside.specs.Memory.{MachineShelf};
+    ghost use Rattle.hda_outside.specs.Machine.{MachineShelf};
 
     ghost Value = { MachineShelf };
 

@@ -1,6 +1,6 @@
 ghost use Rattle.std.specs.Prelude.{◌≡◌, ℕ, ◌≤◌, List, length, option_copied, Some, IfOk, IfSome, IsNone, IsSome, IsOk, Contains};
 ghost use Rattle.hda_outside.specs.Shelf.{file_of, IsPiece};
-ghost use Rattle.hda_outside.specs.Memory.{plain_files, fault_count, after_planned_read, after_steady_read};
+ghost use Rattle.hda_outside.specs.MemoryShelf.{plain_files, fault_count, after_planned_read, after_steady_read};
 
 use crate::fault::Fault;
 use crate::shelf::Shelf;
@@ -22,7 +22,7 @@ pub struct MemShelf {
 }
 
 impl Model for MemShelf {
-    ghost use Rattle.hda_outside.specs.Memory.{plain_files, PlannedShelf};
+    ghost use Rattle.hda_outside.specs.MemoryShelf.{plain_files, PlannedShelf};
 
     ghost Value = { PlannedShelf };
 
@@ -118,7 +118,7 @@ pub struct SureShelf {
 }
 
 impl Model for SureShelf {
-    ghost use Rattle.hda_outside.specs.Memory.{plain_files, SteadyShelf};
+    ghost use Rattle.hda_outside.specs.MemoryShelf.{plain_files, SteadyShelf};
 
     ghost Value = { SteadyShelf };
 

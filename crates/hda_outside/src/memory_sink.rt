@@ -1,5 +1,5 @@
 ghost use Rattle.std.specs.Prelude.{◌≡◌, ◌<◌, ◌≤◌, min, Some, [], ◌++◌, length, Contains, IfOk, OnOk, OnErr, IsOkUnless};
-ghost use Rattle.hda_outside.specs.Memory.{after_planned_write};
+ghost use Rattle.hda_outside.specs.MemorySink.{after_planned_write};
 
 use crate::fault::Fault;
 use crate::sink::Sink;
@@ -18,7 +18,7 @@ pub struct MemSink {
 
 impl Model for MemSink {
     ghost use Rattle.std.specs.Prelude.{◌≤◌};
-    ghost use Rattle.hda_outside.specs.Memory.{PlannedSink};
+    ghost use Rattle.hda_outside.specs.MemorySink.{PlannedSink};
 
     ghost Value = { PlannedSink };
 

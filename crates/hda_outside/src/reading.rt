@@ -1,5 +1,5 @@
 ghost use Rattle.std.specs.Prelude.{◌≡◌, ℕ, ◌+◌, ◌<◌, ◌≤◌, List, length, vec_len, Some, IfSome, IsSomeAnd, IfOk};
-ghost use Rattle.hda_outside.specs.Faults.{Rose};
+ghost use Rattle.hda_outside.specs.Counts.{Rose};
 ghost use Rattle.hda_outside.specs.Shelf.{file_of};
 ghost use Rattle.hda_outside.specs.Reading.{of_fault};
 ghost use Rattle.hda_outside.specs.declared.reading.ReadAll.TheVariants.{OutOfMemory};

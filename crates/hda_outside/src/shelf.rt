@@ -1,5 +1,5 @@
-ghost use Rattle.std.specs.Prelude.{◌≡◌, ℕ, ◌+◌, ◌-◌, ◌^◌, ◌≤◌, min, List, length, Option, IfSome, IsSomeAnd, IfOk, OnErr};
-ghost use Rattle.hda_outside.specs.Faults.{Rose};
+ghost use Rattle.std.specs.Prelude.{◌≡◌, ℕ, ◌≤◌, List, length, Option, IfSome, IsSomeAnd, IfOk, OnErr};
+ghost use Rattle.hda_outside.specs.Counts.{count_with, Rose};
 ghost use Rattle.hda_outside.specs.Shelf.{Files, file_of, IsPiece};
 
 use crate::fault::Fault;
@@ -37,7 +37,7 @@ pub trait Shelf {
             IfOk result (λ n. IsSomeAnd (file_of files name.now) (λ file. IsPiece file from buf.new n))) }
 
         // What it gave is counted, up to the greatest count.
-        ensures given { IfOk result (λ n. given self.new ≡ min (given self.old + n) (2 ^ 64 - 1)) }
+        ensures given { IfOk result (λ n. given self.new ≡ count_with (given self.old) n) }
         ensures not_given { OnErr result (given self.new ≡ given self.old) }
         ensures given_rises { given self.old ≤ given self.new }
 

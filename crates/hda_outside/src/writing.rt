@@ -1,5 +1,5 @@
 ghost use Rattle.std.specs.Prelude.{◌≡◌, ◌≤◌, OnOk, OnErr};
-ghost use Rattle.hda_outside.specs.Faults.{Rose};
+ghost use Rattle.hda_outside.specs.Counts.{Rose};
 ghost use Rattle.hda_outside.specs.Sink.{taken_with, TookFront};
 
 use crate::fault::Fault;

@@ -1,6 +1,6 @@
 use Rattle.std.proofs.Common.{◌≡◌, drop}
 use Rattle.hda_outside.specs.Shelf.{file_of}
-use Rattle.hda_outside.specs.Memory.{plain_files}
+use Rattle.hda_outside.specs.MemoryShelf.{plain_files}
 use Rattle.hda_outside.proofs.memory_shelf.find_file.Given as goal
 
 -- The file is that of the rest.
