@@ -1,0 +1,15 @@
+use Rattle.std.proofs.Common.{◌≡◌, ◌-◌, ◌≤◌, take, length}
+use Rattle.hda_outside.specs.Sink.{taken_with}
+use Rattle.hda_outside.proofs.writing.write_all.Given as goal
+
+-- The sink has taken the first `done` bytes.
+abbrev pub invariant-loop-done : goal.invariant-loop-done
+invariant-loop-done g l =
+    record {
+      within : l.done ≤ length l.bytes;
+      taken : g.K.Sink.taken l.out ≡ taken_with (g.K.Sink.taken l.fn.out) (take l.done l.bytes);
+      later : g.K.Sink.faults l.fn.out ≤ g.K.Sink.faults l.out;
+    }
+
+abbrev pub decreases-loop-done : goal.decreases-loop-done
+decreases-loop-done g l = length l.bytes - l.done

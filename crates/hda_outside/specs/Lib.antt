@@ -1,0 +1,7 @@
+pub mod Counts
+pub mod Machine
+pub mod MemoryShelf
+pub mod MemorySink
+pub mod Reading
+pub mod Shelf
+pub mod Sink

@@ -1,0 +1,147 @@
+ghost use Rattle.std.specs.Prelude.{◌≡◌, ◌≢◌, ◌<◌, ◌≤◌, length, IfOk, None};
+ghost use Rattle.hda_outside.specs.Counts.{counted};
+ghost use Rattle.hda_outside.specs.Machine.{after_machine_read};
+
+use crate::fault::Fault;
+use crate::shelf::Shelf;
+use crate::sink::Sink;
+use std::alloc::Global;
+use std::io;
+use std::io::{ErrorKind, Read, Seek, SeekFrom};
+use std::marker::Model;
+use std::rt::Files;
+
+/// The machine's files, by path. This project's own.
+///
+/// Nothing is told of them. It has one count of faults for all names, and what is no file that can be
+/// read fails. Nothing is proved of what a file holds.
+#[derive(Drop)]
+pub struct FileShelf<R> {
+    files: R,
+    faults: u64,
+    given: u64,
+}
+
+impl<R> Model for FileShelf<R> {
+    ghost use Rattle.hda_outside.specs.Machine.{MachineShelf};
+
+    ghost Value = { MachineShelf };
+
+    ghost view = { λ s. record { faults = s.faults; given = s.given } };
+}
+
+impl<R> FileShelf<R> {
+    /// The files that `files` reaches, as those of a runtime or of a reference to one.
+    pub fn new(files: R) -> Self
+        ensures { result ≡ record { faults = 0; given = 0 } }
+    {
+        FileShelf {
+            files,
+            faults: 0,
+            given: 0,
+        }
+    }
+}
+
+impl<R: Files> Shelf for FileShelf<R> {
+    ghost told = { λ _. None };
+
+    ghost faults = { λ s _. s.faults };
+
+    ghost given = { λ s. s.given };
+
+    fn read_at(
+        &mut self,
+        _alloc: Global,
+        name: &str,
+        from: u64,
+        buf: &mut [u8],
+    ) -> Result<usize, Fault>
+        ensures bound { IfOk result (λ n. n ≤ length buf.new) }
+
+        // Exactly this is counted.
+        ensures after { self.new ≡ after_machine_read self.old result }
+        ensures given_rises { self.old.given ≤ self.new.given }
+        ensures later { self.old.faults ≤ self.new.faults }
+    {
+        match read_piece(&self.files, name, from, buf) {
+            Ok(n) => {
+                self.given = self.given.saturating_add(n as u64);
+                Ok(n)
+            }
+            Err(error) => Err(fault_of(&error, &mut self.faults)),
+        }
+    }
+}
+
+/// Standard output. This project's own.
+///
+/// Nothing is told of what it took. Each write goes out at once, so that a full disk is noticed by the
+/// call that meets it.
+#[derive(Drop)]
+pub struct OutSink<R> {
+    out: R,
+    faults: u64,
+}
+
+impl<R> Model for OutSink<R> {
+    ghost use Rattle.std.specs.Prelude.{ℕ};
+
+    ghost Value = { ℕ };
+
+    ghost view = { λ s. s.faults };
+}
+
+impl<R> OutSink<R> {
+    /// The standard output of `out`, as of a runtime or of a reference to one.
+    pub fn new(out: R) -> Self
+        ensures { result ≡ 0 }
+    {
+        OutSink { out, faults: 0 }
+    }
+}
+
+impl<R: Print> Sink for OutSink<R> {
+    ghost taken = { λ _. None };
+
+    ghost faults = { λ s. s };
+
+    fn write(&mut self, _alloc: Global, bytes: &[u8]) -> Result<usize, Fault>
+        ensures bound { IfOk result (λ n. n ≤ length bytes.now) }
+        ensures some { 0 < length bytes.now → IfOk result (λ n. 0 < n) }
+
+        // Exactly its failures are counted.
+        ensures failed { result ≡ Err Fault.Failed → self.new ≡ counted self.old }
+        ensures not_failed { result ≢ Err Fault.Failed → self.new ≡ self.old }
+        ensures later { self.old ≤ self.new }
+    {
+        match self.out.write_some(bytes) {
+            Ok(0) if !bytes.is_empty() => {
+                self.faults = self.faults.saturating_add(1);
+                Err(Fault::Failed)
+            }
+            Ok(n) => Ok(n),
+            Err(error) => Err(fault_of(&error, &mut self.faults)),
+        }
+    }
+}
+
+fn read_piece<R: Files>(files: &R, name: &str, from: u64, buf: &mut [u8]) -> io::Result<usize>
+    ensures { IfOk result (λ n. n ≤ length buf.new) }
+{
+    let mut file = std::fs::open(files, name)?;
+    file.seek(SeekFrom::Start(from))?;
+    file.read(buf)
+}
+
+fn fault_of(error: &io::Error, faults: &mut u64) -> Fault
+    ensures failed { result ≡ Fault.Failed → faults.new ≡ counted faults.old }
+    ensures not_failed { result ≢ Fault.Failed → faults.new ≡ faults.old }
+    ensures later { faults.old ≤ faults.new }
+{
+    if error.kind() == ErrorKind::OutOfMemory {
+        return Fault::OutOfMemory;
+    }
+    *faults = faults.saturating_add(1);
+    Fault::Failed
+}

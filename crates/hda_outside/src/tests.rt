@@ -1,0 +1,122 @@
+use crate::{
+    Fault, FileShelf, MemShelf, MemSink, OutSink, ReadAll, Shelf, Sink, SureShelf, SureSink,
+    read_all, write_all,
+};
+use std::alloc::{AllocError, Global};
+use std::fs;
+use std::test::Fail;
+
+// The second file named `short` is never reached.
+fn files(alloc: Global) -> Result<Vec<(String, Vec<u8>)>, AllocError> {
+    let mut files = Vec::new(alloc);
+    for (name, text) in [("empty", ""), ("short", "first"), ("short", "second")] {
+        let bytes = text.as_bytes().to_vec(alloc)?;
+        files.push((String::from_str(alloc, name)?, bytes))?;
+    }
+    let long = vec![in alloc; 7; 70_000]?;
+    files.push((String::from_str(alloc, "long")?, long))?;
+    Ok(files)
+}
+
+// The length of what was read, or why it wasn't.
+fn outcome(answer: &Result<Vec<u8>, ReadAll>) -> Result<usize, ReadAll> {
+    match answer {
+        Ok(bytes) => Ok(bytes.len()),
+        Err(error) => Err(*error),
+    }
+}
+
+#[test]
+fn reads_whole_files(rt: HostRuntime) -> Result<(), Fail> {
+    let alloc = rt.alloc();
+    let mut planned = MemShelf::new(files(alloc)?, Vec::new(alloc));
+    let mut sure = SureShelf::new(files(alloc)?);
+    let table = [
+        ("empty", 0, Ok(0)),
+        ("short", 5, Ok(5)),
+        ("short", 4, Err(ReadAll::TooLong)),
+        ("gone", 9, Err(ReadAll::Failed)),
+        ("long", 70_000, Ok(70_000)),
+        ("long", 69_999, Err(ReadAll::TooLong)),
+        ("long", u64::MAX, Ok(70_000)),
+    ];
+    for (name, most, want) in table {
+        let got = read_all(alloc, &mut planned, name, most);
+        assert_eq!(rt; outcome(&got), want, "planned {name} {most}");
+        let got = read_all(alloc, &mut sure, name, most);
+        assert_eq!(rt; outcome(&got), want, "sure {name} {most}");
+    }
+    let got = read_all(alloc, &mut sure, "short", 9)?;
+    assert_eq!(rt; got.as_slice(), b"first".as_slice());
+    Ok(())
+}
+
+#[test]
+fn fails_planned_calls(rt: HostRuntime) -> Result<(), Fail> {
+    let alloc = rt.alloc();
+    let mut shelf = MemShelf::new(files(alloc)?, [1, 3].to_vec(alloc)?);
+    let mut buf = [0u8; 4];
+    let table = [
+        ("short", 0, Ok(4)),
+        ("short", 4, Err(Fault::Failed)),
+        ("short", 4, Ok(1)),
+        ("short", 4, Err(Fault::Failed)),
+        ("gone", 0, Err(Fault::Failed)),
+        ("short", 5, Ok(0)),
+        ("short", u64::MAX, Ok(0)),
+    ];
+    for (name, from, want) in table {
+        assert_eq!(rt;
+            shelf.read_at(alloc, name, from, &mut buf),
+            want,
+            "{name} {from}"
+        );
+    }
+    Ok(())
+}
+
+#[test]
+fn writes_all_bytes(rt: HostRuntime) -> Result<(), Fail> {
+    let alloc = rt.alloc();
+    let text = vec![in alloc; 3; 10_000]?;
+    let mut sure = SureSink::new(alloc);
+    assert_eq!(rt; write_all(alloc, &mut sure, &text), Ok(()));
+    assert_eq!(rt; sure.write(alloc, b"!"), Ok(1));
+    assert_eq!(rt; sure.bytes().len(), 10_001);
+
+    let mut planned = MemSink::new(alloc, 3, [2].to_vec(alloc)?);
+    assert_eq!(rt;
+        write_all(alloc, &mut planned, b"12345678"),
+        Err(Fault::Failed)
+    );
+    assert_eq!(rt; planned.bytes(), b"123456".as_slice());
+    assert_eq!(rt; write_all(alloc, &mut planned, b"78"), Ok(()));
+    assert_eq!(rt; planned.bytes(), b"12345678".as_slice());
+    Ok(())
+}
+
+#[test]
+fn reads_files_of_the_machine(rt: HostRuntime) -> Result<(), Fail> {
+    let alloc = rt.alloc();
+    let path = "hda_outside_reads_files_of_the_machine";
+    fs::write(&rt, path, "written")?;
+    let mut shelf = FileShelf::new(&rt);
+    let table = [
+        (path, 7, Ok(7)),
+        (path, 6, Err(ReadAll::TooLong)),
+        (".", 7, Err(ReadAll::Failed)),
+        ("hda_outside_is_not_there", 7, Err(ReadAll::Failed)),
+    ];
+    for (name, most, want) in table {
+        let got = read_all(alloc, &mut shelf, name, most);
+        assert_eq!(rt; outcome(&got), want, "{name} {most}");
+    }
+    Ok(())
+}
+
+#[test]
+fn writes_standard_output(rt: HostRuntime) {
+    let mut out = OutSink::new(&rt);
+    let written = write_all(rt.alloc(), &mut out, b"one line on standard output\n");
+    assert_eq!(rt; written, Ok(()));
+}

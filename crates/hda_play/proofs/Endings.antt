@@ -1,0 +1,36 @@
+-- What the words and the statuses of the program come to.
+use Rattle.std.proofs.Common.{◌≡◌, ℕ, ◌+◌, ◌<◌, ◌≤◌, ◌⊎◌, inl, inr, List, [], ◌∷◌, ◌++◌, length, get_or, take, take_all, append-nil, min, Option, refl, sym, ap, ◌∙◌, arith}
+use Rattle.std.specs.List.{flat_map, zip}
+use Rattle.std.proofs.lemmas.List.{take_more}
+use Rattle.std.proofs.lemmas.List.Concat.{flat_map-append}
+use Rattle.std.proofs.lemmas.Slice.Zip.{length-zip, get_or-zip}
+use Rattle.hda_files.specs.declared.machine.CodecFile.{CodecFile}
+use Rattle.route_planner.specs.declared.routes.Plan.{Plan}
+use Rattle.hda_outside.specs.Shelf.{Files}
+use Rattle.hda_outside.specs.Sink.{taken_with, TookFront}
+use Rattle.hda_play.specs.Answers.{IsMeant, HasEnded, WroteText, codec_lines}
+
+-- a list of two is its two items
+pub two_items : {X : Type 0} (xs : List X) (x y : X) → 2 ≤ length xs → length xs < 3 → x ≡ get_or xs 0 x → y ≡ get_or xs 1 y → xs ≡ x ∷ y ∷ []
+two_items [] x y more fewer at0 at1 = absurd (omega arith)
+two_items (a ∷ []) x y more fewer at0 at1 = absurd (omega arith)
+two_items (a ∷ b ∷ []) x y more fewer at0 at1 = cc
+two_items (a ∷ b ∷ c ∷ xs) x y more fewer at0 at1 = absurd (omega arith)
+
+-- what was meant and how it was written make the end
+pub HasEnded-wrote : (told : Option Files) (failed : List ℕ → Type 0) (words : List (List ℕ)) (before after : Option (List ℕ)) (sink_failed : Type 0) (meant : ℕ) (text : List ℕ) (status : ℕ) → IsMeant told failed words meant text → WroteText meant text before after sink_failed status → HasEnded told failed words before after sink_failed status
+HasEnded-wrote told failed words before after sink_failed meant text status m (inl whole) = inl (text, rw whole.0 m, whole.1)
+HasEnded-wrote told failed words before after sink_failed meant text status m (inr (inl sink)) = inr (inl (sink.0, sink.1, (meant, text, m, sink.2)))
+HasEnded-wrote told failed words before after sink_failed meant text status m (inr (inr memory)) = inr (inr (memory.0, inr (meant, text, m, memory.1)))
+
+-- the lines of one codec more
+pub lines-more : (files : List CodecFile) (plans : List Plan) (n : ℕ) (file : CodecFile) (plan : Plan) → n < length files → n < length plans → ((d : CodecFile) → file ≡ get_or files n d) → ((d : Plan) → plan ≡ get_or plans n d) → flat_map codec_lines (take (n + 1) (zip files plans)) ≡ flat_map codec_lines (take n (zip files plans)) ++ codec_lines (file, plan)
+lines-more files plans n file plan in_files in_plans is_file is_plan =
+    let within : n < length (zip files plans) = rw length-zip (omega arith) in
+    let here : get_or (zip files plans) n (file, plan) ≡ (file, plan) =
+    get_or-zip files plans n (file, plan) in_files in_plans ∙ ap (λ x. (x, get_or plans n plan)) (sym (is_file file)) ∙ ap (λ x. (file, x)) (sym (is_plan plan)) in
+    rw (take_more (zip files plans) n (file, plan) within, here, flat_map-append) (ap (λ x. flat_map codec_lines (take n (zip files plans)) ++ x) (append-nil (codec_lines (file, plan))))
+
+-- the lines of all codecs
+pub lines-all : (files : List CodecFile) (plans : List Plan) (n : ℕ) → n ≡ min (length files) (length plans) → take n (zip files plans) ≡ zip files plans
+lines-all files plans n e = take_all n (zip files plans) (rw (length-zip, e) (omega arith))

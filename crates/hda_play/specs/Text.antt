@@ -1,0 +1,106 @@
+-- The lines that the program writes. This project's own.
+use Rattle.std.specs.Prelude.{ℕ, ◌+◌, ◌/◌, ◌%◌, nat_lt, if◌then◌else◌, List, [], ◌∷◌, ◌++◌, codes, decimal}
+use Rattle.std.specs.List.{flat_map}
+use Rattle.codec_graph.specs.declared.fault.GraphFault.{GraphFault}
+use Rattle.codec_graph.specs.declared.fault.GraphFault.TheVariants.{NoAudioGroup, BadCount, ConnectionOutside, ListTooLong, AmpOffset, Cycle}
+use Rattle.hda_files.specs.declared.fault.Place.{Place}
+use Rattle.hda_files.specs.declared.fault.Place.TheVariants as place
+use Rattle.hda_files.specs.declared.fault.Key.{Key}
+use Rattle.hda_files.specs.declared.fault.FileFault.{FileFault}
+use Rattle.hda_files.specs.declared.fault.FileFault.TheVariants.{Toml, MissingKey, WrongType, OutOfRange, Doubled, Graph, TooManyPins, OutOfMemory}
+use Rattle.hda_files.specs.Keys.{key_name}
+use Rattle.route_planner.specs.declared.routes.Hop.{Hop}
+use Rattle.route_planner.specs.declared.routes.Outcome.{Outcome}
+use Rattle.route_planner.specs.declared.routes.Outcome.TheVariants as outcome
+use Rattle.route_planner.specs.declared.routes.PinPlan.{PinPlan}
+use Rattle.route_planner.specs.declared.routes.Plan.{Plan}
+
+-- a number below 16 as a lower hexadecimal digit
+abbrev pub hex_digit : ℕ → ℕ
+hex_digit n = if nat_lt n 10 then 48 + n else 87 + n
+
+-- a node identifier: two lower hexadecimal digits
+abbrev pub nid_text : ℕ → List ℕ
+nid_text nid = hex_digit (nid / 16) ∷ hex_digit (nid % 16) ∷ []
+
+-- the end of a line
+abbrev pub newline : List ℕ
+newline = 10 ∷ []
+
+-- a hop of a route: the node, a point, the index, and a space
+abbrev pub hop_text : Hop → List ℕ
+hop_text hop = nid_text hop.nid ++ codes "." ++ decimal hop.index ++ codes " "
+
+-- the codec, the pin and its pair, after the word for what was found
+abbrev pub entry_head : List ℕ → ℕ → PinPlan → List ℕ
+entry_head word address entry =
+    word ++ codes " " ++ decimal address ++ codes " " ++ nid_text entry.pin ++ codes " pair " ++ decimal entry.pair
+
+-- what was found for a pin
+abbrev pub outcome_line : ℕ → PinPlan → Outcome → List ℕ
+outcome_line address entry (outcome.Route route) =
+    entry_head (codes "route") address entry ++ codes " via " ++ flat_map hop_text route.hops ++ nid_text route.converter ++ newline
+outcome_line address entry outcome.Blocked = entry_head (codes "blocked") address entry ++ newline
+outcome_line address entry outcome.NoPath = entry_head (codes "nopath") address entry ++ newline
+
+-- the line of a pin
+abbrev pub entry_line : ℕ → PinPlan → List ℕ
+entry_line address entry = outcome_line address entry entry.outcome
+
+-- the lines of a codec's plan
+abbrev pub plan_lines : ℕ → Plan → List ℕ
+plan_lines address plan = flat_map (entry_line address) plan.pins
+
+-- the name of a graph's fault, and its node identifier
+abbrev pub graph_fault_name : GraphFault → List ℕ
+graph_fault_name (NoAudioGroup _) = codes "NoAudioGroup"
+graph_fault_name (BadCount _) = codes "BadCount"
+graph_fault_name (ConnectionOutside _) = codes "ConnectionOutside"
+graph_fault_name (ListTooLong _) = codes "ListTooLong"
+graph_fault_name (AmpOffset _) = codes "AmpOffset"
+graph_fault_name (Cycle _) = codes "Cycle"
+
+abbrev pub graph_fault_nid : GraphFault → ℕ
+graph_fault_nid (NoAudioGroup nid) = nid
+graph_fault_nid (BadCount nid) = nid
+graph_fault_nid (ConnectionOutside nid) = nid
+graph_fault_nid (ListTooLong nid) = nid
+graph_fault_nid (AmpOffset nid) = nid
+graph_fault_nid (Cycle nid) = nid
+
+-- a table of the codec file
+abbrev pub place_text : Place → List ℕ
+place_text place.Top = codes "top"
+place_text (place.Codec codec) = codes "codec " ++ decimal codec
+place_text (place.Node codec node) = codes "codec " ++ decimal codec ++ codes " node " ++ decimal node
+
+abbrev pub key_fault_text : List ℕ → Place → Key → List ℕ
+key_fault_text word place key = word ++ codes " " ++ key_name key ++ codes " at " ++ place_text place
+
+-- the fault of a codec file
+abbrev pub fault_text : FileFault → List ℕ
+fault_text Toml = codes "Toml"
+fault_text (MissingKey place key) = key_fault_text (codes "MissingKey") place key
+fault_text (WrongType place key) = key_fault_text (codes "WrongType") place key
+fault_text (OutOfRange place key) = key_fault_text (codes "OutOfRange") place key
+fault_text (Doubled place key) = key_fault_text (codes "Doubled") place key
+fault_text (Graph address fault) =
+    graph_fault_name fault ++ codes " at " ++ decimal address ++ codes "/" ++ nid_text (graph_fault_nid fault)
+fault_text TooManyPins = codes "TooManyPins"
+fault_text OutOfMemory = []
+
+-- the last lines of the program
+abbrev pub refused_line : List ℕ → List ℕ
+refused_line fault = codes "codec refused: " ++ fault ++ newline
+
+abbrev pub unreadable_line : List ℕ → List ℕ
+unreadable_line name = codes "cannot read: " ++ name ++ newline
+
+abbrev pub nothing_routed_line : List ℕ
+nothing_routed_line = codes "nothing routed" ++ newline
+
+abbrev pub usage_line : List ℕ
+usage_line =
+    codes "usage: hda_play route CODEC [--rate R] [--channels C] | walk CODEC SCHEDULE"
+    ++ codes " | play CODEC WAV SCHEDULE [--periods K] [--period M] | make N"
+    ++ newline
