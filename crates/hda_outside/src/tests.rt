@@ -111,6 +111,7 @@ fn reads_files_of_the_machine(rt: HostRuntime) -> Result<(), Fail> {
         let got = read_all(alloc, &mut shelf, name, most);
         assert_eq!(rt; outcome(&got), want, "{name} {most}");
     }
+    fs::remove_file(&rt, path)?;
     Ok(())
 }
 

@@ -117,3 +117,16 @@ WroteText meant text before after sink_failed status =
     ((status ≡ meant) × (after ≡ taken_with before text))
     ⊎ (((status ≡ 4) × sink_failed × TookFront before after text)
     ⊎ ((status ≡ 12) × TookFront before after text))
+
+-- the words name a codec file that is too long, or whose bytes read as this
+abbrev pub IsRefused : Option Files → List (List ℕ) → Type 0
+IsRefused told words =
+    (name : List ℕ) × IsRouteOf words name
+    × (IsTooLong told name ⊎ ((bytes : List ℕ) × (fault : FileFault) × IsFile told name bytes × (fault ≢ OutOfMemory) × Reads bytes (Err fault)))
+
+-- the words name a codec file that reads as a machine, of whose plans some has a route, or none
+abbrev pub IsPlanned : Option Files → List (List ℕ) → Bool → Type 0
+IsPlanned told words some =
+    (name : List ℕ) × (bytes : List ℕ) × (machine : Machine) × (plans : List Plan)
+    × IsRouteOf words name × IsFile told name bytes × Reads bytes (Ok machine)
+    × ArePlans machine.codecs plans × (list_any has_route plans ≡ some)

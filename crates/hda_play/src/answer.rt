@@ -1,6 +1,6 @@
 //! What the program answers to its words, before anything is written.
 ghost use Rattle.std.specs.Prelude.{◌≡◌, ◌≤◌, ℕ, List, map, string_bytes, IfOk, IfSome, IfNone, OnOk, ◌++◌};
-ghost use Rattle.hda_outside.specs.Faults.{Rose};
+ghost use Rattle.hda_outside.specs.Counts.{Rose};
 ghost use Rattle.hda_play.specs.Answers.{IsCommand, IsRouteOf, IsMeant, RouteAnswers, ReadingAnswers, MachineAnswers, IsRoutePlan, ArePlans, has_route, is_route, plans_lines};
 ghost use Rattle.std.specs.List.{list_any};
 ghost use Rattle.hda_play.specs.Text.{refused_line, unreadable_line};

@@ -1,7 +1,7 @@
 //! The program over any shelf and sink.
-ghost use Rattle.std.specs.Prelude.{◌≡◌, ◌≤◌, ℕ, List, map, string_bytes, IsNone};
-ghost use Rattle.hda_outside.specs.Faults.{Rose};
-ghost use Rattle.hda_play.specs.Answers.{IsCommand, IsRouteOf, HasEnded, WroteText};
+ghost use Rattle.std.specs.Prelude.{◌≡◌, ◌≤◌, ℕ, List, map, string_bytes, IsNone, true, false};
+ghost use Rattle.hda_outside.specs.Counts.{Rose};
+ghost use Rattle.hda_play.specs.Answers.{IsCommand, IsRouteOf, IsRefused, IsPlanned, HasEnded, WroteText};
 
 use crate::answer::{Answer, answer_words};
 use hda_outside::{Fault, Shelf, Sink, write_all};
@@ -45,6 +45,9 @@ pub fn hda_main<S: Shelf, K: Sink>(
     ensures refused_words { result.status ≡ 2 → IsCommand (map string_bytes words.now) → ⊥ }
     ensures unread { result.status ≡ 3 → (name : List ℕ) × IsRouteOf (map string_bytes words.now) name
         × Rose (S.faults shelf.old name) (S.faults shelf.new name) }
+    ensures refused_file { result.status ≡ 5 → IsRefused (S.told shelf.old) (map string_bytes words.now) }
+    ensures routed { result.status ≡ 0 → IsPlanned (S.told shelf.old) (map string_bytes words.now) true }
+    ensures nothing_routed { result.status ≡ 8 → IsPlanned (S.told shelf.old) (map string_bytes words.now) false }
     ensures unwritten { result.status ≡ 4 → Rose (K.faults out.old) (K.faults out.new) }
 
     // The shelf's files stay as they are, and no count of faults falls.
