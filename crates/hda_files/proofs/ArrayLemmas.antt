@@ -1,9 +1,8 @@
 -- The values of an array, item by item.
-use Rattle.std.proofs.Common.{◌≡◌, ℕ, ◌<◌, ◌≤◌, ◌+◌, get_or, drop, ◌&&◌, Bool, true, false, List, [], ◌∷◌, length, map, refl, ap, Option, Some, Result, Ok, Err, Vec, Global, rules, arith}
-use Rattle.std.proofs.lemmas.List.{drop_all}
+use Rattle.std.proofs.Common.{◌≡◌, ℕ, ◌<◌, ◌≤◌, ◌+◌, get_or, drop, ◌&&◌, Bool, true, List, [], ◌∷◌, length, refl, ap, Option, Some, Ok, Err, Vec, Global, arith}
 use Rattle.std.proofs.lemmas.Bool.Decides.{nat_tests}
 use Rattle.std.specs.List.{list_all, filter_map, cons_option}
-use Rattle.toml.specs.Data.{Data, Items, Members, as_array, as_table}
+use Rattle.toml.specs.Data.{Data, Members, as_array, as_table}
 use Rattle.toml.specs.View.{view, items_view, array_view}
 use Rattle.toml.specs.declared.value.Value.{Value}
 use Rattle.toml.proofs.Views.{items_view-drop}
@@ -12,10 +11,6 @@ use Rattle.hda_files.specs.declared.fault.Key.{Key}
 use Rattle.hda_files.specs.declared.fault.FileFault.TheVariants.{OutOfRange}
 use Rattle.hda_files.specs.Values.{values_of, is_table, up_to, tables_of}
 use Rattle.hda_files.specs.Arrays.{values_in, tables_in}
-
-pub values_of-view : (values : List Value) → values_of (items_view values) ≡ map view values
-values_of-view [] = refl
-values_of-view (value ∷ values) = ap (λ rest. view value ∷ rest) (values_of-view values)
 
 pub length-view : (values : List Value) → length (values_of (items_view values)) ≡ length values
 length-view [] = refl
@@ -62,6 +57,3 @@ tables_of_list values = filter_map as_table (values_of (items_view values))
 -- the tables from a place on
 pub tables_of_list-drop : (values : List Value) (i : ℕ) (value : Value) → i < length values → value ≡ get_or values i value → tables_of_list (drop i values) ≡ cons_option (as_table (view value)) (tables_of_list (drop (i + 1) values))
 tables_of_list-drop values i value within e = rw (items_view-drop values i value within, ← e)
-
-pub tables_of_list-end : (values : List Value) (i : ℕ) → length values ≤ i → tables_of_list (drop i values) ≡ []
-tables_of_list-end values i past = rw (drop_all i values past)

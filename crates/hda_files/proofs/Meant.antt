@@ -1,5 +1,5 @@
 -- Results that are the meant ones unless memory was wanting.
-use Rattle.std.proofs.Common.{◌≡◌, ap, sym, ◌∙◌, inl, inr, Result, Ok, Err, IfOk, IfErr}
+use Rattle.std.proofs.Common.{◌≡◌, ap, inl, inr, Result, Ok, Err, IfOk, IfErr}
 use Rattle.hda_files.specs.declared.fault.FileFault.{FileFault}
 use Rattle.hda_files.specs.declared.fault.FileFault.TheVariants.{OutOfMemory}
 use Rattle.hda_files.specs.Memory.{IsMeant}

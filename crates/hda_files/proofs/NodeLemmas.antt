@@ -1,5 +1,5 @@
 -- Tables read one after another.
-use Rattle.std.proofs.Common.{◌≤◌, suc, max, fold, All, arith, ◌≡◌, ℕ, ap, sym, ◌∙◌, inl, inr, List, [], ◌∷◌, ◌++◌, Result, Ok, Err}
+use Rattle.std.proofs.Common.{◌≤◌, suc, max, fold, All, arith, ◌≡◌, ℕ, inl, inr, List, [], ◌∷◌, ◌++◌, Ok, Err}
 use Rattle.toml.specs.Data.{Members}
 use Rattle.hda_files.specs.declared.fault.FileFault.{FileFault}
 use Rattle.hda_files.specs.declared.node.NodeTable.{NodeTable}

@@ -1,8 +1,7 @@
 -- What bytes mean whose top table is known.
-use Rattle.std.proofs.Common.{◌≡◌, ℕ, List, ap, sym, ◌∙◌, subst, inl, inr, ◌⊎◌, Option, Some, Result, Err}
+use Rattle.std.proofs.Common.{◌≡◌, ℕ, List, sym, ◌∙◌, subst, inl, inr, Result}
 use Rattle.std.proofs.lemmas.Option.{same_Some}
 use Rattle.toml.specs.Data.{Members}
-use Rattle.toml.specs.Parse.{parse_document}
 use Rattle.hda_files.specs.declared.machine.Machine.{Machine}
 use Rattle.hda_files.specs.declared.fault.FileFault.{FileFault}
 use Rattle.hda_files.specs.Memory.{OrMemory}

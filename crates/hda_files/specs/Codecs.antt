@@ -1,10 +1,9 @@
 -- The table of a codec. This project's own; the words are those of High Definition Audio 1.0a, 7.3.4.
-use Rattle.std.specs.Prelude.{ℕ, Bool, false, not, ◌==◌, ◌&&◌, ◌+◌, ◌-◌, List, [], ◌∷◌, ◌++◌, map, filter, fold, min, max, nat_le, nat_lt, Option, Some, None, unwrap_or, Result, Ok, Err}
+use Rattle.std.specs.Prelude.{ℕ, Bool, false, not, ◌==◌, ◌&&◌, ◌+◌, ◌-◌, List, [], ◌++◌, map, filter, fold, min, max, nat_le, nat_lt, Option, Some, None, unwrap_or, Result, Ok}
 use Rattle.std.specs.List.{find, range_with_len}
 use Rattle.toml.specs.Data.{Members}
 use Rattle.codec_graph.specs.declared.raw.RawNode.{RawNode}
 use Rattle.codec_graph.specs.declared.raw.RawCodec.{RawCodec}
-use Rattle.codec_graph.specs.declared.raw.GroupWords.{GroupWords}
 use Rattle.hda_files.specs.declared.node.NodeTable.{NodeTable}
 use Rattle.hda_files.specs.declared.fault.Place.{Place}
 use Rattle.hda_files.specs.declared.fault.Place.TheVariants as place

@@ -1,5 +1,5 @@
 -- What a codec file means: a machine, or its first fault. This project's own format.
-use Rattle.std.specs.Prelude.{◌≡◌, ◌≤◌, ◌<◌, ℕ, List, [], ◌∷◌, count_by, Option, Some, None, Result, Ok, Err, IsUtf8}
+use Rattle.std.specs.Prelude.{◌≡◌, ◌≤◌, ◌<◌, ℕ, List, [], ◌∷◌, count_by, Some, Result, Ok, Err, IsUtf8}
 use Rattle.std.specs.List.{range_with_len}
 use Rattle.toml.specs.Data.{Members}
 use Rattle.toml.specs.Parse.{parse_document}
@@ -8,7 +8,6 @@ use Rattle.codec_graph.specs.Widget.{normal}
 use Rattle.codec_graph.specs.Candidates.{is_candidate}
 use Rattle.codec_graph.specs.Cycles.{IsWellFormed, IsFirstFault}
 use Rattle.hda_files.specs.declared.machine.Machine.{Machine}
-use Rattle.hda_files.specs.declared.machine.CodecFile.{CodecFile}
 use Rattle.hda_files.specs.declared.fault.Place.TheVariants.{Top}
 use Rattle.hda_files.specs.declared.fault.Key.TheVariants.{Codec}
 use Rattle.hda_files.specs.declared.fault.FileFault.{FileFault}

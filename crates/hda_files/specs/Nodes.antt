@@ -1,5 +1,5 @@
 -- The tables of a codec's widgets. This project's own; the words are those of High Definition Audio 1.0a, 7.3.4.
-use Rattle.std.specs.Prelude.{ℕ, Bool, true, false, ◌==◌, ◌&&◌, List, [], ◌∷◌, ◌++◌, length, nat_le, Option, Some, None, is_some, option_and_then, Result, Ok, Err, if◌then◌else◌}
+use Rattle.std.specs.Prelude.{ℕ, Bool, false, ◌==◌, ◌&&◌, List, [], ◌∷◌, ◌++◌, length, nat_le, Option, Some, None, is_some, option_and_then, Result, Ok, Err, if◌then◌else◌}
 use Rattle.std.specs.Option.{ok_or}
 use Rattle.std.specs.List.{list_any, list_all, filter_map}
 use Rattle.toml.specs.Data.{Data, Members, as_integer, as_bool}

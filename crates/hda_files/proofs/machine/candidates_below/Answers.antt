@@ -11,5 +11,5 @@ pub returns : goal.returns
 unfolding candidates_below
 returns c =
     let end = c.args.end in
-    count_from_yields_List _ c.count.result c.count.ensures.ran (YieldsList-from_filter _ (is_candidate c.args.graph.now) (YieldsList-from_range 0 end end c.filter.ensures.source (omega arith)) c.filter.ensures.closure (λ x b q k. search (rules, tests)))
+    count_from_yields_List c.filter.result c.count.result c.count.ensures.ran (YieldsList-from_filter _ (is_candidate c.args.graph.now) (YieldsList-from_range 0 end end c.filter.ensures.source (omega arith)) c.filter.ensures.closure (λ x b q k. search (rules, tests)))
     ∙ length-filter (is_candidate c.args.graph.now) (range_with_len 0 end)

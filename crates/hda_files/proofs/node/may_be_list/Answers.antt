@@ -1,4 +1,4 @@
-use Rattle.std.proofs.Common.{rules, tests, arith}
+use Rattle.std.proofs.Common.{arith}
 use Rattle.std.proofs.lemmas.Bool.Decides.{nat_tests}
 use Rattle.hda_files.proofs.ArrayLemmas.{length-view}
 use Rattle.hda_files.proofs.node.may_be_list.Goals as goal

@@ -1,4 +1,4 @@
-use Rattle.std.proofs.Common.{◌≡◌, ◌≤◌, ◌+◌, drop, ap, ◌∙◌, sym, arith, rules}
+use Rattle.std.proofs.Common.{◌≤◌, ◌+◌, drop, ap, ◌∙◌, sym, arith, rules}
 use Rattle.std.proofs.lemmas.List.{length_push}
 use Rattle.std.proofs.lemmas.List.Elements.{All-push}
 use Rattle.std.specs.List.{cons_option}

@@ -1,4 +1,4 @@
-use Rattle.std.proofs.Common.{◌≡◌, ◌≤◌, true, length, rules, arith, sym}
+use Rattle.std.proofs.Common.{◌≡◌, true, rules, arith}
 use Rattle.std.specs.List.{list_all}
 use Rattle.hda_files.specs.Values.{is_table}
 use Rattle.hda_files.specs.Arrays.{values_in}
