@@ -1,4 +1,4 @@
-use Rattle.std.proofs.Common.{◌≡◌, take}
+use Rattle.std.proofs.Common.{take}
 use Rattle.hda_play.specs.Answers.{ArePlans}
 use Rattle.hda_play.proofs.answer.plans_of.Given as goal
 

@@ -1,4 +1,4 @@
-use Rattle.std.proofs.Common.{◌≡◌, codes, map, string_bytes, arith}
+use Rattle.std.proofs.Common.{codes, arith}
 use Rattle.std.specs.Cmp.Lexicographic.{same_text}
 use Rattle.hda_play.proofs.Endings.{two_items}
 use Rattle.hda_play.proofs.answer.route_file.Goals as goal
