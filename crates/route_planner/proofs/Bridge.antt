@@ -17,7 +17,7 @@ use Rattle.route_planner.specs.Search.{left_at, allows, carries_alike, can_leave
 use Rattle.route_planner.specs.Ways.{IsWay, IsWayOut}
 
 -- what an allowed connection says, and what makes one
-target-parts : (codec : RawCodec) (lefts : List Left) (nid index to : ℕ) → target codec lefts nid index ≡ Some to → (passes (can_leave codec (left_at lefts nid) index) (node_at codec nid) ≡ true) × (connection codec nid index ≡ Some to)
+pub target-parts : (codec : RawCodec) (lefts : List Left) (nid index to : ℕ) → target codec lefts nid index ≡ Some to → (passes (can_leave codec (left_at lefts nid) index) (node_at codec nid) ≡ true) × (connection codec nid index ≡ Some to)
 unfolding target
 target-parts codec lefts nid index to e =
     elim (passes (can_leave codec (left_at lefts nid) index) (node_at codec nid)) as (λ b. cond b (connection codec nid index) None ≡ Some to → (b ≡ true) × (connection codec nid index ≡ Some to)) [
@@ -25,7 +25,7 @@ target-parts codec lefts nid index to e =
       | false ↦ λ w. cc
     ] e
 
-target-made : (codec : RawCodec) (lefts : List Left) (nid index to : ℕ) → passes (can_leave codec (left_at lefts nid) index) (node_at codec nid) ≡ true → connection codec nid index ≡ Some to → target codec lefts nid index ≡ Some to
+pub target-made : (codec : RawCodec) (lefts : List Left) (nid index to : ℕ) → passes (can_leave codec (left_at lefts nid) index) (node_at codec nid) ≡ true → connection codec nid index ≡ Some to → target codec lefts nid index ≡ Some to
 unfolding target
 target-made codec lefts nid index to can e = ap (λ (b : Bool). cond b (connection codec nid index) None) can ∙ e
 
@@ -38,18 +38,18 @@ or_used true b h e = h
 or_used false b h e = cc
 
 -- the three parts of whether a node may be left
-abbrev CanLeave : RawCodec → Left → ℕ → Option RawNode → Type 0
+abbrev pub CanLeave : RawCodec → Left → ℕ → Option RawNode → Type 0
 CanLeave codec left index found =
     (passes is_analog_stereo found ≡ true) × (passes (can_be_left codec index) found ≡ true) × (passes is_inner found ≡ true → allows left index ≡ true)
 
-can_leave-parts : (codec : RawCodec) (left : Left) (index : ℕ) (found : Option RawNode) → passes (can_leave codec left index) found ≡ true → CanLeave codec left index found
+pub can_leave-parts : (codec : RawCodec) (left : Left) (index : ℕ) (found : Option RawNode) → passes (can_leave codec left index) found ≡ true → CanLeave codec left index found
 can_leave-parts codec left index None e = cc
 can_leave-parts codec left index (Some node) e =
     let both = and_parts (is_analog_stereo node && can_be_left codec index node) (not (is_inner node) || allows left index) e in
     let first = and_parts (is_analog_stereo node) (can_be_left codec index node) both.0 in
     (first.0, first.1, or_used (is_inner node) (allows left index) both.1)
 
-can_leave-made : (codec : RawCodec) (left : Left) (index : ℕ) (found : Option RawNode) → CanLeave codec left index found → passes (can_leave codec left index) found ≡ true
+pub can_leave-made : (codec : RawCodec) (left : Left) (index : ℕ) (found : Option RawNode) → CanLeave codec left index found → passes (can_leave codec left index) found ≡ true
 can_leave-made codec left index None h = h.0
 can_leave-made codec left index (Some node) h =
     and_from (is_analog_stereo node && can_be_left codec index node) (not (is_inner node) || allows left index) (and_from (is_analog_stereo node) (can_be_left codec index node) h.0 h.1) (or_made (is_inner node) (allows left index) h.2)
@@ -71,13 +71,13 @@ can_end-made codec format None h = h.0
 can_end-made codec format (Some node) h =
     and_from (is_output_converter node && is_analog_stereo node) (supports codec format.rate format.bits node) (and_from (is_output_converter node) (is_analog_stereo node) h.0 h.1) h.2
 
-is_end-parts : (codec : RawCodec) (format : Format) (earlier : List PinPlan) (pair nid : ℕ) → is_end codec format earlier pair nid ≡ true → CanEnd codec format (node_at codec nid) × (list_all (carries_alike pair nid) earlier ≡ true)
+pub is_end-parts : (codec : RawCodec) (format : Format) (earlier : List PinPlan) (pair nid : ℕ) → is_end codec format earlier pair nid ≡ true → CanEnd codec format (node_at codec nid) × (list_all (carries_alike pair nid) earlier ≡ true)
 unfolding is_end
 is_end-parts codec format earlier pair nid e =
     let both = and_parts (passes (can_end codec format) (node_at codec nid)) (list_all (carries_alike pair nid) earlier) e in
     (can_end-parts codec format (node_at codec nid) both.0, both.1)
 
-is_end-made : (codec : RawCodec) (format : Format) (earlier : List PinPlan) (pair nid : ℕ) → CanEnd codec format (node_at codec nid) → list_all (carries_alike pair nid) earlier ≡ true → is_end codec format earlier pair nid ≡ true
+pub is_end-made : (codec : RawCodec) (format : Format) (earlier : List PinPlan) (pair nid : ℕ) → CanEnd codec format (node_at codec nid) → list_all (carries_alike pair nid) earlier ≡ true → is_end codec format earlier pair nid ≡ true
 unfolding is_end
 is_end-made codec format earlier pair nid can all =
     and_from (passes (can_end codec format) (node_at codec nid)) (list_all (carries_alike pair nid) earlier) (can_end-made codec format (node_at codec nid) can) all
@@ -119,15 +119,15 @@ AreOpen-cons codec format lefts earlier pair hop hops n to e rest =
       carries = rest.carries;
     }
 
-match_some : (o : Option ℕ) (Q : ℕ → Type 0) → MatchOption o ⊥ Q → (n : ℕ) × (o ≡ Some n) × Q n
+pub match_some : (o : Option ℕ) (Q : ℕ → Type 0) → MatchOption o ⊥ Q → (n : ℕ) × (o ≡ Some n) × Q n
 match_some None Q h = absurd h
 match_some (Some n) Q h = (n, refl, h)
 
-inner_as : (codec : RawCodec) (nid : ℕ) → is_inner_at codec nid ≡ true → passes is_inner (node_at codec nid) ≡ true
+pub inner_as : (codec : RawCodec) (nid : ℕ) → is_inner_at codec nid ≡ true → passes is_inner (node_at codec nid) ≡ true
 unfolding is_inner_at
 inner_as codec nid e = e
 
-as_inner : (codec : RawCodec) (nid : ℕ) → passes is_inner (node_at codec nid) ≡ true → is_inner_at codec nid ≡ true
+pub as_inner : (codec : RawCodec) (nid : ℕ) → passes is_inner (node_at codec nid) ≡ true → is_inner_at codec nid ≡ true
 unfolding is_inner_at
 as_inner codec nid e = e
 

@@ -20,12 +20,12 @@ use Rattle.route_planner.specs.Search.{left_at, allows, is_alike, outcome_alike,
 use Rattle.route_planner.specs.Ways.{IsWayOut}
 use Rattle.route_planner.proofs.Bridge.{open_from_way_out, way_out_from_open}
 
-alike_used : (nid index : ℕ) (twin : Hop) → is_alike nid index twin ≡ true → nid ≡ twin.nid → index ≡ twin.index
+pub alike_used : (nid index : ℕ) (twin : Hop) → is_alike nid index twin ≡ true → nid ≡ twin.nid → index ≡ twin.index
 alike_used nid index twin e same =
     let there : (twin.nid == nid) ≡ true = eq-eqb twin.nid nid (sym same) in
     eqb-true index twin.index (elim (twin.nid == nid) as (λ b. (not b || index == twin.index) ≡ true → b ≡ true → (index == twin.index) ≡ true) [ true ↦ λ w q. w | false ↦ λ w q. cc ] e there)
 
-alike_made : (nid index : ℕ) (twin : Hop) → (nid ≡ twin.nid → index ≡ twin.index) → is_alike nid index twin ≡ true
+pub alike_made : (nid index : ℕ) (twin : Hop) → (nid ≡ twin.nid → index ≡ twin.index) → is_alike nid index twin ≡ true
 alike_made nid index twin h =
     elim (cases_eq nid twin.nid) [
       | inl same ↦ rw (eq-eqb twin.nid nid (sym same)) (eq-eqb index twin.index (h same))
@@ -37,7 +37,7 @@ pair_used pair other_pair converter nid e same =
     let there : (converter == nid) ≡ true = eq-eqb converter nid (sym same) in
     eqb-true pair other_pair (elim (converter == nid) as (λ b. (not b || pair == other_pair) ≡ true → b ≡ true → (pair == other_pair) ≡ true) [ true ↦ λ w q. w | false ↦ λ w q. cc ] e there)
 
-pair_made : (pair other_pair converter nid : ℕ) → (nid ≡ converter → pair ≡ other_pair) → (not (converter == nid) || pair == other_pair) ≡ true
+pub pair_made : (pair other_pair converter nid : ℕ) → (nid ≡ converter → pair ≡ other_pair) → (not (converter == nid) || pair == other_pair) ≡ true
 pair_made pair other_pair converter nid h =
     elim (cases_eq nid converter) [
       | inl same ↦ rw (eq-eqb converter nid (sym same)) (eq-eqb pair other_pair (h same))
@@ -54,7 +54,7 @@ leaves_open codec route pair other_pair (outcome.Route other) alike carries = re
 leaves_open codec route pair other_pair outcome.Blocked alike carries = tt
 leaves_open codec route pair other_pair outcome.NoPath alike carries = tt
 
-open_alike : (codec : RawCodec) (route : Route) (pair other_pair : ℕ) (earlier : Outcome) → LeavesOpen codec route pair other_pair earlier → (hop : Hop) → Contains route.hops hop → passes is_inner (node_at codec hop.nid) ≡ true → outcome_alike hop.nid hop.index earlier ≡ true
+pub open_alike : (codec : RawCodec) (route : Route) (pair other_pair : ℕ) (earlier : Outcome) → LeavesOpen codec route pair other_pair earlier → (hop : Hop) → Contains route.hops hop → passes is_inner (node_at codec hop.nid) ≡ true → outcome_alike hop.nid hop.index earlier ≡ true
 open_alike codec route pair other_pair (outcome.Route other) leaves hop has inner =
     list_all-from_AllPass (is_alike hop.nid hop.index) other.hops (λ k d within. alike_made hop.nid hop.index (get_or other.hops k d) (λ same. leaves.leave_alike hop (get_or other.hops k d) has (Contains-get_or other.hops k d within) same inner))
 open_alike codec route pair other_pair outcome.Blocked leaves hop has inner = refl
@@ -69,7 +69,7 @@ open_carries codec route pair other_pair outcome.NoPath leaves = refl
 pub record AreLefts (lefts : List Left) (earlier : List PinPlan) : Type 0 where
   pub right : (nid index : ℕ) → nid < 256 → allows (left_at lefts nid) index ≡ list_all (leaves_alike nid index) earlier
 
-inner_below : (codec : RawCodec) (nid : ℕ) → IsBounded codec → passes is_inner (node_at codec nid) ≡ true → nid < 256
+pub inner_below : (codec : RawCodec) (nid : ℕ) → IsBounded codec → passes is_inner (node_at codec nid) ≡ true → nid < 256
 inner_below codec nid bounded e =
     let there : is_some (node_at codec nid) ≡ true = elim (node_at codec nid) as (λ o. passes is_inner o ≡ true → is_some o ≡ true) [ Some node ↦ λ w. refl | None ↦ λ w. cc ] e in
     omega (arith, bounded.within nid there)

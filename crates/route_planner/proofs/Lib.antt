@@ -11,3 +11,9 @@ pub mod Bridge
 pub mod Compatible
 pub mod Least
 pub mod Entries
+pub mod Unique
+pub mod Cuts
+pub mod Tables
+pub mod Unblocked
+pub mod OneWay
+pub mod OnlyPlan

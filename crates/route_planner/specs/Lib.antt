@@ -7,3 +7,4 @@ pub mod Levels
 pub mod Ways
 pub mod Places
 pub mod Found
+pub mod Laws

@@ -3,6 +3,7 @@ ghost use Rattle.std.specs.Prelude.{◌≡◌, ◌≤◌, IfOk, MatchOption, ◌
 ghost use Rattle.route_planner.specs.Plans as plans;
 ghost use Rattle.route_planner.specs.Found as found;
 ghost use Rattle.route_planner.specs.Search as spec;
+ghost use Rattle.route_planner.specs.Laws as laws;
 
 use crate::format::Format;
 use crate::left::lefts_of;
@@ -20,7 +21,10 @@ use std::alloc::{AllocError, Global};
 /// # Errors
 /// Want of memory.
 pub fn plan(alloc: Global, graph: &Graph, format: Format) -> Result<Plan, AllocError>
-    ensures { IfOk result (plans.IsPlan graph.now format) }
+    ensures plan { IfOk result (plans.IsPlan graph.now format) }
+    ensures admissible { IfOk result (plans.HasAdmissibleRoutes graph.now format) }
+    ensures only { IfOk result (laws.IsOnlyPlan graph.now format) }
+    ensures unblocked { format.channels ≡ 2 → IfOk result laws.HasNoBlocked }
 {
     let codec = graph.raw();
     let mut pins = Items::new(alloc);

@@ -1,0 +1,127 @@
+-- A graph has one plan, and each of its routes is an admissible path.
+use Rattle.std.proofs.Common.{◌≡◌, ◌==◌, ◌&&◌, ◌||◌, ◌⊎◌, ℕ, Bool, true, List, [], ◌∷◌, ◌++◌, map, get_or, refl, sym, ap, subst, ◌∙◌, inl, inr, suc, arith}
+use Rattle.std.specs.Prelude.{All, AllPairs, Contains, nat_lt}
+use Rattle.std.proofs.lemmas.Bool.Decides.{nat_tests}
+use Rattle.std.proofs.lemmas.List.Elements.{All-nil, All-cons, All-head, All-tail, Contains-append_right, Contains-append_cases}
+use Rattle.codec_graph.specs.declared.raw.RawCodec.{RawCodec}
+use Rattle.codec_graph.specs.Widget.{node_at}
+use Rattle.route_planner.specs.declared.format.Format.{Format}
+use Rattle.route_planner.specs.declared.routes.Outcome.{Outcome}
+use Rattle.route_planner.specs.declared.routes.Outcome.TheVariants as outcome
+use Rattle.route_planner.specs.declared.routes.PinPlan.{PinPlan}
+use Rattle.route_planner.specs.declared.routes.Plan.{Plan}
+use Rattle.route_planner.specs.Order.{association_of, sequence_of, comes_before, IsOrder, pair_of}
+use Rattle.route_planner.specs.Plans.{IsOutcome, HaveOutcomes, IsPlan, IsAdmissibleOutcome, HasAdmissibleRoutes}
+use Rattle.route_planner.specs.Laws.{IsOnlyPlan}
+use Rattle.route_planner.proofs.Unique.{least_is_one}
+
+abbrev before : ℕ → ℕ → ℕ → ℕ → ℕ → ℕ → Bool
+before a b s t m n = nat_lt a b || (a == b && (nat_lt s t || (s == t && nat_lt m n)))
+
+not_both : (a b s t m n : ℕ) → before a b s t m n ≡ true → before b a t s n m ≡ true → ⊥
+not_both a b s t m n one other = grind (arith, nat_tests)
+
+asymmetric : (codec : RawCodec) (pin other : ℕ) → comes_before codec pin other ≡ true → comes_before codec other pin ≡ true → ⊥
+asymmetric codec pin other =
+    not_both (association_of (node_at codec pin)) (association_of (node_at codec other)) (sequence_of (node_at codec pin)) (sequence_of (node_at codec other)) pin other
+
+head_first : (R : ℕ → ℕ → Type 0) (x : ℕ) (xs : List ℕ) → AllPairs R (x ∷ xs) → (z : ℕ) → Contains xs z → R x z
+head_first R x xs pairs z has = subst (λ (n : ℕ). R x n) has.2 (pairs 0 (suc has.0) z (omega arith) (omega (arith, has.1)))
+
+tail_pairs : (R : ℕ → ℕ → Type 0) (x : ℕ) (xs : List ℕ) → AllPairs R (x ∷ xs) → AllPairs R xs
+tail_pairs R x xs pairs i j d less within = pairs (suc i) (suc j) d (omega arith) (omega arith)
+
+cases_cons : (x : ℕ) (xs : List ℕ) (z : ℕ) → Contains (x ∷ xs) z → (x ≡ z) ⊎ Contains xs z
+cases_cons x xs z has =
+    elim (Contains-append_cases (x ∷ []) xs z has) [
+      | inl here ↦ let first : here.0 ≡ 0 = omega (arith, here.1) in inl (subst (λ (k : ℕ). get_or (x ∷ []) k z ≡ z) first here.2)
+      | inr later ↦ inr later
+    ]
+
+in_head : (x : ℕ) (xs : List ℕ) → Contains (x ∷ xs) x
+in_head x xs = (0, omega arith, refl)
+
+in_tail : (x : ℕ) (xs : List ℕ) (z : ℕ) → Contains xs z → Contains (x ∷ xs) z
+in_tail x xs z has = Contains-append_right (x ∷ []) xs z has
+
+-- two lists with the same elements, each ascending, are one
+same_list : (R : ℕ → ℕ → Type 0) → ((x y : ℕ) → R x y → R y x → ⊥) → (xs ys : List ℕ) → AllPairs R xs → AllPairs R ys → ((z : ℕ) → Contains xs z → Contains ys z) → ((z : ℕ) → Contains ys z → Contains xs z) → xs ≡ ys
+same_list R asym [] [] up_x up_y there back = refl
+same_list R asym [] (y ∷ ys) up_x up_y there back = let has = back y (in_head y ys) in absurd (omega (arith, has.1))
+same_list R asym (x ∷ xs) [] up_x up_y there back = let has = there x (in_head x xs) in absurd (omega (arith, has.1))
+same_list R asym (x ∷ xs) (y ∷ ys) up_x up_y there back =
+    let same : x ≡ y = elim (cases_cons y ys x (there x (in_head x xs))) [
+      | inl e ↦ sym e
+      | inr in_ys ↦ elim (cases_cons x xs y (back y (in_head y ys))) [
+        | inl e ↦ e
+        | inr in_xs ↦ absurd (asym x y (head_first R x xs up_x y in_xs) (head_first R y ys up_y x in_ys))
+      ]
+    ]
+    in
+    let never_x : (z : ℕ) → Contains xs z → x ≡ z → ⊥ = λ z has e. let r = head_first R x xs up_x z has in let twin = subst (λ (n : ℕ). R x n) (sym e) r in asym x x twin twin in
+    let never_y : (z : ℕ) → Contains ys z → y ≡ z → ⊥ = λ z has e. let r = head_first R y ys up_y z has in let twin = subst (λ (n : ℕ). R y n) (sym e) r in asym y y twin twin in
+    let rest : xs ≡ ys = same_list R asym xs ys (tail_pairs R x xs up_x) (tail_pairs R y ys up_y)
+    (λ z has. elim (cases_cons y ys z (there z (in_tail x xs z has))) [ inl e ↦ absurd (never_x z has (same ∙ e)) | inr h ↦ h ])
+    (λ z has. elim (cases_cons x xs z (back z (in_tail y ys z has))) [ inl e ↦ absurd (never_y z has (sym same ∙ e)) | inr h ↦ h ])
+    in
+    cc
+
+same_order : (codec : RawCodec) (xs ys : List ℕ) → IsOrder codec xs → IsOrder codec ys → xs ≡ ys
+same_order codec xs ys one other =
+    same_list (λ pin other. comes_before codec pin other ≡ true) (asymmetric codec) xs ys one.ascending other.ascending (λ z has. (other.exactly z).1 ((one.exactly z).0 has)) (λ z has. (one.exactly z).1 ((other.exactly z).0 has))
+
+same_outcome : (codec : RawCodec) (format : Format) (earlier : List PinPlan) (pair pin : ℕ) (o p : Outcome) → IsOutcome codec format earlier pair pin o → IsOutcome codec format earlier pair pin p → o ≡ p
+same_outcome codec format earlier pair pin (outcome.Route one) (outcome.Route other) is twin = ap outcome.Route (least_is_one codec format earlier pair pin one other is twin)
+same_outcome codec format earlier pair pin (outcome.Route one) outcome.Blocked is twin = absurd (twin.1 one is.0)
+same_outcome codec format earlier pair pin (outcome.Route one) outcome.NoPath is twin = absurd (twin one is.0.0)
+same_outcome codec format earlier pair pin outcome.Blocked (outcome.Route other) is twin = absurd (is.1 other twin.0)
+same_outcome codec format earlier pair pin outcome.Blocked outcome.Blocked is twin = refl
+same_outcome codec format earlier pair pin outcome.Blocked outcome.NoPath is twin = absurd (twin is.0.0 is.0.1)
+same_outcome codec format earlier pair pin outcome.NoPath (outcome.Route other) is twin = absurd (is other twin.0.0)
+same_outcome codec format earlier pair pin outcome.NoPath outcome.Blocked is twin = absurd (is twin.0.0 twin.0.1)
+same_outcome codec format earlier pair pin outcome.NoPath outcome.NoPath is twin = refl
+
+abbrev entry_of : ℕ → ℕ → Outcome → PinPlan
+entry_of pin pair o = record { pin = pin; pair = pair; outcome = o }
+
+same_entry : (one other : PinPlan) → one.pin ≡ other.pin → one.pair ≡ other.pair → one.outcome ≡ other.outcome → one ≡ other
+same_entry one other pin pair o = let whole : entry_of one.pin one.pair one.outcome ≡ entry_of other.pin other.pair other.outcome = cc in whole
+
+abbrev pins_of : List PinPlan → List ℕ
+pins_of entries = map (λ (entry : PinPlan). entry.pin) entries
+
+same_entries : (codec : RawCodec) (format : Format) (earlier entries others : List PinPlan) → pins_of entries ≡ pins_of others → All (λ (entry : PinPlan). entry.pair ≡ pair_of codec format.channels entry.pin) entries → All (λ (entry : PinPlan). entry.pair ≡ pair_of codec format.channels entry.pin) others → HaveOutcomes codec format earlier entries → HaveOutcomes codec format earlier others → entries ≡ others
+same_entries codec format earlier [] [] pins pairs twins have had = refl
+same_entries codec format earlier [] (other ∷ others) pins pairs twins have had = cc
+same_entries codec format earlier (entry ∷ entries) [] pins pairs twins have had = cc
+same_entries codec format earlier (entry ∷ entries) (other ∷ others) pins pairs twins have had =
+    let pin : entry.pin ≡ other.pin = cc in
+    let rest_pins : pins_of entries ≡ pins_of others = cc in
+    let paired = All-head (λ (entry : PinPlan). entry.pair ≡ pair_of codec format.channels entry.pin) entry entries pairs in
+    let twinned = All-head (λ (entry : PinPlan). entry.pair ≡ pair_of codec format.channels entry.pin) other others twins in
+    let pair : entry.pair ≡ other.pair = paired ∙ (ap (pair_of codec format.channels) pin ∙ sym twinned) in
+    let had_here = subst (λ (n : ℕ). IsOutcome codec format earlier entry.pair n other.outcome) (sym pin) (subst (λ (n : ℕ). IsOutcome codec format earlier n other.pin other.outcome) (sym pair) had.0) in
+    let same = same_entry entry other pin pair (same_outcome codec format earlier entry.pair entry.pin entry.outcome other.outcome have.0 had_here) in
+    let had_rest = subst (λ (e : PinPlan). HaveOutcomes codec format (earlier ++ e ∷ []) others) (sym same) had.1 in
+    let rest = same_entries codec format (earlier ++ entry ∷ []) entries others rest_pins (All-tail (λ (entry : PinPlan). entry.pair ≡ pair_of codec format.channels entry.pin) entry entries pairs) (All-tail (λ (entry : PinPlan). entry.pair ≡ pair_of codec format.channels entry.pin) other others twins) have.1 had_rest in
+    cc
+
+abbrev plan_of : List PinPlan → Plan
+plan_of pins = record { pins = pins }
+
+pub only_plan : (codec : RawCodec) (format : Format) (plan : Plan) → IsPlan codec format plan → IsOnlyPlan codec format plan
+only_plan codec format plan is other twin =
+    ap plan_of (same_entries codec format [] other.pins plan.pins (same_order codec (pins_of other.pins) (pins_of plan.pins) twin.pins.in_order is.pins.in_order) twin.pins.pairs is.pins.pairs twin.outcomes is.outcomes)
+
+admissible_outcome : (codec : RawCodec) (format : Format) (earlier : List PinPlan) (pair pin : ℕ) (o : Outcome) → IsOutcome codec format earlier pair pin o → IsAdmissibleOutcome codec format pin o
+admissible_outcome codec format earlier pair pin (outcome.Route route) is = is.0.0
+admissible_outcome codec format earlier pair pin outcome.Blocked is = tt
+admissible_outcome codec format earlier pair pin outcome.NoPath is = tt
+
+admissible_entries : (codec : RawCodec) (format : Format) (earlier entries : List PinPlan) → HaveOutcomes codec format earlier entries → All (λ (entry : PinPlan). IsAdmissibleOutcome codec format entry.pin entry.outcome) entries
+admissible_entries codec format earlier [] have = All-nil (λ (entry : PinPlan). IsAdmissibleOutcome codec format entry.pin entry.outcome)
+admissible_entries codec format earlier (entry ∷ entries) have =
+    All-cons (λ (entry : PinPlan). IsAdmissibleOutcome codec format entry.pin entry.outcome) entry entries (admissible_outcome codec format earlier entry.pair entry.pin entry.outcome have.0) (admissible_entries codec format (earlier ++ entry ∷ []) entries have.1)
+
+pub admissible_routes : (codec : RawCodec) (format : Format) (plan : Plan) → IsPlan codec format plan → HasAdmissibleRoutes codec format plan
+admissible_routes codec format plan is = record { pins = is.pins; admissible = admissible_entries codec format [] plan.pins is.outcomes }
