@@ -32,7 +32,7 @@ impl Model for Graph {
 }
 
 impl Graph {
-    ghost use Rattle.codec_graph.specs.Cycles.{HasSoundTables, IsWellFormed, IsFirstFault};
+    ghost use Rattle.codec_graph.specs.Cycles.{IsWellFormed, IsFirstFault};
 
     /// Checks a codec's words and makes the graph of those that apply: every other word is 0, and a node without a
     /// connection list has none.
@@ -54,7 +54,6 @@ impl Graph {
     pub fn raw(&self) -> &RawCodec
         ensures value { result.now ≡ self.now }
         ensures well_formed { IsWellFormed self.now }
-        ensures sound { HasSoundTables self.now }
     {
         &self.raw
     }

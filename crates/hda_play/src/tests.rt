@@ -1,7 +1,11 @@
 //! Whole runs over shelves and sinks in memory: the words, the file, and the status and text that have to come.
 use crate::run::hda_main;
+use crate::text::push_plan;
+use hda_files::read_machine;
 use hda_outside::{MemShelf, MemSink, SureShelf, SureSink};
+use route_planner::{Bits, Format, Rate, plan};
 use std::alloc::{AllocError, Global};
+use std::test::Fail;
 
 const ONE_PATH: &str = "
 [[codec]]
@@ -40,40 +44,6 @@ default = 0x41014010
 list = [0x02]
 ";
 
-const SHARED_SELECTOR: &str = "
-[[codec]]
-address = 0
-vendor = 0x10EC0889
-[[codec.node]]
-nid = 0x02
-caps = 0x00000011
-formats = 1
-pcm = 0x00020040
-[[codec.node]]
-nid = 0x03
-caps = 0x00000011
-formats = 1
-pcm = 0x00020040
-[[codec.node]]
-nid = 0x0F
-caps = 0x00300101
-list = [0x02, 0x03]
-[[codec.node]]
-nid = 0x14
-caps = 0x0040010D
-amp_out = 0x80000000
-pin_caps = 0x10
-default = 0x01014010
-list = [0x0F]
-[[codec.node]]
-nid = 0x15
-caps = 0x0040010D
-amp_out = 0x80000000
-pin_caps = 0x10
-default = 0x01014011
-list = [0x0F]
-";
-
 const CYCLE: &str = "
 [[codec]]
 address = 0
@@ -107,6 +77,45 @@ const TWO_ROUTES: &str = "route 0 14 pair 0 via 14.0 0f.0 02\nroute 0 15 pair 0 
 const USAGE: &str =
     "usage: hda_play route CODEC [--rate R] [--channels C] | walk CODEC SCHEDULE | play CODEC WAV SCHEDULE [--periods K] [--period M] | make N\n";
 
+/// Two pins that share selector 0F with these connections; converter 02 takes 48 kHz, and 03 what this PCM word says.
+fn two_pins(alloc: Global, list: &str, pcm: &str) -> Result<String, AllocError> {
+    format!(in alloc;
+        "
+[[codec]]
+address = 0
+vendor = 0x10EC0889
+[[codec.node]]
+nid = 0x02
+caps = 0x00000011
+formats = 1
+pcm = 0x00020040
+[[codec.node]]
+nid = 0x03
+caps = 0x00000011
+formats = 1
+pcm = {pcm}
+[[codec.node]]
+nid = 0x0F
+caps = 0x00300101
+list = [{list}]
+[[codec.node]]
+nid = 0x14
+caps = 0x0040010D
+amp_out = 0x80000000
+pin_caps = 0x10
+default = 0x01014010
+list = [0x0F]
+[[codec.node]]
+nid = 0x15
+caps = 0x0040010D
+amp_out = 0x80000000
+pin_caps = 0x10
+default = 0x01014011
+list = [0x0F]
+"
+    )
+}
+
 fn strings(alloc: Global, words: &[&str]) -> Result<Vec<String>, AllocError> {
     let mut all = Vec::new(alloc);
     for word in words {
@@ -127,9 +136,10 @@ fn file(alloc: Global, text: &str) -> Result<Vec<(String, Vec<u8>)>, AllocError>
 fn answers_files(rt: HostRuntime) -> Result<(), AllocError> {
     let alloc = rt.alloc();
     let route: &[&str] = &["route", "codec.toml"];
+    let shared_selector = two_pins(alloc, "0x02, 0x03", "0x00020040")?;
     let cases: [(&[&str], &str, u8, &str); 10] = [
         (route, ONE_PATH, 0, ONE_ROUTE),
-        (route, SHARED_SELECTOR, 0, TWO_ROUTES),
+        (route, shared_selector.as_str(), 0, TWO_ROUTES),
         (route, UNCONNECTED, 8, "nothing routed\n"),
         (route, "", 5, "codec refused: MissingKey codec at top\n"),
         (
@@ -157,6 +167,57 @@ fn answers_files(rt: HostRuntime) -> Result<(), AllocError> {
         assert_eq!(rt; ended.status, status, "at {want}");
         assert!(rt; ended.play.is_none());
         assert!(rt; out.bytes() == want.as_bytes(), "at {want}");
+    }
+    Ok(())
+}
+
+/// The plan of the one codec of a codec file, as the program writes it.
+fn planned(alloc: Global, text: &str, format: Format) -> Result<String, Fail> {
+    let machine = read_machine(alloc, text.as_bytes())?;
+    let mut lines = String::new(alloc);
+    for codec in machine.codecs.as_slice() {
+        let plan = plan(alloc, &codec.graph, format)?;
+        push_plan(&mut lines, codec.graph.raw().address, &plan)?;
+    }
+    Ok(lines)
+}
+
+#[test]
+fn plans_for_other_formats(rt: HostRuntime) -> Result<(), Fail> {
+    let alloc = rt.alloc();
+    let cases = [
+        ("0x02", "0x00020040", Rate::R48, 2, TWO_ROUTES),
+        (
+            "0x02",
+            "0x00020040",
+            Rate::R48,
+            4,
+            "route 0 14 pair 0 via 14.0 0f.0 02\nblocked 0 15 pair 1\n",
+        ),
+        (
+            "0x02, 0x03",
+            "0x00020140",
+            Rate::R96,
+            2,
+            "route 0 14 pair 0 via 14.0 0f.1 03\nroute 0 15 pair 0 via 15.0 0f.1 03\n",
+        ),
+        (
+            "0x02, 0x03",
+            "0x00020040",
+            Rate::R96,
+            2,
+            "nopath 0 14 pair 0\nnopath 0 15 pair 0\n",
+        ),
+    ];
+    for (list, pcm, rate, channels, want) in cases {
+        let text = two_pins(alloc, list, pcm)?;
+        let format = Format {
+            rate,
+            bits: Bits::B16,
+            channels,
+        };
+        let lines = planned(alloc, text.as_str(), format)?;
+        assert!(rt; lines.as_str() == want, "at {want}");
     }
     Ok(())
 }

@@ -9,7 +9,7 @@ use Rattle.route_planner.proofs.Bounds.{IsBounded-from_sound}
 use Rattle.route_planner.proofs.pin_order.order.Goals as goal
 
 pub places_of-requires : goal.places_of-requires
-places_of-requires c = IsBounded-from_sound c.raw.result.now (let P : RawCodec → Type 0 = λ codec. HasSoundTables codec in subst P (sym c.raw.ensures.value) c.raw.ensures.sound)
+places_of-requires c = IsBounded-from_sound c.raw.result.now (let P : RawCodec → Type 0 = λ codec. HasSoundTables codec in subst P (sym c.raw.ensures.value) c.raw.ensures.well_formed.tables)
 
 pub returns : goal.returns
 returns c =

@@ -12,7 +12,7 @@ use Rattle.route_planner.proofs.Entries.{AreEntries, AreEntries-none, AreEntries
 use Rattle.route_planner.proofs.planner.plan.Goals as goal
 
 pub pin_plan-requires : goal.pin_plan-requires
-pin_plan-requires c = IsBounded-from_sound c.raw-codec.result.now (subst (λ (codec : RawCodec). HasSoundTables codec) (sym c.raw-codec.ensures.value) c.raw-codec.ensures.sound)
+pin_plan-requires c = IsBounded-from_sound c.raw-codec.result.now (subst (λ (codec : RawCodec). HasSoundTables codec) (sym c.raw-codec.ensures.value) c.raw-codec.ensures.well_formed.tables)
 
 pub loop-pin-init : goal.loop-pin-init
 loop-pin-init c = rw c.new-pins.ensures (AreEntries-none c.raw-codec.result.now c.args.format c.deref-pin-items.result.now)
@@ -38,4 +38,4 @@ pub returns-clause-only : goal.returns-clause-only
 returns-clause-only c = only_plan c.args.graph.now c.args.format record { pins = c.loop-pin.pins } (right c)
 
 pub returns-clause-unblocked : goal.returns-clause-unblocked
-returns-clause-unblocked c = λ two. no_blocked c.args.graph.now c.args.format record { pins = c.loop-pin.pins } (IsBounded-from_sound c.args.graph.now c.raw-codec.ensures.sound) two (right c)
+returns-clause-unblocked c = λ two. no_blocked c.args.graph.now c.args.format record { pins = c.loop-pin.pins } (IsBounded-from_sound c.args.graph.now c.raw-codec.ensures.well_formed.tables) two (right c)
