@@ -4,4 +4,4 @@ use Rattle.hda_play.specs.Answers.{IsRoutePlan}
 use Rattle.hda_play.proofs.answer.plan_of.Goals as goal
 
 pub returns : goal.returns
-returns c = IfOk-weaker c.plan.result _ (IsRoutePlan c.args.graph.now) (λ plan h. (_, (refl, refl, refl), h)) c.plan.ensures
+returns c = IfOk-weaker c.plan.result _ (IsRoutePlan c.args.graph.now) (λ plan h. (_, (refl, refl, refl), h)) c.plan.ensures.plan
