@@ -107,12 +107,12 @@ mod tests {
         list.push(7u8)?;
         list.push(9u8)?;
         assert_eq!(rt; list.len(), 2);
-        assert!(rt; list.as_slice() == [7, 9]);
+        assert!(rt; list.as_slice() == [7, 9].as_slice());
         let copy = Items::from_slice(rt.alloc(), list.as_slice())?;
         list.clear();
         assert!(rt; list.is_empty());
         let back = Items::from_vec(copy.into_vec());
-        assert!(rt; back.as_slice() == [7, 9]);
+        assert!(rt; back.as_slice() == [7, 9].as_slice());
         Ok(())
     }
 }
