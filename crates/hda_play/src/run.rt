@@ -14,11 +14,11 @@ const SINK_FAILED: u8 = 4;
 pub const OUT_OF_MEMORY: u8 = 12;
 
 /// A run of the driver. No command plays yet, so there is none.
-#[derive(Debug, Drop)]
+#[derive(Drop)]
 pub enum Played {}
 
 /// How the program ended. This project's own.
-#[derive(Debug, Drop)]
+#[derive(Drop)]
 pub struct Ended {
     /// The exit status.
     pub status: u8,
