@@ -1,2 +1,4 @@
 pub mod Readings
 pub mod Commands
+pub mod Packing
+pub mod Expansions
