@@ -2,3 +2,4 @@ pub mod Readings
 pub mod Commands
 pub mod Packing
 pub mod Expansions
+pub mod Payloads
