@@ -5,6 +5,7 @@ mod amplifiers;
 mod bits;
 mod codes;
 mod entries;
+mod flags;
 mod lists;
 mod parameters;
 mod verbs;
@@ -12,6 +13,7 @@ mod words;
 
 pub use amplifiers::{AmpSetting, AmpSide};
 pub use entries::{ListError, ListFault};
+pub use flags::{PinCapabilities, PinControl, WidgetCapabilities};
 pub use lists::{expand_list, pack_list};
 pub use parameters::Parameter;
 pub use verbs::{Command, Verb};

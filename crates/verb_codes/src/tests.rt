@@ -1,5 +1,9 @@
 //! Words and lists from outside, both ways.
-use super::{AmpSetting, AmpSide, Command, ListError, ListFault, Parameter, Verb, decode, encode, expand_list, pack_list};
+use super::{
+    AmpSetting, AmpSide, Command, ListError, ListFault, Parameter, PinCapabilities, PinControl, Verb, WidgetCapabilities, decode, encode,
+    expand_list, pack_list,
+};
+use bitflags::Flags;
 use std::test::Fail;
 
 #[test]
@@ -98,4 +102,13 @@ fn parameters_have_their_numbers(rt: HostRuntime) {
     assert_eq!(rt; Parameter::of_number(0x12), Some(Parameter::OutputAmplifier));
     assert_eq!(rt; Parameter::of_number(0x11), None);
     assert_eq!(rt; Parameter::PowerStates.number(), 0x0F);
+}
+
+#[test]
+fn flags_are_bits(rt: HostRuntime) {
+    assert!(rt; PinControl(0xC0).contains(PinControl::HEADPHONE));
+    assert!(rt; !PinControl(0x40).contains(PinControl::INPUT));
+    assert!(rt; PinCapabilities(0x0001_0010).contains(PinCapabilities::EAPD));
+    assert!(rt; WidgetCapabilities(0x0040_018D).contains(WidgetCapabilities::UNSOLICITED));
+    assert!(rt; !WidgetCapabilities(0x0040_018D).contains(WidgetCapabilities::DIGITAL));
 }
