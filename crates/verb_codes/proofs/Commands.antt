@@ -1,12 +1,12 @@
 -- What a whole word reads as: words and commands that are in range stand for one another.
-use Rattle.std.proofs.Common.{◌≡◌, ◌<◌, ◌≤◌, ◌+◌, ◌*◌, ◌/◌, ◌%◌, ◌^◌, ℕ, Bool, true, false, ◌&&◌, nat_le, Option, Some, None, IsTrue, cond, refl, sym, ap, ◌∙◌, arith, ◌⊎◌, inl, inr}
+use Rattle.std.proofs.Common.{◌≡◌, ◌<◌, ◌≤◌, ◌+◌, ◌*◌, ◌/◌, ◌%◌, ◌^◌, ℕ, Bool, true, false, ◌&&◌, nat_le, Option, Some, None, cond, refl, sym, ap, ◌∙◌, arith, ◌⊎◌, inl, inr}
 use Rattle.std.specs.Prelude.{◌↔◌}
 use Rattle.std.specs.Option.{option_map}
 use Rattle.std.proofs.lemmas.Bool.{and_parts, and_from, and_left, and_right, leb-true, le-leb, lt-leb}
 use Rattle.std.proofs.lemmas.Option.{same_Some, none-some}
 use Rattle.verb_codes.specs.declared.verbs.Command.{Command}
 use Rattle.verb_codes.specs.declared.verbs.Verb.{Verb}
-use Rattle.verb_codes.specs.Verbs.{row_of, is_allowed, is_verb_in_range, verb_bits, verb_of_bits, IsInRange, word_of, command_with, reading_of}
+use Rattle.verb_codes.specs.Verbs.{verb_bits, verb_of_bits, IsInRange, word_of, command_with, reading_of}
 use Rattle.verb_codes.proofs.Readings.{verb_of_bits-sound, verb_of_bits-complete, payload-lt, allowed-of, verb_bits-lt}
 
 -- the parts of a command that a word reads as
@@ -21,9 +21,9 @@ command_with-parts : (codec nid : ℕ) (verb : Option Verb) (command : Command) 
 command_with-parts codec nid verb command =
     let C : Bool → Option Verb → Option Command = λ b o. cond b (option_map (λ v. record { codec = codec; nid = nid; verb = v }) o) None in
     let go : (b : Bool) (o : Option Verb) → (nat_le codec 14 && nat_le nid 127) ≡ b → C b o ≡ Some command → IsMadeOf codec nid o command =
-      λ b o. elim b as (λ b. (nat_le codec 14 && nat_le nid 127) ≡ b → C b o ≡ Some command → IsMadeOf codec nid o command) [
-        true ↦ elim o as (λ o. (nat_le codec 14 && nat_le nid 127) ≡ true → C true o ≡ Some command → IsMadeOf codec nid o command) [
-          Some v ↦ λ q h.
+    λ b o. elim b as (λ b. (nat_le codec 14 && nat_le nid 127) ≡ b → C b o ≡ Some command → IsMadeOf codec nid o command) [
+      | true ↦ elim o as (λ o. (nat_le codec 14 && nat_le nid 127) ≡ true → C true o ≡ Some command → IsMadeOf codec nid o command) [
+        | Some v ↦ λ q h.
             let e = same_Some _ command h in
             let both = and_parts _ _ q in
             record {
@@ -33,8 +33,10 @@ command_with-parts codec nid verb command =
               nid_is = ap (λ (x : Command). x.nid) e;
               verb_is = ap (λ (x : Command). Some x.verb) e;
             }
-        | None ↦ λ q h. absurd (none-some command h) ]
-      | false ↦ λ q h. absurd (none-some command h) ]
+        | None ↦ λ q h. absurd (none-some command h)
+      ]
+      | false ↦ λ q h. absurd (none-some command h)
+    ]
     in go (nat_le codec 14 && nat_le nid 127) verb refl
 
 command_with-of : (command : Command) → command.codec ≤ 14 → command.nid ≤ 127 → command_with command.codec command.nid (Some command.verb) ≡ Some command
@@ -94,6 +96,7 @@ reading_of-complete command h =
 
 -- a reading says all of the words and commands that stand for one another
 pub reading_of-exact : (word : ℕ) (reading : Option Command) → reading ≡ reading_of word → (command : Command) → (reading ≡ Some command) ↔ (IsInRange command × (word ≡ word_of command))
-reading_of-exact word reading e command =
-    ( (λ h. reading_of-sound word command (sym e ∙ h))
-    , (λ h. e ∙ ap reading_of h.1 ∙ reading_of-complete command h.0) )
+reading_of-exact word reading e command = (
+  (λ h. reading_of-sound word command (sym e ∙ h)),
+  (λ h. e ∙ ap reading_of h.1 ∙ reading_of-complete command h.0),
+)

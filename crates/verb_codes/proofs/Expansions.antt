@@ -21,7 +21,7 @@ drop-entries long bits len place lt fits =
     let count = length-map (take len bits) (entry_of long) in
     drop_more (map (entry_of long) (take len bits)) place (entry_of long 0) (omega arith)
     ∙ ap (λ e. e ∷ drop (place + 1) (map (entry_of long) (take len bits)))
-      (get_or-map (entry_of long) (take len bits) place 0 (entry_of long 0) (omega arith) ∙ ap (entry_of long) (get_or-take len bits place 0 lt))
+    (get_or-map (entry_of long) (take len bits) place 0 (entry_of long 0) (omega arith) ∙ ap (entry_of long) (get_or-take len bits place 0 lt))
 
 pub drop-no_entries : (long : Bool) (bits : List ℕ) (len place : ℕ) → len ≤ place → len ≤ length bits → drop place (map (entry_of long) (take len bits)) ≡ []
 drop-no_entries long bits len place le fits =

@@ -1,10 +1,11 @@
 -- The fields of the amplifier payloads.
-use Rattle.std.proofs.Common.{◌≡◌, ◌<◌, ◌≤◌, ◌+◌, ◌*◌, ◌/◌, ◌%◌, ◌^◌, ◌==◌, ℕ, Bool, true, false, refl, sym, ap, ◌∙◌, arith, lit<}
+use Rattle.std.proofs.Common.{◌≡◌, ◌<◌, ◌≤◌, ◌+◌, ◌*◌, ◌/◌, ◌%◌, ◌^◌, ◌==◌, ℕ, zero, suc, Bool, true, false, refl, ap, ◌∙◌, arith, lit<}
 use Rattle.std.specs.Prelude.{bit_and}
-use Rattle.std.proofs.lemmas.Nat.{and_block, and_le_r}
+use Rattle.std.proofs.lemmas.Nat.{and_block, and_le_r, and_mask, mod_below}
+use Rattle.std.proofs.lemmas.Nat.Bits.{and_pow}
 use Rattle.std.proofs.lemmas.Bool.{eq-eqb, ne_eqb}
 use Rattle.verb_codes.specs.declared.amplifiers.AmpSetting.{AmpSetting}
-use Rattle.verb_codes.specs.Amplifiers.{worth, setting_of, setting_payload, IsSettingInRange}
+use Rattle.verb_codes.specs.Amplifiers.{worth, side_of, side_payload, setting_of, setting_payload, IsSettingInRange}
 use Rattle.verb_codes.specs.Verbs.{get_amp_zeros}
 
 masked : (sides place : ℕ) → place < 2 ^ 4 → bit_and sides 0x5FF ≡ 0 → bit_and (sides * 2 ^ 4 + place) get_amp_zeros ≡ 0
@@ -77,7 +78,7 @@ pub setting_of-payload : (s : AmpSetting) → IsSettingInRange s → setting_of 
 setting_of-payload s h =
     let f = fields (bit s.output) (bit s.input) (bit s.left) (bit s.right) s.place (bit s.mute) s.gain (bit-le s.output) (bit-le s.input) (bit-le s.left) (bit-le s.right) h.place (bit-le s.mute) h.gain in
     let e : setting_payload s ≡ bit s.output * 2 ^ 15 + bit s.input * 2 ^ 14 + bit s.left * 2 ^ 13 + bit s.right * 2 ^ 12 + s.place * 2 ^ 8 + bit s.mute * 2 ^ 7 + s.gain =
-      omega (arith, worth-bit s.output 15, worth-bit s.input 14, worth-bit s.left 13, worth-bit s.right 12, worth-bit s.mute 7) in
+    omega (arith, worth-bit s.output 15, worth-bit s.input 14, worth-bit s.left 13, worth-bit s.right 12, worth-bit s.mute 7) in
     let o : (setting_payload s / 2 ^ 15 % 2 == 1) ≡ s.output = tested s.output _ (rw e f.o_is) in
     let i : (setting_payload s / 2 ^ 14 % 2 == 1) ≡ s.input = tested s.input _ (rw e f.i_is) in
     let l : (setting_payload s / 2 ^ 13 % 2 == 1) ≡ s.left = tested s.left _ (rw e f.l_is) in
@@ -86,3 +87,33 @@ setting_of-payload s h =
     let m : (setting_payload s / 2 ^ 7 % 2 == 1) ≡ s.mute = tested s.mute _ (rw e f.m_is) in
     let g : setting_payload s / 2 ^ 0 % 2 ^ 7 ≡ s.gain = rw e f.gain_is in
     same_setting (setting_of (setting_payload s)) s o i l r p m g
+
+-- the bits that are 0 in a payload that GetAmp allows
+zeros-of : (v : ℕ) → bit_and v get_amp_zeros ≡ 0 → (v / 2 ^ 14 % 2 ≡ 0) × (v / 2 ^ 4 % 2 ^ 9 ≡ 0)
+zeros-of v none =
+    let a = v / 2 ^ 4 in
+    let r = v % 2 ^ 4 in
+    let b = a / 2 ^ 9 in
+    let s = a % 2 ^ 9 in
+    let split : a * 2 ^ 4 + r ≡ v = omega arith in
+    let low : bit_and (a * 2 ^ 4 + r) get_amp_zeros ≡ bit_and a 0x5FF * 2 ^ 4 + bit_and r 0 = and_block 4 a 0x5FF r 0 (mod_below v (2 ^ 4) (lit< tt)) (lit< tt) in
+    let none' : bit_and (a * 2 ^ 4 + r) get_amp_zeros ≡ 0 = rw split none in
+    let high : bit_and a 0x5FF ≡ 0 = omega arith in
+    let split' : b * 2 ^ 9 + s ≡ a = omega arith in
+    let parts : bit_and (b * 2 ^ 9 + s) 0x5FF ≡ bit_and b 2 * 2 ^ 9 + bit_and s 0x1FF = and_block 9 b 2 s 0x1FF (mod_below a (2 ^ 9) (lit< tt)) (lit< tt) in
+    let high' : bit_and (b * 2 ^ 9 + s) 0x5FF ≡ 0 = rw split' high in
+    let ones : bit_and s 0x1FF ≡ s % 2 ^ 9 = and_mask s 9 in
+    let one : bit_and b 2 ≡ b / 2 ^ 1 % 2 * 2 ^ 1 = and_pow b 1 in
+    (omega arith, omega arith)
+
+worth-of : (n k : ℕ) → n < 2 → worth (n == 1) k ≡ n * 2 ^ k
+worth-of zero k h = omega arith
+worth-of (suc zero) k h = omega arith
+worth-of (suc (suc n)) k h = absurd (omega arith)
+
+pub side_payload-of : (v : ℕ) → v < 2 ^ 16 → bit_and v get_amp_zeros ≡ 0 → side_payload (side_of v) ≡ v
+side_payload-of v lt none =
+    let zeros = zeros-of v none in
+    let output = worth-of (v / 2 ^ 15 % 2) 15 (mod_below (v / 2 ^ 15) 2 (lit< tt)) in
+    let left = worth-of (v / 2 ^ 13 % 2) 13 (mod_below (v / 2 ^ 13) 2 (lit< tt)) in
+    omega arith

@@ -1,6 +1,6 @@
 -- What the bits of a command read as: bits and verbs that are in range stand for one another.
-use Rattle.std.proofs.Common.{◌≡◌, ◌<◌, ◌≤◌, ◌+◌, ◌*◌, ◌/◌, ◌%◌, ◌^◌, ℕ, Bool, true, false, ◌==◌, ◌&&◌, nat_eq, nat_lt, nat_le, List, [], ◌∷◌, Option, Some, None, IsTrue, cond, refl, sym, ap, subst, ◌∙◌, arith, lit<, zero, suc}
-use Rattle.std.specs.Prelude.{find, bit_and, ◌↔◌}
+use Rattle.std.proofs.Common.{◌≡◌, ◌<◌, ◌+◌, ◌*◌, ◌/◌, ◌%◌, ◌^◌, ℕ, Bool, true, false, ◌==◌, ◌&&◌, nat_eq, nat_lt, List, [], ◌∷◌, Option, Some, None, IsTrue, cond, refl, sym, ap, ◌∙◌, arith, lit<, zero, suc}
+use Rattle.std.specs.Prelude.{find, bit_and}
 use Rattle.std.proofs.lemmas.Bool.{and_parts, and_from, ltb-true, lt-ltb, eqb-true, eq-eqb}
 use Rattle.std.proofs.lemmas.Option.{same_Some, none-some}
 use Rattle.std.proofs.lemmas.Nat.{div-mul-add, mod-mul-add, shr_split, mod_below, pow_pos}
@@ -13,9 +13,10 @@ find-passes : {X : Type 0} (p : X → Bool) (xs : List X) (x : X) → find p xs 
 find-passes p [] x e = absurd (none-some x e)
 find-passes {X} p (y ∷ ys) x e =
     let go : (b : Bool) → p y ≡ b → cond b (Some y) (find p ys) ≡ Some x → p x ≡ true =
-      λ b. elim b as (λ b. p y ≡ b → cond b (Some y) (find p ys) ≡ Some x → p x ≡ true) [
-        true ↦ λ q h. ap p (sym (same_Some y x h)) ∙ q
-      | false ↦ λ q h. find-passes p ys x h ]
+    λ b. elim b as (λ b. p y ≡ b → cond b (Some y) (find p ys) ≡ Some x → p x ≡ true) [
+      | true ↦ λ q h. ap p (sym (same_Some y x h)) ∙ q
+      | false ↦ λ q h. find-passes p ys x h
+    ]
     in go (p y) refl e
 
 -- bits at which a row is found are the row's, and its payload fits
@@ -117,9 +118,10 @@ reads_verb bits verb lt allowed e = ap verb_of_bits e ∙ verb_of_bits-complete 
 pub reads_none : (bits : ℕ) → ((verb : Verb) → IsTrue (is_verb_in_range verb) → bits ≡ verb_bits verb → ⊥) → verb_of_bits bits ≡ None
 reads_none bits h =
     let go : (o : Option Verb) → verb_of_bits bits ≡ o → o ≡ None =
-      λ o. elim o as (λ o. verb_of_bits bits ≡ o → o ≡ None) [
-        None ↦ λ e. refl
-      | Some v ↦ λ e. let s = verb_of_bits-sound bits v e in absurd (h v s.0 s.1) ]
+    λ o. elim o as (λ o. verb_of_bits bits ≡ o → o ≡ None) [
+      | None ↦ λ e. refl
+      | Some v ↦ λ e. let s = verb_of_bits-sound bits v e in absurd (h v s.0 s.1)
+    ]
     in go (verb_of_bits bits) refl
 
 -- the bits of a verb whose arguments are allowed and whose payload fits are 20

@@ -1,6 +1,6 @@
 -- Connection lists: their entries in words, and the nodes that they stand for. High Definition Audio 1.0a, 7.3.3.3 (the words)
 -- and 7.1.2 (ranges). What is a fault, and which of several counts, is this project's own.
-use Rattle.std.specs.Prelude.{◌≡◌, ◌<◌, ◌+◌, ◌-◌, ◌*◌, ◌/◌, ◌%◌, ◌^◌, ⊤, ℕ, Bool, true, false, ◌==◌, List, [], ◌∷◌, ◌++◌, map, length, take, Option, None, Some, Result, Ok, Err, if◌then◌else◌, nat_lt, nat_le, replicate}
+use Rattle.std.specs.Prelude.{◌≡◌, ◌<◌, ◌+◌, ◌-◌, ◌*◌, ◌/◌, ◌%◌, ◌^◌, ⊤, ℕ, Bool, true, false, ◌==◌, List, [], ◌∷◌, ◌++◌, map, length, Option, None, Some, Result, Ok, Err, if◌then◌else◌, nat_lt, nat_le, replicate}
 use Rattle.std.specs.List.{flat_map, range_with_len}
 use Rattle.verb_codes.specs.declared.entries.Entry.{Entry}
 use Rattle.verb_codes.specs.declared.entries.ListFault.{ListFault}

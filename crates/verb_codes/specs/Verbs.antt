@@ -1,6 +1,6 @@
 -- Commands as 32-bit words. Format of a command: High Definition Audio 1.0a, 7.3; verbs: 7.3.3.
 -- That codec 15 and node identifiers above 7Fh name nothing is this project's own.
-use Rattle.std.specs.Prelude.{◌≡◌, ◌≤◌, ◌+◌, ◌*◌, ◌/◌, ◌%◌, ◌^◌, ℕ, Bool, true, ◌==◌, ◌&&◌, List, [], ◌∷◌, Option, None, if◌then◌else◌, IsTrue, nat_lt, nat_le, bit_and, find}
+use Rattle.std.specs.Prelude.{◌≤◌, ◌+◌, ◌*◌, ◌/◌, ◌%◌, ◌^◌, ℕ, Bool, true, ◌==◌, ◌&&◌, List, [], ◌∷◌, Option, None, if◌then◌else◌, IsTrue, nat_lt, nat_le, bit_and, find}
 use Rattle.std.specs.Option.{option_map}
 use Rattle.verb_codes.specs.declared.verbs.Command.{Command}
 use Rattle.verb_codes.specs.declared.verbs.Verb.{Verb}

@@ -33,7 +33,10 @@ impl AmpSetting {
         ensures value { result ≡ spec.setting_payload self.now }
         ensures read_back { spec.setting_of result ≡ self.now }
     {
-        let sides = worth(self.output, 15) + worth(self.input, 14) + worth(self.left, 13) + worth(self.right, 12);
+        let sides = worth(self.output, 15)
+            + worth(self.input, 14)
+            + worth(self.left, 13)
+            + worth(self.right, 12);
         sides + (u16::from(self.place) << 8) + worth(self.mute, 7) + u16::from(self.gain)
     }
 
@@ -86,6 +89,7 @@ impl AmpSide {
     pub fn of_payload(payload: u16) -> AmpSide
         ensures value { result ≡ spec.side_of payload }
         ensures in_range { result.place < 2 ^ 4 }
+        ensures same { bit_and payload get_amp_zeros ≡ 0 → spec.side_payload result ≡ payload }
     {
         let word = u32::from(payload);
         AmpSide {

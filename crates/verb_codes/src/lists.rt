@@ -12,10 +12,8 @@ use std::alloc::{AllocError, Global};
 /// so there can be more nodes than entries. The fault is that of the first faulty entry.
 pub fn expand_list(alloc: Global, len: u8, long: bool, words: &[u32]) -> Result<Vec<u8>, ListError>
     requires { len ≤ length words.now * spec.entries_per_word long }
-    ensures {
-        let expansion = spec.expansion_of long (take len (spec.entries_of_words long words.now)) in
-        MatchResult result (λ nids. expansion ≡ Ok nids.items) (λ error. spec.IsRefusal error expansion)
-    }
+    ensures { let expansion = spec.expansion_of long (take len (spec.entries_of_words long words.now)) in
+        MatchResult result (λ nids. expansion ≡ Ok nids.items) (λ error. spec.IsRefusal error expansion) }
 {
     let mut nids = Vec::new(alloc);
     let mut before = None;
@@ -72,15 +70,11 @@ pub fn pack_list(alloc: Global, entries: &[u16], long: bool) -> Result<Vec<u32>,
 fn packed(entries: &[u16], long: bool, place: usize) -> u32
     requires narrow { EachIndex entries.now (λ k. slice_index entries.now k < 2 ^ spec.entry_width long) }
     requires within { place < length entries.now }
-    ensures long_form {
-        long ≡ true → spec.entries_of_word true result
-        ≡ slice_index entries.now place ∷ slice_index entries.now (place + 1) ∷ []
-    }
-    ensures short_form {
-        long ≡ false → spec.entries_of_word false result
+    ensures long_form { long ≡ true → spec.entries_of_word true result
+        ≡ slice_index entries.now place ∷ slice_index entries.now (place + 1) ∷ [] }
+    ensures short_form { long ≡ false → spec.entries_of_word false result
         ≡ slice_index entries.now place ∷ slice_index entries.now (place + 1)
-        ∷ slice_index entries.now (place + 2) ∷ slice_index entries.now (place + 3) ∷ []
-    }
+        ∷ slice_index entries.now (place + 2) ∷ slice_index entries.now (place + 3) ∷ [] }
 {
     let first = entry_or_zero(entries, place);
     let second = entry_or_zero(entries, place + 1);

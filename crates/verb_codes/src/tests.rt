@@ -1,7 +1,7 @@
 //! Words and lists from outside, both ways.
 use super::{
-    AmpSetting, AmpSide, Command, ListError, ListFault, Parameter, PinCapabilities, PinControl, Verb, WidgetCapabilities, decode, encode,
-    expand_list, pack_list,
+    AmpSetting, AmpSide, Command, ListError, ListFault, Parameter, PinCapabilities, PinControl,
+    Verb, WidgetCapabilities, decode, encode, expand_list, pack_list,
 };
 use bitflags::Flags;
 use std::test::Fail;
@@ -51,16 +51,32 @@ fn commands_are_encoded(rt: HostRuntime) {
 
 #[test]
 fn other_words_have_no_reading(rt: HostRuntime) {
-    for word in [0xF00F_0000u32, 0x080F_0000, 0x000F_0301, 0x000F_0101, 0x001A_0001, 0x00CB_4000, 0x0147_2000, 0x0010_0000] {
+    for word in [
+        0xF00F_0000u32,
+        0x080F_0000,
+        0x000F_0301,
+        0x000F_0101,
+        0x001A_0001,
+        0x00CB_4000,
+        0x0147_2000,
+        0x0010_0000,
+    ] {
         assert_eq!(rt; decode(word), None);
     }
 }
 
 #[test]
 fn lists_are_expanded(rt: HostRuntime) -> Result<(), Fail> {
-    let nids = expand_list(rt.alloc(), 3, false, &[0x0087_0205]).ok().ok_or("short")?;
-    assert_eq!(rt; nids.as_slice(), [0x05, 0x02, 0x03, 0x04, 0x05, 0x06, 0x07].as_slice());
-    let nids = expand_list(rt.alloc(), 2, true, &[0x8007_0005]).ok().ok_or("long")?;
+    let nids = expand_list(rt.alloc(), 3, false, &[0x0087_0205])
+        .ok()
+        .ok_or("short")?;
+    assert_eq!(rt;
+        nids.as_slice(),
+        [0x05, 0x02, 0x03, 0x04, 0x05, 0x06, 0x07].as_slice()
+    );
+    let nids = expand_list(rt.alloc(), 2, true, &[0x8007_0005])
+        .ok()
+        .ok_or("long")?;
     assert_eq!(rt; nids.as_slice(), [0x05, 0x06, 0x07].as_slice());
     let faults = [
         (1, 0x0000_0082, ListFault::FirstIsRange),
@@ -90,16 +106,34 @@ fn lists_are_packed(rt: HostRuntime) -> Result<(), Fail> {
 #[test]
 fn amplifier_payloads_have_their_fields(rt: HostRuntime) {
     let setting = AmpSetting::of_payload(0x7180);
-    assert_eq!(rt; setting, AmpSetting { output: false, input: true, left: true, right: true, place: 1, mute: true, gain: 0 });
+    assert_eq!(rt;
+        setting,
+        AmpSetting {
+            output: false,
+            input: true,
+            left: true,
+            right: true,
+            place: 1,
+            mute: true,
+            gain: 0
+        }
+    );
     assert_eq!(rt; setting.payload(), 0x7180);
-    let side = AmpSide { output: true, left: false, place: 2 };
+    let side = AmpSide {
+        output: true,
+        left: false,
+        place: 2,
+    };
     assert_eq!(rt; side.payload(), 0x8002);
     assert_eq!(rt; AmpSide::of_payload(0x8002), side);
 }
 
 #[test]
 fn parameters_have_their_numbers(rt: HostRuntime) {
-    assert_eq!(rt; Parameter::of_number(0x12), Some(Parameter::OutputAmplifier));
+    assert_eq!(rt;
+        Parameter::of_number(0x12),
+        Some(Parameter::OutputAmplifier)
+    );
     assert_eq!(rt; Parameter::of_number(0x11), None);
     assert_eq!(rt; Parameter::PowerStates.number(), 0x0F);
 }

@@ -1,4 +1,4 @@
-use Rattle.std.proofs.Common.{◌≡◌, ℕ, Bool, true, false, List, get_or, sym, ap, ◌∙◌, arith}
+use Rattle.std.proofs.Common.{◌≡◌, true, false, get_or, sym, ap, ◌∙◌}
 use Rattle.verb_codes.specs.Lists.{entries_of_words}
 use Rattle.verb_codes.proofs.Packing.{long_entry, short_entry}
 use Rattle.verb_codes.proofs.lists.entry_at.Goals as goal

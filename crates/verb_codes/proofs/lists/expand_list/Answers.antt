@@ -1,6 +1,6 @@
-use Rattle.std.proofs.Common.{◌≡◌, ◌≤◌, ◌+◌, ◌-◌, ◌∷◌, ◌++◌, map, take, drop, length, get_or, Some, None, ap, sym, ◌∙◌, arith}
+use Rattle.std.proofs.Common.{◌≡◌, ◌≤◌, ◌+◌, ◌-◌, ◌∷◌, ◌++◌, map, take, drop, length, get_or, Some, ap, sym, ◌∙◌, arith}
 use Rattle.std.specs.List.{range_with_len}
-use Rattle.verb_codes.specs.Lists.{entries_of_words, entry_of, entry_fault, after, expansion_after}
+use Rattle.verb_codes.specs.Lists.{entries_of_words, entry_of, after, expansion_after}
 use Rattle.verb_codes.proofs.Packing.{length-entries}
 use Rattle.verb_codes.proofs.Expansions.{drop-entries, one_more_entry, faulty_entry}
 use Rattle.verb_codes.proofs.lists.expand_list.Goals as goal
@@ -15,7 +15,7 @@ returns-in-Some c =
     let rest = drop (c.loop-place.place + 1) (map (entry_of long) (take c.args.len bits)) in
     c.loop-place.invariant
     ∙ ap (λ es. after c.loop-place.nids.items (expansion_after c.loop-place.before es))
-      (drop-entries long bits c.args.len c.loop-place.place (omega arith) fits ∙ ap (λ e. e ∷ rest) (sym same))
+    (drop-entries long bits c.args.len c.loop-place.place (omega arith) fits ∙ ap (λ e. e ∷ rest) (sym same))
     ∙ faulty_entry c.loop-place.nids.items c.loop-place.before entry rest c.in-Some.fault (sym c.in-Some.ensures)
 
 pub loop-place-preserved : goal.loop-place-preserved
@@ -29,7 +29,7 @@ loop-place-preserved c =
     let nids = c.loop-place.nids.items in
     c.loop-place.invariant
     ∙ ap (λ es. after nids (expansion_after c.loop-place.before es))
-      (drop-entries long bits c.args.len c.loop-place.place (omega arith) fits ∙ ap (λ e. e ∷ rest) (sym same))
+    (drop-entries long bits c.args.len c.loop-place.place (omega arith) fits ∙ ap (λ e. e ∷ rest) (sym same))
     ∙ one_more_entry nids c.loop-place.before entry rest (sym c.fault_after.ensures ∙ c.in_default.is)
     ∙ ap (λ ns. after ns (expansion_after (Some entry) rest))
-      (sym (c.in_ok-push_nids.ensures ∙ ap (λ f. nids ++ range_with_len f (entry.nid + 1 - f)) c.first_after.ensures.value))
+    (sym (c.in_ok-push_nids.ensures ∙ ap (λ f. nids ++ range_with_len f (entry.nid + 1 - f)) c.first_after.ensures.value))

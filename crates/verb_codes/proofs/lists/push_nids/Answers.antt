@@ -12,6 +12,6 @@ loop-nid-preserved c =
     let count : nid + 1 - first ≡ nid - first + 1 = omega arith in
     let last : first + (nid - first) ≡ nid = omega arith in
     rw count (c.in_ok-push.ensures.items
-      ∙ ap (λ xs. xs ++ nid ∷ []) c.loop-nid.invariant
-      ∙ append_assoc before (range_with_len first (nid - first)) (nid ∷ [])
-      ∙ ap (λ xs. before ++ xs) (sym (range_more first (nid - first) ∙ ap (λ n. range_with_len first (nid - first) ++ n ∷ []) last)))
+    ∙ ap (λ xs. xs ++ nid ∷ []) c.loop-nid.invariant
+    ∙ append_assoc before (range_with_len first (nid - first)) (nid ∷ [])
+    ∙ ap (λ xs. before ++ xs) (sym (range_more first (nid - first) ∙ ap (λ n. range_with_len first (nid - first) ++ n ∷ []) last)))

@@ -1,5 +1,5 @@
 use Rattle.std.proofs.Common.{◌≡◌, Some, refl, arith, ap, sym, ◌∙◌}
-use Rattle.verb_codes.specs.Verbs.{reading_of, verb_of_bits, command_with}
+use Rattle.verb_codes.specs.Verbs.{reading_of, command_with}
 use Rattle.verb_codes.proofs.Commands.{reading_of-parts, reading_of-exact, command_with-outside, command_with-none, command_with-some}
 use Rattle.verb_codes.proofs.words.decode.Goals as goal
 
@@ -12,8 +12,8 @@ unread : (c : goal.After-from_residual) → c.from_residual.result ≡ reading_o
 unread c =
     c.from_residual.ensures
     ∙ sym (reading_of-parts c.args.word c.field-codec.result c.field-nid.result c.field.result (omega arith) c.field-codec.ensures.value c.field-nid.ensures.value c.field.ensures.value
-      ∙ ap (command_with c.field-codec.result c.field-nid.result) (sym c.verb_of.ensures ∙ c.in_err-verb.was)
-      ∙ command_with-none c.field-codec.result c.field-nid.result)
+    ∙ ap (command_with c.field-codec.result c.field-nid.result) (sym c.verb_of.ensures ∙ c.in_err-verb.was)
+    ∙ command_with-none c.field-codec.result c.field-nid.result)
 
 pub returns-in_err-verb-clause-reading : goal.returns-in_err-verb-clause-reading
 returns-in_err-verb-clause-reading c = unread c

@@ -1,4 +1,4 @@
-use Rattle.std.proofs.Common.{◌≡◌, ◌<◌, ◌+◌, ◌*◌, ◌^◌, refl, sym, ap, ◌∙◌, true, arith}
+use Rattle.std.proofs.Common.{◌≡◌, ◌<◌, ◌^◌, refl, sym, ap, ◌∙◌, true, arith}
 use Rattle.std.specs.Prelude.{bit_and}
 use Rattle.std.proofs.lemmas.Bool.{ltb-true, eqb-true, eq-eqb}
 use Rattle.verb_codes.specs.declared.verbs.Verb.{Verb}
@@ -32,8 +32,8 @@ returns-in_default-2 c = sym (reads_none c.args.bits (λ v r e. none c v (payloa
   where
     none : (c : goal.Else-payload-eq0-2) (v : Verb) → (row_of v).payload < 2 ^ (row_of v).width → is_allowed v ≡ true → c.args.bits ≡ verb_bits v → ⊥
     none c (verb.GetAmp side) lt allowed e =
-      let same : c.field-payload.result ≡ side = omega arith in
-      c.if-payload-eq0-2.false (ap (λ x. bit_and x get_amp_zeros) same ∙ eqb-true _ 0 allowed)
+        let same : c.field-payload.result ≡ side = omega arith in
+        c.if-payload-eq0-2.false (ap (λ x. bit_and x get_amp_zeros) same ∙ eqb-true _ 0 allowed)
     none c (verb.SetDefault place byte) lt allowed e = let p : place < 4 = ltb-true place 4 allowed in omega arith
     none c _ lt allowed e = omega arith
 

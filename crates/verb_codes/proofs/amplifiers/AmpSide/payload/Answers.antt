@@ -1,4 +1,4 @@
-use Rattle.std.proofs.Common.{◌≡◌, ◌+◌, arith}
+use Rattle.std.proofs.Common.{◌≡◌, ◌+◌}
 use Rattle.verb_codes.specs.Amplifiers.{worth}
 use Rattle.verb_codes.proofs.Payloads.{side-allowed}
 use Rattle.verb_codes.proofs.amplifiers.AmpSide.payload.Goals as goal
