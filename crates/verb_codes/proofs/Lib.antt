@@ -1,0 +1,5 @@
+pub mod Readings
+pub mod Commands
+pub mod Packing
+pub mod Expansions
+pub mod Payloads

@@ -1,0 +1,4 @@
+pub mod Verbs
+pub mod Lists
+pub mod Amplifiers
+pub mod Parameters

@@ -1,0 +1,23 @@
+//! The commands of High Definition Audio codecs as 32-bit words both ways, and the entries of connection lists.
+#![tactic(auto)]
+
+mod amplifiers;
+mod bits;
+mod codes;
+mod entries;
+mod flags;
+mod lists;
+mod parameters;
+mod verbs;
+mod words;
+
+pub use amplifiers::{AmpSetting, AmpSide};
+pub use entries::{ListError, ListFault};
+pub use flags::{PinCapabilities, PinControl, WidgetCapabilities};
+pub use lists::{expand_list, pack_list};
+pub use parameters::Parameter;
+pub use verbs::{Command, Verb};
+pub use words::{decode, encode};
+
+#[cfg(test)]
+mod tests;
