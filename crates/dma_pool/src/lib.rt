@@ -1,0 +1,12 @@
+//! A pool of memory for DMA: blocks that are owned, lent for writing in windows, and given back. This project's own.
+#![tactic(auto)]
+
+mod blocks;
+mod pool;
+mod runs;
+
+pub use blocks::{Block, Lent, Window};
+pub use pool::{GRANULE, NoRun, Pool};
+
+#[cfg(test)]
+mod tests;
