@@ -1,5 +1,5 @@
 -- Runs that are laid out in a pool.
-use Rattle.std.proofs.Common.{◌≡◌, ◌≤◌, ◌<◌, ◌+◌, ◌-◌, ◌/◌, ◌%◌, ℕ, ◌⊎◌, ◌≢◌, inl, inr, List, [], ◌∷◌, ◌++◌, take, drop, length, get_or, add-one, append_assoc, length-append, length-take, length-drop, refl, sym, ap, ◌∙◌, subst, zero, suc, Bool, true, false, Result, Ok, Err, arith, rules}
+use Rattle.std.proofs.Common.{◌≡◌, ◌≤◌, ◌<◌, ◌+◌, ◌-◌, ◌/◌, ◌%◌, ℕ, ◌≢◌, inl, inr, List, [], ◌∷◌, ◌++◌, take, drop, length, get_or, add-one, append_assoc, length-append, length-take, length-drop, refl, sym, ap, ◌∙◌, subst, zero, suc, true, false, Result, Ok, Err, arith}
 use Rattle.std.specs.List.{All, Contains}
 use Rattle.std.specs.Result.{OnErr, is_err, is_ok}
 use Rattle.std.proofs.Math.Seq.{drop-cons}
@@ -8,7 +8,7 @@ use Rattle.std.proofs.lemmas.List.Elements.{All-append, All-push, Contains-appen
 use Rattle.std.specs.Int.{div_ceil}
 use Rattle.dma_pool.specs.declared.runs.Run.{Run}
 use Rattle.dma_pool.specs.Blocks.{run_at, IsElsewhere}
-use Rattle.dma_pool.specs.Pools.{IsLaidOut, IsApart, IsFree, IsFirstFit, IsGap, AddsRun, end_of, granules_of}
+use Rattle.dma_pool.specs.Pools.{IsLaidOut, IsApart, IsFree, IsGap, AddsRun, end_of, granules_of}
 
 -- runs that begin later also begin later than what is lower
 pub laid_out-lower : (lower from granules : ℕ) (runs : List Run) → lower ≤ from → IsLaidOut from granules runs → IsLaidOut lower granules runs

@@ -116,8 +116,7 @@ impl Lent {
     }
 }
 
-/// The part of a lent block that its owner may write now.
-#[derive(Drop)]
+/// The part of a lent block that its owner may write now. A window is not copied and not let go: it is closed.
 pub struct Window<'a> {
     lent: &'a mut Lent,
     base: u64,
@@ -151,5 +150,17 @@ impl Window<'_> {
         ensures inside { result ≤ self.now.lent.now.address + self.now.lent.now.bytes }
     {
         self.lent.address + (at - self.base) as u32
+    }
+
+    /// Closes the window. The block stays lent.
+    pub fn close(self)
+        ensures { self.exit.0.now ≡ self.entry.lent.now }
+    {
+        let Window {
+            lent: _,
+            base: _,
+            from: _,
+            to: _,
+        } = self;
     }
 }

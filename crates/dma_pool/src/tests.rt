@@ -1,7 +1,7 @@
 //! A small pool, taken and given back by hand, and a block that is lent.
 ghost use Rattle.std.specs.Prelude.{◌≡◌, ◌≤◌, true};
 
-use crate::{NoRun, Pool};
+use crate::{Lent, NoRun, Pool};
 use std::test::Fail;
 
 /// Whether the pool has no run for so many bytes. If it has one, it goes back at once.
@@ -16,6 +16,20 @@ fn refuses(pool: &mut Pool, bytes: u32) -> bool
         }
         Err(NoRun) => true,
     }
+}
+
+/// Opens two windows in a row on the first byte of a block, which stays what it was.
+fn opens_twice(lent: &mut Lent) -> bool
+    ensures { lent.new ≡ lent.old }
+{
+    let bytes = u64::from(lent.bytes());
+    let whole = lent.window(768, 768, 768 + bytes);
+    let begins = whole.place(768);
+    whole.close();
+    let empty = lent.window(0, 0, 0);
+    let same = empty.place(0) == begins && empty.from() == empty.to();
+    empty.close();
+    same
 }
 
 #[test]
@@ -59,6 +73,8 @@ fn takes_all(rt: HostRuntime) -> Result<(), Fail> {
     assert!(rt; lent.address() == 0 && lent.bytes() == 1);
     let window = lent.window(768, 768, 769);
     assert!(rt; window.from() == 768 && window.to() == 769 && window.place(769) == 1);
+    window.close();
+    assert!(rt; opens_twice(&mut lent));
     pool.give(lent.back());
     Ok(())
 }

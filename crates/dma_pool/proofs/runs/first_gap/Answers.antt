@@ -1,6 +1,6 @@
-use Rattle.std.proofs.Common.{◌≤◌, arith}
+use Rattle.std.proofs.Common.{arith}
 use Rattle.dma_pool.specs.declared.runs.Run.{Run}
-use Rattle.dma_pool.proofs.LaidOut.{split-room, split-end, split-more, split-none, split-last}
+use Rattle.dma_pool.proofs.LaidOut.{split-room, split-end, split-more, split-none}
 use Rattle.dma_pool.proofs.runs.first_gap.Goals as goal
 
 abbrev nothing : Run

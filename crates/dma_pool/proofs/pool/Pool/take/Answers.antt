@@ -1,4 +1,4 @@
-use Rattle.std.proofs.Common.{◌≡◌, ◌/◌, ℕ, ap, length, sym, arith, rules}
+use Rattle.std.proofs.Common.{◌≡◌, ◌/◌, ap, length, arith}
 use Rattle.dma_pool.proofs.LaidOut.{gap-room, at_error, ok_from, AddsRun-insert, AddsRun-has, AddsRun-keeps}
 use Rattle.dma_pool.specs.Pools.{granules_for}
 use Rattle.dma_pool.proofs.pool.Pool.take.Goals as goal
