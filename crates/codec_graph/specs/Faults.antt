@@ -1,4 +1,4 @@
--- The faults of a codec's tables, and what a well-formed graph is. The rules and their order are this project's own.
+-- The faults of a codec's tables. The rules and their order are this project's own.
 use Rattle.std.specs.Prelude.{ℕ, Bool, ◌==◌, ◌||◌, not, List, [], ◌∷◌, ◌++◌, length, if◌then◌else◌, nat_lt, ◌+◌, Option, Some, None, Result, Ok, Err}
 use Rattle.std.specs.List.{list_all}
 use Rattle.codec_graph.specs.declared.raw.RawNode.{RawNode}

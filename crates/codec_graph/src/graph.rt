@@ -14,7 +14,7 @@ use crate::words::bits_of;
 use hda_items::Items;
 use std::marker::Model;
 
-/// A codec's graph whose tables have no fault. Contracts see the normalised words that [`Graph::raw`] gives.
+/// A codec's well-formed graph. Contracts see the normalised words that [`Graph::raw`] gives.
 #[derive(Debug, Drop)]
 pub struct Graph {
     raw: RawCodec,

@@ -118,7 +118,7 @@ WroteText meant text before after sink_failed status =
     ⊎ (((status ≡ 4) × sink_failed × TookFront before after text)
     ⊎ ((status ≡ 12) × TookFront before after text))
 
--- the words name a codec file that is too long, or whose bytes read as this
+-- the words name a codec file that is too long, or whose bytes read as a fault
 abbrev pub IsRefused : Option Files → List (List ℕ) → Type 0
 IsRefused told words =
     (name : List ℕ) × IsRouteOf words name
