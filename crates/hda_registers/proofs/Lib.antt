@@ -1,0 +1,13 @@
+pub mod Rows
+pub mod Bits
+pub mod Placing
+pub mod Groups
+pub mod GlobalWrites
+pub mod Reading
+pub mod GlobalReads
+pub mod StreamReads
+pub mod StreamWrites
+pub mod Storing
+pub mod Dispatch
+pub mod Keeping
+pub mod Literal

@@ -1,0 +1,66 @@
+-- Reads and writes at known places, as the layers above use them.
+use Rattle.std.proofs.Common.{◌≡◌, ◌+◌, ◌*◌, ◌%◌, ◌/◌, ◌^◌, ℕ, true, refl, arith}
+use Rattle.hda_registers.specs.declared.shapes.Width.TheVariants.{One, Two, Four}
+use Rattle.hda_registers.specs.Fields.{Fields, is_out_of_reset, entries_of}
+use Rattle.hda_registers.specs.Table.{size_code}
+use Rattle.hda_registers.specs.Status.{interrupt_status}
+use Rattle.hda_registers.specs.Access.{value_at, shown_at, global_shown, stream_shown, global_groups_in, stream_groups_in, written, placed, global_written, stream_written}
+
+pub read-global_control : (f : Fields) → value_at f 0x08 Four ≡ f.global.controller_reset + f.global.unsolicited * 2 ^ 8
+unfolding value_at shown_at global_shown global_groups_in
+read-global_control f = omega arith
+
+pub read-state_status : (f : Fields) → value_at f 0x0E Two ≡ f.global.state_status
+unfolding value_at shown_at global_shown global_groups_in
+read-state_status f = omega arith
+
+pub read-interrupt_status : (f : Fields) → value_at f 0x24 Four ≡ interrupt_status f
+unfolding value_at shown_at global_shown global_groups_in
+read-interrupt_status f = omega arith
+
+pub read-wall_clock : (f : Fields) → value_at f 0x30 Four ≡ f.global.wall_clock
+unfolding value_at shown_at global_shown global_groups_in
+read-wall_clock f = omega arith
+
+pub read-corb_read_pointer : (f : Fields) → value_at f 0x4A Two ≡ f.global.corb_read_pointer + f.global.corb_pointer_reset * 2 ^ 15
+unfolding value_at shown_at global_shown global_groups_in
+read-corb_read_pointer f = omega arith
+
+pub read-corb_size : (f : Fields) → value_at f 0x4E One ≡ size_code f.shape.corb
+unfolding value_at shown_at global_shown global_groups_in
+read-corb_size f = omega arith
+
+pub read-rirb_write_pointer : (f : Fields) → value_at f 0x58 Two ≡ f.global.rirb_write_pointer
+unfolding value_at shown_at global_shown global_groups_in
+read-rirb_write_pointer f = omega arith
+
+pub read-response_flag : (f : Fields) → value_at f 0x5D One ≡ f.global.response_flag
+unfolding value_at shown_at global_shown global_groups_in
+read-response_flag f = omega arith
+
+pub read-rirb_size : (f : Fields) → value_at f 0x5E One ≡ size_code f.shape.rirb
+unfolding value_at shown_at global_shown global_groups_in
+read-rirb_size f = omega arith
+
+pub read-output_status : (f : Fields) → value_at f 0xA3 One
+    ≡ f.output.completion * 2 ^ 2 + f.output.fifo_error * 2 ^ 3 + f.output.descriptor_error * 2 ^ 4 + f.output.fifo_ready * 2 ^ 5
+unfolding value_at shown_at stream_shown stream_groups_in
+read-output_status f = omega arith
+
+pub read-output_position : (f : Fields) → value_at f 0xA4 Four ≡ f.output.link_position
+unfolding value_at shown_at stream_shown stream_groups_in
+read-output_position f = omega arith
+
+pub write-corb_write_pointer : (f : Fields) (v : ℕ) → is_out_of_reset f.global ≡ true
+    → written f 0x48 Two v ≡ record f { global = record f.global { corb_write_pointer = v % 2 ^ 8 % entries_of f.shape.corb } }
+unfolding written placed global_written
+write-corb_write_pointer f v out =
+    let low : v % 2 ^ 16 * 1 / 1 % 256 ≡ v % 2 ^ 8 = omega arith in
+    rw (out, low) refl
+
+pub write-output_length : (f : Fields) (v : ℕ) → is_out_of_reset f.global ≡ true → f.output.run ≡ 0
+    → written f 0xA8 Four v ≡ record f { output = record f.output { buffer_length = v % 2 ^ 32 } }
+unfolding written placed stream_written
+write-output_length f v out still =
+    let low : v % 4294967296 * 1 / 1 % 4294967296 ≡ v % 2 ^ 32 = omega arith in
+    rw (out, still, low) refl

@@ -1,0 +1,9 @@
+pub mod Fields
+pub mod Table
+pub mod Access
+pub mod Status
+pub mod Moves
+pub mod Words
+pub mod Memory
+pub mod Rings
+pub mod Laws

@@ -1,0 +1,394 @@
+//! The controller's own registers, below the stream descriptors (HDA 1.0a, 3.3.2 to 3.3.33).
+ghost use Rattle.std.specs.Prelude.{◌≡◌, ◌==◌, ◌≤◌, ◌+◌, ◌*◌, ◌%◌, ◌/◌, ◌^◌, nat_lt, bit_and, bit_or, ℕ};
+ghost use Rattle.hda_registers.specs.Access.{part, global_shown, global_written};
+ghost use Rattle.hda_registers.specs.Fields.{is_out_of_reset, reset_global};
+ghost use Rattle.hda_registers.specs.Status.{controller_asks};
+ghost use Rattle.hda_registers.specs.Table.{size_code};
+
+use crate::accesses::Access;
+use crate::conditions::both;
+use crate::flags::{CorbControl, GlobalControl, InterruptControl, RirbControl};
+use crate::pointers::{corb_pointers_after, rirb_pointers_after};
+use crate::shapes::{RingSize, Shape};
+use bitflags::Flags;
+use std::marker::Model;
+
+const VERSION: u16 = 0x00 / 4;
+
+const PAYLOADS: u16 = 0x04 / 4;
+
+const GCTL: u16 = 0x08 / 4;
+
+const WAKE: u16 = 0x0C / 4;
+
+const INTCTL: u16 = 0x20 / 4;
+
+const INTSTS: u16 = 0x24 / 4;
+
+const WALCLK: u16 = 0x30 / 4;
+
+const CORB_BASE: u16 = 0x40 / 4;
+
+const CORB_POINTERS: u16 = 0x48 / 4;
+
+const CORB_CONTROL: u16 = 0x4C / 4;
+
+const RIRB_BASE: u16 = 0x50 / 4;
+
+const RIRB_POINTERS: u16 = 0x58 / 4;
+
+const RIRB_CONTROL: u16 = 0x5C / 4;
+
+/// GCAP with one input and one output stream, then version 1.0.
+const VERSION_WORD: u32 = 0x0100_1100;
+/// OUTPAY, and INPAY in the upper half.
+const PAYLOADS_WORD: u32 = 0x001D_003C;
+
+const CONTROL_BITS: u32 = 0x101;
+
+const WAKEEN: u32 = 0x7FFF;
+
+const STATESTS: u32 = 0x7FFF_0000;
+
+const INTERRUPT_BITS: u32 = 0xC000_0003;
+
+const BASE: u32 = 0xFFFF_FF80;
+
+const WRITE_POINTER: u32 = 0xFF;
+
+const READ_POINTER: u32 = 0xFF_0000;
+
+const CORBRPRST: u32 = 0x8000_0000;
+
+const RINTCNT: u32 = 0xFF_0000;
+
+const CORB_BITS: u32 = 0x3;
+
+const RIRB_BITS: u32 = 0x7;
+
+const RINTFL: u32 = 0x100;
+
+/// The wall clock's ticks in a link frame.
+const TICKS_PER_FRAME: u32 = 500;
+
+/// The words that hold them, each as it stands at its place.
+#[derive(Drop)]
+pub(crate) struct Controller {
+    control: GlobalControl,
+    /// WAKEEN, and STATESTS in the upper half.
+    wake: u32,
+    interrupts: InterruptControl,
+    wall_clock: u32,
+    corb_base: u32,
+    /// CORBWP, and CORBRP in the upper half.
+    corb_pointers: u32,
+    corb_control: CorbControl,
+    rirb_base: u32,
+    /// RIRBWP, and RINTCNT in the upper half.
+    rirb_pointers: u32,
+    rirb_control: RirbControl,
+}
+
+impl Model for Controller {
+    ghost use Rattle.hda_registers.specs.Fields.{Global};
+    ghost use Rattle.hda_registers.specs.Words.{global_in};
+
+    ghost Value = { Global };
+
+    ghost view = { λ c. global_in c.control.0 c.wake c.interrupts.0 c.wall_clock c.corb_base c.corb_pointers c.corb_control.0
+        c.rirb_base c.rirb_pointers c.rirb_control.0 };
+}
+
+impl Controller {
+    /// In reset, with no bit in STATESTS.
+    pub(crate) fn new() -> Controller
+        ensures { result ≡ reset_global 0 }
+    {
+        Controller {
+            control: GlobalControl(0),
+            wake: 0,
+            interrupts: InterruptControl(0),
+            wall_clock: 0,
+            corb_base: 0,
+            corb_pointers: 0,
+            corb_control: CorbControl(0),
+            rirb_base: 0,
+            rirb_pointers: 0,
+            rirb_control: RirbControl(0),
+        }
+    }
+
+    /// Resets all but STATESTS.
+    pub(crate) fn reset(&mut self)
+        ensures { self.new ≡ reset_global self.old.state_status }
+    {
+        self.control = GlobalControl(0);
+        self.wake &= STATESTS;
+        self.interrupts = InterruptControl(0);
+        self.wall_clock = 0;
+        self.corb_base = 0;
+        self.corb_pointers = 0;
+        self.corb_control = CorbControl(0);
+        self.rirb_base = 0;
+        self.rirb_pointers = 0;
+        self.rirb_control = RirbControl(0);
+    }
+
+    /// A write there, by the rules of the table.
+    pub(crate) fn write(&mut self, shape: Shape, access: Access)
+        requires { bit_and access.written access.covered ≡ access.written }
+        ensures { self.new ≡ global_written shape access self.old }
+    {
+        match access.word {
+            GCTL => self.control = GlobalControl(access.leaves(self.control.0, CONTROL_BITS, 0)),
+            WAKE => self.wake = access.leaves(self.wake, WAKEEN, STATESTS),
+            INTCTL => {
+                self.interrupts = InterruptControl(access.leaves(
+                    self.interrupts.0,
+                    INTERRUPT_BITS,
+                    0,
+                ))
+            }
+            CORB_BASE => self.corb_base = access.leaves(self.corb_base, BASE, 0),
+            CORB_POINTERS => self.corb_pointers = corb_pointers_after(
+                self.corb_pointers,
+                shape,
+                access,
+            ),
+            CORB_CONTROL => {
+                self.corb_control = CorbControl(access.leaves(self.corb_control.0, CORB_BITS, 0))
+            }
+            RIRB_BASE => self.rirb_base = access.leaves(self.rirb_base, BASE, 0),
+            RIRB_POINTERS => self.rirb_pointers = rirb_pointers_after(
+                self.rirb_pointers,
+                shape,
+                access,
+            ),
+            RIRB_CONTROL => {
+                self.rirb_control = RirbControl(access.leaves(
+                    self.rirb_control.0,
+                    RIRB_BITS,
+                    RINTFL,
+                ))
+            }
+            _ => {}
+        }
+    }
+
+    /// The word with this number as it stands there, where INTSTS is `status`.
+    pub(crate) fn word(&self, shape: Shape, status: u32, word: u16) -> u32
+        ensures { (covered written : ℕ)
+            → global_shown shape self.now status (record { word = word; covered = covered; written = written }) ≡ bit_and result covered }
+    {
+        match word {
+            VERSION => VERSION_WORD,
+            PAYLOADS => PAYLOADS_WORD,
+            GCTL => self.control.0 & CONTROL_BITS,
+            WAKE => self.wake & (WAKEEN | STATESTS),
+            INTCTL => self.interrupts.0 & INTERRUPT_BITS,
+            INTSTS => status,
+            WALCLK => {
+                let ticks = self.wall_clock;
+                ticks
+            }
+            CORB_BASE => self.corb_base & BASE,
+            CORB_POINTERS => self.corb_pointers & (WRITE_POINTER | READ_POINTER | CORBRPRST),
+            CORB_CONTROL => self.corb_control.0 & CORB_BITS | size_bits(shape.corb),
+            RIRB_BASE => self.rirb_base & BASE,
+            RIRB_POINTERS => self.rirb_pointers & (WRITE_POINTER | RINTCNT),
+            RIRB_CONTROL => self.rirb_control.0 & (RIRB_BITS | RINTFL) | size_bits(shape.rirb),
+            _ => 0,
+        }
+    }
+
+    /// Counts a link frame.
+    pub(crate) fn count_frame(&mut self)
+        ensures { self.new ≡ record self.old { wall_clock = (self.old.wall_clock + 500) % 2 ^ 32 } }
+    {
+        self.wall_clock = self.wall_clock.wrapping_add(TICKS_PER_FRAME);
+    }
+
+    /// Sets the codec's bit of STATESTS.
+    pub(crate) fn set_state(&mut self, codec: u8)
+        requires { codec ≤ 14 }
+        ensures { self.new ≡ record self.old { state_status = bit_or self.old.state_status (2 ^ codec) } }
+    {
+        self.wake |= 1 << (16 + u32::from(codec));
+    }
+
+    /// Sets RINTFL.
+    pub(crate) fn set_response_flag(&mut self)
+        ensures { self.new ≡ record self.old { response_flag = 1 } }
+    {
+        self.rirb_control.0 |= RINTFL;
+    }
+
+    /// Moves the read pointer of the CORB.
+    pub(crate) fn set_corb_read_pointer(&mut self, pointer: u8)
+        ensures { self.new ≡ record self.old { corb_read_pointer = pointer } }
+    {
+        self.corb_pointers = self.corb_pointers & !READ_POINTER | u32::from(pointer) << 16;
+    }
+
+    /// Moves the write pointer of the RIRB.
+    pub(crate) fn set_rirb_write_pointer(&mut self, pointer: u8)
+        ensures { self.new ≡ record self.old { rirb_write_pointer = pointer } }
+    {
+        self.rirb_pointers = self.rirb_pointers & !WRITE_POINTER | u32::from(pointer);
+    }
+
+    /// Whether CRST is 1.
+    pub(crate) fn is_out_of_reset(&self) -> bool
+        ensures { result ≡ is_out_of_reset self.now }
+    {
+        self.control.contains(GlobalControl::CRST)
+    }
+
+    /// Whether the controller itself asks for an interrupt: RINTFL and RINTCTL are 1, or a codec asks whose wake bit is 1.
+    pub(crate) fn asks(&self) -> bool
+        ensures { result ≡ controller_asks self.now }
+    {
+        let control = self.rirb_control;
+        both(
+            control.contains(RirbControl::RINTFL),
+            control.contains(RirbControl::RINTCTL),
+        ) || self.is_woken()
+    }
+
+    /// Whether a codec asks for attention whose wake bit is 1.
+    fn is_woken(&self) -> bool
+        ensures { result ≡ nat_lt 0 (bit_and self.now.state_status self.now.wake_enable) }
+    {
+        self.wake >> 16 & self.wake & WAKEEN > 0
+    }
+
+    /// Whether INTCTL's bit of the input stream is 1.
+    pub(crate) fn enables_input(&self) -> bool
+        ensures { result ≡ (self.now.input_interrupt == 1) }
+    {
+        self.interrupts.contains(InterruptControl::INPUT)
+    }
+
+    /// Whether INTCTL's bit of the output stream is 1.
+    pub(crate) fn enables_output(&self) -> bool
+        ensures { result ≡ (self.now.output_interrupt == 1) }
+    {
+        self.interrupts.contains(InterruptControl::OUTPUT)
+    }
+
+    /// Whether CIE is 1.
+    pub(crate) fn enables_controller(&self) -> bool
+        ensures { result ≡ (self.now.controller_interrupt == 1) }
+    {
+        self.interrupts.contains(InterruptControl::CIE)
+    }
+
+    /// Whether GIE is 1.
+    pub(crate) fn enables_all(&self) -> bool
+        ensures { result ≡ (self.now.global_interrupt == 1) }
+    {
+        self.interrupts.contains(InterruptControl::GIE)
+    }
+
+    /// Whether UNSOL is 1.
+    pub(crate) fn accepts_unsolicited(&self) -> bool
+        ensures { result ≡ (self.now.unsolicited == 1) }
+    {
+        self.control.contains(GlobalControl::UNSOL)
+    }
+
+    /// Where the CORB stands, in bytes.
+    pub(crate) fn corb_address(&self) -> u32
+        ensures { result ≡ 128 * self.now.corb_base }
+    {
+        self.corb_base & BASE
+    }
+
+    /// CORBWP.
+    pub(crate) fn corb_write_pointer(&self) -> u8
+        ensures { result ≡ self.now.corb_write_pointer }
+    {
+        low_byte(self.corb_pointers)
+    }
+
+    /// The read pointer in CORBRP.
+    pub(crate) fn corb_read_pointer(&self) -> u8
+        ensures { result ≡ self.now.corb_read_pointer }
+    {
+        third_byte(self.corb_pointers)
+    }
+
+    /// Whether CORBRPRST is 1.
+    pub(crate) fn is_corb_read_pointer_reset(&self) -> bool
+        ensures { result ≡ (self.now.corb_pointer_reset == 1) }
+    {
+        self.corb_pointers & CORBRPRST == CORBRPRST
+    }
+
+    /// Whether CORBRUN is 1.
+    pub(crate) fn is_corb_running(&self) -> bool
+        ensures { result ≡ (self.now.corb_run == 1) }
+    {
+        self.corb_control.contains(CorbControl::CORBRUN)
+    }
+
+    /// Where the RIRB stands, in bytes.
+    pub(crate) fn rirb_address(&self) -> u32
+        ensures { result ≡ 128 * self.now.rirb_base }
+    {
+        self.rirb_base & BASE
+    }
+
+    /// RIRBWP.
+    pub(crate) fn rirb_write_pointer(&self) -> u8
+        ensures { result ≡ self.now.rirb_write_pointer }
+    {
+        low_byte(self.rirb_pointers)
+    }
+
+    /// RINTCNT.
+    pub(crate) fn response_count(&self) -> u8
+        ensures { result ≡ self.now.response_count }
+    {
+        third_byte(self.rirb_pointers)
+    }
+
+    /// Whether RIRBDMAEN is 1.
+    pub(crate) fn is_rirb_running(&self) -> bool
+        ensures { result ≡ (self.now.rirb_run == 1) }
+    {
+        self.rirb_control.contains(RirbControl::RIRBDMAEN)
+    }
+
+    /// Whether RINTFL is 1.
+    pub(crate) fn is_response_flag_set(&self) -> bool
+        ensures { result ≡ (self.now.response_flag == 1) }
+    {
+        self.rirb_control.contains(RirbControl::RINTFL)
+    }
+}
+
+/// Bits 7:0 of a word.
+fn low_byte(word: u32) -> u8
+    ensures { result ≡ part 0 8 word }
+{
+    (word % 0x100) as u8
+}
+
+/// Bits 23:16 of a word.
+fn third_byte(word: u32) -> u8
+    ensures { result ≡ part 16 8 word }
+{
+    low_byte(word >> 16)
+}
+
+/// The word of a ring's control with the code of its size in bits 23:16 and no other bit.
+fn size_bits(size: RingSize) -> u32
+    ensures { result ≡ size_code size * 2 ^ 16 }
+{
+    match size {
+        RingSize::Two => 0x10_0000,
+        RingSize::Sixteen => 0x21_0000,
+        RingSize::Full => 0x42_0000,
+    }
+}

@@ -1,0 +1,63 @@
+//! Laws of the registers. Each is the contract of a function with nothing to do.
+ghost use Rattle.std.specs.Prelude.{◌≡◌, ◌≢◌, ◌<◌, ◌≤◌, ◌/◌, ℕ, true, false};
+ghost use Rattle.hda_registers.specs.declared.shapes.Moved.{Moved};
+ghost use Rattle.hda_registers.specs.declared.shapes.Moved.TheVariants.{CorbRp, RirbWp, Lpib, Ready};
+ghost use Rattle.hda_registers.specs.declared.shapes.Raise.{Raise};
+ghost use Rattle.hda_registers.specs.declared.shapes.Shape.{Shape};
+ghost use Rattle.hda_registers.specs.declared.shapes.Width.{Width};
+ghost use Rattle.hda_registers.specs.Access.{written};
+ghost use Rattle.hda_registers.specs.Fields.{Fields, opening, is_out_of_reset};
+ghost use Rattle.hda_registers.specs.Laws.{LeavesStreams, ChangesInput, ChangesOutput, IsBesideStreams, IsHeldInReset};
+ghost use Rattle.hda_registers.specs.Moves.{framed, raised, moved};
+
+/// A write that is neither at GCTL nor at a stream descriptor leaves both descriptors.
+pub fn write_leaves_streams()
+    ensures { (fields : Fields) (at : ℕ) (width : Width) (value : ℕ) → at / 4 ≢ 2 → IsBesideStreams at
+        → LeavesStreams fields (written fields at width value) }
+{}
+
+/// A write at a stream descriptor leaves all else.
+pub fn write_leaves_others()
+    ensures input { (fields : Fields) (at : ℕ) (width : Width) (value : ℕ) → 0x80 ≤ at → at < 0xA0
+        → ChangesInput fields (written fields at width value) }
+    ensures output { (fields : Fields) (at : ℕ) (width : Width) (value : ℕ) → 0xA0 ≤ at → at < 0xC0
+        → ChangesOutput fields (written fields at width value) }
+{}
+
+/// STATESTS survives each write to GCTL, a reset too, and no write changes the shape.
+pub fn reset_keeps_state_status()
+    ensures status { (fields : Fields) (at : ℕ) (width : Width) (value : ℕ) → at / 4 ≡ 2
+        → (written fields at width value).global.state_status ≡ fields.global.state_status }
+    ensures shape { (fields : Fields) (at : ℕ) (width : Width) (value : ℕ) → (written fields at width value).shape ≡ fields.shape }
+{}
+
+/// While CRST is 0, a write other than to GCTL changes nothing.
+pub fn reset_ignores_writes()
+    ensures { (fields : Fields) (at : ℕ) (width : Width) (value : ℕ) → is_out_of_reset fields.global ≡ false → at / 4 ≢ 2
+        → written fields at width value ≡ fields }
+{}
+
+/// While CRST is 0, all registers but STATESTS hold their reset value: so they begin, and so each write and each link frame
+/// leaves them. Events and moves come only while CRST is 1, and leave it.
+pub fn reset_holds_values()
+    ensures opening { (shape : Shape) → IsHeldInReset (opening shape) }
+    ensures write { (fields : Fields) (at : ℕ) (width : Width) (value : ℕ) → IsHeldInReset fields
+        → IsHeldInReset (written fields at width value) }
+    ensures frame { (fields : Fields) → IsHeldInReset fields → IsHeldInReset (framed fields) }
+    ensures raise { (fields : Fields) (event : Raise) → is_out_of_reset (raised fields event).global ≡ is_out_of_reset fields.global }
+    ensures put { (fields : Fields) (field : Moved) → is_out_of_reset (moved fields field).global ≡ is_out_of_reset fields.global }
+{}
+
+/// A link frame leaves all but WALCLK, and a move all but its field.
+pub fn moves_leave_others()
+    ensures frame { (fields : Fields)
+        → framed fields ≡ record fields { global = record fields.global { wall_clock = (framed fields).global.wall_clock } } }
+    ensures corb { (fields : Fields) (pointer : ℕ)
+        → moved fields (CorbRp pointer) ≡ record fields { global = record fields.global { corb_read_pointer = pointer } } }
+    ensures rirb { (fields : Fields) (pointer : ℕ)
+        → moved fields (RirbWp pointer) ≡ record fields { global = record fields.global { rirb_write_pointer = pointer } } }
+    ensures input { (fields : Fields) (bytes : ℕ)
+        → moved fields (Lpib 0 bytes) ≡ record fields { input = record fields.input { link_position = bytes } } }
+    ensures output { (fields : Fields) (bytes : ℕ)
+        → moved fields (Lpib 1 bytes) ≡ record fields { output = record fields.output { link_position = bytes } } }
+{}

@@ -1,0 +1,243 @@
+//! The registers of one stream descriptor (HDA 1.0a, 3.3.35 to 3.3.43).
+ghost use Rattle.std.specs.Prelude.{◌≡◌, ◌==◌, ◌≤◌, ◌*◌, ◌%◌, ◌/◌, ◌^◌, ℕ, bit_and, bit_or, if◌then◌else◌};
+ghost use Rattle.hda_registers.specs.Access.{stream_shown, stream_written};
+ghost use Rattle.hda_registers.specs.Fields.{is_running, list_address, reset_descriptor};
+ghost use Rattle.hda_registers.specs.Status.{stream_asks, worth};
+
+use crate::accesses::Access;
+use crate::conditions::{any, both};
+use crate::flags::StreamControl;
+use crate::shapes::Shape;
+use bitflags::Flags;
+use std::marker::Model;
+
+const CONTROL: u16 = 0x00 / 4;
+
+const POSITION: u16 = 0x04 / 4;
+
+const LENGTH: u16 = 0x08 / 4;
+
+const LAST_INDEX: u16 = 0x0C / 4;
+
+const FORMAT: u16 = 0x10 / 4;
+
+const LIST_BASE: u16 = 0x18 / 4;
+
+const SRST: u32 = 0x1;
+/// SRST, RUN, IOCE, FEIE, DEIE and the tag.
+const CONTROL_BITS: u32 = 0xF0_001F;
+/// BCIS, FIFOE and DESE.
+const STATUS_BITS: u32 = 0x1C00_0000;
+
+const FIFORDY: u32 = 0x2000_0000;
+
+const LVI: u32 = 0xFF;
+
+const FMT: u32 = 0xFFFF_0000;
+
+const BASE: u32 = 0xFFFF_FF80;
+
+/// The words that hold them, each as it stands at its place.
+#[derive(Drop)]
+pub(crate) struct Stream {
+    control: StreamControl,
+    position: u32,
+    buffer_length: u32,
+    last_index: u32,
+    /// FMT in the upper half.
+    format: u32,
+    list_base: u32,
+}
+
+impl Model for Stream {
+    ghost use Rattle.hda_registers.specs.Fields.{Descriptor};
+    ghost use Rattle.hda_registers.specs.Words.{stream_in};
+
+    ghost Value = { Descriptor };
+
+    ghost view = { λ s. stream_in s.control.0 s.position s.buffer_length s.last_index s.format s.list_base };
+}
+
+impl Stream {
+    /// After a reset of the controller.
+    pub(crate) fn new() -> Stream
+        ensures { result ≡ reset_descriptor 0 }
+    {
+        Stream::reset_to(StreamControl(0))
+    }
+
+    /// After a reset that leaves this in CTL.
+    fn reset_to(control: StreamControl) -> Stream
+        ensures none { control.0 ≡ 0 → result ≡ reset_descriptor 0 }
+        ensures one { control.0 ≡ 1 → result ≡ reset_descriptor 1 }
+    {
+        Stream {
+            control,
+            position: 0,
+            buffer_length: 0,
+            last_index: 0,
+            format: 0,
+            list_base: 0,
+        }
+    }
+
+    /// A write there, by the rules of the table; writing SRST 1 resets the descriptor.
+    pub(crate) fn write(&mut self, access: Access)
+        requires { bit_and access.written access.covered ≡ access.written }
+        ensures { self.new ≡ stream_written access self.old }
+    {
+        match access.word {
+            CONTROL => {
+                if access.written & SRST == 0 {
+                    let word = access.leaves(self.control.0, CONTROL_BITS, STATUS_BITS);
+                    self.control = StreamControl(word);
+                } else {
+                    *self = Stream::reset_to(StreamControl(SRST));
+                }
+            }
+            LENGTH => self.buffer_length = access.leaves(
+                self.buffer_length,
+                self.at_rest(u32::MAX),
+                0,
+            ),
+            LAST_INDEX => self.last_index = access.leaves(self.last_index, self.at_rest(LVI), 0),
+            FORMAT => self.format = access.leaves(self.format, self.at_rest(FMT), 0),
+            LIST_BASE => self.list_base = access.leaves(self.list_base, self.at_rest(BASE), 0),
+            _ => {}
+        }
+    }
+
+    /// These bits, or none while the stream runs.
+    fn at_rest(&self, bits: u32) -> u32
+        ensures { result ≡ (if is_running self.now then 0 else bits) }
+    {
+        if self.is_running() { 0 } else { bits }
+    }
+
+    /// The word with this number as it stands there.
+    pub(crate) fn word(&self, shape: Shape, word: u16) -> u32
+        ensures { (covered written : ℕ)
+            → stream_shown shape self.now (record { word = word; covered = covered; written = written }) ≡ bit_and result covered }
+    {
+        match word {
+            CONTROL => self.control.0 & (CONTROL_BITS | STATUS_BITS | FIFORDY),
+            POSITION => {
+                let bytes = self.position;
+                bytes
+            }
+            LENGTH => {
+                let bytes = self.buffer_length;
+                bytes
+            }
+            LAST_INDEX => self.last_index & LVI,
+            FORMAT => self.format & FMT | u32::from(shape.fifo),
+            LIST_BASE => self.list_base & BASE,
+            _ => 0,
+        }
+    }
+
+    /// Whether RUN is 1.
+    pub(crate) fn is_running(&self) -> bool
+        ensures { result ≡ is_running self.now }
+    {
+        self.control.contains(StreamControl::RUN)
+    }
+
+    /// Whether a status bit is 1 whose enable bit is 1.
+    pub(crate) fn asks(&self) -> bool
+        ensures { result ≡ stream_asks self.now }
+    {
+        let control = self.control;
+        any(
+            both(
+                control.contains(StreamControl::BCIS),
+                control.contains(StreamControl::IOCE),
+            ),
+            both(
+                control.contains(StreamControl::FIFOE),
+                control.contains(StreamControl::FEIE),
+            ),
+            both(
+                control.contains(StreamControl::DESE),
+                control.contains(StreamControl::DEIE),
+            ),
+        )
+    }
+
+    /// Sets BCIS.
+    pub(crate) fn set_completion(&mut self)
+        ensures { self.new ≡ record self.old { completion = 1 } }
+    {
+        self.control.insert(StreamControl::BCIS);
+    }
+
+    /// Sets FIFOE.
+    pub(crate) fn set_fifo_error(&mut self)
+        ensures { self.new ≡ record self.old { fifo_error = 1 } }
+    {
+        self.control.insert(StreamControl::FIFOE);
+    }
+
+    /// Sets DESE and clears RUN.
+    pub(crate) fn set_descriptor_error(&mut self)
+        ensures { self.new ≡ record self.old { descriptor_error = 1; run = 0 } }
+    {
+        self.control.insert(StreamControl::DESE);
+        self.control.remove(StreamControl::RUN);
+    }
+
+    /// Moves LPIB.
+    pub(crate) fn set_position(&mut self, bytes: u32)
+        ensures { self.new ≡ record self.old { link_position = bytes } }
+    {
+        self.position = bytes;
+    }
+
+    /// Sets or clears FIFORDY.
+    pub(crate) fn set_ready(&mut self, ready: bool)
+        ensures { self.new ≡ record self.old { fifo_ready = worth ready 0 } }
+    {
+        if ready {
+            self.control.insert(StreamControl::FIFORDY);
+        } else {
+            self.control.remove(StreamControl::FIFORDY);
+        }
+    }
+
+    /// LPIB, in bytes.
+    pub(crate) fn position(&self) -> u32
+        ensures { result ≡ self.now.link_position }
+    {
+        let bytes = self.position;
+        bytes
+    }
+
+    /// CBL, in bytes.
+    pub(crate) fn buffer_length(&self) -> u32
+        ensures { result ≡ self.now.buffer_length }
+    {
+        let bytes = self.buffer_length;
+        bytes
+    }
+
+    /// LVI.
+    pub(crate) fn last_index(&self) -> u8
+        ensures { result ≡ self.now.last_index }
+    {
+        (self.last_index % 0x100) as u8
+    }
+
+    /// FMT.
+    pub(crate) fn format(&self) -> u16
+        ensures { result ≡ self.now.format }
+    {
+        (self.format >> 16) as u16
+    }
+
+    /// Where the buffer list stands, in bytes.
+    pub(crate) fn list_address(&self) -> u32
+        ensures { result ≡ list_address self.now }
+    {
+        self.list_base & BASE
+    }
+}
