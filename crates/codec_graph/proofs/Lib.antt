@@ -1,2 +1,11 @@
 pub mod Tables
 pub mod Reaching
+pub mod KeyOrder
+pub mod Maps
+pub mod Openings
+pub mod Nodes
+pub mod Controlled
+pub mod Writes
+pub mod Laws
+pub mod Sound
+pub mod ListWords

@@ -4,3 +4,6 @@ pub mod Faults
 pub mod Cycles
 pub mod Candidates
 pub mod Marks
+pub mod Settings
+pub mod VerbMeaning
+pub mod Devices

@@ -7,11 +7,13 @@ ghost use Rattle.codec_graph.specs.Faults as faults;
 ghost use Rattle.codec_graph.specs.Cycles.{IsWellFormed, IsFirstFault};
 ghost use Rattle.codec_graph.specs.Candidates as candidates;
 
+use crate::copies::copy_codec;
 use crate::cycles::check_cycles;
 use crate::fault::GraphFault;
 use crate::raw::{RawCodec, RawNode};
 use crate::words::bits_of;
 use hda_items::Items;
+use std::alloc::{AllocError, Global};
 use std::marker::Model;
 
 /// A codec's well-formed graph. Contracts see the normalised words that [`Graph::raw`] gives.
@@ -56,6 +58,17 @@ impl Graph {
         ensures well_formed { IsWellFormed self.now }
     {
         &self.raw
+    }
+
+    /// An equal graph, in new memory.
+    ///
+    /// # Errors
+    /// Want of memory.
+    pub fn copy(&self, alloc: Global) -> Result<Graph, AllocError>
+        ensures { IfOk result (λ copy. copy ≡ self.now) }
+    {
+        let raw = copy_codec(alloc, &self.raw)?;
+        Ok(Graph { raw })
     }
 
     /// Whether the node identifier is that of a candidate pin: a stereo analog output pin that is connected to something,

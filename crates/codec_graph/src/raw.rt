@@ -4,7 +4,9 @@ ghost use Rattle.codec_graph.specs.Widget as widget;
 ghost use Rattle.codec_graph.specs.Words as words;
 ghost use Rattle.codec_graph.specs.Candidates as candidates;
 ghost use Rattle.codec_graph.specs.Cycles as cycles;
+ghost use Rattle.codec_graph.specs.Settings as settings;
 
+use crate::controls::Control;
 use crate::words::{bits_of, has_bit, kept_word};
 use hda_items::Items;
 
@@ -201,6 +203,52 @@ impl RawNode {
             && self.association() != 0
     }
 
+    /// Whether the widget can send unsolicited responses.
+    pub fn sends_unsolicited(&self) -> bool
+        ensures { result ≡ settings.sends_unsolicited self.now }
+    {
+        has_bit(self.caps, 7)
+    }
+
+    /// Whether the widget is a pin that can tell whether something is plugged in.
+    pub fn detects_presence(&self) -> bool
+        ensures { result ≡ settings.detects_presence self.now }
+    {
+        self.is_pin() && has_bit(self.pin_caps, 2)
+    }
+
+    /// Whether the widget is a pin with an external amplifier.
+    pub fn has_eapd(&self) -> bool
+        ensures { result ≡ settings.has_eapd self.now }
+    {
+        self.is_pin() && has_bit(self.pin_caps, 16)
+    }
+
+    /// Whether the widget has an input amplifier for the connection at this place.
+    fn amplifies_input(&self, place: u8) -> bool
+        ensures { result ≡ (settings.widget_has self.now (Control.InLeft place)) }
+    {
+        let inputs = self.list.len().max(1).min(16);
+        self.has_input_amplifier() && usize::from(place) < inputs
+    }
+
+    /// Whether the widget has the control.
+    pub fn has_control(&self, control: Control) -> bool
+        ensures { result ≡ settings.widget_has self.now control }
+    {
+        match control {
+            Control::Select => !self.is_mixer() && self.list.len() >= 2,
+            Control::Power => self.has_power_control(),
+            Control::Stream | Control::Format => self.is_converter(),
+            Control::Pin | Control::Default => self.is_pin(),
+            Control::Unsol => self.sends_unsolicited(),
+            Control::Eapd => self.has_eapd(),
+            Control::Digital => self.is_converter() && self.is_digital(),
+            Control::OutLeft | Control::OutRight => self.has_output_amplifier(),
+            Control::InLeft(place) | Control::InRight(place) => self.amplifies_input(place),
+        }
+    }
+
     fn widget_type(&self) -> u32
         ensures { result ≡ words.bits_of self.now.caps 20 4 }
     {
@@ -245,6 +293,19 @@ impl RawCodec {
             return None;
         }
         self.nodes.as_slice().get(usize::from(nid - self.first))
+    }
+
+    /// Whether the function group or widget with this node identifier has the control. The group has power control alone.
+    pub fn has_control(&self, nid: u8, control: Control) -> bool
+        ensures { result ≡ settings.has_control self.now nid control }
+    {
+        if nid == self.group {
+            return matches!(control, Control::Power);
+        }
+        match self.node(nid) {
+            Some(node) => node.has_control(control),
+            None => false,
+        }
     }
 
     /// The connections of a mixer or selector, and none of any other node.
