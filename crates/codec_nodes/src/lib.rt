@@ -1,0 +1,10 @@
+//! A codec as a device: it answers commands, tells what is plugged in, and keeps what waits for the controller in one queue.
+#![tactic(auto)]
+
+mod codec;
+mod queue;
+
+pub use codec::Codec;
+
+#[cfg(test)]
+mod tests;
