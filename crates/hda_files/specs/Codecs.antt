@@ -5,9 +5,10 @@ use Rattle.toml.specs.Data.{Members}
 use Rattle.codec_graph.specs.declared.raw.RawNode.{RawNode}
 use Rattle.codec_graph.specs.declared.raw.RawCodec.{RawCodec}
 use Rattle.hda_files.specs.declared.node.NodeTable.{NodeTable}
+use Rattle.hda_files.specs.declared.codec.CodecTable.{CodecTable}
 use Rattle.hda_files.specs.declared.fault.Place.{Place}
 use Rattle.hda_files.specs.declared.fault.Place.TheVariants as place
-use Rattle.hda_files.specs.declared.fault.Key.TheVariants.{Address, Vendor, Revision, AmpIn, AmpOut, Power, Group, GroupType, Formats, Pcm, First, Count, Node}
+use Rattle.hda_files.specs.declared.fault.Key.TheVariants.{Address, Vendor, Revision, AmpIn, AmpOut, Power, Group, GroupType, Formats, Pcm, GroupPower, First, Count, Node}
 use Rattle.hda_files.specs.declared.fault.FileFault.{FileFault}
 use Rattle.hda_files.specs.Values.{◌>>=◌, required_number, given_number, number_or, word_or_zero, most_word, tables_at}
 use Rattle.hda_files.specs.Nodes.{nodes_after}
@@ -58,20 +59,25 @@ is_outside first count node = not (nat_le first node.nid && nat_lt node.nid (fir
 abbrev pub widgets_of : ℕ → ℕ → List NodeTable → List RawNode
 widgets_of first count nodes = map (widget_at nodes) (range_with_len first count) ++ map (λ node. node.widget) (filter (is_outside first count) nodes)
 
--- the codec with these widgets; where `first` or `count` is not given, the tables say it
-abbrev pub with_widgets : RawCodec → Option ℕ → Option ℕ → List NodeTable → RawCodec
-with_widgets words first count nodes = record words {
-  first = unwrap_or first (least_nid nodes);
-  count = unwrap_or count (nid_span nodes);
-  nodes = widgets_of (unwrap_or first (least_nid nodes)) (unwrap_or count (nid_span nodes)) nodes;
+-- the codec of these words and these tables of its widgets; where `first` or `count` is not given, the tables say it
+abbrev pub codec_with : RawCodec → ℕ → Option ℕ → Option ℕ → List NodeTable → CodecTable
+codec_with words group_power first count nodes = record {
+  words = record words { first = unwrap_or first (least_nid nodes); count = unwrap_or count (nid_span nodes) };
+  group_power = group_power;
+  nodes = nodes;
 }
 
--- the codec that the table at a place of the array describes
-abbrev pub codec_of : ℕ → Members → Result RawCodec FileFault
+-- what the table at a place of the array says of its codec
+abbrev pub codec_of : ℕ → Members → Result CodecTable FileFault
 codec_of codec table = do
   words ← codec_words_of table (place.Codec codec)
+  group_power ← number_or table (place.Codec codec) GroupPower 0 3 0
   first ← given_number table (place.Codec codec) First 0 127
   count ← given_number table (place.Codec codec) Count 0 127
   tables ← tables_at table (place.Codec codec) Node 126
   nodes ← nodes_after codec [] tables
-  Ok (with_widgets words first count nodes)
+  Ok (codec_with words group_power first count nodes)
+
+-- the codec with its widgets laid out by their node identifiers
+abbrev pub laid_out : CodecTable → RawCodec
+laid_out codec = record codec.words { nodes = widgets_of codec.words.first codec.words.count codec.nodes }

@@ -2,6 +2,10 @@ pub mod Keys
 pub mod Values
 pub mod Memory
 pub mod Arrays
+pub mod Openings
 pub mod Nodes
 pub mod Codecs
+pub mod Tops
+pub mod ListFaults
+pub mod Starts
 pub mod Machines

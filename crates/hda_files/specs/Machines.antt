@@ -1,31 +1,25 @@
 -- What a codec file means: a machine, or its first fault. This project's own format.
-use Rattle.std.specs.Prelude.{◌≡◌, ◌≤◌, ◌<◌, ℕ, List, [], ◌∷◌, count_by, Some, Result, Ok, Err, IsUtf8}
+use Rattle.std.specs.Prelude.{◌≡◌, ◌≤◌, ◌<◌, ℕ, List, [], ◌∷◌, map, count_by, All, Some, Result, Ok, Err, IsUtf8}
 use Rattle.std.specs.List.{range_with_len}
+use Rattle.std.specs.List.Sorted.{IsStrictlyIncreasing}
 use Rattle.toml.specs.Data.{Members}
 use Rattle.toml.specs.Parse.{parse_document}
 use Rattle.codec_graph.specs.declared.raw.RawCodec.{RawCodec}
 use Rattle.codec_graph.specs.Widget.{normal}
 use Rattle.codec_graph.specs.Candidates.{is_candidate}
+use Rattle.codec_graph.specs.Settings.{IsSettingsOf}
 use Rattle.codec_graph.specs.Cycles.{IsWellFormed, IsFirstFault}
 use Rattle.hda_files.specs.declared.machine.Machine.{Machine}
-use Rattle.hda_files.specs.declared.fault.Place.TheVariants.{Top}
-use Rattle.hda_files.specs.declared.fault.Key.TheVariants.{Codec}
+use Rattle.hda_files.specs.declared.machine.CodecFile.{CodecFile}
+use Rattle.hda_files.specs.declared.codec.CodecTable.{CodecTable}
+use Rattle.hda_files.specs.declared.top.MachineTable.{MachineTable}
 use Rattle.hda_files.specs.declared.fault.FileFault.{FileFault}
-use Rattle.hda_files.specs.declared.fault.FileFault.TheVariants.{Toml, OutOfRange, Graph, TooManyPins}
+use Rattle.hda_files.specs.declared.fault.FileFault.TheVariants.{Toml, List as ListFault, Graph, TooManyPins}
 use Rattle.hda_files.specs.Memory.{OrMemory}
-use Rattle.hda_files.specs.Values.{◌>>=◌, tables_at}
-use Rattle.hda_files.specs.Codecs.{codec_of}
-
--- a file has one codec
-abbrev pub only_codec : List Members → Result RawCodec FileFault
-only_codec (table ∷ []) = codec_of 0 table
-only_codec _ = Err (OutOfRange Top Codec)
-
--- the codec of a file's top table, or the first fault of its keys
-abbrev pub raw_codec_of : Members → Result RawCodec FileFault
-raw_codec_of top = do
-  tables ← tables_at top Top Codec 1
-  only_codec tables
+use Rattle.hda_files.specs.Codecs.{laid_out}
+use Rattle.hda_files.specs.ListFaults.{HasNoListFault, IsFirstListFault}
+use Rattle.hda_files.specs.Starts.{settings_of, presence_of}
+use Rattle.hda_files.specs.Tops.{machine_table_of}
 
 -- how many of the node identifiers below `end` are those of candidate pins
 unfoldable pub candidates_below : RawCodec → ℕ → ℕ
@@ -38,23 +32,57 @@ HasFewPins codec = candidates_below codec 128 ≤ 16
 abbrev pub HasManyPins : RawCodec → Type 0
 HasManyPins codec = 16 < candidates_below codec 128
 
--- what the file means whose keys give this codec: the machine with its normalised graph, or else the graph's first fault,
--- with the codec's address, or else that it has too many candidate pins
-abbrev pub IsJudgedCodec : RawCodec → Result Machine FileFault → Type 0
-IsJudgedCodec raw (Ok machine) =
-    (machine ≡ record { codecs = record { graph = normal raw } ∷ [] }) × IsWellFormed (normal raw) × HasFewPins (normal raw)
-IsJudgedCodec raw (Err (Graph address fault)) = (address ≡ raw.address) × IsFirstFault (normal raw) fault
-IsJudgedCodec raw (Err TooManyPins) = IsWellFormed (normal raw) × HasManyPins (normal raw)
-IsJudgedCodec raw (Err _) = ⊥
+-- the codec that a table describes: its normalised graph, and its settings and plugs at the start
+abbrev pub codec_file : CodecTable → CodecFile
+codec_file codec = record {
+  graph = normal (laid_out codec);
+  settings = settings_of (normal (laid_out codec)) codec.group_power codec.nodes;
+  present = presence_of codec.nodes;
+}
+
+-- the codec has no fault of a connection list and none of its graph
+pub record IsGoodCodec (codec : CodecTable) : Type 0 where
+  pub lists : HasNoListFault codec.nodes
+  pub graph : IsWellFormed (normal (laid_out codec))
+
+-- what a codec's table means whose keys are good: the codec, or else, with the codec's address, the fault of the list of the
+-- least node identifier that has one, or else the graph's first fault
+abbrev pub IsJudgedCodec : CodecTable → Result CodecFile FileFault → Type 0
+IsJudgedCodec codec (Ok file) = (file ≡ codec_file codec) × IsGoodCodec codec
+IsJudgedCodec codec (Err (ListFault address nid fault)) = (address ≡ codec.words.address) × IsFirstListFault codec.nodes nid fault
+IsJudgedCodec codec (Err (Graph address fault)) =
+    (address ≡ codec.words.address) × HasNoListFault codec.nodes × IsFirstFault (normal (laid_out codec)) fault
+IsJudgedCodec codec (Err _) = ⊥
+
+-- the machine that a top table describes
+abbrev pub machine_of : MachineTable → Machine
+machine_of table = record { fifo = table.fifo; corb = table.corb; rirb = table.rirb; codecs = codec_file table.codec ∷ [] }
+
+-- what the file means whose keys are good: the machine, or else the fault of its codec, or else that it has too many
+-- candidate pins
+abbrev pub IsJudgedMachine : MachineTable → Result Machine FileFault → Type 0
+IsJudgedMachine table (Ok machine) = (machine ≡ machine_of table) × IsGoodCodec table.codec × HasFewPins (codec_file table.codec).graph
+IsJudgedMachine table (Err TooManyPins) = IsGoodCodec table.codec × HasManyPins (codec_file table.codec).graph
+IsJudgedMachine table (Err fault) = IsJudgedCodec table.codec (Err fault)
 
 -- what the file means whose keys give this: the first fault of the keys comes before all others
-abbrev pub IsJudged : Result RawCodec FileFault → Result Machine FileFault → Type 0
-IsJudged (Ok raw) result = IsJudgedCodec raw result
+abbrev pub IsJudged : Result MachineTable FileFault → Result Machine FileFault → Type 0
+IsJudged (Ok table) result = IsJudgedMachine table result
 IsJudged (Err fault) result = result ≡ Err fault
 
 -- what the file with this top table means
 abbrev pub IsReadingOf : Members → Result Machine FileFault → Type 0
-IsReadingOf top result = IsJudged (raw_codec_of top) result
+IsReadingOf top result = IsJudged (machine_table_of top) result
+
+-- a codec of a sound machine: its address is one of 0 to 14, and its settings are its graph's
+pub record IsSoundCodec (file : CodecFile) : Type 0 where
+  pub address : file.graph.address ≤ 14
+  pub settings : IsSettingsOf file.graph file.settings
+
+-- a sound machine: besides, the addresses of its codecs ascend, each once
+pub record IsSound (machine : Machine) : Type 0 where
+  pub ascending : IsStrictlyIncreasing (map (λ (file : CodecFile). file.graph.address) machine.codecs)
+  pub each : All IsSoundCodec machine.codecs
 
 -- the bytes are a TOML text with this top table
 abbrev pub HasTable : List ℕ → Members → Type 0

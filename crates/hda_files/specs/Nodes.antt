@@ -1,24 +1,21 @@
 -- The tables of a codec's widgets. This project's own; the words are those of High Definition Audio 1.0a, 7.3.4.
-use Rattle.std.specs.Prelude.{ℕ, Bool, false, ◌==◌, ◌&&◌, List, [], ◌∷◌, ◌++◌, length, nat_le, Option, Some, None, is_some, option_and_then, Result, Ok, Err, if◌then◌else◌}
-use Rattle.std.specs.Option.{ok_or}
-use Rattle.std.specs.List.{list_any, list_all, filter_map}
-use Rattle.toml.specs.Data.{Data, Members, as_integer, as_bool}
+use Rattle.std.specs.Prelude.{ℕ, Bool, ◌==◌, List, [], ◌∷◌, ◌++◌, length, Option, Some, None, Result, Ok, Err, if◌then◌else◌}
+use Rattle.std.specs.Result.{result_unwrap_or, result_err}
+use Rattle.std.specs.List.{list_any}
+use Rattle.toml.specs.Data.{Data, Members}
+use Rattle.verb_codes.specs.declared.entries.ListFault.{ListFault}
+use Rattle.verb_codes.specs.Lists.{expansion_of}
 use Rattle.codec_graph.specs.Words.{has_bit}
 use Rattle.codec_graph.specs.declared.raw.RawNode.{RawNode}
 use Rattle.hda_files.specs.declared.node.NodeTable.{NodeTable}
+use Rattle.hda_files.specs.declared.opening.NodeOpening.{NodeOpening}
 use Rattle.hda_files.specs.declared.fault.Place.{Place}
 use Rattle.hda_files.specs.declared.fault.Place.TheVariants.{Node}
 use Rattle.hda_files.specs.declared.fault.Key.TheVariants.{Pcm, Formats, PinCaps, AmpIn, AmpOut, Power, Default, Nid, Caps, Long, List as ListKey}
 use Rattle.hda_files.specs.declared.fault.FileFault.{FileFault}
-use Rattle.hda_files.specs.declared.fault.FileFault.TheVariants.{WrongType, OutOfRange, Doubled}
-use Rattle.hda_files.specs.Values.{◌>>=◌, value_at, within, required_number, word_or_zero, most_word, array_of}
-
--- whether connection list entries of 16 bits are asked for: such entries are out of range
-abbrev pub long_of : Place → Option Data → Result Bool FileFault
-long_of place None = Ok false
-long_of place (Some value) = do
-  long ← ok_or (as_bool value) (WrongType place Long)
-  if long then Err (OutOfRange place Long) else Ok false
+use Rattle.hda_files.specs.declared.fault.FileFault.TheVariants.{OutOfRange, Doubled}
+use Rattle.hda_files.specs.Values.{◌>>=◌, value_at, required_number, word_or_zero, most_word, flag_at, numbers_of}
+use Rattle.hda_files.specs.Openings.{opening_of}
 
 -- the words of a widget, with an empty connection list
 abbrev pub words_of : Members → Place → Result RawNode FileFault
@@ -31,29 +28,27 @@ words_of table place = do
   amp_out ← word_or_zero table place AmpOut
   power ← word_or_zero table place Power
   default ← word_or_zero table place Default
-  long ← long_of place (value_at table Long)
+  long ← flag_at table place Long
   Ok (record { caps = caps; pcm = pcm; formats = formats; pin_caps = pin_caps; amp_in = amp_in; amp_out = amp_out; power = power; default = default; long = long; entries = []; list = [] })
 
-abbrev pub is_integer : Data → Bool
-is_integer value = is_some (as_integer value)
+-- the greatest entry of a connection list: of 16 bits in the long form, else of 8 (7.3.3.3)
+abbrev pub most_entry : Bool → ℕ
+most_entry long = if long then 65535 else 255
 
--- an entry of a connection list: a node identifier. An entry that ends a range, from 128 on, is out of range
-abbrev pub entry_of : Data → Option ℕ
-entry_of value = option_and_then (within 1 127) (as_integer value)
+-- the entries of a connection list as they are given, by a widget that has one: bit 8 of its capabilities is set (7.3.4.6)
+abbrev pub entries_of : Place → ℕ → Bool → Option Data → Result (List ℕ) FileFault
+entries_of place caps long None = Ok []
+entries_of place caps long (Some value) = do
+  entries ← numbers_of place ListKey 127 (most_entry long) value
+  if has_bit caps 8 then Ok entries else Err (OutOfRange place ListKey)
 
-abbrev pub is_entry : Data → Bool
-is_entry value = is_some (entry_of value)
+-- the nodes that the widget's entries stand for, or the fault of the first faulty entry
+abbrev pub expansion : RawNode → Result (List ℕ) ListFault
+expansion widget = expansion_of widget.long widget.entries
 
--- whether the values may be the connection list of a widget with these capabilities: it has one exactly where bit 8 is set (7.3.4.6)
-abbrev pub may_be_list : ℕ → List Data → Bool
-may_be_list caps values = has_bit caps 8 && nat_le (length values) 127 && list_all is_entry values
-
--- the connection list of a widget with these capabilities
-abbrev pub list_of : Place → ℕ → Option Data → Result (List ℕ) FileFault
-list_of place caps None = Ok []
-list_of place caps (Some value) = do
-  values ← array_of place ListKey is_integer value
-  if may_be_list caps values then Ok (filter_map entry_of values) else Err (OutOfRange place ListKey)
+-- the widget's list is the expansion of its entries; it stays empty where they have a fault
+abbrev pub expanded : RawNode → RawNode
+expanded widget = record widget { list = result_unwrap_or (expansion widget) [] }
 
 -- the node identifier, which no earlier node of the codec has
 abbrev pub nid_of : Members → Place → List NodeTable → Result ℕ FileFault
@@ -61,13 +56,17 @@ nid_of table place earlier = do
   nid ← required_number table place Nid 1 127
   if list_any (λ node. node.nid == nid) earlier then Err (Doubled place Nid) else Ok nid
 
--- the widget of one table, after the earlier ones of the same codec
+abbrev pub node_with : ℕ → RawNode → NodeOpening → NodeTable
+node_with nid widget opening = record { nid = nid; widget = expanded widget; list_fault = result_err (expansion widget); opening = opening }
+
+-- what one table says of its widget, after the earlier ones of the same codec
 abbrev pub node_of : ℕ → List NodeTable → Members → Result NodeTable FileFault
 node_of codec earlier table = do
   nid ← nid_of table (Node codec (length earlier)) earlier
   words ← words_of table (Node codec (length earlier))
-  list ← list_of (Node codec (length earlier)) words.caps (value_at table ListKey)
-  Ok (record { nid = nid; widget = record words { entries = list; list = list } })
+  entries ← entries_of (Node codec (length earlier)) words.caps words.long (value_at table ListKey)
+  opening ← opening_of table (Node codec (length earlier))
+  Ok (node_with nid (record words { entries = entries }) opening)
 
 -- the widgets of the tables in order, after those already read: the first fault counts
 abbrev pub nodes_after : ℕ → List NodeTable → List Members → Result (List NodeTable) FileFault

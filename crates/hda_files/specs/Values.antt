@@ -1,8 +1,8 @@
 -- The values of a codec file's keys. A fault names the key and its table. This project's own.
-use Rattle.std.specs.Prelude.{ℕ, ℤ, pos, negsuc, Bool, ◌&&◌, List, [], ◌∷◌, length, nat_le, Option, Some, None, Result, Ok, Err, if◌then◌else◌, is_some, unwrap_or}
+use Rattle.std.specs.Prelude.{ℕ, ℤ, pos, negsuc, Bool, false, ◌&&◌, List, [], ◌∷◌, length, nat_le, Option, Some, None, Result, Ok, Err, if◌then◌else◌, is_some, unwrap_or, option_and_then}
 use Rattle.std.specs.Option.{ok_or}
 use Rattle.std.specs.List.{list_all, filter_map}
-use Rattle.toml.specs.Data.{Data, Items, no_items, item, Members, get_member, as_integer, as_array, as_table}
+use Rattle.toml.specs.Data.{Data, Items, no_items, item, Members, get_member, as_integer, as_bool, as_array, as_table}
 use Rattle.hda_files.specs.declared.fault.Place.{Place}
 use Rattle.hda_files.specs.declared.fault.Key.{Key}
 use Rattle.hda_files.specs.declared.fault.FileFault.{FileFault}
@@ -60,6 +60,14 @@ most_word = 4294967295
 abbrev pub word_or_zero : Members → Place → Key → Result ℕ FileFault
 word_or_zero table place key = number_or table place key 0 most_word 0
 
+-- the truth value of a key, false where it is not given
+abbrev pub flag_of : Place → Key → Option Data → Result Bool FileFault
+flag_of place key None = Ok false
+flag_of place key (Some value) = ok_or (as_bool value) (WrongType place key)
+
+abbrev pub flag_at : Members → Place → Key → Result Bool FileFault
+flag_at table place key = flag_of place key (value_at table key)
+
 -- the values of an array
 abbrev pub values_of : Items → List Data
 values_of no_items = []
@@ -70,6 +78,22 @@ abbrev pub array_of : Place → Key → (Data → Bool) → Data → Result (Lis
 array_of place key is_right value = do
   items ← ok_or (as_array value) (WrongType place key)
   if list_all is_right (values_of items) then Ok (values_of items) else Err (WrongType place key)
+
+abbrev pub is_integer : Data → Bool
+is_integer value = is_some (as_integer value)
+
+-- the value as a whole number from 0 to `most`
+abbrev pub number_up_to : ℕ → Data → Option ℕ
+number_up_to most value = option_and_then (within 0 most) (as_integer value)
+
+abbrev pub is_up_to : ℕ → Data → Bool
+is_up_to most value = is_some (number_up_to most value)
+
+-- the value as an array of at most `count` whole numbers from 0 to `most`
+abbrev pub numbers_of : Place → Key → ℕ → ℕ → Data → Result (List ℕ) FileFault
+numbers_of place key count most value = do
+  values ← array_of place key is_integer value
+  if nat_le (length values) count && list_all (is_up_to most) values then Ok (filter_map (number_up_to most) values) else Err (OutOfRange place key)
 
 abbrev pub is_table : Data → Bool
 is_table value = is_some (as_table value)

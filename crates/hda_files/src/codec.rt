@@ -16,9 +16,21 @@ use toml::Table;
 /// The PCM sizes and rates of a function group whose table does not give them: 16 bits at 48 kHz.
 const USUAL_PCM: u32 = 0x0002_0040;
 
+/// What one table says of its codec.
+#[derive(Debug, Drop)]
+pub(crate) struct CodecTable {
+    /// The words of the codec and of its function group, and the range of its widgets, with no widget.
+    pub words: RawCodec,
+    /// The function group's power state at the start.
+    pub group_power: u8,
+    /// The tables of its widgets in the file's order.
+    pub nodes: Items<NodeTable>,
+}
+
 /// Reads the words of a codec and of its function group, with no widget.
 fn read_codec_words(alloc: Global, table: &Table, place: Place) -> Result<RawCodec, FileFault>
-    ensures { result ≡ codecs.codec_words_of (table_view table.now) place }
+    ensures value { result ≡ codecs.codec_words_of (table_view table.now) place }
+    ensures address { IfOk result (λ words. words.address ≤ 14) }
 {
     let address = required_byte(table, place, Key::Address, 0, 14)?;
     let vendor = required_word(table, place, Key::Vendor)?;
@@ -114,7 +126,7 @@ fn copy_of(alloc: Global, widget: &RawNode) -> Result<RawNode, AllocError>
 }
 
 /// The table with this node identifier.
-fn table_with(nodes: &[NodeTable], nid: u16) -> Option<&NodeTable>
+pub(crate) fn table_with(nodes: &[NodeTable], nid: u16) -> Option<&NodeTable>
     ensures { option_copied result ≡ find (λ node. node.nid == nid) nodes.now }
 {
     nodes.iter().find(|node| u16::from(node.nid) == nid)
@@ -173,18 +185,36 @@ fn lay_out(
     Ok(widgets)
 }
 
+/// The codec of a table with its widgets laid out by their node identifiers.
+pub(crate) fn laid_out(
+    alloc: Global,
+    words: RawCodec,
+    nodes: &[NodeTable],
+) -> Result<RawCodec, AllocError>
+    ensures { IfOk result (λ raw. raw ≡ record words { nodes = codecs.widgets_of words.first words.count nodes.now }) }
+{
+    let mut raw = words;
+    raw.nodes = Items::from_vec(lay_out(alloc, raw.first, raw.count, nodes)?);
+    Ok(raw)
+}
+
 /// Reads the table of the codec at this place of the array.
-pub(crate) fn read_codec(alloc: Global, table: &Table, codec: u8) -> Result<RawCodec, FileFault>
-    ensures { IsMeant result (codecs.codec_of codec (table_view table.now)) }
+pub(crate) fn read_codec(alloc: Global, table: &Table, codec: u8) -> Result<CodecTable, FileFault>
+    ensures value { IsMeant result (codecs.codec_of codec (table_view table.now)) }
+    ensures address { IfOk result (λ codec. codec.words.address ≤ 14) }
 {
     let place = Place::Codec(codec);
-    let mut raw = read_codec_words(alloc, table, place)?;
+    let mut words = read_codec_words(alloc, table, place)?;
+    let group_power = byte_or(table, place, Key::GroupPower, 0, 3, 0)?;
     let first = given_byte(table, place, Key::First, 0, 127)?;
     let count = given_byte(table, place, Key::Count, 0, 127)?;
     let array = tables_at(table, place, Key::Node, 126)?;
     let nodes = read_nodes(alloc, array, codec)?;
-    raw.first = first.unwrap_or(least_nid(&nodes));
-    raw.count = count.unwrap_or(nid_span(&nodes));
-    raw.nodes = Items::from_vec(lay_out(alloc, raw.first, raw.count, &nodes)?);
-    Ok(raw)
+    words.first = first.unwrap_or(least_nid(&nodes));
+    words.count = count.unwrap_or(nid_span(&nodes));
+    Ok(CodecTable {
+        words,
+        group_power,
+        nodes: Items::from_vec(nodes),
+    })
 }

@@ -3,6 +3,7 @@ ghost use Rattle.std.specs.Prelude.{◌≡◌};
 
 use codec_graph::GraphFault;
 use std::alloc::{AllocError, AllocFailed};
+use verb_codes::ListFault;
 
 /// A table of the file, by its places in the arrays, which count from 0.
 #[derive(Clone, Copy, Debug, PartialEq, Eq)]
@@ -18,6 +19,12 @@ pub enum Place {
 /// A key that the reader knows. Every other key of a file is ignored.
 #[derive(Clone, Copy, Debug, PartialEq, Eq)]
 pub enum Key {
+    /// `fifo`, the bytes of a stream's FIFO, at the top.
+    Fifo,
+    /// `corb`, the entries of the command ring, at the top.
+    Corb,
+    /// `rirb`, the entries of the response ring, at the top.
+    Rirb,
     /// `codec`, the array of the codecs, at the top.
     Codec,
     /// `address` of a codec.
@@ -40,6 +47,8 @@ pub enum Key {
     Formats,
     /// `pcm` of a codec's function group or of a node: supported PCM sizes and rates.
     Pcm,
+    /// `group_power` of a codec: the power state of its function group at the start.
+    GroupPower,
     /// `first` of a codec: the node identifier of its first widget.
     First,
     /// `count` of a codec: how many widgets it has.
@@ -58,6 +67,28 @@ pub enum Key {
     Long,
     /// `list` of a node: its connection list.
     List,
+    /// `select` of a node: the selected place of its connection list at the start.
+    Select,
+    /// `power_state` of a node: its power state at the start.
+    PowerState,
+    /// `stream` of a node: its stream tag and channel at the start.
+    Stream,
+    /// `control` of a node: its pin control at the start.
+    Control,
+    /// `unsol` of a node: its control of unsolicited responses at the start.
+    Unsol,
+    /// `eapd` of a node: the control of its external amplifier at the start.
+    Eapd,
+    /// `digital` of a node: its digital converter control at the start.
+    Digital,
+    /// `gain_out` of a node: mute and gain of its output amplifier at the start.
+    GainOut,
+    /// `format` of a node: its stream format at the start.
+    Format,
+    /// `gain_in` of a node: mute and gain of its input amplifier at the start, for each place of the connection list.
+    GainIn,
+    /// `present` of a node: whether something is plugged in at the start.
+    Present,
 }
 
 impl Key {
@@ -68,6 +99,9 @@ impl Key {
         ensures { result.now ≡ key_name self.now }
     {
         match self {
+            Key::Fifo => "fifo",
+            Key::Corb => "corb",
+            Key::Rirb => "rirb",
             Key::Codec => "codec",
             Key::Address => "address",
             Key::Vendor => "vendor",
@@ -79,6 +113,7 @@ impl Key {
             Key::GroupType => "group_type",
             Key::Formats => "formats",
             Key::Pcm => "pcm",
+            Key::GroupPower => "group_power",
             Key::First => "first",
             Key::Count => "count",
             Key::Node => "node",
@@ -88,6 +123,17 @@ impl Key {
             Key::Default => "default",
             Key::Long => "long",
             Key::List => "list",
+            Key::Select => "select",
+            Key::PowerState => "power_state",
+            Key::Stream => "stream",
+            Key::Control => "control",
+            Key::Unsol => "unsol",
+            Key::Eapd => "eapd",
+            Key::Digital => "digital",
+            Key::GainOut => "gain_out",
+            Key::Format => "format",
+            Key::GainIn => "gain_in",
+            Key::Present => "present",
         }
     }
 }
@@ -105,6 +151,8 @@ pub enum FileFault {
     OutOfRange(Place, Key),
     /// The key's value stands at an earlier table of the same array.
     Doubled(Place, Key),
+    /// The connection list of a node has this fault: the codec's address, the node identifier and the fault.
+    List(u8, u8, ListFault),
     /// The codec with this address has this fault of its graph.
     Graph(u8, GraphFault),
     /// The file has more than 16 candidate pins.

@@ -1,28 +1,40 @@
 //! Reads a whole codec file.
-ghost use Rattle.std.specs.Prelude.{◌≡◌};
+ghost use Rattle.std.specs.Prelude.{◌≡◌, ◌≤◌, IfOk};
 ghost use Rattle.toml.specs.View.{table_view};
 ghost use Rattle.hda_files.specs.Machines as machines;
-ghost use Rattle.hda_files.specs.Machines.{Reads};
-ghost use Rattle.hda_files.specs.Memory.{IsMeant, OrMemory};
+ghost use Rattle.hda_files.specs.Machines.{Reads, IsSound, IsSoundCodec};
+ghost use Rattle.hda_files.specs.Memory.{OrMemory};
 
-use crate::codec::read_codec;
-use crate::fault::{FileFault, Key, Place};
-use crate::values::tables_at;
-use codec_graph::{Graph, RawCodec};
+use crate::codec::{CodecTable, laid_out};
+use crate::fault::FileFault;
+use crate::list_faults::first_list_fault;
+use crate::start::{presence_of, settings_of};
+use crate::top::{MachineTable, RingSize, read_machine_table};
+use codec_graph::{Graph, Presence, Settings};
 use hda_items::Items;
 use std::alloc::Global;
-use toml::{Table, Value};
+use toml::Table;
 
 /// What a codec file says of one codec.
 #[derive(Debug, Drop)]
 pub struct CodecFile {
     /// The graph of its widgets.
     pub graph: Graph,
+    /// The settings with which it starts.
+    pub settings: Settings,
+    /// Where something is plugged in as it starts.
+    pub present: Presence,
 }
 
 /// The machine that a codec file describes.
 #[derive(Debug, Drop)]
 pub struct Machine {
+    /// The bytes of a stream's FIFO, 8 to 4,096.
+    pub fifo: u16,
+    /// The size of its command ring.
+    pub corb: RingSize,
+    /// The size of its response ring.
+    pub rirb: RingSize,
     /// Its codecs.
     pub codecs: Items<CodecFile>,
 }
@@ -34,10 +46,11 @@ const MOST_PINS: usize = 16;
 ///
 /// # Errors
 /// The file's first fault: [`FileFault::Toml`] where the bytes are no TOML text, then the keys' faults in the order in which
-/// the keys are tried, then the graph's fault and last [`FileFault::TooManyPins`]. [`FileFault::OutOfMemory`] says nothing of
-/// the file.
+/// the keys are tried, then those of the connection lists by node identifier, then the graph's fault and last
+/// [`FileFault::TooManyPins`]. [`FileFault::OutOfMemory`] says nothing of the file.
 pub fn read_machine(alloc: Global, bytes: &[u8]) -> Result<Machine, FileFault>
-    ensures { Reads bytes.now result }
+    ensures reading { Reads bytes.now result }
+    ensures sound { IfOk result IsSound }
 {
     match toml::table_from_slice(alloc, bytes) {
         Ok(top) => read_top(alloc, &top),
@@ -48,38 +61,54 @@ pub fn read_machine(alloc: Global, bytes: &[u8]) -> Result<Machine, FileFault>
 
 /// Reads the top table.
 fn read_top(alloc: Global, top: &Table) -> Result<Machine, FileFault>
-    ensures { OrMemory result (machines.IsReadingOf (table_view top.now) result) }
+    ensures reading { OrMemory result (machines.IsReadingOf (table_view top.now) result) }
+    ensures sound { IfOk result IsSound }
 {
-    let raw = read_raw_codec(alloc, top)?;
-    judge(alloc, raw)
+    let table = read_machine_table(alloc, top)?;
+    judge_machine(alloc, table)
 }
 
-/// Reads the keys of the top table and of its codec.
-fn read_raw_codec(alloc: Global, top: &Table) -> Result<RawCodec, FileFault>
-    ensures { IsMeant result (machines.raw_codec_of (table_view top.now)) }
+/// Checks the codec's lists and graph and its number of candidate pins.
+fn judge_machine(alloc: Global, table: MachineTable) -> Result<Machine, FileFault>
+    requires { table.codec.words.address ≤ 14 }
+    ensures judged { OrMemory result (machines.IsJudgedMachine table result) }
+    ensures sound { IfOk result IsSound }
 {
-    let array = tables_at(top, Place::Top, Key::Codec, 1)?;
-    match array.first().and_then(Value::as_table) {
-        Some(table) => read_codec(alloc, table, 0),
-        None => Err(FileFault::OutOfRange(Place::Top, Key::Codec)),
+    let codec = judge_codec(alloc, table.codec)?;
+    if candidates_below(&codec.graph, 128) > MOST_PINS {
+        return Err(FileFault::TooManyPins);
     }
+    let mut codecs = Items::new(alloc);
+    codecs.push(codec)?;
+    Ok(Machine {
+        fifo: table.fifo,
+        corb: table.corb,
+        rirb: table.rirb,
+        codecs,
+    })
 }
 
-/// Checks the codec's graph and its number of candidate pins.
-fn judge(alloc: Global, raw: RawCodec) -> Result<Machine, FileFault>
-    ensures { OrMemory result (machines.IsJudgedCodec raw result) }
+/// Checks a codec's lists and its graph.
+fn judge_codec(alloc: Global, table: CodecTable) -> Result<CodecFile, FileFault>
+    requires { table.words.address ≤ 14 }
+    ensures judged { OrMemory result (machines.IsJudgedCodec table result) }
+    ensures sound { IfOk result IsSoundCodec }
 {
-    let address = raw.address;
+    let address = table.words.address;
+    if let Some((nid, fault)) = first_list_fault(table.nodes.as_slice()) {
+        return Err(FileFault::List(address, nid, fault));
+    }
+    let raw = laid_out(alloc, table.words, table.nodes.as_slice())?;
     let graph = match Graph::check(raw) {
         Ok(graph) => graph,
         Err(fault) => return Err(FileFault::Graph(address, fault)),
     };
-    if candidates_below(&graph, 128) > MOST_PINS {
-        return Err(FileFault::TooManyPins);
-    }
-    let mut codecs = Items::new(alloc);
-    codecs.push(CodecFile { graph })?;
-    Ok(Machine { codecs })
+    let settings = settings_of(alloc, &graph, table.group_power, table.nodes.as_slice())?;
+    Ok(CodecFile {
+        graph,
+        settings,
+        present: presence_of(table.nodes.as_slice()),
+    })
 }
 
 /// How many of the node identifiers below `end` are those of candidate pins.

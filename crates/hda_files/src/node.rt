@@ -1,48 +1,42 @@
 //! Reads the tables of a codec's widgets.
-ghost use Rattle.std.specs.Prelude.{◌≡◌, ◌==◌, ◌≤◌, ◌<◌, [], All, length, vec_len, IfOk, IfErr};
-ghost use Rattle.std.specs.List.{list_all, list_any, filter_map};
+ghost use Rattle.std.specs.Prelude.{◌≡◌, ◌==◌, ◌≤◌, ◌<◌, [], All, length, vec_len, IfOk, IfErr, OnOk, MatchResult, Ok};
+ghost use Rattle.std.specs.List.{list_any};
+ghost use Rattle.std.specs.Result.{result_err};
 ghost use Rattle.toml.specs.View.{view, table_view, array_view};
+ghost use Rattle.verb_codes.specs.Lists as lists;
 ghost use Rattle.hda_files.specs.Nodes as nodes;
 ghost use Rattle.hda_files.specs.Values as values;
 ghost use Rattle.hda_files.specs.Memory.{IsMeant, items_of};
-ghost use Rattle.hda_files.specs.Arrays.{values_in, tables_in};
+ghost use Rattle.hda_files.specs.Arrays.{tables_in};
 
 use crate::fault::{FileFault, Key, Place};
-use crate::values::{array_of, required_byte, required_word, value_at, within, word_or};
+use crate::numbers::read_numbers;
+use crate::opening::{NodeOpening, read_opening};
+use crate::values::{flag_at, required_byte, required_word, value_at, word_or};
 use codec_graph::{RawNode, has_bit};
 use hda_items::Items;
 use std::alloc::Global;
 use toml::value::Array;
 use toml::{Table, Value};
+use verb_codes::{ListError, ListFault, expand_list, pack_list};
 
-/// The widget that one table describes.
+/// What one table says of its widget.
 #[derive(Debug, Drop)]
 pub(crate) struct NodeTable {
-    /// Its node identifier, from 1 to 127.
+    /// The widget's node identifier, from 1 to 127.
     pub nid: u8,
-    /// Its words and its connection list.
+    /// Its words and its connection list, which is empty where its entries have a fault.
     pub widget: RawNode,
-}
-
-/// Whether the table asks for connection list entries of 16 bits. They are not read, so `true` is out of range.
-fn long_at(table: &Table, place: Place) -> Result<bool, FileFault>
-    ensures { result ≡ nodes.long_of place (values.value_at (table_view table.now) Key.Long) }
-{
-    let Some(value) = value_at(table, Key::Long) else {
-        return Ok(false);
-    };
-    let long = value
-        .as_bool()
-        .ok_or(FileFault::WrongType(place, Key::Long))?;
-    if long {
-        return Err(FileFault::OutOfRange(place, Key::Long));
-    }
-    Ok(false)
+    /// What its connection list has wrong.
+    pub list_fault: Option<ListFault>,
+    /// Its settings at the start.
+    pub opening: NodeOpening,
 }
 
 /// Reads the words of a widget, with an empty connection list.
 fn read_words(alloc: Global, table: &Table, place: Place) -> Result<RawNode, FileFault>
-    ensures { result ≡ nodes.words_of (table_view table.now) place }
+    ensures value { result ≡ nodes.words_of (table_view table.now) place }
+    ensures empty { IfOk result (λ widget. widget.list ≡ []) }
 {
     let caps = required_word(table, place, Key::Caps)?;
     let pcm = word_or(table, place, Key::Pcm, 0)?;
@@ -52,7 +46,7 @@ fn read_words(alloc: Global, table: &Table, place: Place) -> Result<RawNode, Fil
     let amp_out = word_or(table, place, Key::AmpOut, 0)?;
     let power = word_or(table, place, Key::Power, 0)?;
     let default = word_or(table, place, Key::Default, 0)?;
-    let long = long_at(table, place)?;
+    let long = flag_at(table, place, Key::Long)?;
     Ok(RawNode {
         caps,
         pcm,
@@ -68,69 +62,78 @@ fn read_words(alloc: Global, table: &Table, place: Place) -> Result<RawNode, Fil
     })
 }
 
-/// The value as an entry of a connection list: a node identifier.
-fn entry_of(value: &Value) -> Option<u8>
-    ensures { result ≡ nodes.entry_of (view value.now) }
+/// The greatest entry of a connection list in the long or in the short form.
+fn most_entry(long: bool) -> u16
+    ensures { result ≡ nodes.most_entry long }
 {
-    let number = value.as_integer()?;
-    let nid = within(1, 127, number)?;
-    Some(nid as u8)
+    if long { 65_535 } else { 255 }
 }
 
-/// Whether each value of the array is a whole number.
-fn all_integers(array: &Array) -> bool
-    ensures { result ≡ list_all nodes.is_integer (values_in array.now) }
+/// The value as the entries of a widget with these capabilities.
+fn read_entries(
+    alloc: Global,
+    value: &Value,
+    place: Place,
+    caps: u32,
+    long: bool,
+) -> Result<Items<u16>, FileFault>
+    ensures value { IsMeant result (nodes.entries_of place caps long (Some (view value.now))) }
+    ensures few { IfOk result (λ entries. length entries ≤ 127) }
+    ensures bound { IfOk result (λ entries. All (λ entry. entry ≤ nodes.most_entry long) entries) }
 {
-    array.iter().all(|value| value.is_integer())
-}
-
-/// Whether each value of the array is an entry of a connection list.
-fn all_entries(array: &Array) -> bool
-    ensures { result ≡ list_all nodes.is_entry (values_in array.now) }
-{
-    array.iter().all(|value| entry_of(value).is_some())
-}
-
-/// Whether the array may be the connection list of a widget with these capabilities.
-fn may_be_list(array: &Array, caps: u32) -> bool
-    ensures { result ≡ nodes.may_be_list caps (values_in array.now) }
-{
-    has_bit(caps, 8) && array.len() <= 127 && all_entries(array)
-}
-
-/// The entries among the values of an array.
-fn entries_in(alloc: Global, array: &Array) -> Result<Items<u8>, FileFault>
-    ensures list { IfOk result (λ list. list ≡ filter_map (λ value. nodes.entry_of (view value)) array.now.items) }
-    ensures memory { IfErr result (λ fault. fault ≡ FileFault.OutOfMemory) }
-{
-    let entries = array
-        .iter()
-        .filter_map(|value| entry_of(value))
-        .collect(alloc)?;
-    Ok(Items::from_vec(entries))
-}
-
-/// The value as the connection list of a widget with these capabilities.
-fn read_list(alloc: Global, value: &Value, place: Place, caps: u32) -> Result<Items<u8>, FileFault>
-    ensures { IsMeant result (nodes.list_of place caps (Some (view value.now))) }
-{
-    let array = array_of(value, place, Key::List)?;
-    if !all_integers(array) {
-        return Err(FileFault::WrongType(place, Key::List));
-    }
-    if !may_be_list(array, caps) {
+    let entries = read_numbers(alloc, value, place, Key::List, 127, most_entry(long))?;
+    if !has_bit(caps, 8) {
         return Err(FileFault::OutOfRange(place, Key::List));
     }
-    entries_in(alloc, array)
+    Ok(entries)
 }
 
-/// The connection list of a widget with these capabilities.
-fn list_at(alloc: Global, table: &Table, place: Place, caps: u32) -> Result<Items<u8>, FileFault>
-    ensures { IsMeant result (nodes.list_of place caps (values.value_at (table_view table.now) Key.List)) }
+/// The entries of the connection list of a widget with these capabilities.
+fn entries_at(
+    alloc: Global,
+    table: &Table,
+    place: Place,
+    caps: u32,
+    long: bool,
+) -> Result<Items<u16>, FileFault>
+    ensures value { IsMeant result (nodes.entries_of place caps long (values.value_at (table_view table.now) Key.List)) }
+    ensures few { IfOk result (λ entries. length entries ≤ 127) }
+    ensures bound { IfOk result (λ entries. All (λ entry. entry ≤ nodes.most_entry long) entries) }
 {
     match value_at(table, Key::List) {
-        Some(value) => read_list(alloc, value, place, caps),
+        Some(value) => read_entries(alloc, value, place, caps, long),
         None => Ok(Items::new(alloc)),
+    }
+}
+
+/// The nodes that the entries of a connection list stand for.
+fn expansion(alloc: Global, long: bool, entries: &[u16]) -> Result<Vec<u8>, ListError>
+    requires few { length entries.now ≤ 127 }
+    requires bound { All (λ entry. entry ≤ nodes.most_entry long) entries.now }
+    ensures { MatchResult result
+        (λ nids. lists.expansion_of long entries.now ≡ Ok nids.items)
+        (λ error. lists.IsRefusal error (lists.expansion_of long entries.now)) }
+{
+    let words = pack_list(alloc, entries, long)?;
+    expand_list(alloc, entries.len() as u8, long, words.as_slice())
+}
+
+/// Puts the nodes that the widget's entries stand for into its empty list, or says what the entries have wrong.
+fn expand(alloc: Global, widget: &mut RawNode) -> Result<Option<ListFault>, FileFault>
+    requires empty { widget.old.list ≡ [] }
+    requires few { length widget.old.entries ≤ 127 }
+    requires bound { All (λ entry. entry ≤ nodes.most_entry widget.old.long) widget.old.entries }
+    ensures fault { IfOk result (λ fault. fault ≡ result_err (nodes.expansion widget.old)) }
+    ensures list { OnOk result (widget.new ≡ nodes.expanded widget.old) }
+    ensures memory { IfErr result (λ fault. fault ≡ FileFault.OutOfMemory) }
+{
+    match expansion(alloc, widget.long, widget.entries.as_slice()) {
+        Ok(list) => {
+            widget.list = Items::from_vec(list);
+            Ok(None)
+        }
+        Err(ListError::Fault(fault)) => Ok(Some(fault)),
+        Err(ListError::OutOfMemory) => Err(FileFault::OutOfMemory),
     }
 }
 
@@ -153,7 +156,7 @@ fn nid_at(table: &Table, place: Place, earlier: &[NodeTable]) -> Result<u8, File
     Ok(nid)
 }
 
-/// Reads the widget of one table, after the earlier ones of the codec at this place.
+/// Reads what one table says of its widget, after the earlier ones of the codec at this place.
 fn read_node(
     alloc: Global,
     table: &Table,
@@ -167,23 +170,15 @@ fn read_node(
     let place = Place::Node(codec, earlier.len() as u8);
     let nid = nid_at(table, place, earlier)?;
     let mut widget = read_words(alloc, table, place)?;
-    let list = list_at(alloc, table, place, widget.caps)?;
-    widget.entries = wide(alloc, &list)?;
-    widget.list = list;
-    Ok(NodeTable { nid, widget })
-}
-
-/// Each entry in 16 bits.
-fn wide(alloc: Global, list: &Items<u8>) -> Result<Items<u16>, FileFault>
-    ensures list { IfOk result (λ wide. wide ≡ list.now) }
-    ensures memory { IfErr result (λ fault. fault ≡ FileFault.OutOfMemory) }
-{
-    let entries = list
-        .as_slice()
-        .iter()
-        .map(|nid| u16::from(*nid))
-        .collect(alloc)?;
-    Ok(Items::from_vec(entries))
+    widget.entries = entries_at(alloc, table, place, widget.caps, widget.long)?;
+    let opening = read_opening(alloc, table, place)?;
+    let list_fault = expand(alloc, &mut widget)?;
+    Ok(NodeTable {
+        nid,
+        widget,
+        list_fault,
+        opening,
+    })
 }
 
 /// Reads the widgets of an array of tables in order, each after the earlier ones of the codec at this place.

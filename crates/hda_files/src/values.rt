@@ -136,6 +136,47 @@ pub(crate) fn byte_or(
     Ok(given.unwrap_or(default))
 }
 
+/// The whole number at a key, from `least` to `most`, if the key is given.
+pub(crate) fn given_short(
+    table: &Table,
+    place: Place,
+    key: Key,
+    least: u16,
+    most: u16,
+) -> Result<Option<u16>, FileFault>
+    ensures { result ≡ values.given_number (table_view table.now) place key least most }
+{
+    match given_number(table, place, key, u32::from(least), u32::from(most))? {
+        Some(number) => Ok(Some(number as u16)),
+        None => Ok(None),
+    }
+}
+
+/// The whole number at a key, from `least` to `most`, or what holds where the key is not given.
+pub(crate) fn short_or(
+    table: &Table,
+    place: Place,
+    key: Key,
+    least: u16,
+    most: u16,
+    default: u16,
+) -> Result<u16, FileFault>
+    ensures { result ≡ values.number_or (table_view table.now) place key least most default }
+{
+    let given = given_short(table, place, key, least, most)?;
+    Ok(given.unwrap_or(default))
+}
+
+/// The truth value at a key, false where the key is not given.
+pub(crate) fn flag_at(table: &Table, place: Place, key: Key) -> Result<bool, FileFault>
+    ensures { result ≡ values.flag_at (table_view table.now) place key }
+{
+    match value_at(table, key) {
+        Some(value) => value.as_bool().ok_or(FileFault::WrongType(place, key)),
+        None => Ok(false),
+    }
+}
+
 /// The value as an array.
 pub(crate) fn array_of(value: &Value, place: Place, key: Key) -> Result<&Array, FileFault>
     ensures { MatchResult result

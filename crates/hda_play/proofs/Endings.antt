@@ -11,7 +11,7 @@ use Rattle.hda_files.specs.declared.machine.Machine.{Machine}
 use Rattle.hda_files.specs.declared.fault.FileFault.{FileFault}
 use Rattle.hda_files.specs.declared.fault.FileFault.TheVariants.{OutOfMemory}
 use Rattle.hda_files.specs.Machines.{Reads}
-use Rattle.hda_play.specs.Answers.{IsMeant, IsFile, IsRouteOf, IsRefused, RouteAnswers, ReadingAnswers, HasEnded, WroteText, codec_lines, plans_status, has_route}
+use Rattle.hda_play.specs.Answers.{IsMeant, IsFile, IsRouteOf, IsRefused, RouteAnswers, ReadingAnswers, HasEnded, WroteText, codec_lines, plans_status, has_route, most_codec_bytes}
 
 -- a list of two is its two items
 pub two_items : {X : Type 0} (xs : List X) (x y : X) → 2 ≤ length xs → length xs < 3 → x ≡ get_or xs 0 x → y ≡ get_or xs 1 y → xs ≡ x ∷ y ∷ []
@@ -19,6 +19,10 @@ two_items [] x y more fewer at0 at1 = absurd (omega arith)
 two_items (a ∷ []) x y more fewer at0 at1 = absurd (omega arith)
 two_items (a ∷ b ∷ []) x y more fewer at0 at1 = cc
 two_items (a ∷ b ∷ c ∷ xs) x y more fewer at0 at1 = absurd (omega arith)
+
+-- bytes that were read and what they read as make an answer
+pub RouteAnswers-read : (told : Option Files) (failed : List ℕ → Type 0) (name bytes : List ℕ) (reading : Result Machine FileFault) (status : ℕ) (text : List ℕ) → IsFile told name bytes → length bytes ≤ most_codec_bytes → Reads bytes reading → ReadingAnswers reading status text → RouteAnswers told failed name status text
+RouteAnswers-read told failed name bytes reading status text file short reads answers = inr (inr (bytes, file, short, (reading, reads, answers)))
 
 -- what was meant and how it was written make the end
 pub HasEnded-wrote : (told : Option Files) (failed : List ℕ → Type 0) (words : List (List ℕ)) (before after : Option (List ℕ)) (sink_failed : Type 0) (meant : ℕ) (text : List ℕ) (status : ℕ) → IsMeant told failed words meant text → WroteText meant text before after sink_failed status → HasEnded told failed words before after sink_failed status

@@ -3,11 +3,13 @@ use Rattle.std.specs.Prelude.{ℕ, ◌+◌, ◌/◌, ◌%◌, nat_lt, if◌then�
 use Rattle.std.specs.List.{flat_map}
 use Rattle.codec_graph.specs.declared.fault.GraphFault.{GraphFault}
 use Rattle.codec_graph.specs.declared.fault.GraphFault.TheVariants.{NoAudioGroup, BadCount, ConnectionOutside, ListTooLong, AmpOffset, Cycle}
+use Rattle.verb_codes.specs.declared.entries.ListFault.{ListFault}
+use Rattle.verb_codes.specs.declared.entries.ListFault.TheVariants.{Zero, Beyond, FirstIsRange, RangeAfterRange, RangeBackward}
 use Rattle.hda_files.specs.declared.fault.Place.{Place}
 use Rattle.hda_files.specs.declared.fault.Place.TheVariants as place
 use Rattle.hda_files.specs.declared.fault.Key.{Key}
 use Rattle.hda_files.specs.declared.fault.FileFault.{FileFault}
-use Rattle.hda_files.specs.declared.fault.FileFault.TheVariants.{Toml, MissingKey, WrongType, OutOfRange, Doubled, Graph, TooManyPins, OutOfMemory}
+use Rattle.hda_files.specs.declared.fault.FileFault.TheVariants.{Toml, MissingKey, WrongType, OutOfRange, Doubled, List as InList, Graph, TooManyPins, OutOfMemory}
 use Rattle.hda_files.specs.Keys.{key_name}
 use Rattle.route_planner.specs.declared.routes.Hop.{Hop}
 use Rattle.route_planner.specs.declared.routes.Outcome.{Outcome}
@@ -68,6 +70,18 @@ graph_fault_nid (ListTooLong nid) = nid
 graph_fault_nid (AmpOffset nid) = nid
 graph_fault_nid (Cycle nid) = nid
 
+-- the name of a connection list's fault
+abbrev pub list_fault_name : ListFault → List ℕ
+list_fault_name Zero = codes "Zero"
+list_fault_name Beyond = codes "Beyond"
+list_fault_name FirstIsRange = codes "FirstIsRange"
+list_fault_name RangeAfterRange = codes "RangeAfterRange"
+list_fault_name RangeBackward = codes "RangeBackward"
+
+-- a fault at a node of a codec: the codec's address and the node identifier
+abbrev pub node_fault_text : List ℕ → ℕ → ℕ → List ℕ
+node_fault_text name address nid = name ++ codes " at " ++ decimal address ++ codes "/" ++ nid_text nid
+
 -- a table of the codec file
 abbrev pub place_text : Place → List ℕ
 place_text place.Top = codes "top"
@@ -84,8 +98,8 @@ fault_text (MissingKey place key) = key_fault_text (codes "MissingKey") place ke
 fault_text (WrongType place key) = key_fault_text (codes "WrongType") place key
 fault_text (OutOfRange place key) = key_fault_text (codes "OutOfRange") place key
 fault_text (Doubled place key) = key_fault_text (codes "Doubled") place key
-fault_text (Graph address fault) =
-    graph_fault_name fault ++ codes " at " ++ decimal address ++ codes "/" ++ nid_text (graph_fault_nid fault)
+fault_text (InList address nid fault) = node_fault_text (list_fault_name fault) address nid
+fault_text (Graph address fault) = node_fault_text (graph_fault_name fault) address (graph_fault_nid fault)
 fault_text TooManyPins = codes "TooManyPins"
 fault_text OutOfMemory = []
 

@@ -70,6 +70,29 @@ default = 0x01014010
 list = [0x0C]
 ";
 
+/// The output side of a codec with four line outs and headphones, whose pins list four mixers by a range.
+const RANGES: &str = "
+codec = [{address = 0, vendor = 0x10EC0888, power = 0x0F, first = 0x02, count = 38, node = [
+    {nid = 0x02, caps = 0x41D, pcm = 0xE0560, formats = 0x1, amp_out = 0x25757, power = 0xF},
+    {nid = 0x03, caps = 0x41D, pcm = 0xE0560, formats = 0x1, amp_out = 0x25757, power = 0xF},
+    {nid = 0x04, caps = 0x41D, pcm = 0xE0560, formats = 0x1, amp_out = 0x25757, power = 0xF},
+    {nid = 0x05, caps = 0x41D, pcm = 0xE0560, formats = 0x1, amp_out = 0x25757, power = 0xF},
+    {nid = 0x0B, caps = 0x20010B, amp_in = 0x80051F17, list = [0x18, 0x19, 0x1A, 0x1B, 0x14, 0x15, 0x16, 0x17]},
+    {nid = 0x0C, caps = 0x20010B, amp_in = 0x80000000, list = [0x02, 0x0B]},
+    {nid = 0x0D, caps = 0x20010B, amp_in = 0x80000000, list = [0x03, 0x0B]},
+    {nid = 0x0E, caps = 0x20010B, amp_in = 0x80000000, list = [0x04, 0x0B]},
+    {nid = 0x0F, caps = 0x20010B, amp_in = 0x80000000, list = [0x05, 0x0B]},
+    {nid = 0x14, caps = 0x40018D, amp_out = 0x80000000, pin_caps = 0x10034, default = 0x1014010, list = [0x0C, 0x8F]},
+    {nid = 0x15, caps = 0x40018D, amp_out = 0x80000000, pin_caps = 0x34, default = 0x1011012, list = [0x0C, 0x8F]},
+    {nid = 0x16, caps = 0x40018D, amp_out = 0x80000000, pin_caps = 0x34, default = 0x1016011, list = [0x0C, 0x8F]},
+    {nid = 0x17, caps = 0x40018D, amp_out = 0x80000000, pin_caps = 0x34, default = 0x1012014, list = [0x0C, 0x8F]},
+    {nid = 0x18, caps = 0x40008B, amp_in = 0x2F0300, pin_caps = 0x24, default = 0x1A19030},
+    {nid = 0x19, caps = 0x40008B, amp_in = 0x2F0300, pin_caps = 0x24, default = 0x2A19040},
+    {nid = 0x1A, caps = 0x40008B, amp_in = 0x2F0300, pin_caps = 0x24, default = 0x1813050},
+    {nid = 0x1B, caps = 0x40018D, amp_out = 0x80000000, pin_caps = 0x3C, default = 0x2214020, list = [0x0C, 0x8F]},
+]}]
+";
+
 const ONE_ROUTE: &str = "route 0 14 pair 0 via 14.0 0c.0 02\n";
 
 const TWO_ROUTES: &str = "route 0 14 pair 0 via 14.0 0f.0 02\nroute 0 15 pair 0 via 15.0 0f.0 02\n";
@@ -219,6 +242,28 @@ fn plans_for_other_formats(rt: HostRuntime) -> Result<(), Fail> {
         let lines = planned(alloc, text.as_str(), format)?;
         assert!(rt; lines.as_str() == want, "at {want}");
     }
+    Ok(())
+}
+
+#[test]
+fn plans_eight_channels_through_ranges(rt: HostRuntime) -> Result<(), Fail> {
+    let eight = Format {
+        rate: Rate::R48,
+        bits: Bits::B16,
+        channels: 8,
+    };
+    let lines = planned(rt.alloc(), RANGES, eight)?;
+    assert!(rt;
+        lines.as_str()
+            == "\
+route 0 14 pair 0 via 14.0 0c.0 02
+route 0 16 pair 1 via 16.1 0d.0 03
+route 0 15 pair 2 via 15.2 0e.0 04
+route 0 17 pair 3 via 17.3 0f.0 05
+route 0 1b pair 0 via 1b.0 0c.0 02
+",
+        "{lines}"
+    );
     Ok(())
 }
 

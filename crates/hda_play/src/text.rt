@@ -7,6 +7,7 @@ use codec_graph::GraphFault;
 use hda_files::{FileFault, Key, Place};
 use route_planner::{Hop, Outcome, PinPlan, Plan};
 use std::alloc::AllocError;
+use verb_codes::ListFault;
 
 /// The line for words that are no command.
 pub const USAGE: &str =
@@ -126,6 +127,36 @@ fn push_key_fault(out: &mut String, word: &str, place: Place, key: Key) -> Resul
     push_place(out, place)
 }
 
+/// A fault at a node of a codec.
+fn push_node_fault(out: &mut String, name: &str, address: u8, nid: u8) -> Result<(), AllocError>
+    ensures { OnOk result (string_bytes out.new ≡ string_bytes out.old ++ text.node_fault_text name.now address nid) }
+{
+    out.push_str(name)?;
+    out.push_str(" at ")?;
+    push_decimal(out, address)?;
+    out.push_str("/")?;
+    push_nid(out, nid)
+}
+
+/// A fault of a connection list.
+fn push_list_fault(
+    out: &mut String,
+    address: u8,
+    nid: u8,
+    fault: ListFault,
+) -> Result<(), AllocError>
+    ensures { OnOk result (string_bytes out.new ≡ string_bytes out.old ++ text.fault_text (FileFault.List address nid fault)) }
+{
+    let name = match fault {
+        ListFault::Zero => "Zero",
+        ListFault::Beyond => "Beyond",
+        ListFault::FirstIsRange => "FirstIsRange",
+        ListFault::RangeAfterRange => "RangeAfterRange",
+        ListFault::RangeBackward => "RangeBackward",
+    };
+    push_node_fault(out, name, address, nid)
+}
+
 /// A fault of a graph, with the codec's address.
 fn push_graph_fault(out: &mut String, address: u8, fault: GraphFault) -> Result<(), AllocError>
     ensures { OnOk result (string_bytes out.new ≡ string_bytes out.old ++ text.fault_text (FileFault.Graph address fault)) }
@@ -138,11 +169,7 @@ fn push_graph_fault(out: &mut String, address: u8, fault: GraphFault) -> Result<
         GraphFault::AmpOffset(nid) => ("AmpOffset", nid),
         GraphFault::Cycle(nid) => ("Cycle", nid),
     };
-    out.push_str(name)?;
-    out.push_str(" at ")?;
-    push_decimal(out, address)?;
-    out.push_str("/")?;
-    push_nid(out, nid)
+    push_node_fault(out, name, address, nid)
 }
 
 /// The fault of a codec file.
@@ -155,6 +182,7 @@ pub fn push_fault(out: &mut String, fault: FileFault) -> Result<(), AllocError>
         FileFault::WrongType(place, key) => push_key_fault(out, "WrongType", place, key),
         FileFault::OutOfRange(place, key) => push_key_fault(out, "OutOfRange", place, key),
         FileFault::Doubled(place, key) => push_key_fault(out, "Doubled", place, key),
+        FileFault::List(address, nid, fault) => push_list_fault(out, address, nid, fault),
         FileFault::Graph(address, fault) => push_graph_fault(out, address, fault),
         FileFault::TooManyPins => out.push_str("TooManyPins"),
         FileFault::OutOfMemory => Ok(()),

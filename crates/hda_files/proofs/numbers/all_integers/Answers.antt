@@ -2,9 +2,9 @@ use Rattle.std.proofs.Common.{sym, ◌∙◌, rules, tests}
 use Rattle.std.proofs.lemmas.Iterator.{YieldsList-from_slice}
 use Rattle.std.proofs.lemmas.Iterator.Search.{all_from_yields_List}
 use Rattle.toml.specs.View.{view}
-use Rattle.hda_files.specs.Nodes.{is_integer}
+use Rattle.hda_files.specs.Values.{is_integer}
 use Rattle.hda_files.proofs.ArrayLemmas.{list_all-view}
-use Rattle.hda_files.proofs.node.all_integers.Goals as goal
+use Rattle.hda_files.proofs.numbers.all_integers.Goals as goal
 
 pub returns : goal.returns
 returns c =

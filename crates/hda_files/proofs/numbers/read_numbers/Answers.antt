@@ -1,0 +1,22 @@
+use Rattle.std.proofs.Common.{◌≤◌, length, vec_len, All, arith}
+use Rattle.std.proofs.lemmas.Result.{IfOk-weaker}
+use Rattle.toml.specs.View.{view}
+use Rattle.hda_files.specs.Values.{number_up_to}
+use Rattle.hda_files.proofs.ArrayLemmas.{filter_map-view}
+use Rattle.hda_files.proofs.NumberLemmas.{few-numbers, numbers-bound}
+use Rattle.hda_files.proofs.Meant.{IsMeant-from}
+use Rattle.hda_files.proofs.numbers.read_numbers.Goals as goal
+
+pub returns-clause-value : goal.returns-clause-value
+returns-clause-value c =
+    rw (c.in_ok-array.ensures.value, filter_map-view (number_up_to c.args.most) c.in_ok-array.array.now.items)
+    (IsMeant-from c.numbers_in.result _ c.numbers_in.ensures.list c.numbers_in.ensures.memory)
+
+pub returns-clause-few : goal.returns-clause-few
+returns-clause-few c =
+    let few : vec_len c.in_ok-array.array.now ≤ c.args.count = c.in_ok-array.ensures.few in
+    IfOk-weaker c.numbers_in.result _ (λ numbers. length numbers ≤ c.args.count) (λ numbers e. rw e (few-numbers (λ value. number_up_to c.args.most (view value)) c.in_ok-array.array.now.items c.args.count (omega arith))) c.numbers_in.ensures.list
+
+pub returns-clause-bound : goal.returns-clause-bound
+returns-clause-bound c =
+    IfOk-weaker c.numbers_in.result _ (λ numbers. All (λ number. number ≤ c.args.most) numbers) (λ numbers e. rw e (numbers-bound c.args.most c.in_ok-array.array.now.items)) c.numbers_in.ensures.list

@@ -1,0 +1,27 @@
+//! The faults of a codec's connection lists, by node identifier.
+ghost use Rattle.std.specs.Prelude.{◌≡◌, MatchOption};
+ghost use Rattle.hda_files.specs.ListFaults as list_faults;
+
+use crate::codec::table_with;
+use crate::node::NodeTable;
+use verb_codes::ListFault;
+
+/// What the list of the table with this node identifier has wrong.
+fn list_fault_at(nodes: &[NodeTable], nid: u8) -> Option<ListFault>
+    ensures { result ≡ list_faults.list_fault_at nodes.now nid }
+{
+    table_with(nodes, u16::from(nid)).and_then(|node| node.list_fault)
+}
+
+/// The least node identifier whose list has a fault, and the fault.
+pub(crate) fn first_list_fault(nodes: &[NodeTable]) -> Option<(u8, ListFault)>
+    ensures { MatchOption result (list_faults.HasNoListFault nodes.now)
+        (λ found. list_faults.IsFirstListFault nodes.now found.0 found.1) }
+{
+    for nid in 0..128 {
+        if let Some(fault) = list_fault_at(nodes, nid) {
+            return Some((nid, fault));
+        }
+    }
+    None
+}
