@@ -1,0 +1,4 @@
+pub mod Stepping
+pub mod Telling
+pub mod Leaving
+pub mod Still

@@ -1,0 +1,52 @@
+-- What steps of the device and accesses of the driver leave alone. This project's own.
+use Rattle.std.specs.Prelude.{◌≡◌, ◌<◌, ◌≤◌, ◌⊎◌, ℕ, ◌+◌, ◌*◌, List, ◌++◌, length, map, slice_index}
+use Rattle.codec_graph.specs.declared.raw.RawCodec.{RawCodec}
+use Rattle.hda_registers.specs.Fields.{Fields, entries_of, rirb_address}
+use Rattle.hda_platform.specs.Worlds.{World}
+
+-- the registers are the old ones but for what the device itself moves: the wall clock, the codecs' bits of the state change
+-- status, and the pointers and the flag of the rings
+pub record RegistersStay (old new : Fields) : Type 0 where
+  pub shape : new.shape ≡ old.shape
+  pub input : new.input ≡ old.input
+  pub output : new.output ≡ old.output
+  pub global : new.global ≡ record old.global {
+    wall_clock = new.global.wall_clock;
+    state_status = new.global.state_status;
+    corb_read_pointer = new.global.corb_read_pointer;
+    rirb_write_pointer = new.global.rirb_write_pointer;
+    response_flag = new.global.response_flag;
+  }
+
+-- an address that is none of RIRB's
+abbrev pub IsOutsideRirb : Fields → ℕ → Type 0
+IsOutsideRirb fields at = (at < rirb_address fields) ⊎ (rirb_address fields + 8 * entries_of fields.shape.rirb ≤ at)
+
+-- the memory has as many bytes as before, and outside RIRB the same
+pub record MemoryStays (fields : Fields) (old new : List ℕ) : Type 0 where
+  pub size : length new ≡ length old
+  pub outside : (at : ℕ) → IsOutsideRirb fields at → slice_index new at ≡ slice_index old at
+
+-- a history went on
+abbrev pub WentOn : {A : Type 0} → List A → List A → Type 0
+WentOn {A} old new = (more : List A) × (new ≡ old ++ more)
+
+abbrev pub graphs_of : World → List RawCodec
+graphs_of world = map (λ device. device.graph) world.devices
+
+-- what every step of the device leaves alone while no stream moves
+pub record StepsLeave (old new : World) : Type 0 where
+  pub memory : MemoryStays old.registers old.memory new.memory
+  pub registers : RegistersStay old.registers new.registers
+  pub graphs : graphs_of new ≡ graphs_of old
+  pub taken : WentOn old.taken new.taken
+  pub written : WentOn old.written new.written
+
+-- what an event leaves alone that is no step of the device: an access changes the registers or a piece of memory, and nothing of
+-- what the codecs keep but that a reset drops what waits
+pub record AccessLeaves (old new : World) : Type 0 where
+  pub taken : new.taken ≡ old.taken
+  pub written : new.written ≡ old.written
+  pub graphs : graphs_of new ≡ graphs_of old
+  pub settings : map (λ device. device.settings) new.devices ≡ map (λ device. device.settings) old.devices
+  pub present : map (λ device. device.present) new.devices ≡ map (λ device. device.present) old.devices

@@ -1,0 +1,9 @@
+pub mod Worlds
+pub mod Steps
+pub mod Events
+pub mod Tellings
+pub mod Kept
+pub mod Leaving
+pub mod Stillness
+pub mod ToldBy
+pub mod Journals

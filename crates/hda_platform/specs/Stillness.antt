@@ -1,0 +1,39 @@
+-- The telling of a platform whose device never acts: it has no codec, and its start is a region of zeros and a controller in
+-- reset. This project's own.
+use Rattle.std.specs.Prelude.{ℕ, ◌+◌, List, [], replicate, map}
+use Rattle.hda_registers.specs.declared.shapes.Shape.{Shape}
+use Rattle.hda_registers.specs.Fields.{Fields, opening}
+use Rattle.hda_platform.specs.declared.journal.Entry.{Entry}
+use Rattle.hda_platform.specs.declared.journal.Entry.TheVariants as entry
+use Rattle.hda_platform.specs.Worlds.{World}
+use Rattle.hda_platform.specs.Journals.{event_of}
+use Rattle.hda_platform.specs.Tellings.{Telling}
+
+-- a world without codecs, in which nothing waits and nothing streams
+abbrev pub still_world : List ℕ → Fields → World
+still_world memory registers = record {
+  memory = memory;
+  registers = registers;
+  devices = [];
+  waiting = [];
+  frames = 0;
+  taken = [];
+  written = [];
+}
+
+-- so many bytes that are 0
+unfoldable pub zeros : ℕ → List ℕ
+zeros size = replicate size 0
+
+-- what is told of a region of so many bytes and a journal
+abbrev pub still_telling : Shape → ℕ → List Entry → List ℕ → Telling
+still_telling shape size entries bytes = record {
+  start = still_world (zeros size) (opening shape);
+  journal = map (event_of bytes) entries;
+}
+
+-- the place after the bytes of an entry's piece of memory, 0 where it has none
+abbrev pub piece_end : Entry → ℕ
+piece_end (entry.DmaRead at from len) = from + len
+piece_end (entry.DmaWrite at from len) = from + len
+piece_end _ = 0

@@ -1,0 +1,37 @@
+-- The world that driver and device act on in turn. This project's own, over the controller and the codecs of High Definition
+-- Audio 1.0a.
+use Rattle.std.specs.Prelude.{ℕ, ◌==◌, List, map, Option, if◌then◌else◌}
+use Rattle.std.specs.List.{find}
+use Rattle.codec_graph.specs.Devices.{Device}
+use Rattle.hda_registers.specs.Fields.{Fields}
+use Rattle.hda_registers.specs.declared.rings.Response.{Response}
+
+-- a command that a codec took: the word, and the codec as it was when it took it
+pub record Taken : Type 0 where
+  pub word : ℕ
+  pub device : Device
+
+-- everything that an access or a device step may read or change. The last two are histories: device steps only append to them,
+-- and nothing ever shortens them.
+pub record World : Type 0 where
+  -- the region that the controller's engines reach, as bytes
+  pub memory : List ℕ
+  pub registers : Fields
+  -- the codecs, ascending by address
+  pub devices : List Device
+  -- the responses that wait in the controller, oldest first
+  pub waiting : List Response
+  -- the link frames since CRST rose, 0 while it is 0
+  pub frames : ℕ
+  -- the commands that codecs took, oldest first
+  pub taken : List Taken
+  -- the responses that were written to RIRB, oldest first
+  pub written : List Response
+
+-- the codec with this address, if there is one
+abbrev pub device_at : ℕ → List Device → Option Device
+device_at address devices = find (λ device. device.graph.address == address) devices
+
+-- the codecs with a change of the one with this address
+abbrev pub with_device : ℕ → (Device → Device) → List Device → List Device
+with_device address change devices = map (λ device. if device.graph.address == address then change device else device) devices

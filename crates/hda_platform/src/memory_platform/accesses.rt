@@ -1,0 +1,94 @@
+//! The accesses of a platform in memory: before each a link frame passes, and both are noted.
+ghost use Rattle.std.specs.Prelude.{◌≡◌, ◌≤◌, ◌<◌, ◌+◌, ◌/◌, [], ◌∷◌};
+ghost use Rattle.hda_platform.specs.ToldBy.{told_by, told_whole, Passed};
+
+use crate::journal::Entry;
+use crate::memory_platform::MemoryPlatform;
+use crate::notes::{note, note_bytes};
+use crate::pieces::{read_piece, write_piece};
+use crate::platform::Platform;
+use crate::step::Step;
+use dma_pool::{Lent, Window};
+use hda_registers::{Shape, Width};
+
+impl MemoryPlatform {
+    /// Lets a link frame pass.
+    fn pass_frame(&mut self)
+        requires { 1 ≤ self.old.entries_left }
+        ensures told { Passed self.old self.new }
+        ensures shape { self.new.shape ≡ self.old.shape }
+        ensures entries { self.new.entries_left + 1 ≡ self.old.entries_left }
+        ensures bytes { self.new.bytes_left ≡ self.old.bytes_left }
+    {
+        self.registers.frame();
+        note(&mut self.entries, Entry::Step(Step::Link(1)));
+        self.entries_left -= 1;
+    }
+}
+
+impl Platform for MemoryPlatform {
+    ghost told = { told_by };
+
+    type Fixed = Shape;
+
+    ghost fixed = { λ platform. platform.shape };
+
+    ghost spare_accesses = { λ platform. platform.entries_left / 2 };
+
+    ghost spare_bytes = { λ platform. platform.bytes_left };
+
+    fn read(&mut self, at: u16, width: Width) -> u32 {
+        self.pass_frame();
+        let value = self.registers.read(at, width);
+        note(&mut self.entries, Entry::Read { at, width, value });
+        self.entries_left -= 1;
+        value
+    }
+
+    fn write(&mut self, at: u16, width: Width, value: u32) {
+        self.pass_frame();
+        self.registers.write(at, width, value);
+        note(&mut self.entries, Entry::Write { at, width, value });
+        self.entries_left -= 1;
+    }
+
+    fn dma_read(&mut self, from: &Lent, at: u64, into: &mut [u8]) {
+        self.pass_frame();
+        let address = from.address() + at as u32;
+        let first = address as usize;
+        let len = into.len();
+        read_piece(&self.memory, first, into);
+        let place = note_bytes(&mut self.bytes, into);
+        note(
+            &mut self.entries,
+            Entry::DmaRead {
+                at: address,
+                from: place as u64,
+                len: len as u32,
+            },
+        );
+        self.entries_left -= 1;
+        self.bytes_left -= len;
+    }
+
+    fn dma_write(&mut self, to: &mut Window<'_>, at: u64, bytes: &[u8]) {
+        self.pass_frame();
+        let address = to.place(at);
+        let first = address as usize;
+        let len = bytes.len();
+        write_piece(&mut self.memory, first, bytes);
+        let place = note_bytes(&mut self.bytes, bytes);
+        note(
+            &mut self.entries,
+            Entry::DmaWrite {
+                at: address,
+                from: place as u64,
+                len: len as u32,
+            },
+        );
+        self.entries_left -= 1;
+        self.bytes_left -= len;
+    }
+
+    ghost whole = { told_whole };
+}

@@ -1,0 +1,66 @@
+//! A platform in memory, access by access.
+use super::*;
+use dma_pool::Pool;
+use hda_registers::{RingSize, Shape, Width};
+use std::test::Fail;
+
+/// A controller without codecs.
+fn shape() -> Shape {
+    Shape {
+        fifo: 192,
+        corb: RingSize::Full,
+        rirb: RingSize::Full,
+        codecs: 0,
+    }
+}
+
+#[test]
+fn registers_are_read_and_written(rt: HostRuntime) -> Result<(), Fail> {
+    let mut platform = MemoryPlatform::new(rt.alloc(), shape(), 4, 0)?;
+    platform.write(0x08, Width::Four, 0x101);
+    assert_eq!(rt; platform.read(0x08, Width::Four), 0x101);
+    assert_eq!(rt; platform.read(0x30, Width::Four), 1_000);
+    let journal = platform.into_journal();
+    let entries = journal.entries.as_slice();
+    assert_eq!(rt; entries.len(), 6);
+    assert_eq!(rt; entries[0], Entry::Step(Step::Link(1)));
+    assert_eq!(rt;
+        entries[1],
+        Entry::Write {
+            at: 0x08,
+            width: Width::Four,
+            value: 0x101
+        }
+    );
+    assert_eq!(rt;
+        entries[5],
+        Entry::Read {
+            at: 0x30,
+            width: Width::Four,
+            value: 1_000
+        }
+    );
+    Ok(())
+}
+
+#[test]
+fn memory_is_read_and_written(rt: HostRuntime) -> Result<(), Fail> {
+    let mut platform = MemoryPlatform::new(rt.alloc(), shape(), 2, 8)?;
+    let mut pool = Pool::new(rt.alloc(), 2)?;
+    let Ok(block) = pool.take(200) else {
+        assert!(rt; false, "the pool has room");
+        return Ok(());
+    };
+    let mut lent = block.lend();
+    let mut window = lent.window(0, 0, 200);
+    platform.dma_write(&mut window, 100, &[1, 2, 3, 4]);
+    window.close();
+    let mut read = [0; 4];
+    platform.dma_read(&lent, 98, &mut read);
+    assert!(rt; read == [0, 0, 1, 2]);
+    pool.give(lent.back());
+    let journal = platform.into_journal();
+    assert_eq!(rt; journal.entries.len(), 4);
+    assert!(rt; journal.bytes.as_slice() == [1, 2, 3, 4, 0, 0, 1, 2].as_slice());
+    Ok(())
+}
