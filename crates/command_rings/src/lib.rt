@@ -1,0 +1,13 @@
+//! The device side of the rings of commands (CORB) and of responses (RIRB), over a slice of memory and the registers
+//! (HDA 1.0a, 4.4).
+#![tactic(auto)]
+
+mod entries;
+mod laws;
+mod rings;
+
+pub use laws::responses_stand;
+pub use rings::Rings;
+
+#[cfg(test)]
+mod tests;
