@@ -1,8 +1,12 @@
 -- What steps of the device and accesses of the driver leave alone. This project's own.
-use Rattle.std.specs.Prelude.{◌≡◌, ◌<◌, ◌≤◌, ◌⊎◌, ℕ, ◌+◌, ◌*◌, List, ◌++◌, length, map, slice_index}
+use Rattle.std.specs.Prelude.{◌≡◌, ◌≢◌, ◌<◌, ◌≤◌, ◌⊎◌, ℕ, ◌+◌, ◌*◌, List, ◌++◌, length, map, slice_index}
 use Rattle.codec_graph.specs.declared.raw.RawCodec.{RawCodec}
 use Rattle.hda_registers.specs.Fields.{Fields, entries_of, rirb_address}
+use Rattle.hda_registers.specs.Rings.{next_command}
+use Rattle.hda_platform.specs.declared.step.Step.{Step}
+use Rattle.hda_platform.specs.declared.step.Step.TheVariants as step
 use Rattle.hda_platform.specs.Worlds.{World}
+use Rattle.hda_platform.specs.Steps.{address_of}
 
 -- the registers are the old ones but for what the device itself moves: the wall clock, the codecs' bits of the state change
 -- status, and the pointers and the flag of the rings
@@ -50,3 +54,12 @@ pub record AccessLeaves (old new : World) : Type 0 where
   pub graphs : graphs_of new ≡ graphs_of old
   pub settings : map (λ device. device.settings) new.devices ≡ map (λ device. device.settings) old.devices
   pub present : map (λ device. device.present) new.devices ≡ map (λ device. device.present) old.devices
+
+-- the step does not name the codec of this address. The engine of CORB names the codec of its next command
+abbrev pub NamesOthers : Step → World → ℕ → Type 0
+NamesOthers step.Corb world address = address ≢ address_of (next_command world.registers world.memory)
+NamesOthers (step.Answer codec) world address = address ≢ codec
+NamesOthers (step.Lose codec) world address = address ≢ codec
+NamesOthers (step.Plug codec nid) world address = address ≢ codec
+NamesOthers (step.Unplug codec nid) world address = address ≢ codec
+NamesOthers _ world address = Unit {0}

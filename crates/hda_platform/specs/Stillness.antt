@@ -1,5 +1,5 @@
--- The telling of a platform whose device never acts: it has no codec, and its start is a region of zeros and a controller in
--- reset. This project's own.
+-- What is told of a platform in memory: it has no codec, and its start is a region of zeros and a controller in reset. This
+-- project's own.
 use Rattle.std.specs.Prelude.{ℕ, ◌+◌, List, [], replicate, map}
 use Rattle.hda_registers.specs.declared.shapes.Shape.{Shape}
 use Rattle.hda_registers.specs.Fields.{Fields, opening}

@@ -6,6 +6,10 @@ use Rattle.codec_graph.specs.Devices.{Device}
 use Rattle.hda_registers.specs.Fields.{Fields}
 use Rattle.hda_registers.specs.declared.rings.Response.{Response}
 
+-- how many bytes the region has on every platform
+abbrev pub region_size : ℕ
+region_size = 4194304
+
 -- a command that a codec took: the word, and the codec as it was when it took it
 pub record Taken : Type 0 where
   pub word : ℕ

@@ -4,10 +4,10 @@ ghost use Rattle.hda_registers.specs.declared.shapes.Width.{Width};
 ghost use Rattle.codec_graph.specs.Devices.{Device};
 ghost use Rattle.hda_platform.specs.declared.step.Step.{Step};
 ghost use Rattle.hda_platform.specs.Worlds.{World, device_at, with_device};
-ghost use Rattle.hda_platform.specs.Steps.{after_steps};
+ghost use Rattle.hda_platform.specs.Steps.{after_step, after_steps};
 ghost use Rattle.hda_platform.specs.Events.{Event, DmaWrite, after, AreHonest, after_write, happens};
 ghost use Rattle.hda_registers.specs.Memory.{PieceStored};
-ghost use Rattle.hda_platform.specs.Leaving.{StepsLeave, AccessLeaves};
+ghost use Rattle.hda_platform.specs.Leaving.{StepsLeave, AccessLeaves, NamesOthers};
 
 /// Steps in a row are those of the front and then those of the back.
 pub fn steps_compose()
@@ -25,6 +25,12 @@ pub fn events_compose()
 /// the state change status and the wall clock alone among the registers, and the histories go on.
 pub fn steps_write_rirb_alone()
     ensures { (steps : List Step) (world : World) → StepsLeave world (after_steps steps world) }
+{}
+
+/// A step leaves each codec alone that it does not name. The engine of CORB names the codec of its next command.
+pub fn steps_leave_other_codecs()
+    ensures { (step : Step) (world : World) (address : ℕ) → NamesOthers step world address
+        → device_at address (after_step step world).devices ≡ device_at address world.devices }
 {}
 
 /// A write of a register changes no memory and no codec's graph, settings or presence, and appends to no history.

@@ -12,7 +12,7 @@ mod step;
 pub use journal::{Entry, Journal};
 pub use laws::{
     codecs_are_apart, events_compose, memory_write_leaves, register_write_leaves, steps_compose,
-    steps_write_rirb_alone,
+    steps_leave_other_codecs, steps_write_rirb_alone,
 };
 pub use memory_platform::MemoryPlatform;
 pub use platform::Platform;

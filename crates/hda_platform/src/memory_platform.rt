@@ -1,6 +1,7 @@
 //! A platform in memory without codecs, for tests of drivers: a link frame passes before each access.
 ghost use Rattle.std.specs.Prelude.{◌≡◌, ◌≤◌, ◌<◌, ◌+◌, ◌*◌, All, IfOk, length, vec_len, vec_capacity};
 ghost use Rattle.std.proofs.Props.{props};
+ghost use Rattle.hda_platform.specs.Worlds.{region_size};
 ghost use Rattle.hda_platform.specs.Tellings.{world_of};
 ghost use Rattle.hda_platform.specs.Stillness.{still_telling, zeros, piece_end};
 
@@ -24,19 +25,21 @@ pub struct MemoryPlatform {
     registers: Registers,
     entries: Vec<Entry>,
     bytes: Vec<u8>,
+    /// How many entries and bytes there is room to note.
     entries_left: usize,
     bytes_left: usize,
-    pub ghost whole: { length memory.items ≡ 4194304 },
+    pub ghost whole: { length memory.items ≡ region_size },
     pub ghost room_for_entries: { vec_len entries + entries_left ≤ vec_capacity entries },
     pub ghost room_for_bytes: { vec_len bytes + bytes_left ≤ vec_capacity bytes },
     pub ghost placed: { All (λ entry. piece_end entry ≤ length bytes.items) entries.items } by { Prim.hlevel props },
-    pub ghost no_codecs: { length (world_of (still_telling shape 4194304 entries.items bytes.items)).devices ≡ 0 },
-    pub ghost memory_stands: { (world_of (still_telling shape 4194304 entries.items bytes.items)).memory ≡ memory.items },
-    pub ghost registers_stand: { (world_of (still_telling shape 4194304 entries.items bytes.items)).registers ≡ registers } by { Prim.hlevel props },
+    pub ghost no_codecs: { length (world_of (still_telling shape region_size entries.items bytes.items)).devices ≡ 0 },
+    pub ghost memory_stands: { (world_of (still_telling shape region_size entries.items bytes.items)).memory ≡ memory.items },
+    pub ghost registers_stand: { (world_of (still_telling shape region_size entries.items bytes.items)).registers ≡ registers } by { Prim.hlevel props },
 }
 
 impl MemoryPlatform {
     ghost use Rattle.std.specs.Prelude.{◌≡◌, IfOk, Some, []};
+    ghost use Rattle.hda_platform.specs.Worlds.{region_size};
     ghost use Rattle.hda_platform.specs.Stillness.{still_telling};
     ghost use Rattle.hda_platform.specs.Journals.{events_of};
     ghost use Rattle.hda_platform.specs.ToldBy.{told_by, telling_of};
@@ -51,7 +54,7 @@ impl MemoryPlatform {
         accesses: u32,
         bytes: usize,
     ) -> Result<MemoryPlatform, AllocError>
-        ensures told { IfOk result (λ platform. told_by platform ≡ Some (still_telling shape 4194304 [] [])) }
+        ensures told { IfOk result (λ platform. told_by platform ≡ Some (still_telling shape region_size [] [])) }
         ensures accesses { IfOk result (λ platform. ⟦<MemoryPlatform as Platform>⟧.spare_accesses platform ≡ accesses) }
         ensures bytes { IfOk result (λ platform. ⟦<MemoryPlatform as Platform>⟧.spare_bytes platform ≡ bytes) }
     {

@@ -1,5 +1,6 @@
 //! What a driver drives: a controller's registers, and memory that the controller reaches.
 ghost use Rattle.std.specs.Prelude.{◌≡◌, ◌≤◌, ◌<◌, ◌+◌, ◌-◌, ◌^◌, ℕ, Option, length, IfSome};
+ghost use Rattle.hda_platform.specs.Worlds.{region_size};
 ghost use Rattle.hda_platform.specs.Tellings.{Telling, world_of, Accessed, Between};
 ghost use Rattle.hda_platform.specs.Events.{Read, Write, DmaRead, DmaWrite};
 
@@ -66,5 +67,5 @@ pub trait Platform {
         ensures same_to { to.new.to ≡ to.old.to };
 
     /// The region has 4,194,304 bytes.
-    ghost whole: { (p : Self) → IfSome (told p) (λ telling. length (world_of telling).memory ≡ 4194304) };
+    ghost whole: { (p : Self) → IfSome (told p) (λ telling. length (world_of telling).memory ≡ region_size) };
 }

@@ -1,4 +1,6 @@
 //! A platform in memory, access by access.
+ghost use Rattle.std.specs.Prelude.{◌≡◌, ◌≤◌, ◌+◌};
+
 use super::*;
 use dma_pool::Pool;
 use hda_registers::{RingSize, Shape, Width};
@@ -14,11 +16,19 @@ fn shape() -> Shape {
     }
 }
 
+/// Takes the controller out of reset, as a driver over any platform would, and gives what GCTL reads then.
+fn leave_reset<P: Platform>(platform: &mut P) -> u32
+    requires { 2 ≤ P.spare_accesses platform.old }
+    ensures { P.spare_accesses platform.new + 2 ≡ P.spare_accesses platform.old }
+{
+    platform.write(0x08, Width::Four, 0x101);
+    platform.read(0x08, Width::Four)
+}
+
 #[test]
 fn registers_are_read_and_written(rt: HostRuntime) -> Result<(), Fail> {
     let mut platform = MemoryPlatform::new(rt.alloc(), shape(), 4, 0)?;
-    platform.write(0x08, Width::Four, 0x101);
-    assert_eq!(rt; platform.read(0x08, Width::Four), 0x101);
+    assert_eq!(rt; leave_reset(&mut platform), 0x101);
     assert_eq!(rt; platform.read(0x30, Width::Four), 1_000);
     let journal = platform.into_journal();
     let entries = journal.entries.as_slice();
