@@ -1,6 +1,6 @@
 -- What a step of the device does to the world: the moves of High Definition Audio 1.0a, 4.4 (rings), 5.5.1 (link frames), 4.3
 -- (codec discovery) and 7.3.3.15 (presence), each by itself. When a step comes is the schedule's choice. The queues' limits and
--- that a step does nothing while CRST is 0 are this project's own.
+-- that a step does nothing while CRST is 0, but for what is plugged in, are this project's own.
 use Rattle.std.specs.Prelude.{ℕ, zero, suc, Bool, true, false, ◌==◌, ◌&&◌, ◌+◌, ◌/◌, ◌^◌, nat_lt, List, [], ◌∷◌, ◌++◌, length, take, drop, fold, Option, None, Some, if◌then◌else◌}
 use Rattle.codec_graph.specs.declared.waiting.Waiting.{Waiting}
 use Rattle.codec_graph.specs.declared.waiting.Waiting.TheVariants.{Answer, Unsolicited}

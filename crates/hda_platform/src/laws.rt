@@ -39,9 +39,11 @@ pub fn register_write_leaves()
     ensures codecs { (world : World) (at value : ℕ) (width : Width) → AccessLeaves world (after_write at width value world) }
 {}
 
-/// A write of a piece that lies in the region changes that piece of the memory.
+/// A write of a piece changes memory alone, and where the piece lies in the region, that piece of it.
 pub fn memory_write_leaves()
-    ensures { (world : World) (at : ℕ) (piece : List ℕ) → at + length piece ≤ length world.memory
+    ensures rest { (world : World) (at : ℕ) (piece : List ℕ)
+        → happens world (DmaWrite at piece) ≡ record world { memory = (happens world (DmaWrite at piece)).memory } }
+    ensures piece { (world : World) (at : ℕ) (piece : List ℕ) → at + length piece ≤ length world.memory
         → PieceStored at piece world.memory (happens world (DmaWrite at piece)).memory }
 {}
 
