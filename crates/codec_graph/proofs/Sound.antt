@@ -10,7 +10,7 @@ use Rattle.codec_graph.specs.declared.waiting.Waiting.TheVariants.{Answer, Unsol
 use Rattle.codec_graph.specs.Widget.{node_at, is_pin}
 use Rattle.codec_graph.specs.Settings.{setting_of, IsSettingsOf}
 use Rattle.codec_graph.specs.declared.controls.Control.TheVariants.{Unsol}
-use Rattle.codec_graph.specs.Devices.{Device, is_answer, answers, unsolicited, is_full, answer_to, reading_settings, taken, is_told, response_of, pin_plugged, node_plugged, plugged, without_first, drop_answer, without_answer, cleared, IsSound}
+use Rattle.codec_graph.specs.CodecStates.{CodecState, is_answer, answers, unsolicited, is_full, answer_to, reading_settings, taken, is_told, response_of, pin_plugged, node_plugged, plugged, without_first, drop_answer, without_answer, cleared, IsSound}
 use Rattle.codec_graph.proofs.Writes.{IsSettingsOf-after}
 use Rattle.verb_codes.specs.declared.verbs.Command.{Command}
 use Rattle.verb_codes.specs.Verbs.{reading_of}
@@ -65,79 +65,79 @@ unsolicited-drop_answer (Unsolicited word ∷ waiting) =
     ∙ ap (λ n. 1 + n) (unsolicited-drop_answer waiting)
     ∙ sym (unsolicited-cons (Unsolicited word) waiting)
 
-pub settings-reading : (device : Device) (word : ℕ) → IsSettingsOf device.graph device.settings → IsSettingsOf device.graph (reading_settings device (reading_of word))
-settings-reading device word of_graph = by (reading_of word) refl
+pub settings-reading : (codec : CodecState) (word : ℕ) → IsSettingsOf codec.graph codec.settings → IsSettingsOf codec.graph (reading_settings codec (reading_of word))
+settings-reading codec word of_graph = by (reading_of word) refl
   where
-    by : (o : Option Command) → reading_of word ≡ o → IsSettingsOf device.graph (reading_settings device o)
+    by : (o : Option Command) → reading_of word ≡ o → IsSettingsOf codec.graph (reading_settings codec o)
     by None e = of_graph
-    by (Some command) e = IsSettingsOf-after device.graph device.settings command of_graph (reading_of-sound word command e).0.verb
+    by (Some command) e = IsSettingsOf-after codec.graph codec.settings command of_graph (reading_of-sound word command e).0.verb
 
-pub IsSound-taken : (device : Device) (word : ℕ) → IsSound device → is_full device ≡ false → IsSound (taken device word)
-IsSound-taken device word sound unfilled =
-    let more = answers-push device.waiting (Answer (answer_to device word)) in
-    let same = unsolicited-push device.waiting (Answer (answer_to device word)) in
-    let room : answers device.waiting ≡ 64 → ⊥ = λ e. true≢false (sym (eq-eqb (answers device.waiting) 64 e) ∙ unfilled) in
+pub IsSound-taken : (codec : CodecState) (word : ℕ) → IsSound codec → is_full codec ≡ false → IsSound (taken codec word)
+IsSound-taken codec word sound unfilled =
+    let more = answers-push codec.waiting (Answer (answer_to codec word)) in
+    let same = unsolicited-push codec.waiting (Answer (answer_to codec word)) in
+    let room : answers codec.waiting ≡ 64 → ⊥ = λ e. true≢false (sym (eq-eqb (answers codec.waiting) 64 e) ∙ unfilled) in
     record {
       well_formed = sound.well_formed;
-      settings = settings-reading device word sound.settings;
+      settings = settings-reading codec word sound.settings;
       present = sound.present;
       answers_fit = omega (arith, sound.answers_fit);
       unsolicited_fit = omega (arith, sound.unsolicited_fit);
     }
 
-pin_sound : (device : Device) (nid : ℕ) (present : Bool) (node : RawNode) → IsSound device → IsSound (pin_plugged device nid present node)
-pin_sound device nid present node sound = record {
+pin_sound : (codec : CodecState) (nid : ℕ) (present : Bool) (node : RawNode) → IsSound codec → IsSound (pin_plugged codec nid present node)
+pin_sound codec nid present node sound = record {
   well_formed = sound.well_formed;
   settings = sound.settings;
-  present = length-set device.present nid present ∙ sound.present;
-  answers_fit = fewer (is_told device nid present node);
-  unsolicited_fit = few (is_told device nid present node) refl;
+  present = length-set codec.present nid present ∙ sound.present;
+  answers_fit = fewer (is_told codec nid present node);
+  unsolicited_fit = few (is_told codec nid present node) refl;
 }
   where
-    fewer : (b : Bool) → answers (cond b (device.waiting ++ response_of (setting_of device.settings nid Unsol) ∷ []) device.waiting) ≤ 64
-    fewer true = let more = answers-push device.waiting (response_of (setting_of device.settings nid Unsol)) in omega (arith, sound.answers_fit)
+    fewer : (b : Bool) → answers (cond b (codec.waiting ++ response_of (setting_of codec.settings nid Unsol) ∷ []) codec.waiting) ≤ 64
+    fewer true = let more = answers-push codec.waiting (response_of (setting_of codec.settings nid Unsol)) in omega (arith, sound.answers_fit)
     fewer false = sound.answers_fit
 
     last : (a b : Bool) → (a && b) ≡ true → b ≡ true
     last a b e = (and_parts a b e).1
 
-    few : (b : Bool) → is_told device nid present node ≡ b → unsolicited (cond b (device.waiting ++ response_of (setting_of device.settings nid Unsol) ∷ []) device.waiting) ≤ 64
+    few : (b : Bool) → is_told codec nid present node ≡ b → unsolicited (cond b (codec.waiting ++ response_of (setting_of codec.settings nid Unsol) ∷ []) codec.waiting) ≤ 64
     few true e =
-        let more = unsolicited-push device.waiting (response_of (setting_of device.settings nid Unsol)) in
-        omega (arith, ltb-true (unsolicited device.waiting) 64 (last _ (nat_lt (unsolicited device.waiting) 64) e))
+        let more = unsolicited-push codec.waiting (response_of (setting_of codec.settings nid Unsol)) in
+        omega (arith, ltb-true (unsolicited codec.waiting) 64 (last _ (nat_lt (unsolicited codec.waiting) 64) e))
     few false e = sound.unsolicited_fit
 
-pub IsSound-plugged : (device : Device) (nid : ℕ) (present : Bool) → IsSound device → IsSound (plugged device nid present)
-IsSound-plugged device nid present sound = by (node_at device.graph nid)
+pub IsSound-plugged : (codec : CodecState) (nid : ℕ) (present : Bool) → IsSound codec → IsSound (plugged codec nid present)
+IsSound-plugged codec nid present sound = by (node_at codec.graph nid)
   where
-    if_pin : (node : RawNode) (b : Bool) → IsSound (cond b (pin_plugged device nid present node) device)
-    if_pin node true = pin_sound device nid present node sound
+    if_pin : (node : RawNode) (b : Bool) → IsSound (cond b (pin_plugged codec nid present node) codec)
+    if_pin node true = pin_sound codec nid present node sound
     if_pin node false = sound
 
-    by : (o : Option RawNode) → IsSound (node_plugged device nid present o)
+    by : (o : Option RawNode) → IsSound (node_plugged codec nid present o)
     by None = sound
     by (Some node) = if_pin node (is_pin node)
 
-pub IsSound-without_first : (device : Device) → IsSound device → IsSound (without_first device)
-IsSound-without_first device sound = record {
+pub IsSound-without_first : (codec : CodecState) → IsSound codec → IsSound (without_first codec)
+IsSound-without_first codec sound = record {
   well_formed = sound.well_formed;
   settings = sound.settings;
   present = sound.present;
-  answers_fit = omega (arith, answers-drop device.waiting, sound.answers_fit);
-  unsolicited_fit = omega (arith, unsolicited-drop device.waiting, sound.unsolicited_fit);
+  answers_fit = omega (arith, answers-drop codec.waiting, sound.answers_fit);
+  unsolicited_fit = omega (arith, unsolicited-drop codec.waiting, sound.unsolicited_fit);
 }
 
-pub IsSound-without_answer : (device : Device) → IsSound device → IsSound (without_answer device)
-IsSound-without_answer device sound = record {
+pub IsSound-without_answer : (codec : CodecState) → IsSound codec → IsSound (without_answer codec)
+IsSound-without_answer codec sound = record {
   well_formed = sound.well_formed;
   settings = sound.settings;
   present = sound.present;
-  answers_fit = omega (arith, answers-drop_answer device.waiting, sound.answers_fit);
-  unsolicited_fit = omega (arith, unsolicited-drop_answer device.waiting, sound.unsolicited_fit);
+  answers_fit = omega (arith, answers-drop_answer codec.waiting, sound.answers_fit);
+  unsolicited_fit = omega (arith, unsolicited-drop_answer codec.waiting, sound.unsolicited_fit);
 }
 
-pub IsSound-cleared : (device : Device) → IsSound device → IsSound (cleared device)
-IsSound-cleared device sound = record {
+pub IsSound-cleared : (codec : CodecState) → IsSound codec → IsSound (cleared codec)
+IsSound-cleared codec sound = record {
   well_formed = sound.well_formed;
   settings = sound.settings;
   present = sound.present;

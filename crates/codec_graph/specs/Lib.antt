@@ -6,4 +6,4 @@ pub mod Candidates
 pub mod Marks
 pub mod Settings
 pub mod VerbMeaning
-pub mod Devices
+pub mod CodecStates

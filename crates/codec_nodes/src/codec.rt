@@ -4,7 +4,7 @@ ghost use Rattle.std.specs.List.{list_any};
 ghost use Rattle.std.specs.Option.{option_map};
 ghost use Rattle.codec_graph.specs.Cycles.{IsWellFormed};
 ghost use Rattle.codec_graph.specs.Settings.{IsSettingsOf, detects_presence, sends_unsolicited};
-ghost use Rattle.codec_graph.specs.Devices as devices;
+ghost use Rattle.codec_graph.specs.CodecStates as codecs;
 ghost use Rattle.codec_nodes.specs.Queues as queues;
 
 use crate::queue::Queue;
@@ -26,9 +26,9 @@ pub struct Codec {
 }
 
 impl Model for Codec {
-    ghost use Rattle.codec_graph.specs.Devices.{Device, IsSound};
+    ghost use Rattle.codec_graph.specs.CodecStates.{CodecState, IsSound};
 
-    ghost Value = { Device };
+    ghost Value = { CodecState };
 
     ghost view = { λ codec. record { graph = codec.graph; settings = codec.settings; present = codec.present; waiting = codec.waiting } };
 
@@ -36,7 +36,7 @@ impl Model for Codec {
 }
 
 impl Codec {
-    ghost use Rattle.codec_graph.specs.Devices.{Device};
+    ghost use Rattle.codec_graph.specs.CodecStates.{CodecState};
 
     /// A codec at which nothing waits. All the room that it needs is made. The settings are the graph's.
     ///
@@ -50,7 +50,7 @@ impl Codec {
     ) -> Result<Codec, AllocError>
         requires { IsSettingsOf graph settings }
         ensures value { IfOk result (λ codec. codec ≡ record { graph = graph; settings = settings; present = present; waiting = [] }) }
-        ensures sound { IfOk result devices.IsSound }
+        ensures sound { IfOk result codecs.IsSound }
     {
         let waiting = Queue::new(alloc)?;
         // The graph is well-formed, and the presence has a place for each node identifier.
@@ -66,7 +66,7 @@ impl Codec {
 
     /// Whether 64 answers to commands wait.
     pub fn full(&self) -> bool
-        ensures { result ≡ devices.is_full self.now }
+        ensures { result ≡ codecs.is_full self.now }
     {
         self.waiting.is_full()
     }
@@ -74,9 +74,9 @@ impl Codec {
     /// Takes a word, whichever codec it names: its verb acts, and its answer waits last and is given. A word without a reading
     /// is answered with 0 and changes nothing. The codec is not full.
     pub fn take(&mut self, word: u32) -> u32
-        requires { devices.is_full self.old ≡ false }
-        ensures answer { result ≡ devices.answer_to self.old word }
-        ensures after { self.new ≡ devices.taken self.old word }
+        requires { codecs.is_full self.old ≡ false }
+        ensures answer { result ≡ codecs.answer_to self.old word }
+        ensures after { self.new ≡ codecs.taken self.old word }
     {
         let mut result = 0;
         if let Some(command) = decode(word) {
@@ -91,7 +91,7 @@ impl Codec {
     /// presence, its presence changed, it can send unsolicited responses and they are enabled, a response with their tag in bits
     /// 31:26 waits last, unless 64 of them wait.
     pub fn plug(&mut self, nid: u8, present: bool)
-        ensures { self.new ≡ devices.plugged self.old nid present }
+        ensures { self.new ≡ codecs.plugged self.old nid present }
     {
         let Some(node) = self.graph.raw().node(nid) else {
             return;
@@ -109,7 +109,7 @@ impl Codec {
     /// Takes the first item out that waits; the truth value marks an unsolicited response. `None` exactly where nothing waits.
     pub fn next_answer(&mut self) -> Option<(u32, bool)>
         ensures value { result ≡ option_map queues.marked (slice_get self.old.waiting 0) }
-        ensures after { self.new ≡ devices.without_first self.old }
+        ensures after { self.new ≡ codecs.without_first self.old }
     {
         match self.waiting.pop() {
             Some(Waiting::Answer(word)) => Some((word, false)),
@@ -120,15 +120,15 @@ impl Codec {
 
     /// Drops the first answer to a command that waits. False exactly where there is none.
     pub fn lose(&mut self) -> bool
-        ensures value { result ≡ list_any devices.is_answer self.old.waiting }
-        ensures after { self.new ≡ devices.without_answer self.old }
+        ensures value { result ≡ list_any codecs.is_answer self.old.waiting }
+        ensures after { self.new ≡ codecs.without_answer self.old }
     {
         self.waiting.drop_answer()
     }
 
     /// Drops all that waits.
     pub fn clear(&mut self)
-        ensures { self.new ≡ devices.cleared self.old }
+        ensures { self.new ≡ codecs.cleared self.old }
     {
         self.waiting.clear();
     }
@@ -136,7 +136,7 @@ impl Codec {
     /// The graph.
     pub fn graph(&self) -> &Graph
         ensures value { result.now ≡ self.now.graph }
-        ensures sound { devices.IsSound self.now }
+        ensures sound { codecs.IsSound self.now }
     {
         &self.graph
     }
@@ -144,7 +144,7 @@ impl Codec {
     /// What the controls are set to.
     pub fn settings(&self) -> &Settings
         ensures value { result.now ≡ self.now.settings }
-        ensures sound { devices.IsSound self.now }
+        ensures sound { codecs.IsSound self.now }
     {
         &self.settings
     }
@@ -152,7 +152,7 @@ impl Codec {
     /// What is plugged in.
     pub fn present(&self) -> &Presence
         ensures value { result.now ≡ self.now.present }
-        ensures sound { devices.IsSound self.now }
+        ensures sound { codecs.IsSound self.now }
     {
         &self.present
     }
@@ -161,7 +161,7 @@ impl Codec {
 /// Whether a pin with this control of unsolicited responses tells that its presence became another.
 fn is_told(node: &RawNode, was: bool, present: bool, control: u32) -> bool
     ensures { result
-        ≡ (detects_presence node.now && devices.changes was present && sends_unsolicited node.now && devices.is_enabled control) }
+        ≡ (detects_presence node.now && codecs.changes was present && sends_unsolicited node.now && codecs.is_enabled control) }
 {
     node.detects_presence()
         && was != present

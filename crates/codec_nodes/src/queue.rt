@@ -1,7 +1,7 @@
 //! What waits at a codec, in the order in which it came.
 ghost use Rattle.std.specs.Prelude.{◌≡◌, ◌≤◌, ◌==◌, ◌&&◌, not, [], ◌∷◌, ◌++◌, false, true, IfOk, length, drop, nat_lt, slice_get};
 ghost use Rattle.std.specs.List.{list_any};
-ghost use Rattle.codec_graph.specs.Devices as devices;
+ghost use Rattle.codec_graph.specs.CodecStates as codecs;
 ghost use Rattle.codec_graph.specs.declared.waiting.Waiting.TheVariants as item;
 ghost use Rattle.circular_buffer.specs.Buffer.{buffer};
 
@@ -52,21 +52,21 @@ impl Queue {
 
     /// Whether 64 answers to commands wait.
     pub(crate) fn is_full(&self) -> bool
-        ensures { result ≡ (devices.answers self.now == 64) }
+        ensures { result ≡ (codecs.answers self.now == 64) }
     {
         self.answers == MOST
     }
 
     /// Whether another unsolicited response can wait.
     pub(crate) fn has_room(&self) -> bool
-        ensures { result ≡ nat_lt (devices.unsolicited self.now) 64 }
+        ensures { result ≡ nat_lt (codecs.unsolicited self.now) 64 }
     {
         self.unsolicited < MOST
     }
 
     /// Puts the answer to a command last.
     pub(crate) fn push_answer(&mut self, word: u32)
-        requires { (devices.answers self.old == 64) ≡ false }
+        requires { (codecs.answers self.old == 64) ≡ false }
         ensures { self.new ≡ self.old ++ item.Answer word ∷ [] }
     {
         self.items.push_back(Waiting::Answer(word));
@@ -75,7 +75,7 @@ impl Queue {
 
     /// Puts an unsolicited response last.
     pub(crate) fn push_unsolicited(&mut self, word: u32)
-        requires { nat_lt (devices.unsolicited self.old) 64 ≡ true }
+        requires { nat_lt (codecs.unsolicited self.old) 64 ≡ true }
         ensures { self.new ≡ self.old ++ item.Unsolicited word ∷ [] }
     {
         self.items.push_back(Waiting::Unsolicited(word));
@@ -98,8 +98,8 @@ impl Queue {
 
     /// Takes the first answer to a command out, wherever it stands. False exactly where there is none.
     pub(crate) fn drop_answer(&mut self) -> bool
-        ensures value { result ≡ list_any devices.is_answer self.old }
-        ensures after { self.new ≡ devices.drop_answer self.old }
+        ensures value { result ≡ list_any codecs.is_answer self.old }
+        ensures after { self.new ≡ codecs.drop_answer self.old }
     {
         if self.answers == 0 {
             return false;
@@ -121,7 +121,7 @@ impl Queue {
 
 /// Takes each item out and puts it last again, but for the first answer to a command.
 fn drop_first_answer(items: &mut HeapCircularBuffer<Waiting>)
-    ensures { items.new ≡ buffer (devices.drop_answer items.old.items) items.old.capacity }
+    ensures { items.new ≡ buffer (codecs.drop_answer items.old.items) items.old.capacity }
 {
     let mut dropped = false;
     for _turn in 0..items.len() {
@@ -137,7 +137,7 @@ fn drop_first_answer(items: &mut HeapCircularBuffer<Waiting>)
 
 /// Whether the item is an answer to a command and none was dropped before.
 fn is_first_answer(item: Waiting, dropped: bool) -> bool
-    ensures { result ≡ (not dropped && devices.is_answer item) }
+    ensures { result ≡ (not dropped && codecs.is_answer item) }
 {
     !dropped && matches!(item, Waiting::Answer(_))
 }

@@ -2,7 +2,7 @@
 use Rattle.std.proofs.Common.{◌≡◌, ◌≢◌, ◌<◌, ℕ, ◌+◌, ◌*◌, ◌^◌, bit_or, Bool, true, false, cond, List, [], ◌∷◌, ◌++◌, length, map, fold, append-nil, refl, sym, ap, ◌∙◌, append_assoc, Option, Some, None, if◌then◌else◌, ◌==◌, inl, inr, arith, rules, tests, lit<, length-append}
 use Rattle.std.proofs.Math.Nat.{mod-lt}
 use Rattle.byteorder.specs.Numbers.{length-bytes_low_first}
-use Rattle.codec_graph.specs.Devices.{Device, plugged, pin_plugged, node_plugged, cleared}
+use Rattle.codec_graph.specs.CodecStates.{CodecState, plugged, pin_plugged, node_plugged, cleared}
 use Rattle.hda_registers.specs.declared.shapes.RingSize.{RingSize}
 use Rattle.hda_registers.specs.declared.shapes.RingSize.TheVariants.{Two, Sixteen, Full}
 use Rattle.hda_registers.specs.declared.shapes.Raise.TheVariants as event
@@ -18,7 +18,7 @@ use Rattle.hda_registers.specs.Memory.{IsOutside}
 use Rattle.hda_registers.proofs.Storing.{stored_outside}
 use Rattle.hda_registers.specs.Rings.{response_bytes, response_stored, response_place}
 use Rattle.hda_platform.specs.declared.step.Step.{Step}
-use Rattle.hda_platform.specs.Worlds.{World, device_at, with_device}
+use Rattle.hda_platform.specs.Worlds.{World, codec_at, with_codec}
 use Rattle.hda_platform.specs.Steps.{after_steps}
 use Rattle.hda_registers.specs.declared.shapes.Width.{Width}
 use Rattle.hda_registers.specs.Access.{written, effects_of}
@@ -79,31 +79,31 @@ stay_flag old new stay = record { shape = stay.shape; input = stay.input; output
 stay_codec : (old new : Fields) (codec : ℕ) → RegistersStay old new → RegistersStay old (raised new (event.Codec codec))
 stay_codec old new codec stay = record { shape = stay.shape; input = stay.input; output = stay.output; global = ap (λ (g : Global). record g { state_status = bit_or new.global.state_status (2 ^ codec) }) stay.global }
 
-stay_codecs : (devices : List Device) (old new : Fields) → RegistersStay old new → RegistersStay old (fold (λ fields device. raised fields (event.Codec device.graph.address)) new devices)
+stay_codecs : (codecs : List CodecState) (old new : Fields) → RegistersStay old new → RegistersStay old (fold (λ fields codec. raised fields (event.Codec codec.graph.address)) new codecs)
 stay_codecs [] old new stay = stay
-stay_codecs (device ∷ devices) old new stay = stay_codecs devices old (raised new (event.Codec device.graph.address)) (stay_codec old new device.graph.address stay)
+stay_codecs (codec ∷ codecs) old new stay = stay_codecs codecs old (raised new (event.Codec codec.graph.address)) (stay_codec old new codec.graph.address stay)
 
 stay_clock : (old new : Fields) → RegistersStay old new → RegistersStay old (framed new)
 stay_clock old new stay = record { shape = stay.shape; input = stay.input; output = stay.output; global = ap (λ (g : Global). record g { wall_clock = (framed new).global.wall_clock }) stay.global }
 
 -- ---- what the moves do to the codecs and the histories
 
-graphs-with_device : (address : ℕ) (change : Device → Device) → ((device : Device) → (change device).graph ≡ device.graph) → (devices : List Device) → map (λ device. device.graph) (with_device address change devices) ≡ map (λ device. device.graph) devices
-graphs-with_device address change keeps [] = refl
-graphs-with_device address change keeps (device ∷ devices) =
-    let first : (named : Bool) → (if named then change device else device).graph ≡ device.graph = λ named. elim named as (λ b. (if b then change device else device).graph ≡ device.graph) [ true ↦ keeps device | false ↦ refl ] in
-    ap (λ (graph : RawCodec). graph ∷ map (λ device. device.graph) (with_device address change devices)) (first _) ∙ ap (λ (graphs : List RawCodec). device.graph ∷ graphs) (graphs-with_device address change keeps devices)
+graphs-with_codec : (address : ℕ) (change : CodecState → CodecState) → ((codec : CodecState) → (change codec).graph ≡ codec.graph) → (codecs : List CodecState) → map (λ codec. codec.graph) (with_codec address change codecs) ≡ map (λ codec. codec.graph) codecs
+graphs-with_codec address change keeps [] = refl
+graphs-with_codec address change keeps (codec ∷ codecs) =
+    let first : (named : Bool) → (if named then change codec else codec).graph ≡ codec.graph = λ named. elim named as (λ b. (if b then change codec else codec).graph ≡ codec.graph) [ true ↦ keeps codec | false ↦ refl ] in
+    ap (λ (graph : RawCodec). graph ∷ map (λ codec. codec.graph) (with_codec address change codecs)) (first _) ∙ ap (λ (graphs : List RawCodec). codec.graph ∷ graphs) (graphs-with_codec address change keeps codecs)
 
-pin_graph : (device : Device) (nid : ℕ) (present : Bool) (node : RawNode) (pin : Bool) → (if pin then pin_plugged device nid present node else device).graph ≡ device.graph
-pin_graph device nid present node true = refl
-pin_graph device nid present node false = refl
+pin_graph : (codec : CodecState) (nid : ℕ) (present : Bool) (node : RawNode) (pin : Bool) → (if pin then pin_plugged codec nid present node else codec).graph ≡ codec.graph
+pin_graph codec nid present node true = refl
+pin_graph codec nid present node false = refl
 
-node_graph : (device : Device) (nid : ℕ) (present : Bool) (node : Option RawNode) → (node_plugged device nid present node).graph ≡ device.graph
-node_graph device nid present None = refl
-node_graph device nid present (Some node) = pin_graph device nid present node (is_pin node)
+node_graph : (codec : CodecState) (nid : ℕ) (present : Bool) (node : Option RawNode) → (node_plugged codec nid present node).graph ≡ codec.graph
+node_graph codec nid present None = refl
+node_graph codec nid present (Some node) = pin_graph codec nid present node (is_pin node)
 
-pub graph-plugged : (nid : ℕ) (present : Bool) (device : Device) → (plugged device nid present).graph ≡ device.graph
-graph-plugged nid present device = node_graph device nid present (node_at device.graph nid)
+pub graph-plugged : (nid : ℕ) (present : Bool) (codec : CodecState) → (plugged codec nid present).graph ≡ codec.graph
+graph-plugged nid present codec = node_graph codec nid present (node_at codec.graph nid)
 
 went_on : {A : Type 0} (old new more : List A) → WentOn old new → WentOn old (new ++ more)
 went_on old new more before = (before.0 ++ more, ap (λ xs. xs ++ more) before.1 ∙ append_assoc old before.0 more)
@@ -115,7 +115,7 @@ leaves start = record {
   hands = λ world stay can free. record {
     memory = stay.memory;
     registers = stay_corb start.registers world.registers _ stay.registers;
-    graphs = graphs-with_device _ _ (λ device. refl) world.devices ∙ stay.graphs;
+    graphs = graphs-with_codec _ _ (λ codec. refl) world.codecs ∙ stay.graphs;
     taken = went_on start.taken world.taken _ stay.taken;
     written = stay.written;
   };
@@ -124,14 +124,14 @@ leaves start = record {
     registers = stay.registers;
     taken = stay.taken;
     written = stay.written;
-    graphs = graphs-with_device _ _ (λ device. refl) world.devices ∙ stay.graphs;
+    graphs = graphs-with_codec _ _ (λ codec. refl) world.codecs ∙ stay.graphs;
   };
   loses = λ world address stay out. record {
     memory = stay.memory;
     registers = stay.registers;
     taken = stay.taken;
     written = stay.written;
-    graphs = graphs-with_device _ _ (λ device. refl) world.devices ∙ stay.graphs;
+    graphs = graphs-with_codec _ _ (λ codec. refl) world.codecs ∙ stay.graphs;
   };
   responds = λ world response rest stay can are. record {
     memory = memory_both start.registers world.registers start.memory world.memory _ stay.registers stay.memory (response_stays world.registers world.memory response);
@@ -159,14 +159,14 @@ leaves start = record {
     graphs = stay.graphs;
     taken = stay.taken;
     written = stay.written;
-    registers = stay_codecs world.devices start.registers world.registers stay.registers;
+    registers = stay_codecs world.codecs start.registers world.registers stay.registers;
   };
   plugs = λ world address nid present stay. record {
     memory = stay.memory;
     registers = stay.registers;
     taken = stay.taken;
     written = stay.written;
-    graphs = graphs-with_device address (λ device. plugged device nid present) (graph-plugged nid present) world.devices ∙ stay.graphs;
+    graphs = graphs-with_codec address (λ codec. plugged codec nid present) (graph-plugged nid present) world.codecs ∙ stay.graphs;
   };
 }
 
@@ -185,18 +185,18 @@ steps_leave steps world = kept_steps (StepsLeave world) (leaves world) steps wor
 -- ---- accesses
 
 -- what a reset does to each codec leaves each part that it leaves at one
-map-cleared : {A : Type 0} (part : Device → A) → ((device : Device) → part (cleared device) ≡ part device) → (devices : List Device) → map part (map cleared devices) ≡ map part devices
+map-cleared : {A : Type 0} (part : CodecState → A) → ((codec : CodecState) → part (cleared codec) ≡ part codec) → (codecs : List CodecState) → map part (map cleared codecs) ≡ map part codecs
 map-cleared part same [] = refl
-map-cleared part same (device ∷ devices) = ap (λ x. x ∷ map part (map cleared devices)) (same device) ∙ ap (λ xs. part device ∷ xs) (map-cleared part same devices)
+map-cleared part same (codec ∷ codecs) = ap (λ x. x ∷ map part (map cleared codecs)) (same codec) ∙ ap (λ xs. part codec ∷ xs) (map-cleared part same codecs)
 
 reset_leaves : (reset : Bool) (world : World) → AccessLeaves world (reset_if reset world) × ((reset_if reset world).memory ≡ world.memory)
 reset_leaves true world = (
   record {
     taken = refl;
     written = refl;
-    graphs = map-cleared (λ device. device.graph) (λ device. refl) world.devices;
-    settings = map-cleared (λ device. device.settings) (λ device. refl) world.devices;
-    present = map-cleared (λ device. device.present) (λ device. refl) world.devices;
+    graphs = map-cleared (λ codec. codec.graph) (λ codec. refl) world.codecs;
+    settings = map-cleared (λ codec. codec.settings) (λ codec. refl) world.codecs;
+    present = map-cleared (λ codec. codec.present) (λ codec. refl) world.codecs;
   },
   refl,
 )
@@ -212,22 +212,22 @@ write_memory world at value width = (reset_leaves (effects_of world.registers at
 
 -- ---- codecs
 
-find_step : (other : ℕ) (named : Bool) (device changed : Device) (first second : Option Device)
-    → (named ≡ true → (device.graph.address == other) ≡ false) → changed.graph ≡ device.graph → first ≡ second
-    → cond ((if named then changed else device).graph.address == other) (Some (if named then changed else device)) first
-    ≡ cond (device.graph.address == other) (Some device) second
-find_step other true device changed first second apart same rest =
-    let here : (device.graph.address == other) ≡ false = apart refl in
+find_step : (other : ℕ) (named : Bool) (codec changed : CodecState) (first second : Option CodecState)
+    → (named ≡ true → (codec.graph.address == other) ≡ false) → changed.graph ≡ codec.graph → first ≡ second
+    → cond ((if named then changed else codec).graph.address == other) (Some (if named then changed else codec)) first
+    ≡ cond (codec.graph.address == other) (Some codec) second
+find_step other true codec changed first second apart same rest =
+    let here : (codec.graph.address == other) ≡ false = apart refl in
     let there : (changed.graph.address == other) ≡ false = ap (λ (graph : RawCodec). graph.address == other) same ∙ here in
     rw (here, there) rest
-find_step other false device changed first second apart same rest = ap (cond (device.graph.address == other) (Some device)) rest
+find_step other false codec changed first second apart same rest = ap (cond (codec.graph.address == other) (Some codec)) rest
 
 -- a codec at one address is not at another
 not_other : (here address other : ℕ) → other ≢ address → (here == address) ≡ true → (here == other) ≡ false
 not_other here address other apart is = search (rules, tests)
 
-pub found_apart : (address other : ℕ) (change : Device → Device) → ((device : Device) → (change device).graph ≡ device.graph) → other ≢ address
-    → (devices : List Device) → device_at other (with_device address change devices) ≡ device_at other devices
+pub found_apart : (address other : ℕ) (change : CodecState → CodecState) → ((codec : CodecState) → (change codec).graph ≡ codec.graph) → other ≢ address
+    → (codecs : List CodecState) → codec_at other (with_codec address change codecs) ≡ codec_at other codecs
 found_apart address other change keeps apart [] = refl
-found_apart address other change keeps apart (device ∷ devices) =
-    find_step other (device.graph.address == address) device (change device) _ _ (not_other device.graph.address address other apart) (keeps device) (found_apart address other change keeps apart devices)
+found_apart address other change keeps apart (codec ∷ codecs) =
+    find_step other (codec.graph.address == address) codec (change codec) _ _ (not_other codec.graph.address address other apart) (keeps codec) (found_apart address other change keeps apart codecs)

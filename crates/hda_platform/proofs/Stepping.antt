@@ -6,7 +6,7 @@ use Rattle.hda_registers.specs.Fields.{is_out_of_reset}
 use Rattle.hda_registers.specs.Rings.{can_fetch, next_command, can_respond, batch_of}
 use Rattle.hda_platform.specs.declared.step.Step.{Step}
 use Rattle.hda_platform.specs.declared.step.Step.TheVariants as step
-use Rattle.hda_platform.specs.Worlds.{World, device_at}
+use Rattle.hda_platform.specs.Worlds.{World, codec_at}
 use Rattle.hda_platform.specs.Steps.{address_of, is_busy, items_of, most_waiting, sent_first, responded, responded_all, rirb_moved, flagged, frames_to_discovery, ticked, discovered_at, frame_step, times, corb_step, answer_step, lose_step, after_step, after_steps}
 use Rattle.hda_platform.specs.Kept.{Kept}
 
@@ -29,9 +29,9 @@ module _ (Holds : World → Type 0) (kept : Kept Holds) where
   kept_corb : (world : World) → Holds world → Holds (corb_step world)
   kept_corb world holds =
       branch (can_fetch world.registers) _ world (λ can.
-      branch_not (is_busy (device_at (address_of (next_command world.registers world.memory)) world.devices)) _ world (λ free. kept.hands world holds can free) holds) holds
+      branch_not (is_busy (codec_at (address_of (next_command world.registers world.memory)) world.codecs)) _ world (λ free. kept.hands world holds can free) holds) holds
 
-  kept_sent : (items : List Waiting) (address : ℕ) (world : World) → items_of (device_at address world.devices) ≡ items → is_out_of_reset world.registers.global ≡ true → length world.waiting < most_waiting → Holds world → Holds (sent_first address items world)
+  kept_sent : (items : List Waiting) (address : ℕ) (world : World) → items_of (codec_at address world.codecs) ≡ items → is_out_of_reset world.registers.global ≡ true → length world.waiting < most_waiting → Holds world → Holds (sent_first address items world)
   kept_sent [] address world are out room holds = holds
   kept_sent (item ∷ rest) address world are out room holds = kept.sends world address item rest holds out room are
 

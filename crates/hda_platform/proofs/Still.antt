@@ -12,7 +12,7 @@ use Rattle.hda_platform.specs.declared.journal.Entry.{Entry}
 use Rattle.hda_platform.specs.declared.journal.Entry.TheVariants as entry
 use Rattle.hda_registers.specs.Moves.{framed, raised}
 use Rattle.hda_registers.specs.declared.shapes.Raise.TheVariants as event
-use Rattle.codec_graph.specs.Devices.{Device}
+use Rattle.codec_graph.specs.CodecStates.{CodecState}
 use Rattle.hda_platform.specs.Steps.{discovered, discovered_at, ticked, frame_step}
 use Rattle.hda_platform.specs.Worlds.{World}
 use Rattle.hda_platform.specs.Events.{Event, DmaRead, DmaWrite, happens, after, reset_if, IsHonest, IsPiece}
@@ -138,10 +138,10 @@ whole_write new old written n is long size = sym (rw (size, ← long) (take-appe
 
 -- ---- a link frame
 
-discovered_nothing : (world : World) → world.devices ≡ [] → (discovered world).registers ≡ world.registers
-discovered_nothing world none = ap (λ (devices : List Device). fold (λ fields device. raised fields (event.Codec device.graph.address)) world.registers devices) none
+discovered_nothing : (world : World) → world.codecs ≡ [] → (discovered world).registers ≡ world.registers
+discovered_nothing world none = ap (λ (codecs : List CodecState). fold (λ fields codec. raised fields (event.Codec codec.graph.address)) world.registers codecs) none
 
-discovery_registers : (now : Bool) (world : World) → world.devices ≡ [] → (if now then discovered world else world).registers ≡ world.registers
+discovery_registers : (now : Bool) (world : World) → world.codecs ≡ [] → (if now then discovered world else world).registers ≡ world.registers
 discovery_registers true world none = discovered_nothing world none
 discovery_registers false world none = refl
 
@@ -149,17 +149,17 @@ discovery_memory : (now : Bool) (world : World) → (if now then discovered worl
 discovery_memory true world = refl
 discovery_memory false world = refl
 
-discovery_devices : (now : Bool) (world : World) → (if now then discovered world else world).devices ≡ world.devices
-discovery_devices true world = refl
-discovery_devices false world = refl
+discovery_codecs : (now : Bool) (world : World) → (if now then discovered world else world).codecs ≡ world.codecs
+discovery_codecs true world = refl
+discovery_codecs false world = refl
 
-frame_registers_by : (out : Bool) (world : World) → is_out_of_reset world.registers.global ≡ out → world.devices ≡ []
+frame_registers_by : (out : Bool) (world : World) → is_out_of_reset world.registers.global ≡ out → world.codecs ≡ []
     → (if out then discovered_at (world.frames + 1) (ticked world) else world).registers ≡ framed world.registers
 frame_registers_by true world is none = discovery_registers _ (ticked world) none
 frame_registers_by false world is none =
     sym (ap (λ (out : Bool). record world.registers { global = record world.registers.global { wall_clock = if out then (world.registers.global.wall_clock + 500) % 2 ^ 32 else world.registers.global.wall_clock } }) is)
 
-pub frame_registers : (world : World) → world.devices ≡ [] → (frame_step world).registers ≡ framed world.registers
+pub frame_registers : (world : World) → world.codecs ≡ [] → (frame_step world).registers ≡ framed world.registers
 frame_registers world none = frame_registers_by (is_out_of_reset world.registers.global) world refl none
 
 frame_memory_by : (out : Bool) (frames : ℕ) (world : World) → (if out then discovered_at frames (ticked world) else world).memory ≡ world.memory
@@ -169,16 +169,16 @@ frame_memory_by false frames world = refl
 pub frame_memory : (world : World) → (frame_step world).memory ≡ world.memory
 frame_memory world = frame_memory_by _ (world.frames + 1) world
 
-frame_devices_by : (out : Bool) (frames : ℕ) (world : World) → (if out then discovered_at frames (ticked world) else world).devices ≡ world.devices
-frame_devices_by true frames world = discovery_devices _ (ticked world)
-frame_devices_by false frames world = refl
+frame_codecs_by : (out : Bool) (frames : ℕ) (world : World) → (if out then discovered_at frames (ticked world) else world).codecs ≡ world.codecs
+frame_codecs_by true frames world = discovery_codecs _ (ticked world)
+frame_codecs_by false frames world = refl
 
-pub frame_devices : (world : World) → (frame_step world).devices ≡ world.devices
-frame_devices world = frame_devices_by _ (world.frames + 1) world
+pub frame_codecs : (world : World) → (frame_step world).codecs ≡ world.codecs
+frame_codecs world = frame_codecs_by _ (world.frames + 1) world
 
-pub reset_devices : (reset : Bool) (world : World) → length (reset_if reset world).devices ≡ length world.devices
-reset_devices true world = simp length-map
-reset_devices false world = refl
+pub reset_codecs : (reset : Bool) (world : World) → length (reset_if reset world).codecs ≡ length world.codecs
+reset_codecs true world = simp length-map
+reset_codecs false world = refl
 
 -- an entry without a piece is one event more
 pub noted_event : (shape : Shape) (size : ℕ) (entries noted : List Entry) (entry : Entry) (bytes : List ℕ) → noted ≡ entries ++ entry ∷ []

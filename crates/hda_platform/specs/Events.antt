@@ -1,7 +1,7 @@
 -- What happens to the world, event by event: steps of the device, and accesses of the driver between the marks of its runs.
 -- This project's own.
 use Rattle.std.specs.Prelude.{◌≡◌, ◌≤◌, ℕ, ◌+◌, Bool, true, false, List, [], ◌∷◌, length, slice_range, map}
-use Rattle.codec_graph.specs.Devices.{cleared}
+use Rattle.codec_graph.specs.CodecStates.{cleared}
 use Rattle.hda_registers.specs.declared.shapes.Width.{Width}
 use Rattle.hda_registers.specs.Access.{value_at, written, effects_of}
 use Rattle.hda_registers.specs.Memory.{stored}
@@ -21,7 +21,7 @@ pub data Event : Type 0 where
 
 -- a write that resets the controller drops all that waits at the codecs and in the controller
 abbrev pub reset_if : Bool → World → World
-reset_if true world = record world { devices = map cleared world.devices; waiting = []; frames = 0 }
+reset_if true world = record world { codecs = map cleared world.codecs; waiting = []; frames = 0 }
 reset_if false world = world
 
 -- the world after a write of a register (3.3)

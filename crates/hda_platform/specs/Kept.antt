@@ -4,18 +4,18 @@ use Rattle.codec_graph.specs.declared.waiting.Waiting.{Waiting}
 use Rattle.hda_registers.specs.declared.rings.Response.{Response}
 use Rattle.hda_registers.specs.Fields.{is_out_of_reset}
 use Rattle.hda_registers.specs.Rings.{can_fetch, next_command, can_respond}
-use Rattle.hda_platform.specs.Worlds.{World, device_at}
+use Rattle.hda_platform.specs.Worlds.{World, codec_at}
 use Rattle.hda_platform.specs.Steps.{address_of, is_busy, handed, items_of, most_waiting, sent, lost, responded, flagged, frames_to_discovery, ticked, discovered, plugged_at}
 
 pub record Kept (Holds : World → Type 0) : Type 0 where
   -- CORB's engine fetches its next command, and the codec of its address takes it
   pub hands : (world : World) → Holds world → can_fetch world.registers ≡ true
       → (let word = next_command world.registers world.memory in
-      is_busy (device_at (address_of word) world.devices) ≡ false → Holds (handed word world))
+      is_busy (codec_at (address_of word) world.codecs) ≡ false → Holds (handed word world))
   -- a codec sends its first waiting item
   pub sends : (world : World) (address : ℕ) (item : Waiting) (rest : List Waiting) → Holds world
       → is_out_of_reset world.registers.global ≡ true → length world.waiting < most_waiting
-      → items_of (device_at address world.devices) ≡ item ∷ rest → Holds (sent address item world)
+      → items_of (codec_at address world.codecs) ≡ item ∷ rest → Holds (sent address item world)
   -- a codec loses its first waiting answer to a command
   pub loses : (world : World) (address : ℕ) → Holds world → is_out_of_reset world.registers.global ≡ true → Holds (lost address world)
   -- RIRB's engine writes a response

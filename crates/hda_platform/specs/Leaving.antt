@@ -36,7 +36,7 @@ abbrev pub WentOn : {A : Type 0} → List A → List A → Type 0
 WentOn {A} old new = (more : List A) × (new ≡ old ++ more)
 
 abbrev pub graphs_of : World → List RawCodec
-graphs_of world = map (λ device. device.graph) world.devices
+graphs_of world = map (λ codec. codec.graph) world.codecs
 
 -- what every step of the device leaves alone while no stream moves
 pub record StepsLeave (old new : World) : Type 0 where
@@ -52,8 +52,8 @@ pub record AccessLeaves (old new : World) : Type 0 where
   pub taken : new.taken ≡ old.taken
   pub written : new.written ≡ old.written
   pub graphs : graphs_of new ≡ graphs_of old
-  pub settings : map (λ device. device.settings) new.devices ≡ map (λ device. device.settings) old.devices
-  pub present : map (λ device. device.present) new.devices ≡ map (λ device. device.present) old.devices
+  pub settings : map (λ codec. codec.settings) new.codecs ≡ map (λ codec. codec.settings) old.codecs
+  pub present : map (λ codec. codec.present) new.codecs ≡ map (λ codec. codec.present) old.codecs
 
 -- the step does not name the codec of this address. The engine of CORB names the codec of its next command
 abbrev pub NamesOthers : Step → World → ℕ → Type 0

@@ -4,7 +4,7 @@
 use Rattle.std.specs.Prelude.{ℕ, zero, suc, Bool, true, false, ◌==◌, ◌&&◌, ◌+◌, ◌/◌, ◌^◌, nat_lt, List, [], ◌∷◌, ◌++◌, length, take, drop, fold, Option, None, Some, if◌then◌else◌}
 use Rattle.codec_graph.specs.declared.waiting.Waiting.{Waiting}
 use Rattle.codec_graph.specs.declared.waiting.Waiting.TheVariants.{Answer, Unsolicited}
-use Rattle.codec_graph.specs.Devices.{Device, taken, is_full, plugged, without_first, without_answer}
+use Rattle.codec_graph.specs.CodecStates.{CodecState, taken, is_full, plugged, without_first, without_answer}
 use Rattle.hda_registers.specs.Fields.{Fields, is_out_of_reset}
 use Rattle.hda_registers.specs.Moves.{framed, raised}
 use Rattle.hda_registers.specs.Rings.{can_fetch, next_command, fetched, can_respond, batch_of, after_response, response_stored}
@@ -12,7 +12,7 @@ use Rattle.hda_registers.specs.declared.shapes.Raise.TheVariants as event
 use Rattle.hda_registers.specs.declared.rings.Response.{Response}
 use Rattle.hda_platform.specs.declared.step.Step.{Step}
 use Rattle.hda_platform.specs.declared.step.Step.TheVariants as step
-use Rattle.hda_platform.specs.Worlds.{World, Taken, device_at, with_device}
+use Rattle.hda_platform.specs.Worlds.{World, Taken, codec_at, with_codec}
 
 -- ---- commands
 
@@ -21,26 +21,26 @@ abbrev pub address_of : ℕ → ℕ
 address_of word = word / 2 ^ 28
 
 -- what the history of taken commands gains by a word: nothing where no codec has its address
-abbrev pub taking : ℕ → Option Device → List Taken
+abbrev pub taking : ℕ → Option CodecState → List Taken
 taking word None = []
-taking word (Some device) = record { word = word; device = device } ∷ []
+taking word (Some codec) = record { word = word; codec = codec } ∷ []
 
 -- CORB's engine fetched this word, and the codec of its address took it
 abbrev pub handed : ℕ → World → World
 handed word world = record world {
   registers = fetched world.registers;
-  devices = with_device (address_of word) (λ device. taken device word) world.devices;
-  taken = world.taken ++ taking word (device_at (address_of word) world.devices);
+  codecs = with_codec (address_of word) (λ codec. taken codec word) world.codecs;
+  taken = world.taken ++ taking word (codec_at (address_of word) world.codecs);
 }
 
 -- whether a codec can take no command now
-abbrev pub is_busy : Option Device → Bool
+abbrev pub is_busy : Option CodecState → Bool
 is_busy None = false
-is_busy (Some device) = is_full device
+is_busy (Some codec) = is_full codec
 
 -- CORB's engine hands the next command to its codec, unless that codec is full
 abbrev pub handed_next : ℕ → World → World
-handed_next word world = if is_busy (device_at (address_of word) world.devices) then world else handed word world
+handed_next word world = if is_busy (codec_at (address_of word) world.codecs) then world else handed word world
 
 abbrev pub corb_step : World → World
 corb_step world =
@@ -57,7 +57,7 @@ responses_of fields address (Unsolicited value) =
 -- the codec sent its first waiting item to the controller
 abbrev pub sent : ℕ → Waiting → World → World
 sent address item world = record world {
-  devices = with_device address without_first world.devices;
+  codecs = with_codec address without_first world.codecs;
   waiting = world.waiting ++ responses_of world.registers address item;
 }
 
@@ -65,9 +65,9 @@ abbrev pub sent_first : ℕ → List Waiting → World → World
 sent_first address [] world = world
 sent_first address (item ∷ rest) world = sent address item world
 
-abbrev pub items_of : Option Device → List Waiting
+abbrev pub items_of : Option CodecState → List Waiting
 items_of None = []
-items_of (Some device) = device.waiting
+items_of (Some codec) = codec.waiting
 
 -- how many responses may wait in the controller
 abbrev pub most_waiting : ℕ
@@ -76,11 +76,11 @@ most_waiting = 256
 abbrev pub answer_step : ℕ → World → World
 answer_step address world =
     if is_out_of_reset world.registers.global && nat_lt (length world.waiting) most_waiting
-    then sent_first address (items_of (device_at address world.devices)) world else world
+    then sent_first address (items_of (codec_at address world.codecs)) world else world
 
 -- the codec lost its first waiting answer to a command
 abbrev pub lost : ℕ → World → World
-lost address world = record world { devices = with_device address without_answer world.devices }
+lost address world = record world { codecs = with_codec address without_answer world.codecs }
 
 abbrev pub lose_step : ℕ → World → World
 lose_step address world = if is_out_of_reset world.registers.global then lost address world else world
@@ -124,7 +124,7 @@ ticked world = record world { registers = framed world.registers; frames = world
 
 -- the state change status says that each codec is there
 abbrev pub discovered : World → World
-discovered world = record world { registers = fold (λ fields device. raised fields (event.Codec device.graph.address)) world.registers world.devices }
+discovered world = record world { registers = fold (λ fields codec. raised fields (event.Codec codec.graph.address)) world.registers world.codecs }
 
 abbrev pub discovered_at : ℕ → World → World
 discovered_at frames world = if frames == frames_to_discovery then discovered world else world
@@ -141,7 +141,7 @@ times (suc n) move world = times n move (move world)
 
 -- something was plugged into a pin of the codec, or unplugged
 abbrev pub plugged_at : ℕ → ℕ → Bool → World → World
-plugged_at address nid present world = record world { devices = with_device address (λ device. plugged device nid present) world.devices }
+plugged_at address nid present world = record world { codecs = with_codec address (λ codec. plugged codec nid present) world.codecs }
 
 -- ---- steps
 

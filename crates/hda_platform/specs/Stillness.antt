@@ -14,7 +14,7 @@ abbrev pub still_world : List ℕ → Fields → World
 still_world memory registers = record {
   memory = memory;
   registers = registers;
-  devices = [];
+  codecs = [];
   waiting = [];
   frames = 0;
   taken = [];

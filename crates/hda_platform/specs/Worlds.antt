@@ -2,7 +2,7 @@
 -- Audio 1.0a.
 use Rattle.std.specs.Prelude.{ℕ, ◌==◌, List, map, Option, if◌then◌else◌}
 use Rattle.std.specs.List.{find}
-use Rattle.codec_graph.specs.Devices.{Device}
+use Rattle.codec_graph.specs.CodecStates.{CodecState}
 use Rattle.hda_registers.specs.Fields.{Fields}
 use Rattle.hda_registers.specs.declared.rings.Response.{Response}
 
@@ -13,7 +13,7 @@ region_size = 4194304
 -- a command that a codec took: the word, and the codec as it was when it took it
 pub record Taken : Type 0 where
   pub word : ℕ
-  pub device : Device
+  pub codec : CodecState
 
 -- everything that an access or a device step may read or change. The last two are histories: device steps only append to them,
 -- and nothing ever shortens them.
@@ -22,7 +22,7 @@ pub record World : Type 0 where
   pub memory : List ℕ
   pub registers : Fields
   -- the codecs, ascending by address
-  pub devices : List Device
+  pub codecs : List CodecState
   -- the responses that wait in the controller, oldest first
   pub waiting : List Response
   -- the link frames since CRST rose, 0 while it is 0
@@ -33,9 +33,9 @@ pub record World : Type 0 where
   pub written : List Response
 
 -- the codec with this address, if there is one
-abbrev pub device_at : ℕ → List Device → Option Device
-device_at address devices = find (λ device. device.graph.address == address) devices
+abbrev pub codec_at : ℕ → List CodecState → Option CodecState
+codec_at address codecs = find (λ codec. codec.graph.address == address) codecs
 
 -- the codecs with a change of the one with this address
-abbrev pub with_device : ℕ → (Device → Device) → List Device → List Device
-with_device address change devices = map (λ device. if device.graph.address == address then change device else device) devices
+abbrev pub with_codec : ℕ → (CodecState → CodecState) → List CodecState → List CodecState
+with_codec address change codecs = map (λ codec. if codec.graph.address == address then change codec else codec) codecs

@@ -1,9 +1,9 @@
 //! Laws of the world, each the contract of a function that does nothing.
 ghost use Rattle.std.specs.Prelude.{◌≡◌, ◌≢◌, ◌<◌, ◌≤◌, ◌+◌, ℕ, List, ◌++◌, length};
 ghost use Rattle.hda_registers.specs.declared.shapes.Width.{Width};
-ghost use Rattle.codec_graph.specs.Devices.{Device};
+ghost use Rattle.codec_graph.specs.CodecStates.{CodecState};
 ghost use Rattle.hda_platform.specs.declared.step.Step.{Step};
-ghost use Rattle.hda_platform.specs.Worlds.{World, device_at, with_device};
+ghost use Rattle.hda_platform.specs.Worlds.{World, codec_at, with_codec};
 ghost use Rattle.hda_platform.specs.Steps.{after_step, after_steps};
 ghost use Rattle.hda_platform.specs.Events.{Event, DmaWrite, after, AreHonest, after_write, happens};
 ghost use Rattle.hda_registers.specs.Memory.{PieceStored};
@@ -30,7 +30,7 @@ pub fn steps_write_rirb_alone()
 /// A step leaves each codec alone that it does not name. The engine of CORB names the codec of its next command.
 pub fn steps_leave_other_codecs()
     ensures { (step : Step) (world : World) (address : ℕ) → NamesOthers step world address
-        → device_at address (after_step step world).devices ≡ device_at address world.devices }
+        → codec_at address (after_step step world).codecs ≡ codec_at address world.codecs }
 {}
 
 /// A write of a register changes no memory and no codec's graph, settings or presence, and appends to no history.
@@ -49,7 +49,7 @@ pub fn memory_write_leaves()
 
 /// A change of one codec that keeps its address leaves the others alone.
 pub fn codecs_are_apart()
-    ensures { (address other : ℕ) (change : Device → Device) (devices : List Device)
-        → ((device : Device) → (change device).graph ≡ device.graph) → other ≢ address
-        → device_at other (with_device address change devices) ≡ device_at other devices }
+    ensures { (address other : ℕ) (change : CodecState → CodecState) (codecs : List CodecState)
+        → ((codec : CodecState) → (change codec).graph ≡ codec.graph) → other ≢ address
+        → codec_at other (with_codec address change codecs) ≡ codec_at other codecs }
 {}

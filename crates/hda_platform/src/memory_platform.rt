@@ -32,7 +32,7 @@ pub struct MemoryPlatform {
     pub ghost room_for_entries: { vec_len entries + entries_left ≤ vec_capacity entries },
     pub ghost room_for_bytes: { vec_len bytes + bytes_left ≤ vec_capacity bytes },
     pub ghost placed: { All (λ entry. piece_end entry ≤ length bytes.items) entries.items } by { Prim.hlevel props },
-    pub ghost no_codecs: { length (world_of (still_telling shape region_size entries.items bytes.items)).devices ≡ 0 },
+    pub ghost no_codecs: { length (world_of (still_telling shape region_size entries.items bytes.items)).codecs ≡ 0 },
     pub ghost memory_stands: { (world_of (still_telling shape region_size entries.items bytes.items)).memory ≡ memory.items },
     pub ghost registers_stand: { (world_of (still_telling shape region_size entries.items bytes.items)).registers ≡ registers } by { Prim.hlevel props },
 }

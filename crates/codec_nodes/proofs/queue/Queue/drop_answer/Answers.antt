@@ -1,16 +1,16 @@
 use Rattle.std.proofs.Common.{sym, ap, ◌∙◌, arith}
 use Rattle.std.specs.List.{list_any}
-use Rattle.codec_graph.specs.Devices as devices
+use Rattle.codec_graph.specs.CodecStates as codecs
 use Rattle.codec_nodes.proofs.Rings.{no_answer, some_answer, counted-dropped}
 use Rattle.codec_nodes.proofs.queue.Queue.drop_answer.Goals as goal
 
 pub returns-then-self-eq0-clause-value : goal.returns-then-self-eq0-clause-value
 returns-then-self-eq0-clause-value c =
-    sym (ap (list_any devices.is_answer) (sym c.self.view_is) ∙ (no_answer c.self.inside.items.items (omega (arith, c.self.invariant.answers_are))).0)
+    sym (ap (list_any codecs.is_answer) (sym c.self.view_is) ∙ (no_answer c.self.inside.items.items (omega (arith, c.self.invariant.answers_are))).0)
 
 pub returns-then-self-eq0-clause-after : goal.returns-then-self-eq0-clause-after
 returns-then-self-eq0-clause-after c =
-    sym (ap devices.drop_answer (sym c.self.view_is) ∙ (no_answer c.self.inside.items.items (omega (arith, c.self.invariant.answers_are))).1 ∙ c.self.view_is)
+    sym (ap codecs.drop_answer (sym c.self.view_is) ∙ (no_answer c.self.inside.items.items (omega (arith, c.self.invariant.answers_are))).1 ∙ c.self.view_is)
 
 pub invariant_of-self : goal.invariant_of-self
 invariant_of-self c =
@@ -18,4 +18,4 @@ invariant_of-self c =
 
 pub returns-clause-value : goal.returns-clause-value
 returns-clause-value c =
-    sym (ap (list_any devices.is_answer) (sym c.self.view_is) ∙ (some_answer c.self.inside.items.items (λ e. omega (arith, c.self.invariant.answers_are))).0)
+    sym (ap (list_any codecs.is_answer) (sym c.self.view_is) ∙ (some_answer c.self.inside.items.items (λ e. omega (arith, c.self.invariant.answers_are))).0)

@@ -4,7 +4,7 @@ use Rattle.hda_registers.specs.Moves.{framed}
 use Rattle.hda_platform.specs.Worlds.{World}
 use Rattle.hda_platform.specs.Tellings.{world_of}
 use Rattle.hda_platform.specs.ToldBy.{telling_of}
-use Rattle.hda_platform.proofs.Still.{noted_world, noted_event, placed_entry, frame_registers, frame_memory, frame_devices}
+use Rattle.hda_platform.proofs.Still.{noted_world, noted_event, placed_entry, frame_registers, frame_memory, frame_codecs}
 use Rattle.hda_platform.proofs.memory_platform.MemoryPlatform.pass_frame.Goals as goal
 
 pub invariant_of-self-clause-placed : goal.invariant_of-self-clause-placed
@@ -12,7 +12,7 @@ invariant_of-self-clause-placed c = placed_entry _ _ _ _ c.note.ensures.items (o
 
 pub invariant_of-self-clause-no_codecs : goal.invariant_of-self-clause-no_codecs
 invariant_of-self-clause-no_codecs c =
-    ap (λ (world : World). length world.devices) (noted_world _ _ _ _ _ _ c.note.ensures.items) ∙ ap length (frame_devices (world_of (telling_of c.args.self.now))) ∙ c.args.self.now.no_codecs
+    ap (λ (world : World). length world.codecs) (noted_world _ _ _ _ _ _ c.note.ensures.items) ∙ ap length (frame_codecs (world_of (telling_of c.args.self.now))) ∙ c.args.self.now.no_codecs
 
 pub invariant_of-self-clause-memory_stands : goal.invariant_of-self-clause-memory_stands
 invariant_of-self-clause-memory_stands c =

@@ -26,4 +26,4 @@ invariant_of-self-clause-registers_stand c =
 
 pub invariant_of-self-clause-no_codecs : goal.invariant_of-self-clause-no_codecs
 invariant_of-self-clause-no_codecs c =
-    ap (λ (world : World). length world.devices) (piece_world _ _ _ _ _ _ _ _ c.note.ensures.items c.note_bytes-place.ensures.items c.pass_frame.new.self.placed) ∙ c.pass_frame.new.self.no_codecs
+    ap (λ (world : World). length world.codecs) (piece_world _ _ _ _ _ _ _ _ c.note.ensures.items c.note_bytes-place.ensures.items c.pass_frame.new.self.placed) ∙ c.pass_frame.new.self.no_codecs

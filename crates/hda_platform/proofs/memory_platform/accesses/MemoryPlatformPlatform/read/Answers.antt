@@ -19,7 +19,7 @@ invariant_of-self-clause-registers_stand c =
 
 pub invariant_of-self-clause-no_codecs : goal.invariant_of-self-clause-no_codecs
 invariant_of-self-clause-no_codecs c =
-    ap (λ (world : World). length world.devices) (noted_world _ _ _ _ _ _ c.note.ensures.items) ∙ c.pass_frame.new.self.no_codecs
+    ap (λ (world : World). length world.codecs) (noted_world _ _ _ _ _ _ c.note.ensures.items) ∙ c.pass_frame.new.self.no_codecs
 
 pub returns-clause-told : goal.returns-clause-told
 returns-clause-told c =

@@ -2,7 +2,7 @@ use Rattle.std.proofs.Common.{[], length, ap, sym, ◌∙◌, arith}
 use Rattle.hda_registers.specs.Fields.{Fields}
 use Rattle.hda_registers.specs.Access.{written}
 use Rattle.hda_platform.specs.Worlds.{World}
-use Rattle.hda_platform.proofs.Still.{noted_world, placed_entry, reset_memory, reset_registers, reset_devices, noted_event}
+use Rattle.hda_platform.proofs.Still.{noted_world, placed_entry, reset_memory, reset_registers, reset_codecs, noted_event}
 use Rattle.hda_platform.proofs.Telling.{accessed_after}
 use Rattle.hda_platform.proofs.memory_platform.accesses.MemoryPlatformPlatform.write.Goals as goal
 
@@ -20,7 +20,7 @@ invariant_of-self-clause-registers_stand c =
 
 pub invariant_of-self-clause-no_codecs : goal.invariant_of-self-clause-no_codecs
 invariant_of-self-clause-no_codecs c =
-    ap (λ (world : World). length world.devices) (noted_world _ _ _ _ _ _ c.note.ensures.items) ∙ reset_devices _ _ ∙ c.pass_frame.new.self.no_codecs
+    ap (λ (world : World). length world.codecs) (noted_world _ _ _ _ _ _ c.note.ensures.items) ∙ reset_codecs _ _ ∙ c.pass_frame.new.self.no_codecs
 
 pub returns-clause-told : goal.returns-clause-told
 returns-clause-told c =

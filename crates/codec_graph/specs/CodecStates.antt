@@ -15,7 +15,7 @@ use Rattle.verb_codes.specs.declared.verbs.Command.{Command}
 use Rattle.verb_codes.specs.Verbs.{reading_of}
 
 -- a codec: whether something is plugged in stands by node identifier, 0 to 127
-pub record Device : Type 0 where
+pub record CodecState : Type 0 where
   pub graph : RawCodec
   pub settings : Entries
   pub present : List Bool
@@ -33,27 +33,27 @@ abbrev pub unsolicited : List Waiting → ℕ
 unsolicited waiting = count_by (λ item. not (is_answer item)) waiting
 
 -- whether no further answer to a command can wait
-abbrev pub is_full : Device → Bool
-is_full device = answers device.waiting == 64
+abbrev pub is_full : CodecState → Bool
+is_full codec = answers codec.waiting == 64
 
 -- the answer to a word: to the command that it reads as, and 0 where it has no reading
-abbrev pub reading_answer : Device → Option Command → ℕ
-reading_answer device None = 0
-reading_answer device (Some command) = answer_of device.graph device.settings device.present command
+abbrev pub reading_answer : CodecState → Option Command → ℕ
+reading_answer codec None = 0
+reading_answer codec (Some command) = answer_of codec.graph codec.settings codec.present command
 
-abbrev pub answer_to : Device → ℕ → ℕ
-answer_to device word = reading_answer device (reading_of word)
+abbrev pub answer_to : CodecState → ℕ → ℕ
+answer_to codec word = reading_answer codec (reading_of word)
 
 -- the settings after a word: a word without reading changes nothing
-abbrev pub reading_settings : Device → Option Command → Entries
-reading_settings device None = device.settings
-reading_settings device (Some command) = after device.graph device.settings command
+abbrev pub reading_settings : CodecState → Option Command → Entries
+reading_settings codec None = codec.settings
+reading_settings codec (Some command) = after codec.graph codec.settings command
 
 -- a word is taken: its verb has acted, and its answer waits last
-abbrev pub taken : Device → ℕ → Device
-taken device word = record device {
-  settings = reading_settings device (reading_of word);
-  waiting = device.waiting ++ Answer (answer_to device word) ∷ [];
+abbrev pub taken : CodecState → ℕ → CodecState
+taken codec word = record codec {
+  settings = reading_settings codec (reading_of word);
+  waiting = codec.waiting ++ Answer (answer_to codec word) ∷ [];
 }
 
 -- whether a pin has another presence
@@ -70,46 +70,46 @@ response_of control = Unsolicited (control % 2 ^ 6 * 2 ^ 26)
 
 -- whether the pin's new presence is told: it can detect presence, its presence changed, it can send unsolicited responses,
 -- they are enabled, and fewer than 64 wait
-abbrev pub is_told : Device → ℕ → Bool → RawNode → Bool
-is_told device nid present node =
-    detects_presence node && changes (is_present device.present nid) present && sends_unsolicited node
-    && is_enabled (setting_of device.settings nid Unsol) && nat_lt (unsolicited device.waiting) 64
+abbrev pub is_told : CodecState → ℕ → Bool → RawNode → Bool
+is_told codec nid present node =
+    detects_presence node && changes (is_present codec.present nid) present && sends_unsolicited node
+    && is_enabled (setting_of codec.settings nid Unsol) && nat_lt (unsolicited codec.waiting) 64
 
 -- the pin has this presence; where it is told, a response waits last
-abbrev pub pin_plugged : Device → ℕ → Bool → RawNode → Device
-pin_plugged device nid present node = record device {
-  present = slice_set device.present nid present;
-  waiting = if is_told device nid present node then device.waiting ++ response_of (setting_of device.settings nid Unsol) ∷ [] else device.waiting;
+abbrev pub pin_plugged : CodecState → ℕ → Bool → RawNode → CodecState
+pin_plugged codec nid present node = record codec {
+  present = slice_set codec.present nid present;
+  waiting = if is_told codec nid present node then codec.waiting ++ response_of (setting_of codec.settings nid Unsol) ∷ [] else codec.waiting;
 }
 
-abbrev pub node_plugged : Device → ℕ → Bool → Option RawNode → Device
-node_plugged device nid present None = device
-node_plugged device nid present (Some node) = if is_pin node then pin_plugged device nid present node else device
+abbrev pub node_plugged : CodecState → ℕ → Bool → Option RawNode → CodecState
+node_plugged codec nid present None = codec
+node_plugged codec nid present (Some node) = if is_pin node then pin_plugged codec nid present node else codec
 
 -- something is plugged in at the node or pulled out; at a node that is no pin nothing happens
-abbrev pub plugged : Device → ℕ → Bool → Device
-plugged device nid present = node_plugged device nid present (node_at device.graph nid)
+abbrev pub plugged : CodecState → ℕ → Bool → CodecState
+plugged codec nid present = node_plugged codec nid present (node_at codec.graph nid)
 
 -- without the first item that waits
-abbrev pub without_first : Device → Device
-without_first device = record device { waiting = drop 1 device.waiting }
+abbrev pub without_first : CodecState → CodecState
+without_first codec = record codec { waiting = drop 1 codec.waiting }
 
 -- without the first answer to a command that waits
 abbrev pub drop_answer : List Waiting → List Waiting
 drop_answer [] = []
 drop_answer (item ∷ items) = if is_answer item then items else item ∷ drop_answer items
 
-abbrev pub without_answer : Device → Device
-without_answer device = record device { waiting = drop_answer device.waiting }
+abbrev pub without_answer : CodecState → CodecState
+without_answer codec = record codec { waiting = drop_answer codec.waiting }
 
 -- with nothing that waits
-abbrev pub cleared : Device → Device
-cleared device = record device { waiting = [] }
+abbrev pub cleared : CodecState → CodecState
+cleared codec = record codec { waiting = [] }
 
 -- what holds of a codec at all times
-pub record IsSound (device : Device) : Type 0 where
-  pub well_formed : IsWellFormed device.graph
-  pub settings : IsSettingsOf device.graph device.settings
-  pub present : length device.present ≡ 128
-  pub answers_fit : answers device.waiting ≤ 64
-  pub unsolicited_fit : unsolicited device.waiting ≤ 64
+pub record IsSound (codec : CodecState) : Type 0 where
+  pub well_formed : IsWellFormed codec.graph
+  pub settings : IsSettingsOf codec.graph codec.settings
+  pub present : length codec.present ≡ 128
+  pub answers_fit : answers codec.waiting ≤ 64
+  pub unsolicited_fit : unsolicited codec.waiting ≤ 64
