@@ -16,7 +16,7 @@ by-cases : (P : Fields → Type 0) (f new : Fields) (b taken : Bool) → taken �
 by-cases P f new true taken e old p = rw e (p e)
 by-cases P f new false taken e old p = rw e old
 
-after : (P : Fields → Type 0) (f : Fields) (at : ℕ) (w : Width) (v : ℕ) → P f → (is_taken f at w ≡ true → P (placed f at w v)) → P (written f at w v)
+pub after : (P : Fields → Type 0) (f : Fields) (at : ℕ) (w : Width) (v : ℕ) → P f → (is_taken f at w ≡ true → P (placed f at w v)) → P (written f at w v)
 unfolding written
 after P f at w v old p = by-cases P f (placed f at w v) (is_taken f at w) (is_taken f at w) refl old p
 
@@ -29,11 +29,11 @@ left-or : (a b : Bool) → b ≡ false → (a || b) ≡ true → a ≡ true
 left-or true b e h = refl
 left-or false b e h = cc
 
-taken-out : (f : Fields) (at : ℕ) (w : Width) → at / 4 ≢ 2 → is_taken f at w ≡ true → is_out_of_reset f.global ≡ true
+pub taken-out : (f : Fields) (at : ℕ) (w : Width) → at / 4 ≢ 2 → is_taken f at w ≡ true → is_out_of_reset f.global ≡ true
 taken-out f at w other taken =
     left-or (is_out_of_reset f.global) (at / 4 == 2) (ne_eqb (at / 4) 2 other) (right (at % bytes_of w == 0) (is_out_of_reset f.global || (at / 4 == 2)) taken)
 
-stays-out : (shape : Shape) (a : Access) (g : Global) → a.word ≢ 2 → is_out_of_reset (global_written shape a g) ≡ is_out_of_reset g
+pub stays-out : (shape : Shape) (a : Access) (g : Global) → a.word ≢ 2 → is_out_of_reset (global_written shape a g) ≡ is_out_of_reset g
 unfolding global_written
 stays-out shape a g h = rw (other 2 a.word h) refl
 

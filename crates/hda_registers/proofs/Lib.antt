@@ -7,7 +7,7 @@ pub mod Reading
 pub mod GlobalReads
 pub mod StreamReads
 pub mod StreamWrites
-pub mod Storing
+pub mod Apart
 pub mod Dispatch
 pub mod Keeping
-pub mod Literal
+pub mod Callers

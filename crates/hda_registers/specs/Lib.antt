@@ -4,6 +4,4 @@ pub mod Access
 pub mod Status
 pub mod Moves
 pub mod Words
-pub mod Memory
-pub mod Rings
 pub mod Laws

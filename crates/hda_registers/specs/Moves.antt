@@ -4,14 +4,15 @@ use Rattle.hda_registers.specs.declared.shapes.Raise.{Raise}
 use Rattle.hda_registers.specs.declared.shapes.Raise.TheVariants.{Codec, Response, BufferDone, FifoError, DescriptorError}
 use Rattle.hda_registers.specs.declared.shapes.Moved.{Moved}
 use Rattle.hda_registers.specs.declared.shapes.Moved.TheVariants.{CorbRp, RirbWp, Lpib, Ready}
+use Rattle.hda_registers.specs.declared.places.TheConstants.{TICKS_PER_FRAME}
 use Rattle.hda_registers.specs.Fields.{Descriptor, Fields, entries_of, is_out_of_reset}
 use Rattle.hda_registers.specs.Status.{worth}
 
--- the wall clock goes on by 500 in a link frame, modulo 2^32, while CRST is 1
+-- the wall clock goes on by its ticks of a link frame, modulo 2^32, while CRST is 1 (3.3.16)
 abbrev pub framed : Fields → Fields
 framed fields = record fields {
   global = record fields.global {
-    wall_clock = if is_out_of_reset fields.global then (fields.global.wall_clock + 500) % 2 ^ 32 else fields.global.wall_clock;
+    wall_clock = if is_out_of_reset fields.global then (fields.global.wall_clock + TICKS_PER_FRAME) % 2 ^ 32 else fields.global.wall_clock;
   };
 }
 

@@ -8,68 +8,63 @@ ghost use Rattle.hda_registers.specs.Table.{size_code};
 use crate::accesses::Access;
 use crate::conditions::both;
 use crate::flags::{CorbControl, GlobalControl, InterruptControl, RirbControl};
+use crate::masks::{BASE, CORBRPRST, READ_POINTER, RINTCNT, WRITE_POINTER};
+use crate::places::{self, TICKS_PER_FRAME};
 use crate::pointers::{corb_pointers_after, rirb_pointers_after};
 use crate::shapes::{RingSize, Shape};
 use bitflags::Flags;
 use std::marker::Model;
 
-const VERSION: u16 = 0x00 / 4;
+/// The words of four bytes that hold the registers, by number.
+const VERSION: u16 = places::GCAP / 4;
 
-const PAYLOADS: u16 = 0x04 / 4;
+const PAYLOADS: u16 = places::OUTPAY / 4;
 
-const GCTL: u16 = 0x08 / 4;
+const GCTL: u16 = places::GCTL / 4;
 
-const WAKE: u16 = 0x0C / 4;
+const WAKE: u16 = places::WAKEEN / 4;
 
-const INTCTL: u16 = 0x20 / 4;
+const INTCTL: u16 = places::INTCTL / 4;
 
-const INTSTS: u16 = 0x24 / 4;
+const INTSTS: u16 = places::INTSTS / 4;
 
-const WALCLK: u16 = 0x30 / 4;
+const WALCLK: u16 = places::WALCLK / 4;
 
-const CORB_BASE: u16 = 0x40 / 4;
+const CORB_BASE: u16 = places::CORBLBASE / 4;
 
-const CORB_POINTERS: u16 = 0x48 / 4;
+const CORB_POINTERS: u16 = places::CORBWP / 4;
 
-const CORB_CONTROL: u16 = 0x4C / 4;
+const CORB_CONTROL: u16 = places::CORBCTL / 4;
 
-const RIRB_BASE: u16 = 0x50 / 4;
+const RIRB_BASE: u16 = places::RIRBLBASE / 4;
 
-const RIRB_POINTERS: u16 = 0x58 / 4;
+const RIRB_POINTERS: u16 = places::RIRBWP / 4;
 
-const RIRB_CONTROL: u16 = 0x5C / 4;
+const RIRB_CONTROL: u16 = places::RIRBCTL / 4;
 
 /// GCAP with one input and one output stream, then version 1.0.
 const VERSION_WORD: u32 = 0x0100_1100;
 /// OUTPAY, and INPAY in the upper half.
 const PAYLOADS_WORD: u32 = 0x001D_003C;
 
+/// CRST and UNSOL.
 const CONTROL_BITS: u32 = 0x101;
 
+/// A bit per codec in the word of WAKEEN and STATESTS.
 const WAKEEN: u32 = 0x7FFF;
 
 const STATESTS: u32 = 0x7FFF_0000;
 
+/// GIE, CIE and the bits of both streams.
 const INTERRUPT_BITS: u32 = 0xC000_0003;
 
-const BASE: u32 = 0xFFFF_FF80;
-
-const WRITE_POINTER: u32 = 0xFF;
-
-const READ_POINTER: u32 = 0xFF_0000;
-
-const CORBRPRST: u32 = 0x8000_0000;
-
-const RINTCNT: u32 = 0xFF_0000;
-
+/// CMEIE and CORBRUN.
 const CORB_BITS: u32 = 0x3;
 
+/// RINTCTL, RIRBDMAEN and RIRBOIC.
 const RIRB_BITS: u32 = 0x7;
-
+/// RINTFL in the word of RIRBCTL and RIRBSTS.
 const RINTFL: u32 = 0x100;
-
-/// The wall clock's ticks in a link frame.
-const TICKS_PER_FRAME: u32 = 500;
 
 /// The words that hold them, each as it stands at its place.
 #[derive(Drop)]
@@ -203,7 +198,7 @@ impl Controller {
 
     /// Counts a link frame.
     pub(crate) fn count_frame(&mut self)
-        ensures { self.new ≡ record self.old { wall_clock = (self.old.wall_clock + 500) % 2 ^ 32 } }
+        ensures { self.new ≡ record self.old { wall_clock = (self.old.wall_clock + TICKS_PER_FRAME) % 2 ^ 32 } }
     {
         self.wall_clock = self.wall_clock.wrapping_add(TICKS_PER_FRAME);
     }

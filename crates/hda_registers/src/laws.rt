@@ -1,14 +1,17 @@
 //! Laws of the registers. Each is the contract of a function with nothing to do.
-ghost use Rattle.std.specs.Prelude.{◌≡◌, ◌≢◌, ◌<◌, ◌≤◌, ◌/◌, ℕ, true, false};
+ghost use Rattle.std.specs.Prelude.{◌≡◌, ◌≢◌, ◌<◌, ◌≤◌, ◌+◌, ◌/◌, ℕ, true, false};
 ghost use Rattle.hda_registers.specs.declared.shapes.Moved.{Moved};
 ghost use Rattle.hda_registers.specs.declared.shapes.Moved.TheVariants.{CorbRp, RirbWp, Lpib, Ready};
 ghost use Rattle.hda_registers.specs.declared.shapes.Raise.{Raise};
 ghost use Rattle.hda_registers.specs.declared.shapes.Shape.{Shape};
 ghost use Rattle.hda_registers.specs.declared.shapes.Width.{Width};
+ghost use Rattle.hda_registers.specs.declared.shapes.Width.TheVariants.{One};
 ghost use Rattle.hda_registers.specs.Access.{written};
 ghost use Rattle.hda_registers.specs.Fields.{Fields, opening, is_out_of_reset};
-ghost use Rattle.hda_registers.specs.Laws.{LeavesStreams, ChangesInput, ChangesOutput, IsBesideStreams, IsHeldInReset};
+ghost use Rattle.hda_registers.specs.Laws.{LeavesStreams, LeavesRings, ChangesInput, ChangesOutput, ChangesStatus, IsBesideStreams, IsBesideRings, IsHeldInReset};
 ghost use Rattle.hda_registers.specs.Moves.{framed, raised, moved};
+
+use crate::places::{INPUT_DESCRIPTOR, OUTPUT_DESCRIPTOR, SDSTS};
 
 /// A write that is neither at GCTL nor at a stream descriptor leaves both descriptors.
 pub fn write_leaves_streams()
@@ -22,6 +25,20 @@ pub fn write_leaves_others()
         → ChangesInput fields (written fields at width value) }
     ensures output { (fields : Fields) (at : ℕ) (width : Width) (value : ℕ) → 0xA0 ≤ at → at < 0xC0
         → ChangesOutput fields (written fields at width value) }
+{}
+
+/// A write that is neither at GCTL nor at a register of CORB or RIRB leaves all of these, whatever its width.
+pub fn write_leaves_rings()
+    ensures { (fields : Fields) (at : ℕ) (width : Width) (value : ℕ) → IsBesideRings at
+        → LeavesRings fields.global (written fields at width value).global }
+{}
+
+/// A write of a descriptor's status byte, SDnSTS, changes that descriptor's status bits alone.
+pub fn status_write_leaves_others()
+    ensures input { (fields : Fields) (value : ℕ) → let new = written fields (INPUT_DESCRIPTOR + SDSTS) One value in
+        ChangesInput fields new × ChangesStatus fields.input new.input }
+    ensures output { (fields : Fields) (value : ℕ) → let new = written fields (OUTPUT_DESCRIPTOR + SDSTS) One value in
+        ChangesOutput fields new × ChangesStatus fields.output new.output }
 {}
 
 /// STATESTS survives each write to GCTL, a reset too, and no write changes the shape.

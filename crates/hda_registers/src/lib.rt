@@ -7,18 +7,18 @@ mod conditions;
 mod controller;
 mod flags;
 mod laws;
+mod masks;
+pub mod places;
 mod pointers;
 mod registers;
-mod rings;
 mod shapes;
 mod streams;
 
 pub use laws::{
     moves_leave_others, reset_holds_values, reset_ignores_writes, reset_keeps_state_status,
-    write_leaves_others, write_leaves_streams,
+    status_write_leaves_others, write_leaves_others, write_leaves_rings, write_leaves_streams,
 };
 pub use registers::Registers;
-pub use rings::Response;
 pub use shapes::{Effects, Moved, Raise, RingSize, Shape, Width};
 
 #[cfg(test)]

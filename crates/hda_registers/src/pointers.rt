@@ -4,19 +4,8 @@ ghost use Rattle.hda_registers.specs.Table.{CorbWritePointer, CorbReadPointer, C
 ghost use Rattle.hda_registers.specs.Access.{part, ruled};
 
 use crate::accesses::Access;
+use crate::masks::{CORBRPRST, READ_POINTER, RINTCNT, RIRBWPRST, WRITE_POINTER};
 use crate::shapes::Shape;
-
-const CORBWP: u32 = 0xFF;
-
-const CORBRP: u32 = 0xFF_0000;
-
-const CORBRPRST: u32 = 0x8000_0000;
-
-const RIRBWP: u32 = 0xFF;
-
-const RIRBWPRST: u32 = 0x8000;
-
-const RINTCNT: u32 = 0xFF_0000;
 
 /// What a write leaves of CORBWP, which is kept modulo the size, and of CORBRP, whose pointer is 0 where bit 15 is written 1.
 pub(crate) fn corb_pointers_after(old: u32, shape: Shape, access: Access) -> u32
@@ -29,7 +18,7 @@ pub(crate) fn corb_pointers_after(old: u32, shape: Shape, access: Access) -> u32
     if access.written & CORBRPRST == 0 {
         word
     } else {
-        word & !CORBRP
+        word & !READ_POINTER
     }
 }
 
@@ -40,11 +29,11 @@ fn corb_pointers_kept(old: u32, shape: Shape, access: Access) -> u32
     ensures read_pointer { part 16 8 result ≡ part 16 8 old }
     ensures pointer_reset { part 31 1 result ≡ ruled access (global_row shape CorbPointerReset) (part 31 1 old) }
 {
-    let word = access.leaves(old, CORBWP | CORBRPRST, 0);
-    if access.covered & CORBWP == 0 {
+    let word = access.leaves(old, WRITE_POINTER | CORBRPRST, 0);
+    if access.covered & WRITE_POINTER == 0 {
         word
     } else {
-        word & !CORBWP | (word & CORBWP) % u32::from(shape.corb.entries())
+        word & !WRITE_POINTER | (word & WRITE_POINTER) % u32::from(shape.corb.entries())
     }
 }
 
@@ -58,6 +47,6 @@ pub(crate) fn rirb_pointers_after(old: u32, shape: Shape, access: Access) -> u32
     if access.written & RIRBWPRST == 0 {
         word
     } else {
-        word & !RIRBWP
+        word & !WRITE_POINTER
     }
 }

@@ -8,20 +8,13 @@ ghost use Rattle.hda_registers.specs.Status.{any_asks, interrupt_status, line_of
 use crate::accesses::Access;
 use crate::conditions::{any, both, fell, rose};
 use crate::controller::Controller;
+use crate::places::{DESCRIPTORS_END, GCTL, INPUT_DESCRIPTOR, OUTPUT_DESCRIPTOR};
 use crate::shapes::{Effects, Moved, Raise, Shape, Width};
 use crate::streams::Stream;
 use std::marker::Model;
 
 /// GCTL, which alone takes writes while CRST is 0, as the number of its word.
-const GCTL_WORD: u16 = 0x08 / 4;
-/// Where GCTL stands.
-const GCTL: u16 = 0x08;
-/// Where the input stream's descriptor begins.
-const INPUT: u16 = 0x80;
-/// Where the output stream's descriptor begins.
-const OUTPUT: u16 = 0xA0;
-/// The first place past all registers.
-const END: u16 = 0xC0;
+const GCTL_WORD: u16 = GCTL / 4;
 
 /// The registers of a High Definition Audio controller with one input stream, descriptor 0, and one output stream,
 /// descriptor 1 (HDA 1.0a, 3.3). A contract sees them as their `Fields`.
@@ -71,16 +64,16 @@ impl Registers {
         requires { at % bytes_of width ≡ 0 }
         ensures { result ≡ shown_at self.now at width }
     {
-        if at < INPUT {
+        if at < INPUT_DESCRIPTOR {
             let access = Access::of(at, width, 0);
             self.global
                 .word(self.shape, self.interrupt_status(), access.word)
                 & access.covered
-        } else if at < OUTPUT {
-            let access = Access::of(at - INPUT, width, 0);
+        } else if at < OUTPUT_DESCRIPTOR {
+            let access = Access::of(at - INPUT_DESCRIPTOR, width, 0);
             self.input.word(self.shape, access.word) & access.covered
-        } else if at < END {
-            let access = Access::of(at - OUTPUT, width, 0);
+        } else if at < DESCRIPTORS_END {
+            let access = Access::of(at - OUTPUT_DESCRIPTOR, width, 0);
             self.output.word(self.shape, access.word) & access.covered
         } else {
             0
@@ -106,8 +99,8 @@ impl Registers {
             reset: writes(at, value, GCTL, 0),
             left_reset: rose(was_out, is_out),
             stream_reset: [
-                both(was_out, writes(at, value, INPUT, 1)),
-                both(was_out, writes(at, value, OUTPUT, 1)),
+                both(was_out, writes(at, value, INPUT_DESCRIPTOR, 1)),
+                both(was_out, writes(at, value, OUTPUT_DESCRIPTOR, 1)),
             ],
             started: [rose(input_ran, input_runs), rose(output_ran, output_runs)],
             stopped: [fell(input_ran, input_runs), fell(output_ran, output_runs)],
@@ -126,15 +119,15 @@ impl Registers {
         requires { at % bytes_of width ≡ 0 }
         ensures { self.new ≡ placed self.old at width value }
     {
-        if at < INPUT {
+        if at < INPUT_DESCRIPTOR {
             self.global.write(self.shape, Access::of(at, width, value));
             if !self.global.is_out_of_reset() {
                 self.reset();
             }
-        } else if at < OUTPUT {
-            self.input.write(Access::of(at - INPUT, width, value));
-        } else if at < END {
-            self.output.write(Access::of(at - OUTPUT, width, value));
+        } else if at < OUTPUT_DESCRIPTOR {
+            self.input.write(Access::of(at - INPUT_DESCRIPTOR, width, value));
+        } else if at < DESCRIPTORS_END {
+            self.output.write(Access::of(at - OUTPUT_DESCRIPTOR, width, value));
         }
     }
 

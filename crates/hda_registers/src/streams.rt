@@ -7,35 +7,39 @@ ghost use Rattle.hda_registers.specs.Status.{stream_asks, worth};
 use crate::accesses::Access;
 use crate::conditions::{any, both};
 use crate::flags::StreamControl;
+use crate::masks::BASE;
+use crate::places;
 use crate::shapes::Shape;
 use bitflags::Flags;
 use std::marker::Model;
 
-const CONTROL: u16 = 0x00 / 4;
+/// The words of four bytes that hold the registers, by number in the descriptor.
+const CONTROL: u16 = places::SDCTL / 4;
 
-const POSITION: u16 = 0x04 / 4;
+const POSITION: u16 = places::SDLPIB / 4;
 
-const LENGTH: u16 = 0x08 / 4;
+const LENGTH: u16 = places::SDCBL / 4;
 
-const LAST_INDEX: u16 = 0x0C / 4;
+const LAST_INDEX: u16 = places::SDLVI / 4;
 
-const FORMAT: u16 = 0x10 / 4;
+const FORMAT: u16 = places::SDFIFOS / 4;
 
-const LIST_BASE: u16 = 0x18 / 4;
+const LIST_BASE: u16 = places::SDBDPL / 4;
 
+/// SRST in the word of SDnCTL and SDnSTS.
 const SRST: u32 = 0x1;
 /// SRST, RUN, IOCE, FEIE, DEIE and the tag.
 const CONTROL_BITS: u32 = 0xF0_001F;
 /// BCIS, FIFOE and DESE.
 const STATUS_BITS: u32 = 0x1C00_0000;
-
+/// FIFORDY in the word of SDnCTL and SDnSTS.
 const FIFORDY: u32 = 0x2000_0000;
 
+/// The last valid index in its word.
 const LVI: u32 = 0xFF;
 
+/// The format in the word of SDnFIFOS and SDnFMT.
 const FMT: u32 = 0xFFFF_0000;
-
-const BASE: u32 = 0xFFFF_FF80;
 
 /// The words that hold them, each as it stands at its place.
 #[derive(Drop)]

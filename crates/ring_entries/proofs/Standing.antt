@@ -5,12 +5,12 @@ use Rattle.std.proofs.Math.Nat.{mod-lt, mod-add-mod, mod-eq-sub-mod, mod-eq_of_l
 use Rattle.std.proofs.lemmas.Bool.{cases_lt, cases_order}
 use Rattle.hda_registers.specs.declared.shapes.RingSize.{RingSize}
 use Rattle.hda_registers.specs.declared.shapes.RingSize.TheVariants.{Two, Sixteen, Full}
-use Rattle.hda_registers.specs.declared.rings.Response.{Response}
+use Rattle.ring_entries.specs.declared.response.Response.{Response}
 use Rattle.hda_registers.specs.Fields.{Fields, entries_of, rirb_address}
-use Rattle.hda_registers.specs.Memory.{IsOutside}
-use Rattle.hda_registers.specs.Rings.{response_bytes, response_place, response_stored, responses_stored, after_response}
-use Rattle.hda_registers.proofs.Storing.{stored_outside, piece_is_stored}
-use Rattle.command_rings.specs.Engines.{StandsAt, IsRirbInside}
+use Rattle.ring_entries.specs.Memory.{IsOutside}
+use Rattle.ring_entries.specs.Entries.{response_bytes, response_place, response_stored, responses_stored, after_response}
+use Rattle.ring_entries.proofs.Callers.{stored_outside, piece_is_stored}
+use Rattle.ring_entries.specs.Standing.{StandsAt, IsRirbInside}
 
 apart_within : (at more size : ℕ) → at < size → 0 < more → more < size → (at + more < size) ⊎ (size ≤ at + more) → (at + more) % size ≡ at → ⊥
 apart_within at more size below some few (inr over) same =

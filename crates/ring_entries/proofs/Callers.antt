@@ -1,7 +1,7 @@
--- What a piece that is stored in memory changes.
+-- What proofs of the layers above cite: what a piece that is stored in memory changes.
 use Rattle.std.proofs.Common.{◌≡◌, ◌<◌, ◌≤◌, ◌+◌, ℕ, Bool, true, false, List, ◌++◌, length, take, drop, slice_index, if◌then◌else◌, refl, inl, inr, arith, rules, tests}
 use Rattle.std.proofs.lemmas.List.{places}
-use Rattle.hda_registers.specs.Memory.{stored, IsOutside, PieceStored}
+use Rattle.ring_entries.specs.Memory.{stored, IsOutside, PieceStored}
 
 piece_size : (at : ℕ) (piece memory : List ℕ) → at + length piece ≤ length memory → length (take at memory ++ (piece ++ drop (at + length piece) memory)) ≡ length memory
 piece_size at piece memory fits = search (rules, places)

@@ -1,5 +1,8 @@
 //! What RIRB holds.
 
+/// How many responses may wait in the controller for RIRB. This project's own.
+pub const MOST_WAITING: usize = 256;
+
 /// A response of a codec as RIRB holds it (HDA 1.0a, 4.4.2).
 #[derive(Clone, Copy, Debug, PartialEq, Eq)]
 pub struct Response {

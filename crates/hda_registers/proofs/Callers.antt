@@ -1,4 +1,4 @@
--- Reads and writes at known places, as the layers above use them.
+-- What proofs of the layers above cite: reads and writes at known places.
 use Rattle.std.proofs.Common.{◌≡◌, ◌+◌, ◌*◌, ◌%◌, ◌/◌, ◌^◌, ℕ, true, refl, arith}
 use Rattle.hda_registers.specs.declared.shapes.Width.TheVariants.{One, Two, Four}
 use Rattle.hda_registers.specs.Fields.{Fields, is_out_of_reset, entries_of}

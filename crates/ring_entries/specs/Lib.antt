@@ -1,0 +1,4 @@
+pub mod Memory
+pub mod Entries
+pub mod Engines
+pub mod Standing

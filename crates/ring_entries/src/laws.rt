@@ -1,0 +1,24 @@
+//! Laws of memory and of the ring of responses, each the contract of a function that does nothing.
+ghost use Rattle.std.specs.Prelude.{◌≡◌, ◌≤◌, ◌<◌, ◌+◌, ℕ, List, Some, length, slice_get, slice_index};
+ghost use Rattle.hda_registers.specs.Fields.{Fields, entries_of};
+ghost use Rattle.ring_entries.specs.declared.response.Response.{Response};
+ghost use Rattle.ring_entries.specs.Memory.{stored, IsOutside, PieceStored};
+ghost use Rattle.ring_entries.specs.Entries.{responses_stored};
+ghost use Rattle.ring_entries.specs.Standing.{StandsAt, IsRirbInside};
+
+/// A piece that lies in the memory stands there once it is stored. Whether or not it does, the memory keeps its length and every
+/// byte outside the piece.
+pub fn stored_pieces_stand()
+    ensures piece { (at : ℕ) (piece memory : List ℕ) → at + length piece ≤ length memory → PieceStored at piece memory (stored memory at piece) }
+    ensures size { (at : ℕ) (piece memory : List ℕ) → length (stored memory at piece) ≡ length memory }
+    ensures outside { (at : ℕ) (piece memory : List ℕ) (other : ℕ) → IsOutside at (length piece) other
+        → slice_index (stored memory at piece) other ≡ slice_index memory other }
+{}
+
+/// Fewer responses than RIRB has entries overwrite none of one another: each stands in the entry that is as many places after the
+/// write pointer as it comes in the order of acceptance, from 1.
+pub fn responses_stand()
+    ensures { (fields : Fields) (memory : List ℕ) (responses : List Response) (place : ℕ) (response : Response)
+        → length responses < entries_of fields.shape.rirb → IsRirbInside fields memory → slice_get responses place ≡ Some response
+        → StandsAt fields (responses_stored fields memory responses) (place + 1) response }
+{}
