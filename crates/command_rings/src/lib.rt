@@ -2,11 +2,8 @@
 //! (HDA 1.0a, 4.4).
 #![tactic(auto)]
 
-mod entries;
-mod laws;
 mod rings;
 
-pub use laws::responses_stand;
 pub use rings::Rings;
 
 #[cfg(test)]

@@ -1,17 +1,13 @@
 //! The engines of both rings, and the responses that wait for RIRB.
 ghost use Rattle.std.specs.Prelude.{◌≡◌, ◌==◌, ◌≤◌, ◌<◌, ◌+◌, ◌*◌, ◌^◌, ◌++◌, [], ◌∷◌, IfOk, IsTrue, length, take, drop};
-ghost use Rattle.hda_registers.specs.Fields.{corb_address};
-ghost use Rattle.hda_registers.specs.Rings as spec;
-ghost use Rattle.command_rings.specs.Engines as engines;
+ghost use Rattle.ring_entries.specs.Entries as entries;
+ghost use Rattle.ring_entries.specs.Engines as engines;
 
-use crate::entries::{next_place, store_response, word_from};
 use circular_buffer::HeapCircularBuffer;
-use hda_registers::{Moved, Raise, Registers, Response};
+use hda_registers::{Raise, Registers};
+use ring_entries::{MOST_WAITING, Response, batch_of, can_respond, fetch, next_word, write_response};
 use std::alloc::{AllocError, Global};
 use std::marker::Model;
-
-/// How many responses may wait for RIRB.
-const MOST_WAITING: usize = 256;
 
 /// The controller's side of both rings: the responses that wait for RIRB, oldest first. The queue and its limit are this
 /// project's own.
@@ -22,13 +18,14 @@ pub struct Rings {
 
 impl Model for Rings {
     ghost use Rattle.std.specs.Prelude.{◌≡◌, ◌≤◌, List, length};
-    ghost use Rattle.hda_registers.specs.declared.rings.Response.{Response};
+    ghost use Rattle.ring_entries.specs.declared.response.Response.{Response};
+    ghost use Rattle.ring_entries.specs.declared.response.TheConstants.{MOST_WAITING};
 
     ghost Value = { List Response };
 
     ghost view = { λ rings. rings.waiting.items };
 
-    ghost invariant = { λ rings. (rings.waiting.capacity ≡ 256) × (length rings.waiting.items ≤ 256) };
+    ghost invariant = { λ rings. (rings.waiting.capacity ≡ MOST_WAITING) × (length rings.waiting.items ≤ MOST_WAITING) };
 }
 
 impl Rings {
@@ -49,11 +46,7 @@ impl Rings {
     pub fn next_word(&self, regs: &Registers, memory: &[u8]) -> Option<u32>
         ensures { result ≡ engines.next_word regs.now memory.now }
     {
-        if can_fetch(regs) {
-            Some(word_from(memory, command_address(regs)))
-        } else {
-            None
-        }
+        next_word(regs, memory)
     }
 
     /// Moves CORB's read pointer on and fetches the command there. `None` as for [`Rings::next_word`], and then nothing changes.
@@ -62,23 +55,20 @@ impl Rings {
         ensures registers { regs.new ≡ engines.after_corb regs.old }
         ensures waiting { self.new ≡ self.old }
     {
-        let word = self.next_word(regs, memory)?;
-        let place = next_place(regs.corb_read_pointer(), regs.shape().corb.entries());
-        regs.put(Moved::CorbRp(place));
-        Some(word)
+        fetch(regs, memory)
     }
 
-    /// Whether no further response may wait: 256 do.
+    /// Whether no further response may wait: [`MOST_WAITING`] do.
     pub fn full(&self) -> bool
-        ensures value { result ≡ (length self.now == 256) }
-        ensures few { length self.now ≤ 256 }
+        ensures value { result ≡ (length self.now == MOST_WAITING) }
+        ensures few { length self.now ≤ MOST_WAITING }
     {
         self.waiting.is_full()
     }
 
-    /// Puts a response of the codec of this address, at most 14, last among those that wait. Fewer than 256 wait.
+    /// Puts a response of the codec of this address, at most 14, last among those that wait. Fewer than [`MOST_WAITING`] wait.
     pub fn accept(&mut self, codec: u8, answer: u32, unsolicited: bool)
-        requires room { length self.old < 256 }
+        requires room { length self.old < MOST_WAITING }
         requires codec { codec ≤ 14 }
         ensures { self.new ≡ self.old ++ record { codec = codec; answer = answer; unsolicited = unsolicited } ∷ [] }
     {
@@ -96,7 +86,7 @@ impl Rings {
     pub fn rirb(&mut self, regs: &mut Registers, memory: &mut [u8]) -> u32
         ensures number { result ≡ length (engines.batch regs.old self.old) }
         ensures registers { regs.new ≡ engines.after_rirb regs.old self.old }
-        ensures memory { memory.new ≡ spec.responses_stored regs.old memory.old (engines.batch regs.old self.old) }
+        ensures memory { memory.new ≡ entries.responses_stored regs.old memory.old (engines.batch regs.old self.old) }
         ensures waiting { self.new ≡ drop result self.old }
     {
         if !can_respond(regs) {
@@ -111,10 +101,10 @@ impl Rings {
 
     /// Writes the oldest responses, as many as may be written at once, and moves RIRB's write pointer.
     fn write_batch(&mut self, regs: &mut Registers, memory: &mut [u8]) -> u32
-        requires { IsTrue (spec.can_respond regs.old) }
-        ensures number { result ≡ length (take (spec.batch_of regs.old) self.old) }
-        ensures registers { regs.new ≡ spec.after_responses regs.old (take (spec.batch_of regs.old) self.old) }
-        ensures memory { memory.new ≡ spec.responses_stored regs.old memory.old (take (spec.batch_of regs.old) self.old) }
+        requires { IsTrue (engines.can_respond regs.old) }
+        ensures number { result ≡ length (take (engines.batch_of regs.old) self.old) }
+        ensures registers { regs.new ≡ entries.after_responses regs.old (take (engines.batch_of regs.old) self.old) }
+        ensures memory { memory.new ≡ entries.responses_stored regs.old memory.old (take (engines.batch_of regs.old) self.old) }
         ensures waiting { self.new ≡ drop result self.old }
     {
         let most = batch_of(regs);
@@ -133,49 +123,4 @@ impl Rings {
     {
         self.waiting.clear();
     }
-}
-
-/// Whether CORB's engine can fetch a command.
-fn can_fetch(regs: &Registers) -> bool
-    ensures { result ≡ spec.can_fetch regs.now }
-{
-    regs.is_out_of_reset()
-        && regs.is_corb_running()
-        && !regs.is_corb_read_pointer_reset()
-        && regs.corb_read_pointer() != regs.corb_write_pointer()
-}
-
-/// The address of CORB's next command.
-fn command_address(regs: &Registers) -> usize
-    ensures value { result ≡ corb_address regs.now + 4 * spec.fetch_place regs.now }
-    ensures small { result < 2 ^ 33 }
-{
-    let place = next_place(regs.corb_read_pointer(), regs.shape().corb.entries());
-    regs.corb_address() as usize + 4 * usize::from(place)
-}
-
-/// Whether RIRB's engine can write responses.
-fn can_respond(regs: &Registers) -> bool
-    ensures { result ≡ spec.can_respond regs.now }
-{
-    regs.is_out_of_reset() && regs.is_rirb_running() && !regs.is_response_flag_set()
-}
-
-/// How many responses may be written at once.
-fn batch_of(regs: &Registers) -> u16
-    ensures { result ≡ spec.batch_of regs.now }
-{
-    regs.response_count().min(regs.shape().rirb.entries() - 1)
-}
-
-/// Writes a response to the entry after RIRB's write pointer, which moves on.
-fn write_response(regs: &mut Registers, memory: &mut [u8], response: Response)
-    requires { IsTrue (spec.can_respond regs.old) }
-    ensures registers { regs.new ≡ spec.after_response regs.old }
-    ensures memory { memory.new ≡ spec.response_stored regs.old memory.old response }
-{
-    let place = next_place(regs.rirb_write_pointer(), regs.shape().rirb.entries());
-    let at = regs.rirb_address() as usize + 8 * usize::from(place);
-    store_response(memory, at, response);
-    regs.put(Moved::RirbWp(place));
 }
