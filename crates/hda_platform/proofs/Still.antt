@@ -8,16 +8,16 @@ use Rattle.std.proofs.lemmas.List.Elements.{recursion_from_All, All-push}
 use Rattle.hda_registers.specs.declared.shapes.Shape.{Shape}
 use Rattle.hda_registers.specs.Fields.{Fields, opening, is_out_of_reset}
 use Rattle.hda_registers.specs.Access.{written}
-use Rattle.hda_platform.specs.declared.journal.Entry.{Entry}
-use Rattle.hda_platform.specs.declared.journal.Entry.TheVariants as entry
+use Rattle.hda_world.specs.declared.journal.Entry.{Entry}
+use Rattle.hda_world.specs.declared.journal.Entry.TheVariants as entry
 use Rattle.hda_registers.specs.Moves.{framed, raised}
 use Rattle.hda_registers.specs.declared.shapes.Raise.TheVariants as event
 use Rattle.codec_graph.specs.CodecStates.{CodecState}
-use Rattle.hda_platform.specs.Steps.{discovered, discovered_at, ticked, frame_step}
-use Rattle.hda_platform.specs.Worlds.{World}
-use Rattle.hda_platform.specs.Events.{Event, DmaRead, DmaWrite, happens, after, reset_if, IsHonest, IsPiece}
-use Rattle.hda_platform.specs.Journals.{event_of}
-use Rattle.hda_platform.specs.Tellings.{world_of, Went, Accessed}
+use Rattle.hda_world.specs.Steps.{discovered, discovered_at, ticked, frame_step}
+use Rattle.hda_world.specs.Worlds.{World}
+use Rattle.hda_world.specs.Events.{Event, DmaRead, DmaWrite, happens, after, reset_if, IsHonest, IsPiece}
+use Rattle.hda_world.specs.Journals.{event_of}
+use Rattle.hda_world.specs.Tellings.{world_of, Went, Accessed}
 use Rattle.hda_platform.specs.Stillness.{still_telling, still_world, zeros, piece_end}
 use Rattle.hda_platform.proofs.Telling.{after-append}
 

@@ -3,11 +3,11 @@
 use Rattle.std.specs.Prelude.{ℕ, ◌+◌, List, [], replicate, map}
 use Rattle.hda_registers.specs.declared.shapes.Shape.{Shape}
 use Rattle.hda_registers.specs.Fields.{Fields, opening}
-use Rattle.hda_platform.specs.declared.journal.Entry.{Entry}
-use Rattle.hda_platform.specs.declared.journal.Entry.TheVariants as entry
-use Rattle.hda_platform.specs.Worlds.{World}
-use Rattle.hda_platform.specs.Journals.{event_of}
-use Rattle.hda_platform.specs.Tellings.{Telling}
+use Rattle.hda_world.specs.declared.journal.Entry.{Entry}
+use Rattle.hda_world.specs.declared.journal.Entry.TheVariants as entry
+use Rattle.hda_world.specs.Worlds.{World}
+use Rattle.hda_world.specs.Journals.{event_of}
+use Rattle.hda_world.specs.Tellings.{Telling}
 
 -- a world without codecs, in which nothing waits and nothing streams
 abbrev pub still_world : List ℕ → Fields → World

@@ -2,10 +2,10 @@
 use Rattle.std.specs.Prelude.{◌≡◌, [], ◌∷◌, Option, Some, IfSome, length}
 use Rattle.std.proofs.Common.{ap, ◌∙◌}
 use Rattle.hda_platform.specs.declared.memory_platform.MemoryPlatform.{MemoryPlatform}
-use Rattle.hda_platform.specs.Worlds.{region_size}
-use Rattle.hda_platform.specs.Tellings.{Telling, world_of, Went}
-use Rattle.hda_platform.specs.Events.{Stepped}
-use Rattle.hda_platform.specs.declared.step.Step.TheVariants as step
+use Rattle.hda_world.specs.Worlds.{region_size}
+use Rattle.hda_world.specs.Tellings.{Telling, world_of, Went}
+use Rattle.hda_world.specs.Events.{Stepped}
+use Rattle.hda_world.specs.declared.step.Step.TheVariants as step
 use Rattle.hda_platform.specs.Stillness.{still_telling}
 
 abbrev pub telling_of : MemoryPlatform → Telling

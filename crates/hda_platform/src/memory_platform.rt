@@ -1,8 +1,8 @@
 //! A platform in memory without codecs, for tests of drivers: a link frame passes before each access.
 ghost use Rattle.std.specs.Prelude.{◌≡◌, ◌≤◌, ◌<◌, ◌+◌, ◌*◌, All, IfOk, length, vec_len, vec_capacity};
 ghost use Rattle.std.proofs.Props.{props};
-ghost use Rattle.hda_platform.specs.Worlds.{region_size};
-ghost use Rattle.hda_platform.specs.Tellings.{world_of};
+ghost use Rattle.hda_world.specs.Worlds.{region_size};
+ghost use Rattle.hda_world.specs.Tellings.{world_of};
 ghost use Rattle.hda_platform.specs.Stillness.{still_telling, zeros, piece_end};
 
 mod accesses;
@@ -39,9 +39,9 @@ pub struct MemoryPlatform {
 
 impl MemoryPlatform {
     ghost use Rattle.std.specs.Prelude.{◌≡◌, IfOk, Some, []};
-    ghost use Rattle.hda_platform.specs.Worlds.{region_size};
+    ghost use Rattle.hda_world.specs.Worlds.{region_size};
     ghost use Rattle.hda_platform.specs.Stillness.{still_telling};
-    ghost use Rattle.hda_platform.specs.Journals.{events_of};
+    ghost use Rattle.hda_world.specs.Journals.{events_of};
     ghost use Rattle.hda_platform.specs.ToldBy.{told_by, telling_of};
 
     /// A controller in reset and a region of zeros, with room for so many accesses and bytes of pieces of memory.

@@ -1,6 +1,6 @@
 //! Pieces of memory.
 ghost use Rattle.std.specs.Prelude.{◌≡◌, ◌≤◌, ◌+◌, length, slice_range};
-ghost use Rattle.hda_registers.specs.Memory.{stored};
+ghost use Rattle.ring_entries.specs.Memory.{stored};
 
 /// Copies the piece from a place on.
 pub(crate) fn read_piece(memory: &[u8], first: usize, into: &mut [u8])

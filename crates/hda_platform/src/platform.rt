@@ -1,8 +1,8 @@
 //! What a driver drives: a controller's registers, and memory that the controller reaches.
 ghost use Rattle.std.specs.Prelude.{◌≡◌, ◌≤◌, ◌<◌, ◌+◌, ◌-◌, ◌^◌, ℕ, Option, length, IfSome};
-ghost use Rattle.hda_platform.specs.Worlds.{region_size};
-ghost use Rattle.hda_platform.specs.Tellings.{Telling, world_of, Accessed, Between};
-ghost use Rattle.hda_platform.specs.Events.{Read, Write, DmaRead, DmaWrite};
+ghost use Rattle.hda_world.specs.Worlds.{region_size};
+ghost use Rattle.hda_world.specs.Tellings.{Telling, world_of, Accessed, Between};
+ghost use Rattle.hda_world.specs.Events.{Read, Write, DmaRead, DmaWrite};
 
 use dma_pool::{Lent, Window};
 use hda_registers::Width;

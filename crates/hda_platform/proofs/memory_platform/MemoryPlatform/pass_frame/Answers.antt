@@ -1,8 +1,8 @@
 use Rattle.std.proofs.Common.{length, ap, sym, ◌∙◌, arith}
 use Rattle.std.proofs.lemmas.List.{nil_from_length}
 use Rattle.hda_registers.specs.Moves.{framed}
-use Rattle.hda_platform.specs.Worlds.{World}
-use Rattle.hda_platform.specs.Tellings.{world_of}
+use Rattle.hda_world.specs.Worlds.{World}
+use Rattle.hda_world.specs.Tellings.{world_of}
 use Rattle.hda_platform.specs.ToldBy.{telling_of}
 use Rattle.hda_platform.proofs.Still.{noted_world, noted_event, placed_entry, frame_registers, frame_memory, frame_codecs}
 use Rattle.hda_platform.proofs.memory_platform.MemoryPlatform.pass_frame.Goals as goal

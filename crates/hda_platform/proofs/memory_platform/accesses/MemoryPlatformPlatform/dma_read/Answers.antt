@@ -1,6 +1,6 @@
 use Rattle.std.proofs.Common.{ℕ, List, ◌+◌, length, slice_range, ap, sym, ◌∙◌, arith}
-use Rattle.hda_platform.specs.Events.{DmaRead}
-use Rattle.hda_platform.specs.Worlds.{World}
+use Rattle.hda_world.specs.Events.{DmaRead}
+use Rattle.hda_world.specs.Worlds.{World}
 use Rattle.hda_platform.proofs.Telling.{accessed_after}
 use Rattle.hda_platform.proofs.Still.{noted_piece, last_piece, placed_piece, told_piece, piece_world}
 use Rattle.hda_platform.proofs.memory_platform.accesses.MemoryPlatformPlatform.dma_read.Goals as goal

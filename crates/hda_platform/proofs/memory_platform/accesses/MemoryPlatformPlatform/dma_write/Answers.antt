@@ -1,7 +1,7 @@
 use Rattle.std.proofs.Common.{ℕ, List, length, refl, ap, ◌∙◌, arith}
-use Rattle.hda_registers.specs.Memory.{stored}
-use Rattle.hda_platform.specs.Events.{DmaWrite}
-use Rattle.hda_platform.specs.Worlds.{World}
+use Rattle.ring_entries.specs.Memory.{stored}
+use Rattle.hda_world.specs.Events.{DmaWrite}
+use Rattle.hda_world.specs.Worlds.{World}
 use Rattle.hda_platform.proofs.Telling.{accessed_after}
 use Rattle.hda_platform.proofs.Still.{noted_piece, last_piece, placed_piece, piece_world, whole_write}
 use Rattle.hda_platform.proofs.memory_platform.accesses.MemoryPlatformPlatform.dma_write.Goals as goal

@@ -1,7 +1,7 @@
 use Rattle.std.proofs.Common.{[], length, ap, sym, ◌∙◌, arith}
 use Rattle.hda_registers.specs.Fields.{Fields}
 use Rattle.hda_registers.specs.Access.{written}
-use Rattle.hda_platform.specs.Worlds.{World}
+use Rattle.hda_world.specs.Worlds.{World}
 use Rattle.hda_platform.proofs.Still.{noted_world, placed_entry, reset_memory, reset_registers, reset_codecs, noted_event}
 use Rattle.hda_platform.proofs.Telling.{accessed_after}
 use Rattle.hda_platform.proofs.memory_platform.accesses.MemoryPlatformPlatform.write.Goals as goal

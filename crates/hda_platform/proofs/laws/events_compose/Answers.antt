@@ -1,5 +1,0 @@
-use Rattle.hda_platform.proofs.Telling.{after-append, AreHonest-append}
-use Rattle.hda_platform.proofs.laws.events_compose.Goals as goal
-
-pub returns : goal.returns
-returns c = record { world = after-append; honest = AreHonest-append }

@@ -1,9 +1,0 @@
-use Rattle.std.proofs.Common.{refl}
-use Rattle.hda_registers.proofs.Storing.{piece_is_stored}
-use Rattle.hda_platform.proofs.laws.memory_write_leaves.Goals as goal
-
-pub returns : goal.returns
-returns c = record {
-  rest = λ world at piece. refl;
-  piece = λ world at piece fits. piece_is_stored at piece world.memory fits;
-}

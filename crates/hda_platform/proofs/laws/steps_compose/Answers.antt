@@ -1,5 +1,0 @@
-use Rattle.hda_platform.proofs.Stepping.{after_steps-append}
-use Rattle.hda_platform.proofs.laws.steps_compose.Goals as goal
-
-pub returns : goal.returns
-returns c = after_steps-append

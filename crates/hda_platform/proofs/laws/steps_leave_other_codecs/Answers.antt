@@ -1,5 +1,0 @@
-use Rattle.hda_platform.proofs.Others.{step_leaves_others}
-use Rattle.hda_platform.proofs.laws.steps_leave_other_codecs.Goals as goal
-
-pub returns : goal.returns
-returns c = step_leaves_others

@@ -1,0 +1,275 @@
+-- What the device's steps leave alone.
+use Rattle.std.proofs.Common.{◌≡◌, ◌≢◌, ◌<◌, ℕ, ◌+◌, ◌*◌, ◌^◌, bit_or, Bool, true, false, cond, List, [], ◌∷◌, ◌++◌, length, map, fold, append-nil, refl, sym, ap, subst, ◌∙◌, append_assoc, Option, Some, None, if◌then◌else◌, ◌==◌, inl, inr, arith, rules, tests, lit<, length-append}
+use Rattle.std.proofs.Math.Nat.{mod-lt}
+use Rattle.byteorder.specs.Numbers.{length-bytes_low_first}
+use Rattle.codec_graph.specs.CodecStates.{CodecState, plugged, pin_plugged, node_plugged, cleared}
+use Rattle.hda_registers.specs.declared.shapes.RingSize.{RingSize}
+use Rattle.hda_registers.specs.declared.shapes.RingSize.TheVariants.{Two, Sixteen, Full}
+use Rattle.hda_registers.specs.declared.shapes.Raise.TheVariants as event
+use Rattle.ring_entries.specs.declared.response.Response.{Response}
+use Rattle.hda_registers.specs.Fields.{Fields, Global, Descriptor, entries_of, rirb_address, is_running}
+use Rattle.hda_registers.specs.Moves.{raised, moved, framed}
+use Rattle.hda_registers.specs.declared.shapes.Moved.TheVariants.{CorbRp, RirbWp}
+use Rattle.hda_registers.specs.declared.shapes.Shape.{Shape}
+use Rattle.codec_graph.specs.declared.raw.RawCodec.{RawCodec}
+use Rattle.codec_graph.specs.declared.raw.RawNode.{RawNode}
+use Rattle.codec_graph.specs.Widget.{node_at, is_pin}
+use Rattle.ring_entries.specs.Memory.{IsOutside}
+use Rattle.ring_entries.proofs.Callers.{stored_outside}
+use Rattle.ring_entries.specs.Entries.{response_bytes, response_stored, response_place, responses_stored, after_response, after_responses}
+use Rattle.ring_entries.specs.Engines.{after_batch}
+use Rattle.hda_world.specs.declared.step.Step.{Step}
+use Rattle.hda_world.specs.Worlds.{World, codec_at, with_codec}
+use Rattle.hda_world.specs.Steps.{discovered, after_steps}
+use Rattle.hda_registers.specs.declared.shapes.Width.{Width}
+use Rattle.hda_registers.specs.Access.{written, effects_of}
+use Rattle.hda_world.specs.Events.{reset_if, counted_anew_if, after_write}
+use Rattle.hda_world.specs.Kept.{Kept}
+use Rattle.hda_world.specs.Leaving.{RegistersStay, MemoryStays, IsOutsideRirb, StepsLeave, WentOn, AccessLeaves}
+use Rattle.hda_world.proofs.Stepping.{kept_steps}
+
+-- ---- RIRB
+
+length-response_bytes : (response : Response) → length (response_bytes response) ≡ 8
+length-response_bytes response = simp (length-append, length-bytes_low_first)
+
+has_entries : (size : RingSize) → 0 < entries_of size
+has_entries Two = lit< tt
+has_entries Sixteen = lit< tt
+has_entries Full = lit< tt
+
+place_inside : (fields : Fields) → response_place fields < entries_of fields.shape.rirb
+place_inside fields = mod-lt _ (has_entries fields.shape.rirb)
+
+-- an address outside RIRB is outside the entry that is written next
+outside_entry : (fields : Fields) (response : Response) (at : ℕ) → IsOutsideRirb fields at → IsOutside (rirb_address fields + 8 * response_place fields) (length (response_bytes response)) at
+outside_entry fields response at apart =
+    let place = place_inside fields in
+    let eight = length-response_bytes response in
+    elim apart [ inl below ↦ inl (omega arith) | inr above ↦ inr (rw eight (omega arith)) ]
+
+response_stays : (fields : Fields) (memory : List ℕ) (response : Response) → MemoryStays fields memory (response_stored fields memory response)
+response_stays fields memory response =
+    let held = stored_outside (rirb_address fields + 8 * response_place fields) (response_bytes response) memory in
+    record { size = held.0; outside = λ still at apart. held.1 at (outside_entry fields response at apart) }
+
+-- the registers of RIRB's place stay where they were
+outside_stays : (old new : Fields) → RegistersStay old new → (at : ℕ) → IsOutsideRirb old at → IsOutsideRirb new at
+outside_stays old new stay at apart =
+    let shape = ap (λ (s : Shape). entries_of s.rirb) stay.shape in
+    let base = ap (λ (g : Global). 128 * g.rirb_base) stay.global in
+    elim apart [ inl below ↦ inl (rw base below) | inr above ↦ inr (rw (base, shape) above) ]
+
+memory_both : (old new : Fields) (first second third : List ℕ) → RegistersStay old new → MemoryStays old first second → MemoryStays new second third → MemoryStays old first third
+memory_both old new first second third stay a b = record {
+  size = b.size ∙ a.size;
+  outside = λ still at apart. b.outside (ap is_running (stay.input still) ∙ still) at (outside_stays old new stay at apart) ∙ a.outside still at apart;
+}
+
+-- ---- what the moves do to the registers
+
+stay_corb : (old new : Fields) (place : ℕ) → RegistersStay old new → RegistersStay old (moved new (CorbRp place))
+stay_corb old new place stay = record { shape = stay.shape; input = stay.input; output = stay.output; global = ap (λ (g : Global). record g { corb_read_pointer = place }) stay.global }
+
+stay_rirb : (old new : Fields) (place : ℕ) → RegistersStay old new → RegistersStay old (moved new (RirbWp place))
+stay_rirb old new place stay = record { shape = stay.shape; input = stay.input; output = stay.output; global = ap (λ (g : Global). record g { rirb_write_pointer = place }) stay.global }
+
+stay_flag : (old new : Fields) → RegistersStay old new → RegistersStay old (raised new event.Response)
+stay_flag old new stay = record { shape = stay.shape; input = stay.input; output = stay.output; global = ap (λ (g : Global). record g { response_flag = 1 }) stay.global }
+
+stay_codec : (old new : Fields) (codec : ℕ) → RegistersStay old new → RegistersStay old (raised new (event.Codec codec))
+stay_codec old new codec stay = record { shape = stay.shape; input = stay.input; output = stay.output; global = ap (λ (g : Global). record g { state_status = bit_or new.global.state_status (2 ^ codec) }) stay.global }
+
+stay_codecs : (codecs : List CodecState) (old new : Fields) → RegistersStay old new → RegistersStay old (fold (λ fields codec. raised fields (event.Codec codec.graph.address)) new codecs)
+stay_codecs [] old new stay = stay
+stay_codecs (codec ∷ codecs) old new stay = stay_codecs codecs old (raised new (event.Codec codec.graph.address)) (stay_codec old new codec.graph.address stay)
+
+stay_clock : (old new : Fields) → RegistersStay old new → RegistersStay old (framed new)
+stay_clock old new stay = record { shape = stay.shape; input = stay.input; output = stay.output; global = ap (λ (g : Global). record g { wall_clock = (framed new).global.wall_clock }) stay.global }
+
+-- ---- what the moves do to the codecs and the histories
+
+pub graphs-with_codec : (address : ℕ) (change : CodecState → CodecState) → ((codec : CodecState) → (change codec).graph ≡ codec.graph) → (codecs : List CodecState) → map (λ codec. codec.graph) (with_codec address change codecs) ≡ map (λ codec. codec.graph) codecs
+graphs-with_codec address change keeps [] = refl
+graphs-with_codec address change keeps (codec ∷ codecs) =
+    let first : (named : Bool) → (if named then change codec else codec).graph ≡ codec.graph = λ named. elim named as (λ b. (if b then change codec else codec).graph ≡ codec.graph) [ true ↦ keeps codec | false ↦ refl ] in
+    ap (λ (graph : RawCodec). graph ∷ map (λ codec. codec.graph) (with_codec address change codecs)) (first _) ∙ ap (λ (graphs : List RawCodec). codec.graph ∷ graphs) (graphs-with_codec address change keeps codecs)
+
+pin_graph : (codec : CodecState) (nid : ℕ) (present : Bool) (node : RawNode) (pin : Bool) → (if pin then pin_plugged codec nid present node else codec).graph ≡ codec.graph
+pin_graph codec nid present node true = refl
+pin_graph codec nid present node false = refl
+
+node_graph : (codec : CodecState) (nid : ℕ) (present : Bool) (node : Option RawNode) → (node_plugged codec nid present node).graph ≡ codec.graph
+node_graph codec nid present None = refl
+node_graph codec nid present (Some node) = pin_graph codec nid present node (is_pin node)
+
+pub graph-plugged : (nid : ℕ) (present : Bool) (codec : CodecState) → (plugged codec nid present).graph ≡ codec.graph
+graph-plugged nid present codec = node_graph codec nid present (node_at codec.graph nid)
+
+went_on : {A : Type 0} (old new more : List A) → WentOn old new → WentOn old (new ++ more)
+went_on old new more before = (before.0 ++ more, ap (λ xs. xs ++ more) before.1 ∙ append_assoc old before.0 more)
+
+-- ---- all of it
+
+-- responses one after another
+responses_stay : (responses : List Response) (start fields : Fields) (before memory : List ℕ) → RegistersStay start fields → MemoryStays start before memory
+    → RegistersStay start (after_responses fields responses) × MemoryStays start before (responses_stored fields memory responses)
+responses_stay [] start fields before memory registers stay = (registers, stay)
+responses_stay (response ∷ responses) start fields before memory registers stay =
+    responses_stay responses start (after_response fields) before (response_stored fields memory response)
+    (stay_rirb start fields _ registers) (memory_both start fields before memory _ registers stay (response_stays fields memory response))
+
+stay_discovered : (now : Bool) (codecs : List CodecState) (old new : Fields) → RegistersStay old new → RegistersStay old (if now then discovered codecs new else new)
+stay_discovered true codecs old new stay = stay_codecs codecs old new stay
+stay_discovered false codecs old new stay = stay
+
+leaves : (start : World) → Kept (StepsLeave start)
+leaves start = record {
+  codecs = record {
+    hands = λ world stay can free. record {
+      memory = stay.memory;
+      registers = stay_corb start.registers world.registers _ stay.registers;
+      graphs = graphs-with_codec _ _ (λ codec. refl) world.codecs ∙ stay.graphs;
+      commands = went_on start.commands world.commands _ stay.commands;
+      written = stay.written;
+    };
+    sends = λ world address item rest stay out room are. record {
+      memory = stay.memory;
+      registers = stay.registers;
+      commands = stay.commands;
+      written = stay.written;
+      graphs = graphs-with_codec _ _ (λ codec. refl) world.codecs ∙ stay.graphs;
+    };
+    loses = λ world address stay out. record {
+      memory = stay.memory;
+      registers = stay.registers;
+      commands = stay.commands;
+      written = stay.written;
+      graphs = graphs-with_codec _ _ (λ codec. refl) world.codecs ∙ stay.graphs;
+    };
+    plugs = λ world address nid present stay. record {
+      memory = stay.memory;
+      registers = stay.registers;
+      commands = stay.commands;
+      written = stay.written;
+      graphs = graphs-with_codec address (λ codec. plugged codec nid present) (graph-plugged nid present) world.codecs ∙ stay.graphs;
+    };
+  };
+  responds = λ world response rest stay can are. (
+    let all = responses_stay (response ∷ rest) start.registers world.registers start.memory world.memory stay.registers stay.memory in
+    record {
+      memory = all.1;
+      registers = stay_flag start.registers (after_responses world.registers (response ∷ rest)) all.0;
+      graphs = stay.graphs;
+      commands = stay.commands;
+      written = went_on start.written world.written _ stay.written;
+    });
+  passes = λ world stay out. record {
+    memory = stay.memory;
+    graphs = stay.graphs;
+    commands = stay.commands;
+    written = stay.written;
+    registers = stay_discovered _ world.codecs start.registers (framed world.registers) (stay_clock start.registers world.registers stay.registers);
+  };
+}
+
+nothing_left : (world : World) → StepsLeave world world
+nothing_left world = record {
+  memory = record { size = refl; outside = λ still at apart. refl };
+  registers = record { shape = refl; input = λ still. refl; output = λ still. refl; global = refl };
+  graphs = refl;
+  commands = ([], sym (append-nil world.commands));
+  written = ([], sym (append-nil world.written));
+}
+
+pub steps_leave : (steps : List Step) (world : World) → StepsLeave world (after_steps steps world)
+steps_leave steps world = kept_steps (StepsLeave world) (leaves world) steps world (nothing_left world)
+
+-- ---- accesses
+
+-- what a reset does to each codec leaves each part that it leaves at one
+map-cleared : {A : Type 0} (part : CodecState → A) → ((codec : CodecState) → part (cleared codec) ≡ part codec) → (codecs : List CodecState) → map part (map cleared codecs) ≡ map part codecs
+map-cleared part same [] = refl
+map-cleared part same (codec ∷ codecs) = ap (λ x. x ∷ map part (map cleared codecs)) (same codec) ∙ ap (λ xs. part codec ∷ xs) (map-cleared part same codecs)
+
+reset_leaves : (reset : Bool) (world : World) → AccessLeaves world (reset_if reset world) × ((reset_if reset world).memory ≡ world.memory) × ((reset_if reset world).registers ≡ world.registers)
+reset_leaves true world = (
+  record {
+    commands = refl;
+    written = refl;
+    graphs = map-cleared (λ codec. codec.graph) (λ codec. refl) world.codecs;
+    settings = map-cleared (λ codec. codec.settings) (λ codec. refl) world.codecs;
+    present = map-cleared (λ codec. codec.present) (λ codec. refl) world.codecs;
+  },
+  refl,
+  refl,
+)
+reset_leaves false world = (record { commands = refl; written = refl; graphs = refl; settings = refl; present = refl }, refl, refl)
+
+-- counting the frames anew changes nothing else
+counted_leaves : (anew : Bool) (world : World) → counted_anew_if anew world ≡ record world { frames = (counted_anew_if anew world).frames }
+counted_leaves true world = refl
+counted_leaves false world = refl
+
+pub access_leaves : (world : World) (at value : ℕ) (width : Width) → AccessLeaves world (after_write at width value world)
+access_leaves world at value width =
+    let after_reset = reset_if (effects_of world.registers at width value).reset (record world { registers = written world.registers at width value }) in
+    let left = (reset_leaves (effects_of world.registers at width value).reset (record world { registers = written world.registers at width value })).0 in
+    subst (AccessLeaves world) (sym (counted_leaves (effects_of world.registers at width value).left_reset after_reset))
+    (record { commands = left.commands; written = left.written; graphs = left.graphs; settings = left.settings; present = left.present })
+
+pub write_memory : (world : World) (at value : ℕ) (width : Width) → (after_write at width value world).memory ≡ world.memory
+write_memory world at value width =
+    ap (λ (after : World). after.memory) (counted_leaves (effects_of world.registers at width value).left_reset _)
+    ∙ (reset_leaves (effects_of world.registers at width value).reset (record world { registers = written world.registers at width value })).1
+
+pub write_registers : (world : World) (at value : ℕ) (width : Width) → (after_write at width value world).registers ≡ written world.registers at width value
+write_registers world at value width =
+    ap (λ (after : World). after.registers) (counted_leaves (effects_of world.registers at width value).left_reset _)
+    ∙ (reset_leaves (effects_of world.registers at width value).reset (record world { registers = written world.registers at width value })).2
+
+-- a write without reset changes the registers, and where CRST rises the count of frames
+no_reset : (reset : Bool) (world : World) → reset ≡ false → reset_if reset world ≡ world
+no_reset reset world none = rw none refl
+
+no_rise : (left : Bool) (world : World) → left ≡ false → counted_anew_if left world ≡ world
+no_rise left world none = rw none refl
+
+rises : (left : Bool) (world : World) → left ≡ true → counted_anew_if left world ≡ record world { frames = 0 }
+rises left world is = rw is refl
+
+pub plain_write : (world : World) (at value : ℕ) (width : Width) → (effects_of world.registers at width value).reset ≡ false
+    → (effects_of world.registers at width value).left_reset ≡ false
+    → after_write at width value world ≡ record world { registers = written world.registers at width value }
+plain_write world at value width none still =
+    ap (counted_anew_if (effects_of world.registers at width value).left_reset) (no_reset (effects_of world.registers at width value).reset (record world { registers = written world.registers at width value }) none)
+    ∙ no_rise (effects_of world.registers at width value).left_reset _ still
+
+pub rising_write : (world : World) (at value : ℕ) (width : Width) → (effects_of world.registers at width value).reset ≡ false
+    → (effects_of world.registers at width value).left_reset ≡ true
+    → after_write at width value world ≡ record world { registers = written world.registers at width value; frames = 0 }
+rising_write world at value width none risen =
+    ap (counted_anew_if (effects_of world.registers at width value).left_reset) (no_reset (effects_of world.registers at width value).reset (record world { registers = written world.registers at width value }) none)
+    ∙ rises (effects_of world.registers at width value).left_reset _ risen
+
+-- ---- codecs
+
+find_step : (other : ℕ) (named : Bool) (codec changed : CodecState) (first second : Option CodecState)
+    → (named ≡ true → (codec.graph.address == other) ≡ false) → changed.graph ≡ codec.graph → first ≡ second
+    → cond ((if named then changed else codec).graph.address == other) (Some (if named then changed else codec)) first
+    ≡ cond (codec.graph.address == other) (Some codec) second
+find_step other true codec changed first second apart same rest =
+    let here : (codec.graph.address == other) ≡ false = apart refl in
+    let there : (changed.graph.address == other) ≡ false = ap (λ (graph : RawCodec). graph.address == other) same ∙ here in
+    rw (here, there) rest
+find_step other false codec changed first second apart same rest = ap (cond (codec.graph.address == other) (Some codec)) rest
+
+-- a codec at one address is not at another
+not_other : (here address other : ℕ) → other ≢ address → (here == address) ≡ true → (here == other) ≡ false
+not_other here address other apart is = search (rules, tests)
+
+pub found_apart : (address other : ℕ) (change : CodecState → CodecState) → ((codec : CodecState) → (change codec).graph ≡ codec.graph) → other ≢ address
+    → (codecs : List CodecState) → codec_at other (with_codec address change codecs) ≡ codec_at other codecs
+found_apart address other change keeps apart [] = refl
+found_apart address other change keeps apart (codec ∷ codecs) =
+    find_step other (codec.graph.address == address) codec (change codec) _ _ (not_other codec.graph.address address other apart) (keeps codec) (found_apart address other change keeps apart codecs)

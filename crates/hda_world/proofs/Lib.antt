@@ -1,0 +1,10 @@
+pub mod Callers
+pub mod Stepping
+pub mod Singly
+pub mod Telling
+pub mod Rows
+pub mod Accessing
+pub mod Leaving
+pub mod Others
+pub mod Unread
+pub mod Discovery

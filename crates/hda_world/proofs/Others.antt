@@ -1,0 +1,57 @@
+-- A step leaves the codecs alone that it does not name.
+use Rattle.std.proofs.Common.{◌≡◌, ◌≢◌, ◌+◌, ℕ, zero, suc, Bool, true, false, List, [], ◌∷◌, if◌then◌else◌, ◌&&◌, nat_lt, length, Option, Some, None, refl, ◌∙◌}
+use Rattle.codec_graph.specs.declared.waiting.Waiting.{Waiting}
+use Rattle.codec_graph.specs.CodecStates.{CodecState, taken, plugged, without_first, without_answer}
+use Rattle.hda_registers.specs.Fields.{is_out_of_reset}
+use Rattle.ring_entries.specs.Entries.{next_command}
+use Rattle.ring_entries.specs.Engines.{can_fetch}
+use Rattle.ring_entries.specs.declared.response.TheConstants.{MOST_WAITING}
+use Rattle.hda_world.specs.declared.step.Step.{Step}
+use Rattle.hda_world.specs.declared.step.Step.TheVariants as step
+use Rattle.hda_world.specs.Worlds.{World, codec_at, with_codec}
+use Rattle.hda_world.specs.Steps.{address_of, handed, handed_next, is_busy, sent_first, items_of, lost, passed, frame_step, times, after_step}
+use Rattle.hda_world.specs.Leaving.{NamesOthers}
+use Rattle.hda_world.proofs.Leaving.{found_apart, graph-plugged}
+
+module _ (address : ℕ) where
+  either : (test : Bool) (new old : World) → codec_at address new.codecs ≡ codec_at address old.codecs
+      → codec_at address (if test then new else old).codecs ≡ codec_at address old.codecs
+  either true new old same = same
+  either false new old same = refl
+
+  either_not : (test : Bool) (new old : World) → codec_at address new.codecs ≡ codec_at address old.codecs
+      → codec_at address (if test then old else new).codecs ≡ codec_at address old.codecs
+  either_not true new old same = refl
+  either_not false new old same = same
+
+  corb_by : (can : Bool) (world : World) → address ≢ address_of (next_command world.registers world.memory)
+      → codec_at address (handed_next (if can then Some (next_command world.registers world.memory) else None) world).codecs ≡ codec_at address world.codecs
+  corb_by true world apart =
+      let word = next_command world.registers world.memory in
+      either_not (is_busy (codec_at (address_of word) world.codecs)) (handed word world) world
+      (found_apart (address_of word) address (λ codec. taken codec word) (λ codec. refl) apart world.codecs)
+  corb_by false world apart = refl
+
+  sent_leaves : (items : List Waiting) (codec : ℕ) (world : World) → address ≢ codec → codec_at address (sent_first codec items world).codecs ≡ codec_at address world.codecs
+  sent_leaves [] codec world apart = refl
+  sent_leaves (item ∷ items) codec world apart = found_apart codec address without_first (λ codec. refl) apart world.codecs
+
+  frame_leaves : (world : World) → codec_at address (frame_step world).codecs ≡ codec_at address world.codecs
+  frame_leaves world = either (is_out_of_reset world.registers.global) (passed world) world refl
+
+  frames_leave : (frames : ℕ) (world : World) → codec_at address (times frames frame_step world).codecs ≡ codec_at address world.codecs
+  frames_leave zero world = refl
+  frames_leave (suc frames) world = frames_leave frames (frame_step world) ∙ frame_leaves world
+
+pub step_leaves_others : (step : Step) (world : World) (address : ℕ) → NamesOthers step world address
+    → codec_at address (after_step step world).codecs ≡ codec_at address world.codecs
+step_leaves_others step.Corb world address others = corb_by address (can_fetch world.registers) world others
+step_leaves_others (step.Answer codec) world address others =
+    either address (is_out_of_reset world.registers.global && nat_lt (length world.waiting) MOST_WAITING) _ world (sent_leaves address (items_of (codec_at codec world.codecs)) codec world others)
+step_leaves_others (step.Lose codec) world address others =
+    either address (is_out_of_reset world.registers.global) (lost codec world) world (found_apart codec address without_answer (λ codec. refl) others world.codecs)
+step_leaves_others step.Rirb world address others = refl
+step_leaves_others (step.Fetch stream most) world address others = refl
+step_leaves_others (step.Link frames) world address others = frames_leave address frames world
+step_leaves_others (step.Plug codec nid) world address others = found_apart codec address (λ codec. plugged codec nid true) (graph-plugged nid true) others world.codecs
+step_leaves_others (step.Unplug codec nid) world address others = found_apart codec address (λ codec. plugged codec nid false) (graph-plugged nid false) others world.codecs

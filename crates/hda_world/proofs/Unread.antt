@@ -1,0 +1,75 @@
+-- How far the driver has read is kept by every move of the device.
+use Rattle.std.proofs.Common.{◌≡◌, ◌<◌, ◌≤◌, ◌+◌, ◌-◌, ◌==◌, ◌&&◌, not, ℕ, Bool, true, false, List, [], ◌∷◌, ◌++◌, length, take, min, if◌then◌else◌, refl, sym, ap, subst, ◌∙◌, arith, rules, tests, lit<, length-append}
+use Rattle.std.proofs.lemmas.List.{length-take}
+use Rattle.codec_graph.specs.CodecStates.{CodecState}
+use Rattle.hda_registers.specs.declared.shapes.RingSize.{RingSize}
+use Rattle.hda_registers.specs.declared.shapes.RingSize.TheVariants.{Two, Sixteen, Full}
+use Rattle.hda_registers.specs.declared.shapes.Raise.TheVariants as event
+use Rattle.hda_registers.specs.Fields.{Fields, entries_of, responses_of}
+use Rattle.hda_registers.specs.Moves.{framed, raised}
+use Rattle.ring_entries.specs.declared.response.Response.{Response}
+use Rattle.ring_entries.specs.Entries.{after_response, after_responses}
+use Rattle.ring_entries.specs.Engines.{can_respond, batch_of, batch}
+use Rattle.hda_world.specs.declared.step.Step.{Step}
+use Rattle.hda_world.specs.declared.step.TheConstants.{FRAMES_TO_DISCOVERY}
+use Rattle.hda_world.specs.Worlds.{World}
+use Rattle.hda_world.specs.Steps.{discovered, after_steps}
+use Rattle.hda_world.specs.Kept.{Kept}
+use Rattle.hda_world.specs.Unread.{IsReadTo, HasReadTo}
+use Rattle.hda_world.proofs.Stepping.{batch_some, kept_steps}
+
+some_entries : (size : RingSize) → 1 < entries_of size
+some_entries Two = lit< tt
+some_entries Sixteen = lit< tt
+some_entries Full = lit< tt
+
+-- neither responses nor the discovery move RIRB's size
+size_after : (responses : List Response) (fields : Fields) → (after_responses fields responses).shape ≡ fields.shape
+size_after [] fields = refl
+size_after (response ∷ responses) fields = size_after responses (after_response fields)
+
+flag-discovered : (codecs : List CodecState) (fields : Fields) → ((discovered codecs fields).global.response_flag ≡ fields.global.response_flag) × ((discovered codecs fields).shape ≡ fields.shape)
+flag-discovered [] fields = (refl, refl)
+flag-discovered (codec ∷ codecs) fields = flag-discovered codecs (raised fields (event.Codec codec.graph.address))
+
+flag-frame : (now : Bool) (codecs : List CodecState) (fields : Fields)
+    → ((if now then discovered codecs fields else fields).global.response_flag ≡ fields.global.response_flag) × ((if now then discovered codecs fields else fields).shape ≡ fields.shape)
+flag-frame true codecs fields = flag-discovered codecs fields
+flag-frame false codecs fields = (refl, refl)
+
+-- the engine writes only while the flag is 0
+flag_clear : (fields : Fields) → can_respond fields ≡ true → (fields.global.response_flag == 1) ≡ false
+flag_clear fields can = search (rules, tests)
+
+batch_small : (fields : Fields) (waiting responses : List Response) → can_respond fields ≡ true → batch fields waiting ≡ responses → length responses < entries_of fields.shape.rirb
+batch_small fields waiting responses can are =
+    let some = some_entries fields.shape.rirb in
+    let long : length responses ≡ min (batch_of fields) (length waiting) = ap length (sym are ∙ batch_some fields waiting can) ∙ length-take (batch_of fields) waiting in
+    omega (arith, long)
+
+read_on : (read : ℕ) (world : World) (responses : List Response) → HasReadTo read world → (world.registers.global.response_flag == 1) ≡ false
+    → length responses < entries_of world.registers.shape.rirb → IsReadTo read (length (world.written ++ responses)) 1 (entries_of world.registers.shape.rirb)
+read_on read world responses holds clear small =
+    let all = holds.all clear in
+    let long = length-append world.written responses in
+    record { all = λ set. cc; within = omega (arith, long); few = omega (arith, long) }
+
+pub keeps_reading : (read : ℕ) → Kept (HasReadTo read)
+keeps_reading read = record {
+  codecs = record {
+    hands = λ world holds can free. holds;
+    sends = λ world address item rest holds out room are. holds;
+    loses = λ world address holds out. holds;
+    plugs = λ world address nid present holds. holds;
+  };
+  responds = λ world response rest holds can are. (
+    let size = size_after (response ∷ rest) world.registers in
+    subst (λ shape. IsReadTo read (length (world.written ++ response ∷ rest)) 1 (entries_of shape.rirb)) (sym size)
+    (read_on read world (response ∷ rest) holds (flag_clear world.registers can) (batch_small world.registers world.waiting (response ∷ rest) can are)));
+  passes = λ world holds out. (
+    let same = flag-frame (world.frames + 1 == FRAMES_TO_DISCOVERY) world.codecs (framed world.registers) in
+    rw (same.0, same.1) holds);
+}
+
+pub steps_keep_reading : (read : ℕ) (steps : List Step) (world : World) → HasReadTo read world → HasReadTo read (after_steps steps world)
+steps_keep_reading read steps world holds = kept_steps (HasReadTo read) (keeps_reading read) steps world holds

@@ -1,0 +1,68 @@
+-- What steps of the device and accesses of the driver leave alone. This project's own.
+use Rattle.std.specs.Prelude.{◌≡◌, ◌≢◌, ◌<◌, ◌≤◌, ◌⊎◌, ℕ, ◌+◌, ◌*◌, false, List, ◌++◌, length, map, slice_index}
+use Rattle.codec_graph.specs.declared.raw.RawCodec.{RawCodec}
+use Rattle.hda_registers.specs.Fields.{Fields, entries_of, rirb_address, is_running}
+use Rattle.ring_entries.specs.declared.entries.TheConstants.{RESPONSE_BYTES}
+use Rattle.ring_entries.specs.Entries.{next_command}
+use Rattle.hda_world.specs.declared.step.Step.{Step}
+use Rattle.hda_world.specs.declared.step.Step.TheVariants as step
+use Rattle.hda_world.specs.Worlds.{World}
+use Rattle.hda_world.specs.Steps.{address_of}
+
+-- the registers are the old ones but for what the device itself moves: the wall clock, the codecs' bits of the state change
+-- status, and the pointers and the flag of the rings; a descriptor stays where its stream does not run
+pub record RegistersStay (old new : Fields) : Type 0 where
+  pub shape : new.shape ≡ old.shape
+  pub input : is_running old.input ≡ false → new.input ≡ old.input
+  pub output : is_running old.output ≡ false → new.output ≡ old.output
+  pub global : new.global ≡ record old.global {
+    wall_clock = new.global.wall_clock;
+    state_status = new.global.state_status;
+    corb_read_pointer = new.global.corb_read_pointer;
+    rirb_write_pointer = new.global.rirb_write_pointer;
+    response_flag = new.global.response_flag;
+  }
+
+-- an address that is none of RIRB's
+abbrev pub IsOutsideRirb : Fields → ℕ → Type 0
+IsOutsideRirb fields at = (at < rirb_address fields) ⊎ (rirb_address fields + RESPONSE_BYTES * entries_of fields.shape.rirb ≤ at)
+
+-- the memory has as many bytes as before, and where the input stream does not run, outside RIRB the same
+pub record MemoryStays (fields : Fields) (old new : List ℕ) : Type 0 where
+  pub size : length new ≡ length old
+  pub outside : is_running fields.input ≡ false → (at : ℕ) → IsOutsideRirb fields at → slice_index new at ≡ slice_index old at
+
+-- a history went on
+abbrev pub WentOn : {A : Type 0} → List A → List A → Type 0
+WentOn {A} old new = (more : List A) × (new ≡ old ++ more)
+
+abbrev pub graphs_of : World → List RawCodec
+graphs_of world = map (λ codec. codec.graph) world.codecs
+
+-- what every step of the device leaves alone
+pub record StepsLeave (old new : World) : Type 0 where
+  pub memory : MemoryStays old.registers old.memory new.memory
+  pub registers : RegistersStay old.registers new.registers
+  pub graphs : graphs_of new ≡ graphs_of old
+  pub commands : WentOn old.commands new.commands
+  pub written : WentOn old.written new.written
+
+-- what an event leaves alone that is no step of the device: an access changes the registers or a piece of memory, and nothing of
+-- what the codecs keep but that a reset drops what waits
+pub record AccessLeaves (old new : World) : Type 0 where
+  pub commands : new.commands ≡ old.commands
+  pub written : new.written ≡ old.written
+  pub graphs : graphs_of new ≡ graphs_of old
+  pub settings : map (λ codec. codec.settings) new.codecs ≡ map (λ codec. codec.settings) old.codecs
+  pub present : map (λ codec. codec.present) new.codecs ≡ map (λ codec. codec.present) old.codecs
+
+-- the step does not name the codec of this address. The engine of CORB names the codec of its next command
+abbrev pub NamesOthers : Step → World → ℕ → Type 0
+NamesOthers step.Corb world address = address ≢ address_of (next_command world.registers world.memory)
+NamesOthers (step.Answer codec) world address = address ≢ codec
+NamesOthers (step.Lose codec) world address = address ≢ codec
+NamesOthers step.Rirb world address = Unit {0}
+NamesOthers (step.Fetch stream most) world address = Unit {0}
+NamesOthers (step.Link frames) world address = Unit {0}
+NamesOthers (step.Plug codec nid) world address = address ≢ codec
+NamesOthers (step.Unplug codec nid) world address = address ≢ codec

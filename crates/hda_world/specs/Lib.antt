@@ -1,0 +1,10 @@
+pub mod Worlds
+pub mod Steps
+pub mod Events
+pub mod Journals
+pub mod JournalEvents
+pub mod Tellings
+pub mod Kept
+pub mod Leaving
+pub mod Unread
+pub mod Discovery

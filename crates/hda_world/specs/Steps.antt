@@ -1,0 +1,150 @@
+-- What a step of the device does to the world: the moves of High Definition Audio 1.0a, 4.4 (rings), 5.3 (link frames), 4.3 (codec
+-- discovery) and 7.3.3.15 (presence). When a step comes is the schedule's choice. The queues' limits and that a step does nothing
+-- while CRST is 0, but for what is plugged in, are this project's own.
+use Rattle.std.specs.Prelude.{ℕ, zero, suc, Bool, true, false, ◌==◌, ◌&&◌, ◌+◌, ◌/◌, ◌^◌, nat_lt, List, [], ◌∷◌, ◌++◌, length, drop, fold, Option, None, Some, if◌then◌else◌}
+use Rattle.codec_graph.specs.declared.waiting.Waiting.{Waiting}
+use Rattle.codec_graph.specs.declared.waiting.Waiting.TheVariants.{Answer, Unsolicited}
+use Rattle.codec_graph.specs.CodecStates.{CodecState, taken, is_full, plugged, without_first, without_answer}
+use Rattle.hda_registers.specs.Fields.{Fields, is_out_of_reset}
+use Rattle.hda_registers.specs.Moves.{framed, raised}
+use Rattle.hda_registers.specs.declared.shapes.Raise.TheVariants as event
+use Rattle.ring_entries.specs.Entries.{fetched, responses_stored}
+use Rattle.ring_entries.specs.Engines.{next_word, batch, after_batch}
+use Rattle.ring_entries.specs.declared.response.Response.{Response}
+use Rattle.ring_entries.specs.declared.response.TheConstants.{MOST_WAITING}
+use Rattle.hda_world.specs.declared.step.Step.{Step}
+use Rattle.hda_world.specs.declared.step.Step.TheVariants as step
+use Rattle.hda_world.specs.declared.step.TheConstants.{FRAMES_TO_DISCOVERY}
+use Rattle.hda_world.specs.Worlds.{World, TakenCommand, codec_at, with_codec}
+
+-- ---- commands
+
+-- the address that a command word names: bits 31:28
+abbrev pub address_of : ℕ → ℕ
+address_of word = word / 2 ^ 28
+
+-- what the history of commands gains by a word: nothing where no codec has its address
+abbrev pub taking : ℕ → Option CodecState → List TakenCommand
+taking word None = []
+taking word (Some codec) = record { word = word; codec = codec } ∷ []
+
+-- CORB's engine fetched this word, and the codec of its address took it
+abbrev pub handed : ℕ → World → World
+handed word world = record world {
+  registers = fetched world.registers;
+  codecs = with_codec (address_of word) (λ codec. taken codec word) world.codecs;
+  commands = world.commands ++ taking word (codec_at (address_of word) world.codecs);
+}
+
+-- whether a codec can take no command now
+abbrev pub is_busy : Option CodecState → Bool
+is_busy None = false
+is_busy (Some codec) = is_full codec
+
+-- CORB's engine hands this command to its codec, unless that codec is full
+abbrev pub handed_next : Option ℕ → World → World
+handed_next None world = world
+handed_next (Some word) world = if is_busy (codec_at (address_of word) world.codecs) then world else handed word world
+
+abbrev pub corb_step : World → World
+corb_step world = handed_next (next_word world.registers world.memory) world
+
+-- ---- answers of codecs
+
+-- an item of a codec as a response: an unsolicited one is dropped where the controller does not accept these
+abbrev pub responses_of : Fields → ℕ → Waiting → List Response
+responses_of fields address (Answer value) = record { codec = address; answer = value; unsolicited = false } ∷ []
+responses_of fields address (Unsolicited value) =
+    if fields.global.unsolicited == 1 then record { codec = address; answer = value; unsolicited = true } ∷ [] else []
+
+-- the codec sent its first waiting item to the controller
+abbrev pub sent : ℕ → Waiting → World → World
+sent address item world = record world {
+  codecs = with_codec address without_first world.codecs;
+  waiting = world.waiting ++ responses_of world.registers address item;
+}
+
+abbrev pub sent_first : ℕ → List Waiting → World → World
+sent_first address [] world = world
+sent_first address (item ∷ rest) world = sent address item world
+
+abbrev pub items_of : Option CodecState → List Waiting
+items_of None = []
+items_of (Some codec) = codec.waiting
+
+-- a codec sends nothing while as many responses wait in the controller as may wait
+abbrev pub answer_step : ℕ → World → World
+answer_step address world =
+    if is_out_of_reset world.registers.global && nat_lt (length world.waiting) MOST_WAITING
+    then sent_first address (items_of (codec_at address world.codecs)) world else world
+
+-- the codec lost its first waiting answer to a command
+abbrev pub lost : ℕ → World → World
+lost address world = record world { codecs = with_codec address without_answer world.codecs }
+
+abbrev pub lose_step : ℕ → World → World
+lose_step address world = if is_out_of_reset world.registers.global then lost address world else world
+
+-- ---- responses
+
+-- RIRB's engine wrote these responses, the first that waited, and set its flag where these are some
+abbrev pub responded : List Response → World → World
+responded responses world = record world {
+  registers = after_batch world.registers responses;
+  memory = responses_stored world.registers world.memory responses;
+  waiting = drop (length responses) world.waiting;
+  written = world.written ++ responses;
+}
+
+abbrev pub rirb_step : World → World
+rirb_step world = responded (batch world.registers world.waiting) world
+
+-- ---- link frames
+
+-- the state change status says of each of these codecs that it is there
+abbrev pub discovered : List CodecState → Fields → Fields
+discovered codecs fields = fold (λ fields codec. raised fields (event.Codec codec.graph.address)) fields codecs
+
+-- the codecs are discovered in the frame of this number, and in no other
+abbrev pub discovered_at : ℕ → List CodecState → Fields → Fields
+discovered_at frames codecs fields = if frames == FRAMES_TO_DISCOVERY then discovered codecs fields else fields
+
+-- a link frame passed
+abbrev pub passed : World → World
+passed world = record world {
+  registers = discovered_at (world.frames + 1) world.codecs (framed world.registers);
+  frames = world.frames + 1;
+}
+
+abbrev pub frame_step : World → World
+frame_step world = if is_out_of_reset world.registers.global then passed world else world
+
+-- n moves in a row
+abbrev pub times : ℕ → (World → World) → World → World
+times zero move world = world
+times (suc n) move world = times n move (move world)
+
+-- ---- presence
+
+-- something was plugged into a pin of the codec, or unplugged
+abbrev pub plugged_at : ℕ → ℕ → Bool → World → World
+plugged_at address nid present world = record world { codecs = with_codec address (λ codec. plugged codec nid present) world.codecs }
+
+-- ---- steps
+
+-- the world after a step of the device. A step that names a codec that is not there changes nothing; nothing streams yet, so
+-- `Fetch` changes nothing
+abbrev pub after_step : Step → World → World
+after_step step.Corb world = corb_step world
+after_step (step.Answer codec) world = answer_step codec world
+after_step (step.Lose codec) world = lose_step codec world
+after_step step.Rirb world = rirb_step world
+after_step (step.Fetch stream most) world = world
+after_step (step.Link frames) world = times frames frame_step world
+after_step (step.Plug codec nid) world = plugged_at codec nid true world
+after_step (step.Unplug codec nid) world = plugged_at codec nid false world
+
+-- the world after some steps in order
+abbrev pub after_steps : List Step → World → World
+after_steps [] world = world
+after_steps (step ∷ steps) world = after_steps steps (after_step step world)

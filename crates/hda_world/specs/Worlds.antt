@@ -1,0 +1,37 @@
+-- The world that driver and device act on in turn. This project's own, over the controller and the codecs of High Definition
+-- Audio 1.0a.
+use Rattle.std.specs.Prelude.{ℕ, ◌==◌, List, map, Option, if◌then◌else◌}
+use Rattle.std.specs.List.{find}
+use Rattle.codec_graph.specs.CodecStates.{CodecState}
+use Rattle.hda_registers.specs.Fields.{Fields}
+use Rattle.ring_entries.specs.declared.response.Response.{Response}
+
+-- a command that a codec took, with what later statements ask of that moment: the word, and the codec as it was then
+pub record TakenCommand : Type 0 where
+  pub word : ℕ
+  pub codec : CodecState
+
+-- everything that an access or a device step may read or change. The last two are histories: device steps only append to them,
+-- and nothing ever shortens them.
+pub record World : Type 0 where
+  -- the region that the controller's engines reach, as bytes
+  pub memory : List ℕ
+  pub registers : Fields
+  -- the codecs on the link, ascending by address
+  pub codecs : List CodecState
+  -- the responses that wait in the controller, oldest first
+  pub waiting : List Response
+  -- the link frames since CRST rose, 0 while it is 0
+  pub frames : ℕ
+  -- the commands that codecs took, oldest first
+  pub commands : List TakenCommand
+  -- the responses that were written to RIRB, oldest first
+  pub written : List Response
+
+-- the codec with this address, if there is one
+abbrev pub codec_at : ℕ → List CodecState → Option CodecState
+codec_at address codecs = find (λ codec. codec.graph.address == address) codecs
+
+-- the codecs with a change of the one with this address
+abbrev pub with_codec : ℕ → (CodecState → CodecState) → List CodecState → List CodecState
+with_codec address change codecs = map (λ codec. if codec.graph.address == address then change codec else codec) codecs

@@ -1,0 +1,18 @@
+//! The world that driver and device act on in turn, the device's steps and the driver's accesses, and the journal of both.
+#![tactic(auto)]
+
+mod entry;
+mod journal;
+mod laws;
+mod step;
+mod world;
+
+pub use entry::Entry;
+pub use journal::Journal;
+pub use laws::{
+    accesses_compose, codecs_are_apart, events_compose, memory_write_leaves, register_write_leaves,
+    steps_compose, steps_keep_discovery, steps_keep_reading, steps_leave_other_codecs,
+    steps_write_rirb_alone,
+};
+pub use step::{FRAMES_TO_DISCOVERY, Step};
+pub use world::REGION_BYTES;
