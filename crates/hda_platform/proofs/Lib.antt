@@ -1,6 +1,1 @@
-pub mod Stepping
-pub mod Telling
-pub mod Leaving
 pub mod Still
-pub mod Others
-pub mod Accessing

@@ -1,5 +1,5 @@
 -- What a platform in memory tells, entry by entry.
-use Rattle.std.proofs.Common.{◌≡◌, ◌≤◌, ◌+◌, ◌%◌, ◌^◌, ℕ, Bool, true, false, List, [], ◌∷◌, ◌++◌, length, map, fold, if◌then◌else◌, take, drop, slice_range, refl, sym, ap, subst, ◌∙◌, arith, All}
+use Rattle.std.proofs.Common.{◌≡◌, ◌≤◌, ◌+◌, ◌%◌, ◌^◌, ◌==◌, ℕ, Bool, true, false, List, [], ◌∷◌, ◌++◌, length, map, fold, if◌then◌else◌, take, drop, slice_range, refl, sym, ap, subst, ◌∙◌, arith, All}
 use Rattle.std.proofs.lemmas.List.{take-append-le, map-append, length-append, length-map}
 use Rattle.std.proofs.Math.Seq.{take-length, take-append_seam, drop-append_seam}
 use Rattle.std.specs.List.{AllByRecursion}
@@ -8,18 +8,20 @@ use Rattle.std.proofs.lemmas.List.Elements.{recursion_from_All, All-push}
 use Rattle.hda_registers.specs.declared.shapes.Shape.{Shape}
 use Rattle.hda_registers.specs.Fields.{Fields, opening, is_out_of_reset}
 use Rattle.hda_registers.specs.Access.{written}
-use Rattle.hda_world.specs.declared.journal.Entry.{Entry}
-use Rattle.hda_world.specs.declared.journal.Entry.TheVariants as entry
+use Rattle.hda_world.specs.declared.entry.Entry.{Entry}
+use Rattle.hda_world.specs.declared.entry.Entry.TheVariants as entry
+use Rattle.hda_world.specs.declared.step.TheConstants.{FRAMES_TO_DISCOVERY}
 use Rattle.hda_registers.specs.Moves.{framed, raised}
 use Rattle.hda_registers.specs.declared.shapes.Raise.TheVariants as event
 use Rattle.codec_graph.specs.CodecStates.{CodecState}
-use Rattle.hda_world.specs.Steps.{discovered, discovered_at, ticked, frame_step}
+use Rattle.hda_world.specs.Steps.{discovered, discovered_at, passed, frame_step}
 use Rattle.hda_world.specs.Worlds.{World}
-use Rattle.hda_world.specs.Events.{Event, DmaRead, DmaWrite, happens, after, reset_if, IsHonest, IsPiece}
-use Rattle.hda_world.specs.Journals.{event_of}
+use Rattle.hda_world.specs.Events.{Event, DmaRead, DmaWrite, happens, after, after_write, IsHonest, IsPiece}
+use Rattle.hda_world.specs.Journals.{event_of, piece_end}
 use Rattle.hda_world.specs.Tellings.{world_of, Went, Accessed}
-use Rattle.hda_platform.specs.Stillness.{still_telling, still_world, zeros, piece_end}
-use Rattle.hda_platform.proofs.Telling.{after-append}
+use Rattle.hda_platform.specs.Stillness.{still_telling, still_world, zeros}
+use Rattle.hda_registers.specs.declared.shapes.Width.{Width}
+use Rattle.hda_world.proofs.Callers.{after-append, access_leaves}
 
 -- at the start
 pub start_memory : (shape : Shape) (size : ℕ) (memory : List ℕ) (entries : List Entry) (bytes : List ℕ) → entries ≡ [] → memory ≡ zeros size
@@ -38,15 +40,6 @@ pub world_of-noted : (shape : Shape) (size : ℕ) (entries : List Entry) (entry 
 world_of-noted shape size entries entry bytes =
     ap (λ (events : List Event). after events (still_world (zeros size) (opening shape))) (map-append (event_of bytes) entries (entry ∷ []))
     ∙ after-append (map (event_of bytes) entries) (event_of bytes entry ∷ []) (still_world (zeros size) (opening shape))
-
--- what a reset changes beside the registers and the memory
-pub reset_registers : (reset : Bool) (world : World) → (reset_if reset world).registers ≡ world.registers
-reset_registers true world = refl
-reset_registers false world = refl
-
-pub reset_memory : (reset : Bool) (world : World) → (reset_if reset world).memory ≡ world.memory
-reset_memory true world = refl
-reset_memory false world = refl
 
 -- bytes more do not change the events of the entries that were there
 piece_more : (bytes more : List ℕ) (from to : ℕ) → to ≤ length bytes → slice_range (bytes ++ more) from to ≡ slice_range bytes from to
@@ -138,47 +131,40 @@ whole_write new old written n is long size = sym (rw (size, ← long) (take-appe
 
 -- ---- a link frame
 
-discovered_nothing : (world : World) → world.codecs ≡ [] → (discovered world).registers ≡ world.registers
-discovered_nothing world none = ap (λ (codecs : List CodecState). fold (λ fields codec. raised fields (event.Codec codec.graph.address)) world.registers codecs) none
+discovered_nothing : (codecs : List CodecState) (fields : Fields) → codecs ≡ [] → discovered codecs fields ≡ fields
+discovered_nothing codecs fields none = ap (λ (codecs : List CodecState). discovered codecs fields) none
 
-discovery_registers : (now : Bool) (world : World) → world.codecs ≡ [] → (if now then discovered world else world).registers ≡ world.registers
-discovery_registers true world none = discovered_nothing world none
-discovery_registers false world none = refl
-
-discovery_memory : (now : Bool) (world : World) → (if now then discovered world else world).memory ≡ world.memory
-discovery_memory true world = refl
-discovery_memory false world = refl
-
-discovery_codecs : (now : Bool) (world : World) → (if now then discovered world else world).codecs ≡ world.codecs
-discovery_codecs true world = refl
-discovery_codecs false world = refl
+discovery_registers : (now : Bool) (codecs : List CodecState) (fields : Fields) → codecs ≡ [] → (if now then discovered codecs fields else fields) ≡ fields
+discovery_registers true codecs fields none = discovered_nothing codecs fields none
+discovery_registers false codecs fields none = refl
 
 frame_registers_by : (out : Bool) (world : World) → is_out_of_reset world.registers.global ≡ out → world.codecs ≡ []
-    → (if out then discovered_at (world.frames + 1) (ticked world) else world).registers ≡ framed world.registers
-frame_registers_by true world is none = discovery_registers _ (ticked world) none
+    → (if out then passed world else world).registers ≡ framed world.registers
+frame_registers_by true world is none = discovery_registers (world.frames + 1 == FRAMES_TO_DISCOVERY) world.codecs (framed world.registers) none
 frame_registers_by false world is none =
     sym (ap (λ (out : Bool). record world.registers { global = record world.registers.global { wall_clock = if out then (world.registers.global.wall_clock + 500) % 2 ^ 32 else world.registers.global.wall_clock } }) is)
 
 pub frame_registers : (world : World) → world.codecs ≡ [] → (frame_step world).registers ≡ framed world.registers
 frame_registers world none = frame_registers_by (is_out_of_reset world.registers.global) world refl none
 
-frame_memory_by : (out : Bool) (frames : ℕ) (world : World) → (if out then discovered_at frames (ticked world) else world).memory ≡ world.memory
-frame_memory_by true frames world = discovery_memory _ (ticked world)
-frame_memory_by false frames world = refl
+frame_memory_by : (out : Bool) (world : World) → (if out then passed world else world).memory ≡ world.memory
+frame_memory_by true world = refl
+frame_memory_by false world = refl
 
 pub frame_memory : (world : World) → (frame_step world).memory ≡ world.memory
-frame_memory world = frame_memory_by _ (world.frames + 1) world
+frame_memory world = frame_memory_by _ world
 
-frame_codecs_by : (out : Bool) (frames : ℕ) (world : World) → (if out then discovered_at frames (ticked world) else world).codecs ≡ world.codecs
-frame_codecs_by true frames world = discovery_codecs _ (ticked world)
-frame_codecs_by false frames world = refl
+frame_codecs_by : (out : Bool) (world : World) → (if out then passed world else world).codecs ≡ world.codecs
+frame_codecs_by true world = refl
+frame_codecs_by false world = refl
 
 pub frame_codecs : (world : World) → (frame_step world).codecs ≡ world.codecs
-frame_codecs world = frame_codecs_by _ (world.frames + 1) world
+frame_codecs world = frame_codecs_by _ world
 
-pub reset_codecs : (reset : Bool) (world : World) → length (reset_if reset world).codecs ≡ length world.codecs
-reset_codecs true world = simp length-map
-reset_codecs false world = refl
+-- ---- a write of a register
+
+pub write_codecs : (world : World) (at value : ℕ) (width : Width) → length (after_write at width value world).codecs ≡ length world.codecs
+write_codecs world at value width = simp length-map at (ap length (access_leaves world at value width).graphs)
 
 -- an entry without a piece is one event more
 pub noted_event : (shape : Shape) (size : ℕ) (entries noted : List Entry) (entry : Entry) (bytes : List ℕ) → noted ≡ entries ++ entry ∷ []

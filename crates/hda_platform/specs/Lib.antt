@@ -1,9 +1,2 @@
-pub mod Worlds
-pub mod Steps
-pub mod Events
-pub mod Tellings
-pub mod Kept
-pub mod Leaving
 pub mod Stillness
 pub mod ToldBy
-pub mod Journals

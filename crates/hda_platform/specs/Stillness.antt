@@ -1,12 +1,11 @@
 -- What is told of a platform in memory: it has no codec, and its start is a region of zeros and a controller in reset. This
 -- project's own.
-use Rattle.std.specs.Prelude.{ℕ, ◌+◌, List, [], replicate, map}
+use Rattle.std.specs.Prelude.{ℕ, List, [], replicate}
 use Rattle.hda_registers.specs.declared.shapes.Shape.{Shape}
 use Rattle.hda_registers.specs.Fields.{Fields, opening}
-use Rattle.hda_world.specs.declared.journal.Entry.{Entry}
-use Rattle.hda_world.specs.declared.journal.Entry.TheVariants as entry
+use Rattle.hda_world.specs.declared.entry.Entry.{Entry}
 use Rattle.hda_world.specs.Worlds.{World}
-use Rattle.hda_world.specs.Journals.{event_of}
+use Rattle.hda_world.specs.Journals.{events_in}
 use Rattle.hda_world.specs.Tellings.{Telling}
 
 -- a world without codecs, in which nothing waits and nothing streams
@@ -17,7 +16,7 @@ still_world memory registers = record {
   codecs = [];
   waiting = [];
   frames = 0;
-  taken = [];
+  commands = [];
   written = [];
 }
 
@@ -29,11 +28,5 @@ zeros size = replicate size 0
 abbrev pub still_telling : Shape → ℕ → List Entry → List ℕ → Telling
 still_telling shape size entries bytes = record {
   start = still_world (zeros size) (opening shape);
-  journal = map (event_of bytes) entries;
+  journal = events_in bytes entries;
 }
-
--- the place after the bytes of an entry's piece of memory, 0 where it has none
-abbrev pub piece_end : Entry → ℕ
-piece_end (entry.DmaRead at from len) = from + len
-piece_end (entry.DmaWrite at from len) = from + len
-piece_end _ = 0

@@ -1,22 +1,14 @@
-//! The world that driver and device act on in turn, the journal of what they did, and the platform that a driver drives.
+//! The platform that a driver drives: what it tells of the world, and one in memory for tests of drivers.
 #![tactic(auto)]
 
-mod journal;
-mod laws;
 mod memory_platform;
 mod notes;
 mod pieces;
 mod platform;
-mod step;
 
-pub use journal::{Entry, Journal};
-pub use laws::{
-    codecs_are_apart, events_compose, memory_write_leaves, register_write_leaves, steps_compose,
-    steps_leave_other_codecs, steps_write_rirb_alone,
-};
+pub use hda_world::{Entry, FRAMES_TO_DISCOVERY, Journal, REGION_BYTES, Step};
 pub use memory_platform::MemoryPlatform;
 pub use platform::Platform;
-pub use step::Step;
 
 #[cfg(test)]
 mod tests;

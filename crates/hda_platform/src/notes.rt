@@ -1,7 +1,7 @@
 //! Notes in a journal that has room for them.
 ghost use Rattle.std.specs.Prelude.{◌≡◌, ◌≤◌, ◌<◌, ◌+◌, [], ◌∷◌, ◌++◌, length, vec_len, vec_capacity};
 
-use crate::journal::Entry;
+use hda_world::Entry;
 
 /// Notes an entry for which there is room.
 pub(crate) fn note(entries: &mut Vec<Entry>, entry: Entry)

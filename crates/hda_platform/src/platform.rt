@@ -1,6 +1,6 @@
 //! What a driver drives: a controller's registers, and memory that the controller reaches.
 ghost use Rattle.std.specs.Prelude.{◌≡◌, ◌≤◌, ◌<◌, ◌+◌, ◌-◌, ◌^◌, ℕ, Option, length, IfSome};
-ghost use Rattle.hda_world.specs.Worlds.{region_size};
+ghost use Rattle.hda_world.specs.declared.world.TheConstants.{REGION_BYTES};
 ghost use Rattle.hda_world.specs.Tellings.{Telling, world_of, Accessed, Between};
 ghost use Rattle.hda_world.specs.Events.{Read, Write, DmaRead, DmaWrite};
 
@@ -66,6 +66,6 @@ pub trait Platform {
         ensures same_from { to.new.from ≡ to.old.from }
         ensures same_to { to.new.to ≡ to.old.to };
 
-    /// The region has 4,194,304 bytes.
-    ghost whole: { (p : Self) → IfSome (told p) (λ telling. length (world_of telling).memory ≡ region_size) };
+    /// The region has as many bytes at every moment.
+    ghost whole: { (p : Self) → IfSome (told p) (λ telling. length (world_of telling).memory ≡ REGION_BYTES) };
 }

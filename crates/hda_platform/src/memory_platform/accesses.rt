@@ -2,14 +2,13 @@
 ghost use Rattle.std.specs.Prelude.{◌≡◌, ◌≤◌, ◌<◌, ◌+◌, ◌/◌, [], ◌∷◌};
 ghost use Rattle.hda_platform.specs.ToldBy.{told_by, told_whole, Passed};
 
-use crate::journal::Entry;
 use crate::memory_platform::MemoryPlatform;
 use crate::notes::{note, note_bytes};
 use crate::pieces::{read_piece, write_piece};
 use crate::platform::Platform;
-use crate::step::Step;
 use dma_pool::{Lent, Window};
 use hda_registers::{Shape, Width};
+use hda_world::{Entry, Step};
 
 impl MemoryPlatform {
     /// Lets a link frame pass.

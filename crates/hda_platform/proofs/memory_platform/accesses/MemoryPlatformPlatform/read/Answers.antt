@@ -3,7 +3,7 @@ use Rattle.hda_registers.specs.Fields.{Fields}
 use Rattle.hda_registers.specs.Access.{value_at}
 use Rattle.hda_world.specs.Worlds.{World}
 use Rattle.hda_platform.proofs.Still.{noted_world, placed_entry, noted_event}
-use Rattle.hda_platform.proofs.Telling.{accessed_after}
+use Rattle.hda_world.proofs.Callers.{accessed_after}
 use Rattle.hda_platform.proofs.memory_platform.accesses.MemoryPlatformPlatform.read.Goals as goal
 
 pub invariant_of-self-clause-placed : goal.invariant_of-self-clause-placed
@@ -23,4 +23,4 @@ invariant_of-self-clause-no_codecs c =
 
 pub returns-clause-told : goal.returns-clause-told
 returns-clause-told c =
-    accessed_after _ _ _ _ _ c.pass_frame.ensures.told (record { steps = []; went = noted_event _ _ _ _ _ _ c.note.ensures.items (c.read-value.ensures ∙ ap (λ (fields : Fields). value_at fields c.args.at c.args.width) (sym c.pass_frame.new.self.registers_stand)) })
+    record { is = accessed_after _ _ _ _ _ c.pass_frame.ensures.told (record { steps = []; went = noted_event _ _ _ _ _ _ c.note.ensures.items (c.read-value.ensures ∙ ap (λ (fields : Fields). value_at fields c.args.at c.args.width) (sym c.pass_frame.new.self.registers_stand)) }) }

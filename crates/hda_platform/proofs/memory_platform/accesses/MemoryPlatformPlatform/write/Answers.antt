@@ -2,8 +2,9 @@ use Rattle.std.proofs.Common.{[], length, ap, sym, ◌∙◌, arith}
 use Rattle.hda_registers.specs.Fields.{Fields}
 use Rattle.hda_registers.specs.Access.{written}
 use Rattle.hda_world.specs.Worlds.{World}
-use Rattle.hda_platform.proofs.Still.{noted_world, placed_entry, reset_memory, reset_registers, reset_codecs, noted_event}
-use Rattle.hda_platform.proofs.Telling.{accessed_after}
+use Rattle.hda_platform.proofs.Still.{noted_world, placed_entry, write_codecs, noted_event}
+use Rattle.hda_world.proofs.Callers.{write_memory, write_registers}
+use Rattle.hda_world.proofs.Callers.{accessed_after}
 use Rattle.hda_platform.proofs.memory_platform.accesses.MemoryPlatformPlatform.write.Goals as goal
 
 pub invariant_of-self-clause-placed : goal.invariant_of-self-clause-placed
@@ -11,17 +12,17 @@ invariant_of-self-clause-placed c = placed_entry _ _ _ _ c.note.ensures.items (o
 
 pub invariant_of-self-clause-memory_stands : goal.invariant_of-self-clause-memory_stands
 invariant_of-self-clause-memory_stands c =
-    ap (λ (world : World). world.memory) (noted_world _ _ _ _ _ _ c.note.ensures.items) ∙ reset_memory _ _ ∙ c.pass_frame.new.self.memory_stands
+    ap (λ (world : World). world.memory) (noted_world _ _ _ _ _ _ c.note.ensures.items) ∙ write_memory _ c.args.at c.args.value c.args.width ∙ c.pass_frame.new.self.memory_stands
 
 pub invariant_of-self-clause-registers_stand : goal.invariant_of-self-clause-registers_stand
 invariant_of-self-clause-registers_stand c =
-    ap (λ (world : World). world.registers) (noted_world _ _ _ _ _ _ c.note.ensures.items) ∙ reset_registers _ _
+    ap (λ (world : World). world.registers) (noted_world _ _ _ _ _ _ c.note.ensures.items) ∙ write_registers _ c.args.at c.args.value c.args.width
     ∙ ap (λ (fields : Fields). written fields c.args.at c.args.width c.args.value) c.pass_frame.new.self.registers_stand ∙ sym c.write.ensures.registers
 
 pub invariant_of-self-clause-no_codecs : goal.invariant_of-self-clause-no_codecs
 invariant_of-self-clause-no_codecs c =
-    ap (λ (world : World). length world.codecs) (noted_world _ _ _ _ _ _ c.note.ensures.items) ∙ reset_codecs _ _ ∙ c.pass_frame.new.self.no_codecs
+    ap (λ (world : World). length world.codecs) (noted_world _ _ _ _ _ _ c.note.ensures.items) ∙ write_codecs _ c.args.at c.args.value c.args.width ∙ c.pass_frame.new.self.no_codecs
 
 pub returns-clause-told : goal.returns-clause-told
 returns-clause-told c =
-    accessed_after _ _ _ _ _ c.pass_frame.ensures.told (record { steps = []; went = noted_event _ _ _ _ _ _ c.note.ensures.items tt })
+    record { is = accessed_after _ _ _ _ _ c.pass_frame.ensures.told (record { steps = []; went = noted_event _ _ _ _ _ _ c.note.ensures.items tt }) }
