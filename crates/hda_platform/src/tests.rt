@@ -1,5 +1,8 @@
 //! A platform in memory, access by access.
-ghost use Rattle.std.specs.Prelude.{◌≡◌, ◌≤◌, ◌+◌};
+ghost use Rattle.std.specs.Prelude.{◌≡◌, ◌≤◌, ◌+◌, [], ◌∷◌};
+ghost use Rattle.hda_registers.specs.declared.shapes.Width.TheVariants.{Two, Four};
+ghost use Rattle.hda_world.specs.Events.{Read, Write};
+ghost use Rattle.hda_world.specs.Tellings.{Between, Makes};
 
 use super::*;
 use dma_pool::Pool;
@@ -25,14 +28,31 @@ fn leave_reset<P: Platform>(platform: &mut P) -> u32
     platform.read(0x08, Width::Four)
 }
 
+/// Five accesses in a row, as a driver over any platform makes them: what it did is told without any proof written.
+#[tactic(auto, using(hda_world::proofs::Callers::rows))]
+fn set_rings<P: Platform>(platform: &mut P, corb: u32, rirb: u32)
+    requires { 5 ≤ P.spare_accesses platform.old }
+    ensures room { P.spare_accesses platform.new + 5 ≡ P.spare_accesses platform.old }
+    ensures made { Between (Makes (Write 0x40 Four corb ∷ Write 0x48 Two 0 ∷ Write 0x4A Two 0x8000 ∷ Write 0x50 Four rirb ∷ Write 0x58 Two 0x8000 ∷ []))
+        (P.told platform.old) (P.told platform.new) }
+{
+    platform.write(0x40, Width::Four, corb);
+    platform.write(0x48, Width::Two, 0);
+    platform.write(0x4A, Width::Two, 0x8000);
+    platform.write(0x50, Width::Four, rirb);
+    platform.write(0x58, Width::Two, 0x8000);
+}
+
 #[test]
 fn registers_are_read_and_written(rt: HostRuntime) -> Result<(), Fail> {
-    let mut platform = MemoryPlatform::new(rt.alloc(), shape(), 4, 0)?;
+    let mut platform = MemoryPlatform::new(rt.alloc(), shape(), 9, 0)?;
     assert_eq!(rt; leave_reset(&mut platform), 0x101);
     assert_eq!(rt; platform.read(0x30, Width::Four), 1_000);
+    set_rings(&mut platform, 0x1000, 0x2000);
+    assert_eq!(rt; platform.read(0x50, Width::Four), 0x2000);
     let journal = platform.into_journal();
     let entries = journal.entries.as_slice();
-    assert_eq!(rt; entries.len(), 6);
+    assert_eq!(rt; entries.len(), 18);
     assert_eq!(rt; entries[0], Entry::Step(Step::Link(1)));
     assert_eq!(rt;
         entries[1],

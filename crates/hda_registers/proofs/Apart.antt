@@ -1,15 +1,16 @@
 -- What writes beside the rings' registers and writes of a descriptor's status leave.
-use Rattle.std.proofs.Common.{◌≡◌, ◌≢◌, ◌<◌, ◌≤◌, ◌/◌, ◌-◌, ◌⊎◌, inl, inr, ℕ, true, refl, subst, arith}
+use Rattle.std.proofs.Common.{◌≡◌, ◌≢◌, ◌<◌, ◌≤◌, ◌/◌, ◌%◌, ◌-◌, ◌==◌, ◌&&◌, not, ◌⊎◌, inl, inr, ℕ, Bool, true, false, refl, ap, ◌∙◌, subst, arith}
+use Rattle.std.proofs.lemmas.Bool.{ne_eqb}
 use Rattle.hda_registers.specs.declared.shapes.Width.{Width}
 use Rattle.hda_registers.specs.declared.shapes.Width.TheVariants.{One}
 use Rattle.hda_registers.specs.declared.shapes.Shape.{Shape}
 use Rattle.hda_registers.specs.declared.accesses.Access.{Access}
 use Rattle.hda_registers.specs.Fields.{Global, Fields, is_out_of_reset}
-use Rattle.hda_registers.specs.Access.{access_of, global_written, stream_written, placed, written}
+use Rattle.hda_registers.specs.Access.{access_of, global_written, stream_written, placed, written, effects_of}
 use Rattle.hda_registers.specs.Laws.{LeavesRings, IsBesideRings, ChangesStatus}
 use Rattle.hda_registers.proofs.Groups.{other}
 use Rattle.hda_registers.proofs.Dispatch.{placed-global, placed-input, placed-output, placed-nothing, still-out}
-use Rattle.hda_registers.proofs.Keeping.{after, taken-out, stays-out}
+use Rattle.hda_registers.proofs.Keeping.{after, taken-out, stays-out, ignored}
 
 -- a word that holds no register of a ring
 record IsOtherWord (word : ℕ) : Type 0 where
@@ -81,3 +82,19 @@ status-input f v = after (λ new. ChangesStatus f.input new.input) f 0x83 One v 
 pub status-output : (f : Fields) (v : ℕ) → ChangesStatus f.output (written f 0xA3 One v).output
 unfolding placed stream_written
 status-output f v = after (λ new. ChangesStatus f.output new.output) f 0xA3 One v refl (λ taken. refl)
+
+none_left : (b : Bool) (n m : ℕ) → b ≡ false → (b && (n == m)) ≡ false
+none_left b n m none = rw none refl
+
+pub keeps-reset : (f : Fields) (at : ℕ) (w : Width) (v : ℕ) → at / 4 ≢ 2 → (effects_of f at w v).reset ≡ false
+unfolding effects_of
+keeps-reset f at w v apart = none_left (at == 0x08) (v % 2) 0 (ne_eqb at 0x08 (λ e. apart (ap (λ n. n / 4) e)))
+
+left_by : (b : Bool) (f new : Fields) → is_out_of_reset f.global ≡ b → (is_out_of_reset f.global ≡ false → new ≡ f)
+    → (not (is_out_of_reset f.global) && is_out_of_reset new.global) ≡ false
+left_by true f new out same = rw out refl
+left_by false f new held same = rw (held, ap (λ (x : Fields). is_out_of_reset x.global) (same held) ∙ held) refl
+
+pub keeps-left : (f : Fields) (at : ℕ) (w : Width) (v : ℕ) → at / 4 ≢ 2 → (effects_of f at w v).left_reset ≡ false
+unfolding effects_of
+keeps-left f at w v apart = left_by (is_out_of_reset f.global) f (written f at w v) refl (λ held. ignored f at w v held apart)

@@ -1,10 +1,13 @@
 -- What proofs of the layers above cite: reads and writes at known places.
+-- Beside these: what a write elsewhere than at GCTL, beside the rings' registers, or of a descriptor's status leaves.
 use Rattle.std.proofs.Common.{◌≡◌, ◌+◌, ◌*◌, ◌%◌, ◌/◌, ◌^◌, ℕ, true, refl, arith}
 use Rattle.hda_registers.specs.declared.shapes.Width.TheVariants.{One, Two, Four}
 use Rattle.hda_registers.specs.Fields.{Fields, is_out_of_reset, entries_of}
 use Rattle.hda_registers.specs.Table.{size_code}
 use Rattle.hda_registers.specs.Status.{interrupt_status}
 use Rattle.hda_registers.specs.Access.{value_at, shown_at, global_shown, stream_shown, global_groups_in, stream_groups_in, written, placed, global_written, stream_written}
+pub use Rattle.hda_registers.proofs.Apart.{keeps-reset, keeps-left, leaves-rings, status-input, status-output}
+pub use Rattle.hda_registers.proofs.Keeping.{leaves-streams, changes-input, changes-output, ignored, keeps-status, keeps-shape, stays-held}
 
 pub read-global_control : (f : Fields) → value_at f 0x08 Four ≡ f.global.controller_reset + f.global.unsolicited * 2 ^ 8
 unfolding value_at shown_at global_shown global_groups_in

@@ -3,5 +3,6 @@ pub mod Table
 pub mod Access
 pub mod Status
 pub mod Moves
-pub mod Words
 pub mod Laws
+-- what private functions promise one another
+pub mod Words

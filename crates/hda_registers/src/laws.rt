@@ -6,12 +6,17 @@ ghost use Rattle.hda_registers.specs.declared.shapes.Raise.{Raise};
 ghost use Rattle.hda_registers.specs.declared.shapes.Shape.{Shape};
 ghost use Rattle.hda_registers.specs.declared.shapes.Width.{Width};
 ghost use Rattle.hda_registers.specs.declared.shapes.Width.TheVariants.{One};
-ghost use Rattle.hda_registers.specs.Access.{written};
+ghost use Rattle.hda_registers.specs.Access.{written, effects_of};
 ghost use Rattle.hda_registers.specs.Fields.{Fields, opening, is_out_of_reset};
 ghost use Rattle.hda_registers.specs.Laws.{LeavesStreams, LeavesRings, ChangesInput, ChangesOutput, ChangesStatus, IsBesideStreams, IsBesideRings, IsHeldInReset};
 ghost use Rattle.hda_registers.specs.Moves.{framed, raised, moved};
 
-use crate::places::{INPUT_DESCRIPTOR, OUTPUT_DESCRIPTOR, SDSTS};
+use crate::places::{
+    CORBCTL, CORBLBASE, CORBRP, CORBSIZE, CORBWP, DESCRIPTORS_END, GCAP, GCTL, INPAY,
+    INPUT_DESCRIPTOR, INTCTL, INTSTS, OUTPAY, OUTPUT_DESCRIPTOR, RINTCNT, RIRBCTL, RIRBLBASE,
+    RIRBSIZE, RIRBSTS, RIRBWP, SDBDPL, SDCBL, SDCTL, SDFIFOS, SDFMT, SDLPIB, SDLVI, SDSTS,
+    STATESTS, TICKS_PER_FRAME, VMAJ, VMIN, WAKEEN, WALCLK,
+};
 
 /// A write that is neither at GCTL nor at a stream descriptor leaves both descriptors.
 pub fn write_leaves_streams()
@@ -39,6 +44,24 @@ pub fn status_write_leaves_others()
         ChangesInput fields new × ChangesStatus fields.input new.input }
     ensures output { (fields : Fields) (value : ℕ) → let new = written fields (OUTPUT_DESCRIPTOR + SDSTS) One value in
         ChangesOutput fields new × ChangesStatus fields.output new.output }
+{}
+
+/// A write elsewhere than at GCTL neither resets the controller nor takes it out of reset.
+pub fn write_keeps_reset()
+    ensures reset { (fields : Fields) (at : ℕ) (width : Width) (value : ℕ) → at / 4 ≢ 2 → (effects_of fields at width value).reset ≡ false }
+    ensures left { (fields : Fields) (at : ℕ) (width : Width) (value : ℕ) → at / 4 ≢ 2 → (effects_of fields at width value).left_reset ≡ false }
+{}
+
+/// The registers stand where the standard has them (HDA 1.0a, 3.3), and the wall clock has 500 ticks in a link frame.
+pub fn places_are_the_standards()
+    ensures version { (GCAP ≡ 0x00) × (VMIN ≡ 0x02) × (VMAJ ≡ 0x03) × (OUTPAY ≡ 0x04) × (INPAY ≡ 0x06) }
+    ensures control { (GCTL ≡ 0x08) × (WAKEEN ≡ 0x0C) × (STATESTS ≡ 0x0E) × (INTCTL ≡ 0x20) × (INTSTS ≡ 0x24) × (WALCLK ≡ 0x30) }
+    ensures corb { (CORBLBASE ≡ 0x40) × (CORBWP ≡ 0x48) × (CORBRP ≡ 0x4A) × (CORBCTL ≡ 0x4C) × (CORBSIZE ≡ 0x4E) }
+    ensures rirb { (RIRBLBASE ≡ 0x50) × (RIRBWP ≡ 0x58) × (RINTCNT ≡ 0x5A) × (RIRBCTL ≡ 0x5C) × (RIRBSTS ≡ 0x5D) × (RIRBSIZE ≡ 0x5E) }
+    ensures descriptors { (INPUT_DESCRIPTOR ≡ 0x80) × (OUTPUT_DESCRIPTOR ≡ 0xA0) × (DESCRIPTORS_END ≡ 0xC0) }
+    ensures stream { (SDCTL ≡ 0x00) × (SDSTS ≡ 0x03) × (SDLPIB ≡ 0x04) × (SDCBL ≡ 0x08) × (SDLVI ≡ 0x0C) × (SDFIFOS ≡ 0x10) × (SDFMT ≡ 0x12)
+        × (SDBDPL ≡ 0x18) }
+    ensures clock { TICKS_PER_FRAME ≡ 500 }
 {}
 
 /// STATESTS survives each write to GCTL, a reset too, and no write changes the shape.

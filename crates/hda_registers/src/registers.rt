@@ -125,9 +125,11 @@ impl Registers {
                 self.reset();
             }
         } else if at < OUTPUT_DESCRIPTOR {
-            self.input.write(Access::of(at - INPUT_DESCRIPTOR, width, value));
+            self.input
+                .write(Access::of(at - INPUT_DESCRIPTOR, width, value));
         } else if at < DESCRIPTORS_END {
-            self.output.write(Access::of(at - OUTPUT_DESCRIPTOR, width, value));
+            self.output
+                .write(Access::of(at - OUTPUT_DESCRIPTOR, width, value));
         }
     }
 

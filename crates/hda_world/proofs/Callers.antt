@@ -10,7 +10,7 @@ pub use Rattle.hda_world.proofs.Rows.{makes_both, row_one, row_more, row_both, g
 -- a relation through an access
 pub use Rattle.hda_world.proofs.Accessing.{accessed_then}
 -- what steps and accesses leave alone
-pub use Rattle.hda_world.proofs.Leaving.{steps_leave, access_leaves, write_memory, write_registers, plain_write, rising_write, found_apart, graphs-with_codec}
+pub use Rattle.hda_world.proofs.Leaving.{steps_leave, access_leaves, write_memory, write_registers, plain_write, rising_write, beside_write, beside_rings, found_apart, graphs-with_codec}
 pub use Rattle.hda_world.proofs.Others.{step_leaves_others}
 -- how far the driver has read, and that the codecs are discovered
 pub use Rattle.hda_world.proofs.Unread.{keeps_reading}

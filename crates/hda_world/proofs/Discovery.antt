@@ -1,22 +1,23 @@
 -- That the codecs are discovered is kept by every move of the device.
-use Rattle.std.proofs.Common.{◌≡◌, ◌≤◌, ◌+◌, ◌^◌, ◌==◌, ℕ, Bool, true, false, bit_or, max, List, [], ◌∷◌, map, fold, if◌then◌else◌, refl, sym, ap, subst, ◌∙◌, arith, rules, tests}
+use Rattle.std.proofs.Common.{◌≡◌, ◌<◌, ◌≤◌, ◌+◌, ◌^◌, ◌==◌, ℕ, zero, suc, Bool, true, false, bit_or, max, List, [], ◌∷◌, map, fold, if◌then◌else◌, refl, sym, ap, subst, ◌∙◌, arith, rules, tests, lit<, lit≤}
 use Rattle.std.specs.Prelude.{All}
 use Rattle.std.specs.Int.{bit_at}
 use Rattle.std.proofs.lemmas.Nat.Bits.{bit_at_or, bit_at-lt, bit_at-pow_same}
 use Rattle.std.proofs.lemmas.List.Elements.{All-nil, All-cons, All-head, All-tail}
 use Rattle.codec_graph.specs.CodecStates.{CodecState, plugged}
 use Rattle.hda_registers.specs.declared.shapes.Raise.TheVariants as event
-use Rattle.hda_registers.specs.Fields.{Fields}
+use Rattle.hda_registers.specs.Fields.{Fields, is_out_of_reset}
 use Rattle.hda_registers.specs.Moves.{framed, raised}
 use Rattle.ring_entries.specs.declared.response.Response.{Response}
 use Rattle.ring_entries.specs.Entries.{after_response, after_responses}
 use Rattle.hda_world.specs.declared.step.Step.{Step}
 use Rattle.hda_world.specs.declared.step.TheConstants.{FRAMES_TO_DISCOVERY}
 use Rattle.hda_world.specs.Worlds.{World, with_codec}
-use Rattle.hda_world.specs.Steps.{discovered, after_steps}
+use Rattle.hda_world.specs.declared.step.Step.TheVariants as step
+use Rattle.hda_world.specs.Steps.{discovered, passed, frame_step, times, after_step, after_steps}
 use Rattle.hda_world.specs.Kept.{Kept}
 use Rattle.hda_world.specs.Discovery.{addresses_of, AreSet, IsDiscovered}
-use Rattle.hda_world.proofs.Stepping.{kept_steps}
+use Rattle.hda_world.proofs.Stepping.{kept_step, kept_steps}
 use Rattle.hda_world.proofs.Leaving.{graphs-with_codec, graph-plugged}
 
 -- a bit that is 1 stays so, and the codec's own becomes 1
@@ -88,3 +89,57 @@ keeps_discovery = record {
 
 pub steps_keep_discovery : (steps : List Step) (world : World) → IsDiscovered world → IsDiscovered (after_steps steps world)
 steps_keep_discovery steps world holds = kept_steps IsDiscovered keeps_discovery steps world holds
+
+-- ---- when the codecs are discovered
+
+out_frame : (world : World) → is_out_of_reset world.registers.global ≡ true → frame_step world ≡ passed world
+out_frame world out = ap (λ (out : Bool). if out then passed world else world) out
+
+out-discovered : (codecs : List CodecState) (fields : Fields) → is_out_of_reset (discovered codecs fields).global ≡ is_out_of_reset fields.global
+out-discovered [] fields = refl
+out-discovered (codec ∷ codecs) fields = out-discovered codecs (raised fields (event.Codec codec.graph.address))
+
+out-frame : (now : Bool) (codecs : List CodecState) (fields : Fields) → is_out_of_reset (if now then discovered codecs fields else fields).global ≡ is_out_of_reset fields.global
+out-frame true codecs fields = out-discovered codecs fields
+out-frame false codecs fields = refl
+
+still_out : (world : World) → is_out_of_reset world.registers.global ≡ true → is_out_of_reset (frame_step world).registers.global ≡ true
+still_out world out =
+    ap (λ (after : World). is_out_of_reset after.registers.global) (out_frame world out)
+    ∙ out-frame (world.frames + 1 == FRAMES_TO_DISCOVERY) world.codecs (framed world.registers) ∙ out
+
+frames_count : (n : ℕ) (world : World) → is_out_of_reset world.registers.global ≡ true → (times n frame_step world).frames ≡ world.frames + n
+frames_count zero world out = omega arith
+frames_count (suc n) world out =
+    let one : (frame_step world).frames ≡ world.frames + 1 = ap (λ (after : World). after.frames) (out_frame world out) in
+    frames_count n (frame_step world) (still_out world out) ∙ omega arith
+
+codecs_stay : (n : ℕ) (world : World) → is_out_of_reset world.registers.global ≡ true → (times n frame_step world).codecs ≡ world.codecs
+codecs_stay zero world out = refl
+codecs_stay (suc n) world out = codecs_stay n (frame_step world) (still_out world out) ∙ ap (λ (after : World). after.codecs) (out_frame world out)
+
+not_now : (now : Bool) (codecs : List CodecState) (fields : Fields) → now ≡ false → (if now then discovered codecs fields else fields).global.state_status ≡ fields.global.state_status
+not_now now codecs fields is = rw is refl
+
+not_this : (n m : ℕ) → n < m → (n == m) ≡ false
+not_this n m below = search (rules, tests)
+
+status_stays : (n : ℕ) (world : World) → is_out_of_reset world.registers.global ≡ true → world.frames + n < FRAMES_TO_DISCOVERY
+    → (times n frame_step world).registers.global.state_status ≡ world.registers.global.state_status
+status_stays zero world out early = refl
+status_stays (suc n) world out early =
+    let one : (frame_step world).frames ≡ world.frames + 1 = ap (λ (after : World). after.frames) (out_frame world out) in
+    status_stays n (frame_step world) (still_out world out) (omega (arith, one))
+    ∙ ap (λ (after : World). after.registers.global.state_status) (out_frame world out)
+    ∙ not_now (world.frames + 1 == FRAMES_TO_DISCOVERY) world.codecs (framed world.registers) (not_this (world.frames + 1) FRAMES_TO_DISCOVERY (omega arith))
+
+pub discovered_in_time : (world : World) → is_out_of_reset world.registers.global ≡ true → world.frames ≡ 0
+    → AreSet (after_step (step.Link 25) world).registers.global.state_status (addresses_of world.codecs)
+discovered_in_time world out fresh =
+    let late : FRAMES_TO_DISCOVERY ≤ (times 25 frame_step world).frames = rw (frames_count 25 world out, fresh) (lit≤ tt) in
+    subst (λ (codecs : List CodecState). AreSet (times 25 frame_step world).registers.global.state_status (addresses_of codecs)) (codecs_stay 25 world out)
+    (kept_step IsDiscovered keeps_discovery (step.Link 25) world (λ already. absurd (omega (arith, fresh))) late)
+
+pub not_discovered_before : (world : World) → is_out_of_reset world.registers.global ≡ true → world.frames ≡ 0
+    → (after_step (step.Link 24) world).registers.global.state_status ≡ world.registers.global.state_status
+not_discovered_before world out fresh = status_stays 24 world out (rw fresh (lit< tt))

@@ -1,5 +1,5 @@
 -- What the device's steps leave alone.
-use Rattle.std.proofs.Common.{◌≡◌, ◌≢◌, ◌<◌, ℕ, ◌+◌, ◌*◌, ◌^◌, bit_or, Bool, true, false, cond, List, [], ◌∷◌, ◌++◌, length, map, fold, append-nil, refl, sym, ap, subst, ◌∙◌, append_assoc, Option, Some, None, if◌then◌else◌, ◌==◌, inl, inr, arith, rules, tests, lit<, length-append}
+use Rattle.std.proofs.Common.{◌≡◌, ◌≢◌, ◌<◌, ◌≤◌, ◌⊎◌, ℕ, ◌+◌, ◌*◌, ◌/◌, ◌^◌, bit_or, Bool, true, false, cond, List, [], ◌∷◌, ◌++◌, length, map, fold, append-nil, refl, sym, ap, subst, ◌∙◌, append_assoc, Option, Some, None, if◌then◌else◌, ◌==◌, inl, inr, arith, rules, tests, lit<, length-append}
 use Rattle.std.proofs.Math.Nat.{mod-lt}
 use Rattle.byteorder.specs.Numbers.{length-bytes_low_first}
 use Rattle.codec_graph.specs.CodecStates.{CodecState, plugged, pin_plugged, node_plugged, cleared}
@@ -22,6 +22,8 @@ use Rattle.hda_world.specs.declared.step.Step.{Step}
 use Rattle.hda_world.specs.Worlds.{World, codec_at, with_codec}
 use Rattle.hda_world.specs.Steps.{discovered, after_steps}
 use Rattle.hda_registers.specs.declared.shapes.Width.{Width}
+use Rattle.hda_registers.specs.Laws.{IsBesideRings, LeavesRings}
+use Rattle.hda_registers.proofs.Callers.{keeps-reset, keeps-left, leaves-rings}
 use Rattle.hda_registers.specs.Access.{written, effects_of}
 use Rattle.hda_world.specs.Events.{reset_if, counted_anew_if, after_write}
 use Rattle.hda_world.specs.Kept.{Kept}
@@ -156,14 +158,14 @@ leaves start = record {
     };
   };
   responds = λ world response rest stay can are. (
-    let all = responses_stay (response ∷ rest) start.registers world.registers start.memory world.memory stay.registers stay.memory in
-    record {
-      memory = all.1;
-      registers = stay_flag start.registers (after_responses world.registers (response ∷ rest)) all.0;
-      graphs = stay.graphs;
-      commands = stay.commands;
-      written = went_on start.written world.written _ stay.written;
-    });
+      let all = responses_stay (response ∷ rest) start.registers world.registers start.memory world.memory stay.registers stay.memory in
+      record {
+        memory = all.1;
+        registers = stay_flag start.registers (after_responses world.registers (response ∷ rest)) all.0;
+        graphs = stay.graphs;
+        commands = stay.commands;
+        written = went_on start.written world.written _ stay.written;
+      });
   passes = λ world stay out. record {
     memory = stay.memory;
     graphs = stay.graphs;
@@ -251,6 +253,20 @@ pub rising_write : (world : World) (at value : ℕ) (width : Width) → (effects
 rising_write world at value width none risen =
     ap (counted_anew_if (effects_of world.registers at width value).left_reset) (no_reset (effects_of world.registers at width value).reset (record world { registers = written world.registers at width value }) none)
     ∙ rises (effects_of world.registers at width value).left_reset _ risen
+
+not_control : (at : ℕ) → (at < 0x08) ⊎ (0x0C ≤ at) → at / 4 ≢ 2
+not_control at (inl below) = omega arith
+not_control at (inr above) = omega arith
+
+pub beside_write : (world : World) (at value : ℕ) (width : Width) → IsBesideRings at
+    → after_write at width value world ≡ record world { registers = written world.registers at width value }
+beside_write world at value width beside =
+    let apart = not_control at beside.control in
+    plain_write world at value width (keeps-reset world.registers at width value apart) (keeps-left world.registers at width value apart)
+
+pub beside_rings : (world : World) (at value : ℕ) (width : Width) → IsBesideRings at → LeavesRings world.registers.global (after_write at width value world).registers.global
+beside_rings world at value width beside =
+    subst (λ (fields : Fields). LeavesRings world.registers.global fields.global) (sym (write_registers world at value width)) (leaves-rings world.registers at width value beside)
 
 -- ---- codecs
 

@@ -63,12 +63,12 @@ keeps_reading read = record {
     plugs = λ world address nid present holds. holds;
   };
   responds = λ world response rest holds can are. (
-    let size = size_after (response ∷ rest) world.registers in
-    subst (λ shape. IsReadTo read (length (world.written ++ response ∷ rest)) 1 (entries_of shape.rirb)) (sym size)
-    (read_on read world (response ∷ rest) holds (flag_clear world.registers can) (batch_small world.registers world.waiting (response ∷ rest) can are)));
+      let size = size_after (response ∷ rest) world.registers in
+      subst (λ shape. IsReadTo read (length (world.written ++ response ∷ rest)) 1 (entries_of shape.rirb)) (sym size)
+      (read_on read world (response ∷ rest) holds (flag_clear world.registers can) (batch_small world.registers world.waiting (response ∷ rest) can are)));
   passes = λ world holds out. (
-    let same = flag-frame (world.frames + 1 == FRAMES_TO_DISCOVERY) world.codecs (framed world.registers) in
-    rw (same.0, same.1) holds);
+      let same = flag-frame (world.frames + 1 == FRAMES_TO_DISCOVERY) world.codecs (framed world.registers) in
+      rw (same.0, same.1) holds);
 }
 
 pub steps_keep_reading : (read : ℕ) (steps : List Step) (world : World) → HasReadTo read world → HasReadTo read (after_steps steps world)

@@ -3,15 +3,20 @@ ghost use Rattle.std.specs.Prelude.{◌≡◌, ◌≢◌, ◌<◌, ◌≤◌, �
 ghost use Rattle.hda_registers.specs.declared.shapes.Width.{Width};
 ghost use Rattle.codec_graph.specs.CodecStates.{CodecState};
 ghost use Rattle.hda_world.specs.declared.step.Step.{Step};
+ghost use Rattle.hda_world.specs.declared.step.Step.TheVariants as step;
 ghost use Rattle.hda_world.specs.Worlds.{World, codec_at, with_codec};
 ghost use Rattle.hda_world.specs.Steps.{after_step, after_steps};
 ghost use Rattle.hda_world.specs.Events.{Event, DmaWrite, after, AreHonest, after_write, happens};
 ghost use Rattle.ring_entries.specs.Memory.{PieceStored};
 ghost use Rattle.hda_registers.specs.Access.{written, effects_of};
+ghost use Rattle.hda_registers.specs.Fields.{is_out_of_reset};
+ghost use Rattle.hda_registers.specs.Laws.{IsBesideRings, LeavesRings};
 ghost use Rattle.hda_world.specs.Tellings.{Telling, Makes};
 ghost use Rattle.hda_world.specs.Unread.{HasReadTo};
-ghost use Rattle.hda_world.specs.Discovery.{IsDiscovered};
+ghost use Rattle.hda_world.specs.Discovery.{IsDiscovered, AreSet, addresses_of};
 ghost use Rattle.hda_world.specs.Leaving.{StepsLeave, AccessLeaves, NamesOthers};
+
+use crate::world::REGION_BYTES;
 
 /// Steps in a row are those of the front and then those of the back.
 pub fn steps_compose()
@@ -49,6 +54,20 @@ pub fn steps_keep_discovery()
     ensures { (steps : List Step) (world : World) → IsDiscovered world → IsDiscovered (after_steps steps world) }
 {}
 
+/// After 25 link frames since CRST rose each codec's bit of the state change status is 1, and in the 24 before none changed
+/// (HDA 1.0a, 4.3; that it is in the 25th is this project's own).
+pub fn discovery_comes_in_the_25th_frame()
+    ensures set { (world : World) → is_out_of_reset world.registers.global ≡ true → world.frames ≡ 0
+        → AreSet (after_step (step.Link 25) world).registers.global.state_status (addresses_of world.codecs) }
+    ensures before { (world : World) → is_out_of_reset world.registers.global ≡ true → world.frames ≡ 0
+        → (after_step (step.Link 24) world).registers.global.state_status ≡ world.registers.global.state_status }
+{}
+
+/// The region has 4,194,304 bytes on every platform.
+pub fn region_is_fixed()
+    ensures { REGION_BYTES ≡ 4194304 }
+{}
+
 /// Accesses in a row, and then others, are all of them in a row.
 pub fn accesses_compose()
     ensures { (first second : List Event) (old middle new : Telling) → Makes first old middle → Makes second middle new
@@ -68,6 +87,14 @@ pub fn register_write_leaves()
     ensures rising { (world : World) (at value : ℕ) (width : Width) → (effects_of world.registers at width value).reset ≡ false
         → (effects_of world.registers at width value).left_reset ≡ true
         → after_write at width value world ≡ record world { registers = written world.registers at width value; frames = 0 } }
+{}
+
+/// A write that is neither at GCTL nor at a register of CORB or RIRB changes the registers alone, and none of these.
+pub fn write_beside_rings_leaves()
+    ensures world { (world : World) (at value : ℕ) (width : Width) → IsBesideRings at
+        → after_write at width value world ≡ record world { registers = written world.registers at width value } }
+    ensures rings { (world : World) (at value : ℕ) (width : Width) → IsBesideRings at
+        → LeavesRings world.registers.global (after_write at width value world).registers.global }
 {}
 
 /// A write of a piece changes memory alone, and where the piece lies in the region, that piece of it.

@@ -10,9 +10,10 @@ mod world;
 pub use entry::Entry;
 pub use journal::Journal;
 pub use laws::{
-    accesses_compose, codecs_are_apart, events_compose, memory_write_leaves, register_write_leaves,
-    steps_compose, steps_keep_discovery, steps_keep_reading, steps_leave_other_codecs,
-    steps_write_rirb_alone,
+    accesses_compose, codecs_are_apart, discovery_comes_in_the_25th_frame, events_compose,
+    memory_write_leaves, region_is_fixed, register_write_leaves, steps_compose,
+    steps_keep_discovery, steps_keep_reading, steps_leave_other_codecs, steps_write_rirb_alone,
+    write_beside_rings_leaves,
 };
 pub use step::{FRAMES_TO_DISCOVERY, Step};
 pub use world::REGION_BYTES;

@@ -6,6 +6,16 @@ ghost use Rattle.ring_entries.specs.Memory.{stored, IsOutside, PieceStored};
 ghost use Rattle.ring_entries.specs.Entries.{responses_stored};
 ghost use Rattle.ring_entries.specs.Standing.{StandsAt, IsRirbInside};
 
+use crate::entries::{COMMAND_BYTES, RESPONSE_BYTES};
+use crate::response::MOST_WAITING;
+
+/// A command has 4 bytes and a response 8, as the standard has them (HDA 1.0a, 4.4.1 and 4.4.2), and 256 responses may wait.
+pub fn sizes_are_fixed()
+    ensures command { COMMAND_BYTES ≡ 4 }
+    ensures response { RESPONSE_BYTES ≡ 8 }
+    ensures waiting { MOST_WAITING ≡ 256 }
+{}
+
 /// A piece that lies in the memory stands there once it is stored. Whether or not it does, the memory keeps its length and every
 /// byte outside the piece.
 pub fn stored_pieces_stand()
