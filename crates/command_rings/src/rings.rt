@@ -5,7 +5,9 @@ ghost use Rattle.ring_entries.specs.Engines as engines;
 
 use circular_buffer::HeapCircularBuffer;
 use hda_registers::{Raise, Registers};
-use ring_entries::{MOST_WAITING, Response, batch_of, can_respond, fetch, next_word, write_response};
+use ring_entries::{
+    MOST_WAITING, Response, batch_of, can_respond, fetch, next_word, write_response,
+};
 use std::alloc::{AllocError, Global};
 use std::marker::Model;
 

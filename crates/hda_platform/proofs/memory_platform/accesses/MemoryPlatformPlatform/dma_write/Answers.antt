@@ -8,9 +8,11 @@ use Rattle.hda_platform.proofs.memory_platform.accesses.MemoryPlatformPlatform.d
 
 pub returns-clause-told : goal.returns-clause-told
 returns-clause-told c =
-    record { is = accessed_after _ _ _ _ _ c.pass_frame.ensures.told (noted_piece _ _ _ _ _ _ _ _ _ c.note.ensures.items c.note_bytes-place.ensures.items c.pass_frame.new.self.placed
-    (ap (DmaWrite c.place-address.result) (last_piece _ _ _ _ c.note_bytes-place.ensures.place refl) ∙ ap (λ (a : ℕ). DmaWrite a c.args.bytes.now) c.place-address.ensures.value)
-    (rw c.pass_frame.new.self.memory_stands (omega arith))) }
+    record {
+      is = accessed_after _ _ _ _ _ c.pass_frame.ensures.told (noted_piece _ _ _ _ _ _ _ _ _ c.note.ensures.items c.note_bytes-place.ensures.items c.pass_frame.new.self.placed
+          (ap (DmaWrite c.place-address.result) (last_piece _ _ _ _ c.note_bytes-place.ensures.place refl) ∙ ap (λ (a : ℕ). DmaWrite a c.args.bytes.now) c.place-address.ensures.value)
+          (rw c.pass_frame.new.self.memory_stands (omega arith)));
+    }
 
 pub invariant_of-self-clause-placed : goal.invariant_of-self-clause-placed
 invariant_of-self-clause-placed c = placed_piece _ _ _ _ _ _ c.note_bytes-place.ensures.items c.note.ensures.items (omega arith) c.pass_frame.new.self.placed
