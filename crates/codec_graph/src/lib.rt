@@ -7,6 +7,8 @@ mod copies;
 mod cycles;
 mod fault;
 mod graph;
+mod laws;
+mod limits;
 mod listed;
 mod parameters;
 mod presence;
@@ -18,6 +20,10 @@ pub use answers::answer;
 pub use controls::{Control, ControlKey};
 pub use fault::GraphFault;
 pub use graph::Graph;
+pub use laws::{answers_fit, controls_ascend, limits_agree};
+pub use limits::{
+    MOST_AMPLIFIED, MOST_ANSWERS, MOST_ENTRIES, MOST_UNSOLICITED, NODE_IDENTIFIERS,
+};
 pub use listed::FaultyList;
 pub use presence::Presence;
 pub use raw::{GroupWords, RawCodec, RawNode};

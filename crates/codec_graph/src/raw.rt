@@ -9,6 +9,7 @@ ghost use Rattle.codec_graph.specs.Cycles as cycles;
 ghost use Rattle.codec_graph.specs.Settings as settings;
 
 use crate::controls::Control;
+use crate::limits::MOST_AMPLIFIED;
 use hda_items::Items;
 use std::alloc::Global;
 use verb_codes::{bits_of, has_bit};
@@ -250,7 +251,7 @@ impl RawNode {
     fn amplifies_input(&self, place: u8) -> bool
         ensures { result ≡ (settings.widget_has self.now (Control.InLeft place)) }
     {
-        let inputs = self.list.len().max(1).min(16);
+        let inputs = self.list.len().max(1).min(usize::from(MOST_AMPLIFIED));
         self.has_input_amplifier() && usize::from(place) < inputs
     }
 
