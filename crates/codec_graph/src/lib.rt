@@ -20,7 +20,7 @@ pub use answers::answer;
 pub use controls::{Control, ControlKey};
 pub use fault::GraphFault;
 pub use graph::Graph;
-pub use laws::{answers_fit, controls_ascend, limits_agree};
+pub use laws::{answers_fit, controls_ascend, limits_agree, list_words_have_entries};
 pub use limits::{
     MOST_AMPLIFIED, MOST_ANSWERS, MOST_ENTRIES, MOST_UNSOLICITED, NODE_IDENTIFIERS,
 };
