@@ -96,9 +96,13 @@ node_has (Some node) control = widget_has node control
 abbrev pub has_control : RawCodec → ℕ → Control → Bool
 has_control codec nid control = if nid == codec.group then group_has control else node_has (node_at codec nid) control
 
+-- the mute of an amplifier's side, above its gain in 6:0 (7.3.3.7)
+abbrev pub mute : ℕ
+mute = 2 ^ 7
+
 -- what an amplifier is set to at the opening: muted where it can mute, else its 0 dB step
 abbrev pub amplifier_opening : ℕ → ℕ
-amplifier_opening word = if can_mute word then 0x80 else amplifier_offset word
+amplifier_opening word = if can_mute word then mute else amplifier_offset word
 
 abbrev pub widget_opening : RawCodec → RawNode → Control → ℕ
 widget_opening codec node Select = 0

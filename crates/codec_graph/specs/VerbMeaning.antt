@@ -7,7 +7,7 @@ use Rattle.codec_graph.specs.declared.raw.RawCodec.{RawCodec}
 use Rattle.codec_graph.specs.declared.controls.Control.{Control}
 use Rattle.codec_graph.specs.declared.controls.Control.TheVariants.{Select, Power, Stream, Pin, Unsol, Eapd, Digital, Default, Format, OutLeft, OutRight, InLeft, InRight}
 use Rattle.codec_graph.specs.Widget.{node_at, input_amplifier_word, output_amplifier_word, amplifier_steps, can_mute}
-use Rattle.codec_graph.specs.Settings.{Entries, key, setting_of, put_all, has_control, detects_presence}
+use Rattle.codec_graph.specs.Settings.{Entries, key, mute, setting_of, put_all, has_control, detects_presence}
 use Rattle.verb_codes.specs.declared.verbs.Command.{Command}
 use Rattle.verb_codes.specs.declared.verbs.Verb.{Verb}
 use Rattle.verb_codes.specs.declared.verbs.Verb.TheVariants.{GetParam, GetSelect, SetSelect, GetList, GetPower, SetPower, GetStream, SetStream, GetPin, SetPin, GetUnsol, SetUnsol, GetSense, GetEapd, SetEapd, GetDigital, SetDigital, GetDefault, SetDefault, GetFormat, SetFormat, GetAmp, SetAmp}
@@ -215,7 +215,7 @@ node_input_word codec (Some node) = input_amplifier_word codec node
 -- what an amplifier keeps: the gain up to its steps in 6:0, and in bit 7 the mute where it can mute
 abbrev pub kept_amplifier : ℕ → AmpSetting → ℕ
 kept_amplifier word setting =
-    min setting.gain (amplifier_steps word) + (if setting.mute && can_mute word then 2 ^ 7 else 0)
+    min setting.gain (amplifier_steps word) + (if setting.mute && can_mute word then mute else 0)
 
 abbrev pub written_side : RawCodec → ℕ → Bool → Control → ℕ → Entries
 written_side codec nid named control value = if named then written codec nid control value else []

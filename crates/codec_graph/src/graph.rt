@@ -8,6 +8,7 @@ ghost use Rattle.codec_graph.specs.Faults as faults;
 ghost use Rattle.codec_graph.specs.Cycles.{IsWellFormed, IsFirstFault};
 ghost use Rattle.codec_graph.specs.Candidates as candidates;
 
+use crate::amplifiers::{amplifier_offset, amplifier_steps};
 use crate::copies::copy_codec;
 use crate::cycles::check_cycles;
 use crate::fault::GraphFault;
@@ -201,5 +202,5 @@ fn has_bad_count(codec: &RawCodec) -> bool
 fn has_bad_offset(word: u32) -> bool
     ensures { result ≡ faults.has_bad_offset word }
 {
-    bits_of(word, 8, 7) < bits_of(word, 0, 7)
+    amplifier_steps(word) < amplifier_offset(word)
 }

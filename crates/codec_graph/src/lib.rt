@@ -1,6 +1,7 @@
 //! The graph of a codec's widgets: its words as read, the normalised and checked graph, and its candidate pins.
 #![tactic(auto)]
 
+mod amplifiers;
 mod answers;
 mod controls;
 mod copies;
@@ -16,6 +17,7 @@ mod raw;
 mod settings;
 mod waiting;
 
+pub use amplifiers::{amplifier_offset, amplifier_steps, can_mute};
 pub use answers::answer;
 pub use controls::{Control, ControlKey};
 pub use fault::GraphFault;

@@ -10,15 +10,15 @@ ghost use Rattle.std.specs.Map.{keys_of};
 ghost use Rattle.std.specs.List.Sorted.{IsStrictlySortedBy};
 ghost use Rattle.verb_codes.specs.Verbs.{is_verb_in_range};
 
+use crate::amplifiers::{amplifier_offset, amplifier_steps, can_mute};
 use crate::controls::{Control, ControlKey};
 use crate::graph::Graph;
 use crate::limits::{MOST_AMPLIFIED, NODE_IDENTIFIERS};
 use crate::raw::{RawCodec, RawNode};
-use verb_codes::{bits_of, has_bit};
 use std::alloc::{AllocError, Global};
 use std::collections::BTreeMap;
 use std::marker::Model;
-use verb_codes::{AmpSetting, Command, Verb};
+use verb_codes::{AmpSetting, Command, PinControl, Verb};
 
 /// The controls but those of the input amplifiers.
 const PLAIN_CONTROLS: [Control; 11] = [
@@ -36,7 +36,7 @@ const PLAIN_CONTROLS: [Control; 11] = [
 ];
 
 /// The bits of the pin control that are kept: headphone, out and in (HDA 1.0a, 7.3.3.13).
-const PIN_BITS: u8 = 0xE0;
+const PIN_BITS: u8 = PinControl::HEADPHONE.0 | PinControl::OUTPUT.0 | PinControl::INPUT.0;
 
 /// The bits of the control of unsolicited responses that are kept: enable and tag (HDA 1.0a, 7.3.3.14).
 const UNSOL_BITS: u8 = 0xBF;
@@ -286,8 +286,8 @@ fn amplifier_words(codec: &RawCodec, nid: u8) -> (u32, u32)
 fn kept_amplifier(word: u32, setting: AmpSetting) -> u32
     ensures { result ≡ meaning.kept_amplifier word setting }
 {
-    let gain = u32::from(setting.gain).min(bits_of(word, 8, 7));
-    if setting.mute && has_bit(word, 31) {
+    let gain = u32::from(setting.gain).min(amplifier_steps(word));
+    if setting.mute && can_mute(word) {
         gain + MUTE
     } else {
         gain
@@ -335,9 +335,9 @@ fn widget_opening(codec: &RawCodec, node: &RawNode, control: Control) -> u32
 fn amplifier_opening(word: u32) -> u32
     ensures { result ≡ spec.amplifier_opening word }
 {
-    if has_bit(word, 31) {
-        0x80
+    if can_mute(word) {
+        MUTE
     } else {
-        bits_of(word, 0, 7)
+        amplifier_offset(word)
     }
 }
