@@ -12,3 +12,4 @@ pub mod Narrow
 pub mod Unchanged
 pub mod Sound
 pub mod ListWords
+pub mod Callers
