@@ -1,14 +1,19 @@
 //! The words of a codec as they were read.
 ghost use Rattle.std.specs.Prelude.{◌≡◌, if◌then◌else◌, [], option_copied};
 ghost use Rattle.codec_graph.specs.Widget as widget;
-ghost use Rattle.codec_graph.specs.Words as words;
+ghost use Rattle.codec_graph.specs.Listed.{HasReadableList};
+ghost use Rattle.codec_graph.specs.Widths as widths;
+ghost use Rattle.verb_codes.specs.Words as words;
 ghost use Rattle.codec_graph.specs.Candidates as candidates;
 ghost use Rattle.codec_graph.specs.Cycles as cycles;
 ghost use Rattle.codec_graph.specs.Settings as settings;
 
 use crate::controls::Control;
-use crate::words::{bits_of, has_bit, kept_word};
+use crate::limits::MOST_AMPLIFIED;
+use bitflags::Flags;
 use hda_items::Items;
+use std::alloc::Global;
+use verb_codes::{PinCapabilities, WidgetCapabilities, bits_of};
 
 /// The parameters of the audio function group that its widgets fall back to (HDA 1.0a, 7.3.4.7 to 7.3.4.12).
 #[derive(Debug, Drop)]
@@ -76,6 +81,25 @@ pub struct RawCodec {
 }
 
 impl RawNode {
+    /// A widget with these capabilities of which nothing else is known yet: every other word is 0, and it lists nothing.
+    pub fn new(alloc: Global, caps: u32) -> RawNode
+        ensures { result ≡ widget.plain_node caps }
+    {
+        RawNode {
+            caps,
+            pcm: 0,
+            formats: 0,
+            pin_caps: 0,
+            amp_in: 0,
+            amp_out: 0,
+            power: 0,
+            default: 0,
+            long: false,
+            entries: Items::new(alloc),
+            list: Items::new(alloc),
+        }
+    }
+
     /// Whether the widget is an audio output converter.
     pub fn is_output_converter(&self) -> bool
         ensures { result ≡ widget.is_output_converter self.now }
@@ -122,56 +146,56 @@ impl RawNode {
     pub fn is_stereo(&self) -> bool
         ensures { result ≡ widget.is_stereo self.now }
     {
-        has_bit(self.caps, 0)
+        WidgetCapabilities(self.caps).contains(WidgetCapabilities::STEREO)
     }
 
     /// Whether the widget has an input amplifier.
     pub fn has_input_amplifier(&self) -> bool
         ensures { result ≡ widget.has_input_amplifier self.now }
     {
-        has_bit(self.caps, 1)
+        WidgetCapabilities(self.caps).contains(WidgetCapabilities::INPUT_AMPLIFIER)
     }
 
     /// Whether the widget has an output amplifier.
     pub fn has_output_amplifier(&self) -> bool
         ensures { result ≡ widget.has_output_amplifier self.now }
     {
-        has_bit(self.caps, 2)
+        WidgetCapabilities(self.caps).contains(WidgetCapabilities::OUTPUT_AMPLIFIER)
     }
 
     /// Whether the widget's amplifier words are its own, and not the function group's.
     pub fn overrides_amplifiers(&self) -> bool
         ensures { result ≡ widget.overrides_amplifiers self.now }
     {
-        has_bit(self.caps, 3)
+        WidgetCapabilities(self.caps).contains(WidgetCapabilities::OWN_AMPLIFIER_WORDS)
     }
 
     /// Whether the widget's PCM and stream format words are its own, and not the function group's.
     pub fn overrides_formats(&self) -> bool
         ensures { result ≡ widget.overrides_formats self.now }
     {
-        has_bit(self.caps, 4)
+        WidgetCapabilities(self.caps).contains(WidgetCapabilities::OWN_FORMATS)
     }
 
     /// Whether the widget has a connection list.
     pub fn has_list(&self) -> bool
         ensures { result ≡ widget.has_list self.now }
     {
-        has_bit(self.caps, 8)
+        WidgetCapabilities(self.caps).contains(WidgetCapabilities::CONNECTION_LIST)
     }
 
     /// Whether the widget carries a digital stream.
     pub fn is_digital(&self) -> bool
         ensures { result ≡ widget.is_digital self.now }
     {
-        has_bit(self.caps, 9)
+        WidgetCapabilities(self.caps).contains(WidgetCapabilities::DIGITAL)
     }
 
     /// Whether the widget has power control of its own.
     pub fn has_power_control(&self) -> bool
         ensures { result ≡ widget.has_power_control self.now }
     {
-        has_bit(self.caps, 10)
+        WidgetCapabilities(self.caps).contains(WidgetCapabilities::POWER_CONTROL)
     }
 
     /// The number of the pin's association (HDA 1.0a, 7.3.3.31).
@@ -197,7 +221,7 @@ impl RawNode {
         self.is_pin()
             && self.is_stereo()
             && !self.is_digital()
-            && has_bit(self.pin_caps, 4)
+            && self.can_output()
             && connectivity != 1
             && device <= 2
             && self.association() != 0
@@ -207,28 +231,28 @@ impl RawNode {
     pub fn sends_unsolicited(&self) -> bool
         ensures { result ≡ settings.sends_unsolicited self.now }
     {
-        has_bit(self.caps, 7)
+        WidgetCapabilities(self.caps).contains(WidgetCapabilities::UNSOLICITED)
     }
 
     /// Whether the widget is a pin that can tell whether something is plugged in.
     pub fn detects_presence(&self) -> bool
         ensures { result ≡ settings.detects_presence self.now }
     {
-        self.is_pin() && has_bit(self.pin_caps, 2)
+        self.is_pin() && self.can_detect()
     }
 
     /// Whether the widget is a pin with an external amplifier.
     pub fn has_eapd(&self) -> bool
         ensures { result ≡ settings.has_eapd self.now }
     {
-        self.is_pin() && has_bit(self.pin_caps, 16)
+        self.is_pin() && self.can_amplify()
     }
 
     /// Whether the widget has an input amplifier for the connection at this place.
     fn amplifies_input(&self, place: u8) -> bool
         ensures { result ≡ (settings.widget_has self.now (Control.InLeft place)) }
     {
-        let inputs = self.list.len().max(1).min(16);
+        let inputs = self.list.len().max(1).min(usize::from(MOST_AMPLIFIED));
         self.has_input_amplifier() && usize::from(place) < inputs
     }
 
@@ -249,6 +273,27 @@ impl RawNode {
         }
     }
 
+    /// Whether the pin capabilities have presence detection.
+    fn can_detect(&self) -> bool
+        ensures { result ≡ words.has_bit self.now.pin_caps 2 }
+    {
+        PinCapabilities(self.pin_caps).contains(PinCapabilities::PRESENCE)
+    }
+
+    /// Whether the pin capabilities have an output.
+    fn can_output(&self) -> bool
+        ensures { result ≡ words.has_bit self.now.pin_caps 4 }
+    {
+        PinCapabilities(self.pin_caps).contains(PinCapabilities::OUTPUT)
+    }
+
+    /// Whether the pin capabilities have an external amplifier.
+    fn can_amplify(&self) -> bool
+        ensures { result ≡ words.has_bit self.now.pin_caps 16 }
+    {
+        PinCapabilities(self.pin_caps).contains(PinCapabilities::EAPD)
+    }
+
     fn widget_type(&self) -> u32
         ensures { result ≡ words.bits_of self.now.caps 20 4 }
     {
@@ -257,8 +302,12 @@ impl RawNode {
 
     /// Sets each word that does not apply to 0, and empties a connection list that the widget does not have.
     pub(crate) fn normalise(&mut self)
-        ensures { self.new ≡ widget.normal_node self.old }
+        requires { HasReadableList self.old }
+        ensures value { self.new ≡ widget.normal_node self.old }
+        ensures words { widths.HasNodeWords self.new }
     {
+        // What is read has the width of its type.
+        let _caps = self.caps;
         let own_formats = self.is_converter() && self.overrides_formats();
         let own_amplifiers = self.overrides_amplifiers();
         let is_pin = self.is_pin();
@@ -361,4 +410,11 @@ impl RawCodec {
             self.group_words.formats
         }
     }
+}
+
+/// The word where it applies, and 0 where it does not.
+fn kept_word(applies: bool, word: u32) -> u32
+    ensures { result ≡ widget.kept_word applies word }
+{
+    if applies { word } else { 0 }
 }
