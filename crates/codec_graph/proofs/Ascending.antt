@@ -167,9 +167,9 @@ keys_up_to-more nid i d lt =
 sorted_up_to : (nid i : ℕ) → IsStrictlySortedBy key_cmp (keys_up_to nid i)
 sorted_up_to nid i =
     let whole : keys_below (suc nid) ≡ keys_up_to nid i ++ map (key nid) (drop i controls) =
-        ap (λ xs. keys_below nid ++ map (key nid) xs) (sym (take-append-drop i controls))
-        ∙ ap (λ ks. keys_below nid ++ ks) (map-append (key nid) (take i controls) (drop i controls))
-        ∙ sym (append_assoc (keys_below nid) (map (key nid) (take i controls)) (map (key nid) (drop i controls))) in
+    ap (λ xs. keys_below nid ++ map (key nid) xs) (sym (take-append-drop i controls))
+    ∙ ap (λ ks. keys_below nid ++ ks) (map-append (key nid) (take i controls) (drop i controls))
+    ∙ sym (append_assoc (keys_below nid) (map (key nid) (take i controls)) (map (key nid) (drop i controls))) in
     sorted_front key_cmp (keys_up_to nid i) (map (key nid) (drop i controls)) (subst (IsStrictlySortedBy key_cmp) whole (sorted_below (suc nid)))
 
 pub keys_of-opened : (codec : RawCodec) (ks : List ControlKey) → keys_of (opened codec ks) ≡ ks
@@ -182,9 +182,9 @@ pub opens_last : (codec : RawCodec) (settings : Entries) (nid i : ℕ) (control 
 opens_last codec settings nid i control d lt is so_far =
     let has : ControlKey → Bool = λ at. has_control codec at.nid at.control in
     let more : keys_up_to nid (i + 1) ≡ keys_up_to nid i ++ key nid control ∷ [] =
-        keys_up_to-more nid i d lt ∙ ap (λ c. keys_up_to nid i ++ key nid c ∷ []) is in
+    keys_up_to-more nid i d lt ∙ ap (λ c. keys_up_to nid i ++ key nid c ∷ []) is in
     let names : keys_of settings ≡ filter has (keys_up_to nid i) =
-        ap (λ (entries : Entries). keys_of entries) so_far ∙ keys_of-opened codec (filter has (keys_up_to nid i)) in
+    ap (λ (entries : Entries). keys_of entries) so_far ∙ keys_of-opened codec (filter has (keys_up_to nid i)) in
     subst (λ ks. IsStrictlySortedBy key_cmp (ks ++ key nid control ∷ [])) (sym names)
     (sorted_kept_last key_cmp has (keys_up_to nid i) (key nid control) (subst (IsStrictlySortedBy key_cmp) more (sorted_up_to nid (i + 1))))
 

@@ -59,8 +59,8 @@ nids_small before entry sound =
     let nids = nids_of before entry in
     let small = entry_small before entry sound in
     All-from_get_or (λ nid. nid < 128) nids 0 (λ i h. let within : i < entry.nid + 1 - first = omega (arith, length-range_with_len first (entry.nid + 1 - first)) in
-      let e = get_or-range_with_len first (entry.nid + 1 - first) i 0 within in
-      rw e (omega arith))
+    let e = get_or-range_with_len first (entry.nid + 1 - first) i 0 within in
+    rw e (omega arith))
 
 -- so has each node of an expansion
 expansion_small : (before : Option Entry) (entries : List Entry) (nids : List ℕ) → expansion_after before entries ≡ Ok nids → All (λ nid. nid < 128) nids
