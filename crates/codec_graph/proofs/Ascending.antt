@@ -1,5 +1,5 @@
 -- The keys of a codec's settings ascend.
-use Rattle.std.proofs.Common.{◌≡◌, ◌<◌, ◌≤◌, ◌+◌, ◌&&◌, ℕ, zero, suc, Bool, true, false, cond, List, [], ◌∷◌, ◌++◌, map, take, drop, length, get_or, refl, sym, ap, subst, ◌∙◌, Less, Equal, Greater, arith, lit<, add-one, nat_cmp, ◌-◌}
+use Rattle.std.proofs.Common.{◌≡◌, ◌<◌, ◌≤◌, ◌+◌, ◌&&◌, ℕ, zero, suc, Bool, true, false, cond, List, [], ◌∷◌, ◌++◌, map, take, drop, length, get_or, refl, sym, ap, subst, ◌∙◌, Less, Equal, Greater, arith, add-one, ◌-◌}
 use Rattle.std.specs.Prelude.{filter}
 use Rattle.std.specs.List.{AllByRecursion, list_all, range_with_len}
 use Rattle.std.specs.List.Sorted.{IsStrictlySortedBy}
@@ -16,7 +16,7 @@ use Rattle.std.proofs.lemmas.List.Kept.{IsStrictlySortedBy-filter}
 use Rattle.std.proofs.lemmas.List.FromFn.{get_or-map-range_with_len, length-map-range_with_len}
 use Rattle.codec_graph.specs.declared.raw.RawCodec.{RawCodec}
 use Rattle.codec_graph.specs.declared.controls.Control.{Control}
-use Rattle.codec_graph.specs.declared.controls.Control.TheVariants.{Select, InLeft, InRight}
+use Rattle.codec_graph.specs.declared.controls.Control.TheVariants.{InLeft, InRight}
 use Rattle.codec_graph.specs.declared.controls.ControlKey.{ControlKey}
 use Rattle.codec_graph.specs.contracts.controls.ControlOrd.TheImpl as control_order
 use Rattle.codec_graph.specs.Settings.{Entries, key, key_cmp, has_control, opening_value, plain_controls, controls, keys_below, had, controls_of, opened, IsSettingsOf}

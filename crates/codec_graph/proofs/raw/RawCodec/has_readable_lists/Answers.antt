@@ -1,7 +1,7 @@
-use Rattle.std.proofs.Common.{◌≡◌, ◌<◌, ◌≤◌, List, length, take, get_or, refl, ap, subst, ◌∙◌, arith}
+use Rattle.std.proofs.Common.{◌≡◌, length, take, get_or, refl, ap, subst, arith}
 use Rattle.std.specs.Prelude.{All}
 use Rattle.std.proofs.lemmas.List.{take_all}
-use Rattle.std.proofs.lemmas.List.Elements.{All-more, All-get_or}
+use Rattle.std.proofs.lemmas.List.Elements.{All-more}
 use Rattle.codec_graph.specs.Listed.{HasReadableList}
 use Rattle.codec_graph.proofs.raw.RawCodec.has_readable_lists.Goals as goal
 
