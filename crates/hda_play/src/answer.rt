@@ -1,7 +1,7 @@
 //! What the program answers to its words, before anything is written.
 ghost use Rattle.std.specs.Prelude.{◌≡◌, ◌≤◌, ℕ, List, map, string_bytes, IfOk, IfSome, IfNone, OnOk, ◌++◌};
 ghost use Rattle.hda_outside.specs.Counts.{Rose};
-ghost use Rattle.hda_play.specs.Answers.{IsCommand, IsRouteOf, IsMeant, RouteAnswers, ReadingAnswers, MachineAnswers, IsRoutePlan, ArePlans, has_route, is_route, plans_lines};
+ghost use Rattle.hda_play.specs.Answers.{IsCommand, IsRouteOf, begins_with_dash, IsMeant, RouteAnswers, ReadingAnswers, MachineAnswers, IsRoutePlan, ArePlans, has_route, is_route, plans_lines};
 ghost use Rattle.std.specs.List.{list_any};
 ghost use Rattle.hda_play.specs.Text.{refused_line, unreadable_line};
 
@@ -49,7 +49,7 @@ fn route_file(words: &[String]) -> Option<&str>
 {
     match words {
         [command, file] => {
-            if command.as_str() == "route" {
+            if command.as_str() == "route" && !begins_with_dash(file.as_str()) {
                 Some(file.as_str())
             } else {
                 None
@@ -57,6 +57,13 @@ fn route_file(words: &[String]) -> Option<&str>
         }
         _ => None,
     }
+}
+
+/// Whether a word begins with `-`, as no name of a file does on the command line.
+fn begins_with_dash(word: &str) -> bool
+    ensures { result ≡ begins_with_dash word.now }
+{
+    word.starts_with('-')
 }
 
 /// What `route` answers for the codec file of this name.
