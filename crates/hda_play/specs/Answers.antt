@@ -36,6 +36,10 @@ IsRouteOf words name = (words ≡ codes "route" ∷ name ∷ []) × (begins_with
 abbrev pub IsCommand : List (List ℕ) → Type 0
 IsCommand words = (name : List ℕ) × IsRouteOf words name
 
+-- how often a shelf was asked under a name changes for the codec file of these words alone
+abbrev pub AsksForItsFile : List (List ℕ) → (List ℕ → ℕ) → (List ℕ → ℕ) → Type 0
+AsksForItsFile words before after = (name : List ℕ) → (IsRouteOf words name → ⊥) → after name ≡ before name
+
 -- 48 kHz, 16 bits, 2 channels
 abbrev pub IsRouteFormat : Format → Type 0
 IsRouteFormat format = (format.rate ≡ R48) × (format.bits ≡ B16) × (format.channels ≡ 2)
