@@ -23,8 +23,3 @@ pub use raw::{GroupWords, RawCodec, RawNode};
 pub use settings::Settings;
 pub use waiting::Waiting;
 pub use words::{bits_of, has_bit};
-
-#[cfg(test)]
-mod tests;
-#[cfg(test)]
-mod verb_tests;

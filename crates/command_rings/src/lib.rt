@@ -8,6 +8,3 @@ mod rings;
 
 pub use laws::responses_stand;
 pub use rings::Rings;
-
-#[cfg(test)]
-mod tests;

@@ -23,6 +23,3 @@ pub use reading::{ReadAll, read_all};
 pub use shelf::Shelf;
 pub use sink::Sink;
 pub use writing::{PIECE_LEN, write_all};
-
-#[cfg(test)]
-mod tests;

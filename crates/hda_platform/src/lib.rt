@@ -17,6 +17,3 @@ pub use laws::{
 pub use memory_platform::MemoryPlatform;
 pub use platform::Platform;
 pub use step::Step;
-
-#[cfg(test)]
-mod tests;

@@ -20,6 +20,3 @@ pub use laws::{
 pub use registers::Registers;
 pub use rings::Response;
 pub use shapes::{Effects, Moved, Raise, RingSize, Shape, Width};
-
-#[cfg(test)]
-mod tests;

@@ -18,6 +18,3 @@ pub use lists::{expand_list, pack_list};
 pub use parameters::Parameter;
 pub use verbs::{Command, Verb};
 pub use words::{decode, encode};
-
-#[cfg(test)]
-mod tests;

@@ -1,5 +1,5 @@
 //! Both rings over a slice of memory.
-use super::*;
+use command_rings::Rings;
 use hda_registers::{Registers, RingSize, Shape, Width};
 use std::test::Fail;
 

@@ -1,8 +1,8 @@
 //! A platform in memory, access by access.
 ghost use Rattle.std.specs.Prelude.{◌≡◌, ◌≤◌, ◌+◌};
 
-use super::*;
 use dma_pool::Pool;
+use hda_platform::{Entry, MemoryPlatform, Platform, Step};
 use hda_registers::{RingSize, Shape, Width};
 use std::test::Fail;
 
