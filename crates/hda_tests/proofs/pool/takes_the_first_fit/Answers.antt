@@ -1,4 +1,4 @@
-use Rattle.std.proofs.Common.{◌≡◌, ◌≢◌, ◌/◌, ℕ, List, sym, subst, rules}
+use Rattle.std.proofs.Common.{◌≢◌, ◌/◌, sym, subst, rules}
 use Rattle.std.specs.Prelude.{Contains}
 use Rattle.std.specs.Int.{div_ceil}
 use Rattle.dma_pool.specs.declared.runs.Run.{Run}
