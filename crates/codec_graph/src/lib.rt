@@ -31,8 +31,3 @@ pub use raw::{GroupWords, RawCodec, RawNode};
 pub use settings::Settings;
 pub use verb_codes::{bits_of, has_bit};
 pub use waiting::Waiting;
-
-#[cfg(test)]
-mod tests;
-#[cfg(test)]
-mod verb_tests;

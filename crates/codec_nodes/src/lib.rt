@@ -5,6 +5,3 @@ mod codec;
 mod queue;
 
 pub use codec::Codec;
-
-#[cfg(test)]
-mod tests;

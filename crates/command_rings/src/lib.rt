@@ -5,6 +5,3 @@
 mod rings;
 
 pub use rings::Rings;
-
-#[cfg(test)]
-mod tests;

@@ -7,6 +7,3 @@ mod runs;
 
 pub use blocks::{Block, Lent, Window};
 pub use pool::{GRANULE, NoRun, Pool};
-
-#[cfg(test)]
-mod tests;

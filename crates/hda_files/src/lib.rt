@@ -49,6 +49,3 @@ mod values;
 pub use fault::{FileFault, Key, Place};
 pub use machine::{CodecFile, Machine, read_machine};
 pub use top::RingSize;
-
-#[cfg(test)]
-mod tests;

@@ -110,24 +110,3 @@ impl<T: Copy> Items<T> {
         Items::from_slice(self.allocator(), self.as_slice())
     }
 }
-
-#[cfg(test)]
-mod tests {
-    use super::*;
-
-    #[test]
-    fn keeps_its_items(rt: HostRuntime) -> Result<(), AllocError> {
-        let mut list = Items::new(rt.alloc());
-        assert!(rt; list.is_empty());
-        list.push(7u8)?;
-        list.push(9u8)?;
-        assert_eq!(rt; list.len(), 2);
-        assert!(rt; list.as_slice() == [7, 9].as_slice());
-        let copy = Items::from_slice(rt.alloc(), list.as_slice())?;
-        list.clear();
-        assert!(rt; list.is_empty());
-        let back = Items::from_vec(copy.into_vec());
-        assert!(rt; back.as_slice() == [7, 9].as_slice());
-        Ok(())
-    }
-}

@@ -22,7 +22,4 @@ pub use memory_sink::{MemSink, SureSink};
 pub use reading::{ReadAll, read_all};
 pub use shelf::Shelf;
 pub use sink::Sink;
-pub use writing::write_all;
-
-#[cfg(test)]
-mod tests;
+pub use writing::{PIECE_LEN, write_all};

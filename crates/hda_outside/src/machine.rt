@@ -50,6 +50,8 @@ impl<R: Files> Shelf for FileShelf<R> {
 
     ghost given = { λ s. s.given };
 
+    ghost asked = { λ _ _. 0 };
+
     fn read_at(
         &mut self,
         _alloc: Global,
@@ -105,6 +107,8 @@ impl<R: Print> Sink for OutSink<R> {
     ghost taken = { λ _. None };
 
     ghost faults = { λ s. s };
+
+    ghost longest = { λ _. 0 };
 
     fn write(&mut self, _alloc: Global, bytes: &[u8]) -> Result<usize, Fault>
         ensures bound { IfOk result (λ n. n ≤ length bytes.now) }

@@ -67,6 +67,8 @@ impl Shelf for MemShelf {
 
     ghost given = { λ s. s.given };
 
+    ghost asked = { λ _ _. 0 };
+
     fn read_at(
         &mut self,
         _alloc: Global,
@@ -144,6 +146,8 @@ impl Shelf for SureShelf {
     ghost faults = { λ s name. fault_count s.files 0 s.missing name };
 
     ghost given = { λ s. s.given };
+
+    ghost asked = { λ _ _. 0 };
 
     fn read_at(
         &mut self,

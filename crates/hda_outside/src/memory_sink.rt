@@ -62,6 +62,8 @@ impl Sink for MemSink {
 
     ghost faults = { λ s. s.faults };
 
+    ghost longest = { λ _. 0 };
+
     fn write(&mut self, _alloc: Global, bytes: &[u8]) -> Result<usize, Fault>
         ensures bound { IfOk result (λ n. n ≤ length bytes.now) }
         ensures some { 0 < length bytes.now → IfOk result (λ n. 0 < n) }
@@ -123,6 +125,8 @@ impl Sink for SureSink {
     ghost taken = { λ s. Some s };
 
     ghost faults = { λ _. 0 };
+
+    ghost longest = { λ _. 0 };
 
     fn write(&mut self, _alloc: Global, bytes: &[u8]) -> Result<usize, Fault>
         ensures all { IfOk result (λ n. n ≡ length bytes.now) }

@@ -1,4 +1,4 @@
-ghost use Rattle.std.specs.Prelude.{◌≡◌, ℕ, ◌+◌, ◌<◌, ◌≤◌, List, length, vec_len, Some, IfSome, IsSomeAnd, IfOk};
+ghost use Rattle.std.specs.Prelude.{◌≡◌, ◌≢◌, ℕ, ◌+◌, ◌<◌, ◌≤◌, List, length, vec_len, Some, IfSome, IsSomeAnd, IfOk};
 ghost use Rattle.hda_outside.specs.Counts.{Rose};
 ghost use Rattle.hda_outside.specs.Shelf.{file_of};
 ghost use Rattle.hda_outside.specs.Reading.{of_fault};
@@ -48,8 +48,8 @@ fn zeroes(alloc: Global, len: usize) -> Result<Vec<u8>, AllocError>
     vec![in alloc; 0; len]
 }
 
-/// The bytes of the file `name`, of which there are at most `most`. It asks for places that run on
-/// from 0, and for at most one byte more than `most`.
+/// The bytes of the file `name`, of which there are at most `most`. It asks under no other name, for places
+/// that run on from 0, and for at most one byte more than `most`.
 ///
 /// # Errors
 ///
@@ -74,6 +74,9 @@ pub fn read_all<S: Shelf>(
     ensures given { IfOk result (λ bytes. S.given shelf.new ≤ S.given shelf.old + vec_len bytes) }
     ensures given_at_most { S.given shelf.new ≤ S.given shelf.old + most + 1 }
     ensures given_rises { S.given shelf.old ≤ S.given shelf.new }
+
+    // It asks under this name alone.
+    ensures asked { (other : List ℕ) → other ≢ name.now → S.asked shelf.new other ≡ S.asked shelf.old other }
 
     ensures later { (other : List ℕ) → S.faults shelf.old other ≤ S.faults shelf.new other }
     ensures failed { result ≡ Err ReadAll.Failed →

@@ -1,4 +1,4 @@
-ghost use Rattle.std.specs.Prelude.{◌≡◌, ℕ, ◌≤◌, List, length, Option, IfSome, IsSomeAnd, IfOk, OnErr};
+ghost use Rattle.std.specs.Prelude.{◌≡◌, ◌≢◌, ℕ, ◌≤◌, List, length, Option, IfSome, IsSomeAnd, IfOk, OnErr};
 ghost use Rattle.hda_outside.specs.Counts.{count_with, Rose};
 ghost use Rattle.hda_outside.specs.Shelf.{Files, file_of, IsPiece};
 
@@ -15,6 +15,9 @@ pub trait Shelf {
 
     /// How many bytes it has given so far, over all names.
     ghost given: { Self → ℕ };
+
+    /// How often it was asked so far under a name's bytes, where it keeps account of that. Else it may be 0.
+    ghost asked: { Self → List ℕ → ℕ };
 
     /// Puts bytes of the file `name` from place `from` on at the front of `buf`, and answers how many.
     /// It answers 0 only where `buf` is empty or `from` is at or past the file's end. What `buf` holds
@@ -40,6 +43,9 @@ pub trait Shelf {
         ensures given { IfOk result (λ n. given self.new ≡ count_with (given self.old) n) }
         ensures not_given { OnErr result (given self.new ≡ given self.old) }
         ensures given_rises { given self.old ≤ given self.new }
+
+        // It is asked under this name alone.
+        ensures asked { (other : List ℕ) → other ≢ name.now → asked self.new other ≡ asked self.old other }
 
         // No count of faults falls, and a failure raises that under the name.
         ensures later { (other : List ℕ) → faults self.old other ≤ faults self.new other }

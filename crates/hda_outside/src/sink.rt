@@ -1,4 +1,4 @@
-ghost use Rattle.std.specs.Prelude.{◌≡◌, ℕ, ◌<◌, ◌≤◌, List, length, take, Option, IfOk, OnErr};
+ghost use Rattle.std.specs.Prelude.{◌≡◌, ℕ, ◌<◌, ◌≤◌, max, List, length, take, Option, IfOk, OnErr};
 ghost use Rattle.hda_outside.specs.Counts.{Rose};
 ghost use Rattle.hda_outside.specs.Sink.{taken_with};
 
@@ -13,6 +13,9 @@ pub trait Sink {
     /// The faults counted so far.
     ghost faults: { Self → ℕ };
 
+    /// The longest piece that it was given so far, where it keeps account of that. Else it may be 0.
+    ghost longest: { Self → ℕ };
+
     /// Takes bytes from the front of `bytes`, at least one where there is one, and answers how many.
     ///
     /// # Errors
@@ -24,6 +27,7 @@ pub trait Sink {
         ensures some { 0 < length bytes.now → IfOk result (λ n. 0 < n) }
         ensures takes { IfOk result (λ n. taken self.new ≡ taken_with (taken self.old) (take n bytes.now)) }
         ensures not_taken { OnErr result (taken self.new ≡ taken self.old) }
+        ensures piece { longest self.new ≤ max (longest self.old) (length bytes.now) }
 
         // The count of faults never falls, and a failure raises it.
         ensures later { faults self.old ≤ faults self.new }

@@ -1,4 +1,4 @@
-ghost use Rattle.std.specs.Prelude.{◌≡◌, ◌≤◌, OnOk, OnErr};
+ghost use Rattle.std.specs.Prelude.{◌≡◌, ◌≤◌, max, OnOk, OnErr};
 ghost use Rattle.hda_outside.specs.Counts.{Rose};
 ghost use Rattle.hda_outside.specs.Sink.{taken_with, TookFront};
 
@@ -6,10 +6,10 @@ use crate::fault::Fault;
 use crate::sink::Sink;
 use std::alloc::Global;
 
-/// The most bytes that one write passes on.
-const PIECE_LEN: usize = 4_096;
+/// The most bytes that one write of [`write_all`] passes on.
+pub const PIECE_LEN: usize = 4_096;
 
-/// Writes all of `bytes`, in pieces of at most 4,096 bytes.
+/// Writes all of `bytes`, in pieces of at most [`PIECE_LEN`] bytes.
 ///
 /// # Errors
 ///
@@ -18,6 +18,7 @@ const PIECE_LEN: usize = 4_096;
 pub fn write_all<K: Sink>(alloc: Global, out: &mut K, bytes: &[u8]) -> Result<(), Fault>
     ensures all { OnOk result (K.taken out.new ≡ taken_with (K.taken out.old) bytes.now) }
     ensures front { OnErr result (TookFront (K.taken out.old) (K.taken out.new) bytes.now) }
+    ensures pieces { K.longest out.new ≤ max (K.longest out.old) PIECE_LEN }
     ensures later { K.faults out.old ≤ K.faults out.new }
     ensures failed { result ≡ Err Fault.Failed → Rose (K.faults out.old) (K.faults out.new) }
 {

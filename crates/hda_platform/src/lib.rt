@@ -9,6 +9,3 @@ mod platform;
 pub use hda_world::{Entry, FRAMES_TO_DISCOVERY, Journal, REGION_BYTES, Step};
 pub use memory_platform::MemoryPlatform;
 pub use platform::Platform;
-
-#[cfg(test)]
-mod tests;

@@ -1,5 +1,5 @@
 -- What the program answers: a status and a text. This project's own.
-use Rattle.std.specs.Prelude.{◌≡◌, ℕ, Bool, true, false, ◌<◌, ◌≤◌, ◌⊎◌, ◌++◌, if◌then◌else◌, List, [], ◌∷◌, length, Option, Some, None, Result, Ok, Err, codes, ◌≢◌}
+use Rattle.std.specs.Prelude.{◌≡◌, ◌==◌, ℕ, Bool, true, false, ◌<◌, ◌≤◌, ◌⊎◌, ◌++◌, if◌then◌else◌, List, [], ◌∷◌, length, Option, Some, None, Result, Ok, Err, codes, ◌≢◌}
 use Rattle.std.specs.List.{list_any, flat_map, zip, AllZip}
 use Rattle.codec_graph.specs.declared.raw.RawCodec.{RawCodec}
 use Rattle.route_planner.specs.declared.format.Format.{Format}
@@ -23,13 +23,22 @@ use Rattle.hda_play.specs.Text.{plan_lines, fault_text, usage_line, unreadable_l
 abbrev pub most_codec_bytes : ℕ
 most_codec_bytes = 262144
 
+-- whether the first byte of a word is `-`; such a word names no file
+abbrev pub begins_with_dash : List ℕ → Bool
+begins_with_dash [] = false
+begins_with_dash (first ∷ _) = first == 45
+
 -- the words are the command `route` and the name of a codec file
 abbrev pub IsRouteOf : List (List ℕ) → List ℕ → Type 0
-IsRouteOf words name = words ≡ codes "route" ∷ name ∷ []
+IsRouteOf words name = (words ≡ codes "route" ∷ name ∷ []) × (begins_with_dash name ≡ false)
 
 -- the words are a command
 abbrev pub IsCommand : List (List ℕ) → Type 0
 IsCommand words = (name : List ℕ) × IsRouteOf words name
+
+-- how often a shelf was asked under a name changes for the codec file of these words alone
+abbrev pub AsksForItsFile : List (List ℕ) → (List ℕ → ℕ) → (List ℕ → ℕ) → Type 0
+AsksForItsFile words before after = (name : List ℕ) → (IsRouteOf words name → ⊥) → after name ≡ before name
 
 -- 48 kHz, 16 bits, 2 channels
 abbrev pub IsRouteFormat : Format → Type 0

@@ -1,7 +1,7 @@
 //! What the program answers to its words, before anything is written.
-ghost use Rattle.std.specs.Prelude.{◌≡◌, ◌≤◌, ℕ, List, map, string_bytes, IfOk, IfSome, IfNone, OnOk, ◌++◌};
+ghost use Rattle.std.specs.Prelude.{◌≡◌, ◌≢◌, ◌≤◌, ℕ, List, map, string_bytes, IfOk, IfSome, IfNone, OnOk, ◌++◌};
 ghost use Rattle.hda_outside.specs.Counts.{Rose};
-ghost use Rattle.hda_play.specs.Answers.{IsCommand, IsRouteOf, IsMeant, RouteAnswers, ReadingAnswers, MachineAnswers, IsRoutePlan, ArePlans, has_route, is_route, plans_lines};
+ghost use Rattle.hda_play.specs.Answers.{AsksForItsFile, IsCommand, IsRouteOf, begins_with_dash, IsMeant, RouteAnswers, ReadingAnswers, MachineAnswers, IsRoutePlan, ArePlans, has_route, is_route, plans_lines};
 ghost use Rattle.std.specs.List.{list_any};
 ghost use Rattle.hda_play.specs.Text.{refused_line, unreadable_line};
 
@@ -30,6 +30,7 @@ pub fn answer_words<S: Shelf>(
 ) -> Result<Answer, AllocError>
     ensures meant { IfOk result (λ answer. IsMeant (S.told shelf.old) (λ name. Rose (S.faults shelf.old name) (S.faults shelf.new name))
         (map string_bytes words.now) answer.status (string_bytes answer.text)) }
+    ensures asked { AsksForItsFile (map string_bytes words.now) (S.asked shelf.old) (S.asked shelf.new) }
     ensures told { S.told shelf.new ≡ S.told shelf.old }
     ensures later { (name : List ℕ) → S.faults shelf.old name ≤ S.faults shelf.new name }
 {
@@ -49,7 +50,7 @@ fn route_file(words: &[String]) -> Option<&str>
 {
     match words {
         [command, file] => {
-            if command.as_str() == "route" {
+            if command.as_str() == "route" && !begins_with_dash(file.as_str()) {
                 Some(file.as_str())
             } else {
                 None
@@ -59,10 +60,18 @@ fn route_file(words: &[String]) -> Option<&str>
     }
 }
 
+/// Whether a word begins with `-`, as no name of a file does on the command line.
+fn begins_with_dash(word: &str) -> bool
+    ensures { result ≡ begins_with_dash word.now }
+{
+    word.starts_with('-')
+}
+
 /// What `route` answers for the codec file of this name.
 fn answer_route<S: Shelf>(alloc: Global, shelf: &mut S, name: &str) -> Result<Answer, AllocError>
     ensures route { IfOk result (λ answer. RouteAnswers (S.told shelf.old) (λ name. Rose (S.faults shelf.old name) (S.faults shelf.new name))
         name.now answer.status (string_bytes answer.text)) }
+    ensures asked { (other : List ℕ) → other ≢ name.now → S.asked shelf.new other ≡ S.asked shelf.old other }
     ensures told { S.told shelf.new ≡ S.told shelf.old }
     ensures later { (other : List ℕ) → S.faults shelf.old other ≤ S.faults shelf.new other }
 {

@@ -39,18 +39,6 @@ fn widgets(alloc: Global, count: u8) -> Result<String, AllocError> {
     Ok(nodes)
 }
 
-/// So many candidate pins.
-fn pins(alloc: Global, count: u8) -> Result<String, AllocError> {
-    let mut nodes = String::new(alloc);
-    for place in 0..count.min(100) {
-        let nid = place + 2;
-        nodes.push_str(format!(in alloc;
-            "{{nid = {nid}, caps = 0x400001, pin_caps = 0x10, default = 0x10}}, "
-        )?.as_str())?;
-    }
-    Ok(nodes)
-}
-
 /// What `route` writes for a codec file.
 fn route(alloc: Global, text: &str) -> Result<String, AllocError> {
     let mut words = Vec::new(alloc);
@@ -486,7 +474,6 @@ fn draws_the_limits(rt: HostRuntime) -> Result<(), AllocError> {
             widgets(alloc, 127)?,
             "codec refused: OutOfRange node at codec 0\n",
         ),
-        (pins(alloc, 17)?, "codec refused: TooManyPins\n"),
         // A range of 64 connections, and the same in the long form.
         (
             String::from_str(

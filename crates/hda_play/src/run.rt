@@ -1,7 +1,7 @@
 //! The program over any shelf and sink.
 ghost use Rattle.std.specs.Prelude.{◌≡◌, ◌≤◌, ℕ, List, map, string_bytes, IsNone, true, false};
 ghost use Rattle.hda_outside.specs.Counts.{Rose};
-ghost use Rattle.hda_play.specs.Answers.{IsCommand, IsRouteOf, IsRefused, IsPlanned, HasEnded, WroteText};
+ghost use Rattle.hda_play.specs.Answers.{AsksForItsFile, IsCommand, IsRouteOf, IsRefused, IsPlanned, HasEnded, WroteText};
 
 use crate::answer::{Answer, answer_words};
 use hda_outside::{Fault, Shelf, Sink, write_all};
@@ -49,6 +49,9 @@ pub fn hda_main<S: Shelf, K: Sink>(
     ensures routed { result.status ≡ 0 → IsPlanned (S.told shelf.old) (map string_bytes words.now) true }
     ensures nothing_routed { result.status ≡ 8 → IsPlanned (S.told shelf.old) (map string_bytes words.now) false }
     ensures unwritten { result.status ≡ 4 → Rose (K.faults out.old) (K.faults out.new) }
+
+    // The shelf is asked under the name of the codec file alone.
+    ensures asked { AsksForItsFile (map string_bytes words.now) (S.asked shelf.old) (S.asked shelf.new) }
 
     // The shelf's files stay as they are, and no count of faults falls.
     ensures told { S.told shelf.new ≡ S.told shelf.old }

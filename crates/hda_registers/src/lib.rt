@@ -21,6 +21,3 @@ pub use laws::{
 };
 pub use registers::Registers;
 pub use shapes::{Effects, Moved, Raise, RingSize, Shape, Width};
-
-#[cfg(test)]
-mod tests;

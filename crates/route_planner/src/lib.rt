@@ -8,8 +8,6 @@ mod levels;
 mod pin_order;
 mod planner;
 mod routes;
-#[cfg(test)]
-mod tests;
 mod walk;
 
 pub use format::{Bits, Format, Rate};

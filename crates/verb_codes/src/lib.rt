@@ -23,6 +23,3 @@ pub use lists::{expand_entries, expand_list, pack_list, unpack_list};
 pub use parameters::Parameter;
 pub use verbs::{Command, Verb};
 pub use words::{decode, encode};
-
-#[cfg(test)]
-mod tests;

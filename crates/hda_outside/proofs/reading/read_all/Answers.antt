@@ -21,5 +21,6 @@ loop-bytes-preserved g c =
           (place_more _ _ _ c.read_at.new.buf c.in_ok-extend_from_slice.ensures.len c.in_ok-n.ensures.bound);
       given = search rules;
       given_rises = search rules;
+      asked = search rules;
       later = search rules;
     }

@@ -1,4 +1,4 @@
-use Rattle.std.proofs.Common.{◌≡◌, ℕ, ◌+◌, ◌-◌, ◌≤◌, ◌++◌, drop, List, vec_len, Some}
+use Rattle.std.proofs.Common.{◌≡◌, ◌≢◌, ℕ, ◌+◌, ◌-◌, ◌≤◌, ◌++◌, drop, List, vec_len, Some}
 use Rattle.hda_outside.specs.Shelf.{Files, file_of}
 use Rattle.hda_outside.proofs.reading.read_all.Given as goal
 
@@ -13,6 +13,7 @@ invariant-loop-bytes g l =
           → l.bytes.items ++ drop (vec_len l.bytes) file ≡ file;
       given : g.S.Shelf.given l.shelf ≤ g.S.Shelf.given l.fn.shelf + vec_len l.bytes;
       given_rises : g.S.Shelf.given l.fn.shelf ≤ g.S.Shelf.given l.shelf;
+      asked : (other : List ℕ) → other ≢ l.name → g.S.Shelf.asked l.shelf other ≡ g.S.Shelf.asked l.fn.shelf other;
       later : (other : List ℕ) → g.S.Shelf.faults l.fn.shelf other ≤ g.S.Shelf.faults l.shelf other;
     }
 

@@ -1,4 +1,4 @@
-use Rattle.std.proofs.Common.{◌≡◌, ◌-◌, ◌≤◌, take, length}
+use Rattle.std.proofs.Common.{◌≡◌, ◌-◌, ◌≤◌, max, take, length}
 use Rattle.hda_outside.specs.Sink.{taken_with}
 use Rattle.hda_outside.proofs.writing.write_all.Given as goal
 
@@ -8,6 +8,7 @@ invariant-loop-done g l =
     record {
       within : l.done ≤ length l.bytes;
       taken : g.K.Sink.taken l.out ≡ taken_with (g.K.Sink.taken l.fn.out) (take l.done l.bytes);
+      pieces : g.K.Sink.longest l.out ≤ max (g.K.Sink.longest l.fn.out) 4096;
       later : g.K.Sink.faults l.fn.out ≤ g.K.Sink.faults l.out;
     }
 

@@ -1,4 +1,7 @@
-use crate::{
+//! Shelves and sinks: those in memory, those of the machine, and two that keep account of what they are asked.
+ghost use Rattle.std.specs.Prelude.{None};
+
+use hda_outside::{
     Fault, FileShelf, MemShelf, MemSink, OutSink, ReadAll, Shelf, Sink, SureShelf, SureSink,
     read_all, write_all,
 };
@@ -78,11 +81,10 @@ fn fails_planned_calls(rt: HostRuntime) -> Result<(), Fail> {
 #[test]
 fn writes_all_bytes(rt: HostRuntime) -> Result<(), Fail> {
     let alloc = rt.alloc();
-    let text = vec![in alloc; 3; 10_000]?;
     let mut sure = SureSink::new(alloc);
-    assert_eq!(rt; write_all(alloc, &mut sure, &text), Ok(()));
+    assert_eq!(rt; write_all(alloc, &mut sure, b"whole"), Ok(()));
     assert_eq!(rt; sure.write(alloc, b"!"), Ok(1));
-    assert_eq!(rt; sure.bytes().len(), 10_001);
+    assert_eq!(rt; sure.bytes(), b"whole!".as_slice());
 
     let mut planned = MemSink::new(alloc, 3, [2].to_vec(alloc)?);
     assert_eq!(rt;
@@ -95,17 +97,100 @@ fn writes_all_bytes(rt: HostRuntime) -> Result<(), Fail> {
     Ok(())
 }
 
+/// A sink that takes everything and keeps account of the pieces that it was given.
+#[derive(Drop)]
+struct PieceSink {
+    longest: usize,
+    pieces: u64,
+}
+
+impl Sink for PieceSink {
+    ghost taken = { λ _. None };
+
+    ghost faults = { λ _. 0 };
+
+    ghost longest = { λ sink. sink.longest };
+
+    fn write(&mut self, _alloc: Global, bytes: &[u8]) -> Result<usize, Fault> {
+        self.longest = self.longest.max(bytes.len());
+        self.pieces = self.pieces.saturating_add(1);
+        Ok(bytes.len())
+    }
+}
+
+#[test]
+fn writes_pieces(rt: HostRuntime) -> Result<(), Fail> {
+    let alloc = rt.alloc();
+    let mut sink = PieceSink {
+        longest: 0,
+        pieces: 0,
+    };
+    let bytes = vec![in alloc; 3; 10_000]?;
+    assert_eq!(rt; write_all(alloc, &mut sink, &bytes), Ok(()));
+    assert_eq!(rt; sink.longest, 4_096);
+    assert_eq!(rt; sink.pieces, 3);
+    Ok(())
+}
+
+/// A shelf that has one file of so many zeroes under every name, and notes the names under which it is asked.
+#[derive(Drop)]
+struct NameShelf {
+    left: usize,
+    given: u64,
+    names: String,
+}
+
+impl Shelf for NameShelf {
+    ghost told = { λ _. None };
+
+    ghost faults = { λ _ _. 0 };
+
+    ghost given = { λ shelf. shelf.given };
+
+    ghost asked = { λ _ _. 0 };
+
+    fn read_at(
+        &mut self,
+        _alloc: Global,
+        name: &str,
+        _from: u64,
+        buf: &mut [u8],
+    ) -> Result<usize, Fault> {
+        self.names.push_str(name)?;
+        self.names.push_str(";")?;
+        let n = buf.len().min(self.left);
+        self.left -= n;
+        self.given = self.given.saturating_add(n as u64);
+        Ok(n)
+    }
+}
+
+#[test]
+fn asks_under_one_name(rt: HostRuntime) -> Result<(), Fail> {
+    let alloc = rt.alloc();
+    let mut shelf = NameShelf {
+        left: 70_000,
+        given: 0,
+        names: String::new(alloc),
+    };
+    let got = read_all(alloc, &mut shelf, "asked", 100_000);
+    assert_eq!(rt; outcome(&got), Ok(70_000));
+    assert_eq!(rt; shelf.given, 70_000);
+    assert_eq!(rt; shelf.names.as_str(), "asked;asked;asked;");
+    Ok(())
+}
+
 #[test]
 fn reads_files_of_the_machine(rt: HostRuntime) -> Result<(), Fail> {
     let alloc = rt.alloc();
-    let path = "hda_outside_reads_files_of_the_machine";
+    let path = "reads_files_of_the_machine";
     fs::write(&rt, path, "written")?;
     let mut shelf = FileShelf::new(&rt);
     let table = [
         (path, 7, Ok(7)),
         (path, 6, Err(ReadAll::TooLong)),
         (".", 7, Err(ReadAll::Failed)),
-        ("hda_outside_is_not_there", 7, Err(ReadAll::Failed)),
+        ("is_not_there", 7, Err(ReadAll::Failed)),
     ];
     for (name, most, want) in table {
         let got = read_all(alloc, &mut shelf, name, most);

@@ -1,21 +1,9 @@
 //! Both rings over a slice of memory.
-use super::*;
+use command_rings::Rings;
+use hda_registers::places::{CORBCTL, CORBWP, RINTCNT, RIRBCTL, RIRBLBASE, RIRBSTS, RIRBWP};
 use hda_registers::{Registers, RingSize, Shape, Width};
+use ring_entries::MOST_WAITING;
 use std::test::Fail;
-
-const CORBWP: u16 = 0x48;
-
-const CORBCTL: u16 = 0x4C;
-
-const RIRBLBASE: u16 = 0x50;
-
-const RIRBWP: u16 = 0x58;
-
-const RINTCNT: u16 = 0x5A;
-
-const RIRBCTL: u16 = 0x5C;
-
-const RIRBSTS: u16 = 0x5D;
 
 /// A controller out of reset that accepts unsolicited responses, with both engines running: CORB of 2 entries at 0, RIRB of 16 at
 /// 128, one response at once.
@@ -54,6 +42,17 @@ fn responses_stand_in_memory(rt: HostRuntime) -> Result<(), Fail> {
     regs.write(RIRBSTS, Width::One, 1);
     rings.clear();
     assert_eq!(rt; rings.rirb(&mut regs, &mut memory), 0);
+    Ok(())
+}
+
+#[test]
+fn is_full_at_256_responses(rt: HostRuntime) -> Result<(), Fail> {
+    let mut rings = Rings::new(rt.alloc())?;
+    for _turn in 0..MOST_WAITING {
+        assert!(rt; !rings.full());
+        rings.accept(0, 0, false);
+    }
+    assert!(rt; rings.full());
     Ok(())
 }
 

@@ -1,7 +1,7 @@
 //! A small pool, taken and given back by hand, and a block that is lent.
 ghost use Rattle.std.specs.Prelude.{◌≡◌, ◌≤◌, true};
 
-use crate::{Lent, NoRun, Pool};
+use dma_pool::{Lent, NoRun, Pool};
 use std::test::Fail;
 
 /// Whether the pool has no run for so many bytes. If it has one, it goes back at once.
@@ -52,7 +52,7 @@ fn takes_the_first_fit(rt: HostRuntime) -> Result<(), Fail> {
     assert!(rt; third.address() == 0);
     pool.give(third);
     assert!(rt; pool.free() == 3);
-    let _ = second.end();
+    pool.give(second);
     Ok(())
 }
 

@@ -1,5 +1,5 @@
 use Rattle.codec_graph.specs.Settings.{IsSettingsOf}
-use Rattle.codec_graph.proofs.verb_tests.first_wrong.Given as goal
+use Rattle.hda_tests.proofs.graphs.first_wrong.Given as goal
 
 -- the settings stay those of the graph
 abbrev pub invariant-loop-word : goal.invariant-loop-word

@@ -4,8 +4,8 @@ ghost use Rattle.hda_registers.specs.declared.shapes.Width.TheVariants.{Two, Fou
 ghost use Rattle.hda_world.specs.Events.{Read, Write};
 ghost use Rattle.hda_world.specs.Tellings.{Between, Makes};
 
-use super::*;
 use dma_pool::Pool;
+use hda_platform::{Entry, MemoryPlatform, Platform, Step};
 use hda_registers::{RingSize, Shape, Width};
 use std::test::Fail;
 

@@ -1,5 +1,5 @@
-use super::*;
-use std::test::Fail;
+//! A controller's registers, read, written and moved.
+use hda_registers::{Moved, Raise, Registers, RingSize, Shape, Width};
 
 /// A controller with full rings, a FIFO of 192 bytes and the codecs 0 and 2.
 fn controller() -> Registers {

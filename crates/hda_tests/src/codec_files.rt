@@ -1,0 +1,85 @@
+//! Codec files for the tests, and the codecs that they describe.
+ghost use Rattle.std.specs.Prelude.{IfOk};
+ghost use Rattle.hda_files.specs.Machines.{IsSoundCodec};
+
+use hda_files::{CodecFile, read_machine};
+use std::alloc::{AllocError, Global};
+use std::test::Fail;
+
+/// The converter 02, the mixer 0C [02, 0B] and the pin 14 [0C], which can mute, has an external amplifier, detects presence and
+/// sends unsolicited responses.
+pub const SMALL: &str = "
+[[codec]]
+address = 0
+vendor = 0x10EC0889
+power = 0x0F
+[[codec.node]]
+nid = 0x02
+caps = 0x00000001
+[[codec.node]]
+nid = 0x0C
+caps = 0x0020010B
+amp_in = 0x80000000
+list = [0x02, 0x0B]
+[[codec.node]]
+nid = 0x14
+caps = 0x0040018D
+amp_out = 0x80000000
+pin_caps = 0x10014
+default = 0x01014010
+list = [0x0C]
+";
+
+/// A codec in the manner of a desktop sound chip: each pin lists the mixers 0C to 0F by a range.
+pub const LARGE: &str = "
+[[codec]]
+address = 0
+vendor = 0x10EC0888
+power = 0x0F
+node = [
+    {nid = 0x02, caps = 0x41D, pcm = 0xE0560, formats = 0x1, amp_out = 0x25757, power = 0xF},
+    {nid = 0x03, caps = 0x41D, pcm = 0xE0560, formats = 0x1, amp_out = 0x25757, power = 0xF},
+    {nid = 0x04, caps = 0x41D, pcm = 0xE0560, formats = 0x1, amp_out = 0x25757, power = 0xF},
+    {nid = 0x05, caps = 0x41D, pcm = 0xE0560, formats = 0x1, amp_out = 0x25757, power = 0xF},
+    {nid = 0x0B, caps = 0x20010B, amp_in = 0x80051F17, list = [0x18, 0x19, 0x1A, 0x1B, 0x14, 0x15, 0x16, 0x17]},
+    {nid = 0x0C, caps = 0x20010B, amp_in = 0x80000000, list = [0x02, 0x0B]},
+    {nid = 0x0D, caps = 0x20010B, amp_in = 0x80000000, list = [0x03, 0x0B]},
+    {nid = 0x0E, caps = 0x20010B, amp_in = 0x80000000, list = [0x04, 0x0B]},
+    {nid = 0x0F, caps = 0x20010B, amp_in = 0x80000000, list = [0x05, 0x0B]},
+    {nid = 0x14, caps = 0x40018D, amp_out = 0x80000000, pin_caps = 0x10034, default = 0x1014010, list = [0x0C, 0x8F]},
+    {nid = 0x15, caps = 0x40018D, amp_out = 0x80000000, pin_caps = 0x34, default = 0x1011012, list = [0x0C, 0x8F]},
+    {nid = 0x16, caps = 0x40018D, amp_out = 0x80000000, pin_caps = 0x34, default = 0x1016011, list = [0x0C, 0x8F]},
+    {nid = 0x17, caps = 0x40018D, amp_out = 0x80000000, pin_caps = 0x34, default = 0x1012014, list = [0x0C, 0x8F]},
+    {nid = 0x18, caps = 0x40008B, amp_in = 0x2F0300, pin_caps = 0x24, default = 0x1A19030},
+    {nid = 0x19, caps = 0x40008B, amp_in = 0x2F0300, pin_caps = 0x24, default = 0x2A19040},
+    {nid = 0x1A, caps = 0x40008B, amp_in = 0x2F0300, pin_caps = 0x24, default = 0x1813050},
+    {nid = 0x1B, caps = 0x40018D, amp_out = 0x80000000, pin_caps = 0x3C, default = 0x2214020, list = [0x0C, 0x8F]},
+]
+";
+
+/// Two pins that share selector 0F with these connections; converter 02 takes 48 kHz, and 03 what this PCM word says.
+pub fn two_pins(alloc: Global, list: &str, pcm: &str) -> Result<String, AllocError> {
+    format!(in alloc;
+        "
+[[codec]]
+address = 0
+vendor = 0x10EC0889
+node = [
+    {{nid = 0x02, caps = 0x11, formats = 1, pcm = 0x00020040}},
+    {{nid = 0x03, caps = 0x11, formats = 1, pcm = {pcm}}},
+    {{nid = 0x0F, caps = 0x300101, list = [{list}]}},
+    {{nid = 0x14, caps = 0x40010D, amp_out = 0x80000000, pin_caps = 0x10, default = 0x01014010, list = [0x0F]}},
+    {{nid = 0x15, caps = 0x40010D, amp_out = 0x80000000, pin_caps = 0x10, default = 0x01014011, list = [0x0F]}},
+]
+"
+    )
+}
+
+/// The codec that a codec file describes.
+pub fn read_codec(alloc: Global, text: &str) -> Result<CodecFile, Fail>
+    ensures { IfOk result IsSoundCodec }
+{
+    let machine = read_machine(alloc, text.as_bytes())?;
+    let mut codecs = machine.codecs.into_vec();
+    Ok(codecs.pop().ok_or("a machine has a codec")?)
+}
