@@ -3,7 +3,7 @@ ghost use Rattle.codec_graph.specs.Settings.{IsSettingsOf};
 
 use crate::codec_files::{LARGE, SMALL, read_codec};
 use codec_graph::{
-    Control, FaultyList, Graph, GroupWords, Presence, RawCodec, RawNode, Settings, answer,
+    Control, FaultyList, Graph, GraphFault, GroupWords, Presence, RawCodec, RawNode, Settings, answer,
 };
 use hda_items::Items;
 use std::alloc::{AllocError, Global};
@@ -195,8 +195,7 @@ fn expands_lists(rt: HostRuntime) -> Result<(), AllocError> {
     assert!(rt; codec.first == 2 && codec.nodes.len() == 3);
     assert!(rt; codec.expand_lists()? == None);
     assert!(rt; codec.has_readable_lists()?);
-    let graph = Graph::check(codec);
-    assert!(rt; graph.is_err());
+    assert!(rt; Graph::check(codec).err() == Some(GraphFault::Cycle(3)));
     let mut faulty = walked(alloc, &[2, 0x83, 0x84])?;
     assert!(rt; faulty.first == 2 && faulty.nodes.len() == 3);
     let found = faulty.expand_lists()?;
