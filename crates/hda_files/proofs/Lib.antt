@@ -4,5 +4,7 @@ pub mod ListLemmas
 pub mod Meant
 pub mod NodeLemmas
 pub mod NumberLemmas
+pub mod OneReading
 pub mod Readings
 pub mod StartLemmas
+pub mod TableBounds

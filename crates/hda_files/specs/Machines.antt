@@ -96,3 +96,11 @@ pub record IsReadingOfBytes (bytes : List ℕ) (result : Result Machine FileFaul
 -- the result says what the bytes mean, or memory was wanting
 abbrev pub Reads : List ℕ → Result Machine FileFault → Type 0
 Reads bytes result = OrMemory result (IsReadingOfBytes bytes result)
+
+-- every reading of the bytes is this one
+abbrev pub IsOnlyReading : List ℕ → Result Machine FileFault → Type 0
+IsOnlyReading bytes result = (other : Result Machine FileFault) → IsReadingOfBytes bytes other → other ≡ result
+
+-- no other result says what the bytes mean, or memory was wanting
+abbrev pub ReadsOnly : List ℕ → Result Machine FileFault → Type 0
+ReadsOnly bytes result = OrMemory result (IsOnlyReading bytes result)

@@ -2,7 +2,7 @@
 ghost use Rattle.std.specs.Prelude.{◌≡◌, ◌≤◌, IfOk};
 ghost use Rattle.toml.specs.View.{table_view};
 ghost use Rattle.hda_files.specs.Machines as machines;
-ghost use Rattle.hda_files.specs.Machines.{Reads, IsSound, IsSoundCodec};
+ghost use Rattle.hda_files.specs.Machines.{Reads, ReadsOnly, IsSound, IsSoundCodec};
 ghost use Rattle.hda_files.specs.Memory.{OrMemory};
 
 use crate::codec::{CodecTable, laid_out};
@@ -50,6 +50,7 @@ const MOST_PINS: usize = 16;
 /// [`FileFault::TooManyPins`]. [`FileFault::OutOfMemory`] says nothing of the file.
 pub fn read_machine(alloc: Global, bytes: &[u8]) -> Result<Machine, FileFault>
     ensures reading { Reads bytes.now result }
+    ensures only { ReadsOnly bytes.now result }
     ensures sound { IfOk result IsSound }
 {
     match toml::table_from_slice(alloc, bytes) {
