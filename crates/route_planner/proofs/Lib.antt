@@ -1,3 +1,5 @@
+-- what the proofs of other crates cite
+pub mod Callers
 pub mod LeftLemmas
 pub mod Targets
 pub mod Ends
@@ -17,3 +19,4 @@ pub mod Tables
 pub mod Unblocked
 pub mod OneWay
 pub mod OnlyPlan
+pub mod PlanParts
