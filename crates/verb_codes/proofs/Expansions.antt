@@ -14,20 +14,17 @@ after-after xs ys (Ok nids) = ap (λ zs. Ok zs) (sym (append_assoc xs ys nids))
 after-after xs ys (Err fault) = refl
 
 -- the entries of a list, from one place on
-pub drop-entries : (long : Bool) (bits : List ℕ) (len place : ℕ) → place < len → len ≤ length bits
-    → drop place (map (entry_of long) (take len bits)) ≡ entry_of long (get_or bits place 0) ∷ drop (place + 1) (map (entry_of long) (take len bits))
-drop-entries long bits len place lt fits =
-    let size : length (take len bits) ≡ len = length-take-le len bits fits in
-    let count = length-map (take len bits) (entry_of long) in
-    drop_more (map (entry_of long) (take len bits)) place (entry_of long 0) (omega arith)
-    ∙ ap (λ e. e ∷ drop (place + 1) (map (entry_of long) (take len bits)))
-    (get_or-map (entry_of long) (take len bits) place 0 (entry_of long 0) (omega arith) ∙ ap (entry_of long) (get_or-take len bits place 0 lt))
+pub drop-entries : (long : Bool) (bits : List ℕ) (place : ℕ) → place < length bits
+    → drop place (map (entry_of long) bits) ≡ entry_of long (get_or bits place 0) ∷ drop (place + 1) (map (entry_of long) bits)
+drop-entries long bits place lt =
+    let count = length-map bits (entry_of long) in
+    drop_more (map (entry_of long) bits) place (entry_of long 0) (omega arith)
+    ∙ ap (λ e. e ∷ drop (place + 1) (map (entry_of long) bits)) (get_or-map (entry_of long) bits place 0 (entry_of long 0) lt)
 
-pub drop-no_entries : (long : Bool) (bits : List ℕ) (len place : ℕ) → len ≤ place → len ≤ length bits → drop place (map (entry_of long) (take len bits)) ≡ []
-drop-no_entries long bits len place le fits =
-    let size : length (take len bits) ≡ len = length-take-le len bits fits in
-    let count = length-map (take len bits) (entry_of long) in
-    drop_all place (map (entry_of long) (take len bits)) (omega arith)
+pub drop-no_entries : (long : Bool) (bits : List ℕ) (place : ℕ) → length bits ≤ place → drop place (map (entry_of long) bits) ≡ []
+drop-no_entries long bits place le =
+    let count = length-map bits (entry_of long) in
+    drop_all place (map (entry_of long) bits) (omega arith)
 
 -- an entry without a fault is followed by what the rest stands for
 pub one_more_entry : (nids : List ℕ) (before : Option Entry) (entry : Entry) (rest : List Entry) → entry_fault before entry ≡ None

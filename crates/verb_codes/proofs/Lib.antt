@@ -3,3 +3,4 @@ pub mod Commands
 pub mod Packing
 pub mod Expansions
 pub mod Payloads
+pub mod Callers

@@ -1,15 +1,10 @@
 -- The payloads of the amplifier verbs. High Definition Audio 1.0a, 7.3.3.7.
-use Rattle.std.specs.Prelude.{◌<◌, ◌+◌, ◌*◌, ◌/◌, ◌%◌, ◌^◌, ℕ, Bool, ◌==◌, if◌then◌else◌}
+use Rattle.std.specs.Prelude.{◌<◌, ◌+◌, ◌*◌, ◌^◌, ℕ, Bool, if◌then◌else◌}
 use Rattle.verb_codes.specs.declared.amplifiers.AmpSetting.{AmpSetting}
 use Rattle.verb_codes.specs.declared.amplifiers.AmpSide.{AmpSide}
+use Rattle.verb_codes.specs.Words.{bits_of, has_bit}
 
--- the number in `width` bits from bit `low` up, whether bit `at` is 1, and what a bit is worth
-abbrev pub bits_of : ℕ → ℕ → ℕ → ℕ
-bits_of word low width = word / 2 ^ low % 2 ^ width
-
-abbrev pub has_bit : ℕ → ℕ → Bool
-has_bit word at = bits_of word at 1 == 1
-
+-- what a bit is worth in a payload
 abbrev pub worth : Bool → ℕ → ℕ
 worth set at = if set then 2 ^ at else 0
 

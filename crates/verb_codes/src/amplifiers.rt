@@ -2,7 +2,7 @@
 ghost use Rattle.std.specs.Prelude.{◌≡◌, ◌<◌, ◌≤◌, ◌^◌};
 ghost use Rattle.verb_codes.specs.Amplifiers as spec;
 
-use crate::bits::{field, has_bit};
+use crate::bits::{bits_of, has_bit};
 
 /// What SetAmp sets.
 #[derive(Clone, Copy, Debug, PartialEq, Eq)]
@@ -52,9 +52,9 @@ impl AmpSetting {
             input: has_bit(word, 14),
             left: has_bit(word, 13),
             right: has_bit(word, 12),
-            place: field(word, 8, 4) as u8,
+            place: bits_of(word, 8, 4) as u8,
             mute: has_bit(word, 7),
-            gain: field(word, 0, 7) as u8,
+            gain: bits_of(word, 0, 7) as u8,
         }
     }
 }
@@ -95,7 +95,7 @@ impl AmpSide {
         AmpSide {
             output: has_bit(word, 15),
             left: has_bit(word, 13),
-            place: field(word, 0, 4) as u8,
+            place: bits_of(word, 0, 4) as u8,
         }
     }
 }

@@ -1,22 +1,23 @@
-//! Numbers inside a 32-bit word.
-ghost use Rattle.std.specs.Prelude.{◌==◌, ◌≡◌, ◌<◌, ◌≤◌, ◌+◌, ◌*◌, ◌/◌, ◌%◌, ◌^◌};
+//! Bits and numbers inside a 32-bit word.
+ghost use Rattle.std.specs.Prelude.{◌≡◌, ◌<◌, ◌+◌, ◌*◌, ◌^◌};
+ghost use Rattle.verb_codes.specs.Words as spec;
 
 /// The number in the `width` bits of the word from bit `low` up.
-pub(crate) fn field(word: u32, low: u32, width: u32) -> u32
+pub fn bits_of(word: u32, low: u32, width: u32) -> u32
     requires low_in { low < 32 }
     requires width_in { width < 32 }
-    ensures value { result ≡ word / 2 ^ low % 2 ^ width }
+    ensures value { result ≡ spec.bits_of word low width }
     ensures narrow { result < 2 ^ width }
 {
     (word >> low) % (1 << width)
 }
 
 /// Whether bit `at` of the word is 1.
-pub(crate) fn has_bit(word: u32, at: u32) -> bool
+pub fn has_bit(word: u32, at: u32) -> bool
     requires { at < 32 }
-    ensures { result ≡ (word / 2 ^ at % 2 ^ 1 == 1) }
+    ensures { result ≡ spec.has_bit word at }
 {
-    field(word, at, 1) == 1
+    bits_of(word, at, 1) == 1
 }
 
 /// The number whose low `width` bits are `low` and whose other bits are `high`.

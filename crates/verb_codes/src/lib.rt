@@ -12,9 +12,10 @@ mod verbs;
 mod words;
 
 pub use amplifiers::{AmpSetting, AmpSide};
+pub use bits::{bits_of, has_bit};
 pub use entries::{ListError, ListFault};
 pub use flags::{PinCapabilities, PinControl, WidgetCapabilities};
-pub use lists::{expand_list, pack_list};
+pub use lists::{expand_entries, expand_list, pack_list, unpack_list};
 pub use parameters::Parameter;
 pub use verbs::{Command, Verb};
 pub use words::{decode, encode};

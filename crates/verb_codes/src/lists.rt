@@ -3,22 +3,59 @@ ghost use Rattle.std.specs.Prelude.{◌≡◌, ◌≤◌, ◌<◌, ◌+◌, ◌-
 ghost use Rattle.std.specs.List.{range_with_len};
 ghost use Rattle.verb_codes.specs.Lists as spec;
 
-use crate::bits::{field, joined};
+use crate::bits::{bits_of, joined};
 use crate::entries::{Entry, ListError};
 use std::alloc::{AllocError, Global};
 
 /// The nodes that the first `len` entries of a connection list stand for, in order. The words hold `len` entries, lowest bits first:
 /// two a word in the long form, else four. A range stands for all nodes from the one after the entry before it up to its own,
-/// so there can be more nodes than entries. The fault is that of the first faulty entry.
+/// so there can be more nodes than entries.
+///
+/// # Errors
+/// The fault of the first faulty entry, or want of memory.
 pub fn expand_list(alloc: Global, len: u8, long: bool, words: &[u32]) -> Result<Vec<u8>, ListError>
     requires { len ≤ length words.now * spec.entries_per_word long }
     ensures { let expansion = spec.expansion_of long (take len (spec.entries_of_words long words.now)) in
         MatchResult result (λ nids. expansion ≡ Ok nids.items) (λ error. spec.IsRefusal error expansion) }
 {
+    let entries = unpack_list(alloc, len, long, words)?;
+    expand_entries(alloc, long, entries.as_slice())
+}
+
+/// The first `len` entries of a connection list, as they stand in its words: lowest bits first, two a word in the long form,
+/// else four. The words hold `len` entries.
+///
+/// # Errors
+/// Want of memory.
+pub fn unpack_list(
+    alloc: Global,
+    len: u8,
+    long: bool,
+    words: &[u32],
+) -> Result<Vec<u16>, AllocError>
+    requires { len ≤ length words.now * spec.entries_per_word long }
+    ensures { IfOk result (λ entries. entries.items ≡ take len (spec.entries_of_words long words.now)) }
+{
+    let mut entries = Vec::new(alloc);
+    for place in 0..usize::from(len) {
+        entries.push(entry_at(words, long, place))?;
+    }
+    Ok(entries)
+}
+
+/// The nodes that the entries of a connection list stand for, in order. An entry has 16 bits in the long form, else 8. A range
+/// stands for all nodes from the one after the entry before it up to its own, so there can be more nodes than entries.
+///
+/// # Errors
+/// The fault of the first faulty entry, or want of memory.
+pub fn expand_entries(alloc: Global, long: bool, entries: &[u16]) -> Result<Vec<u8>, ListError>
+    ensures { MatchResult result (λ nids. spec.expansion_of long entries.now ≡ Ok nids.items)
+        (λ error. spec.IsRefusal error (spec.expansion_of long entries.now)) }
+{
     let mut nids = Vec::new(alloc);
     let mut before = None;
-    for place in 0..usize::from(len) {
-        let entry = Entry::read(long, entry_at(words, long, place));
+    for bits in entries {
+        let entry = Entry::read(long, *bits);
         if let Some(fault) = entry.fault_after(before) {
             return Err(ListError::Fault(fault));
         }
@@ -34,9 +71,9 @@ fn entry_at(words: &[u32], long: bool, place: usize) -> u16
     ensures { result ≡ slice_index (spec.entries_of_words long words.now) place }
 {
     if long {
-        field(words[place / 2], 16 * (place % 2) as u32, 16) as u16
+        bits_of(words[place / 2], 16 * (place % 2) as u32, 16) as u16
     } else {
-        field(words[place / 4], 8 * (place % 4) as u32, 8) as u16
+        bits_of(words[place / 4], 8 * (place % 4) as u32, 8) as u16
     }
 }
 

@@ -3,7 +3,7 @@ ghost use Rattle.std.specs.Prelude.{◌≡◌, ◌<◌, ◌+◌, ◌*◌, ◌/�
 ghost use Rattle.verb_codes.specs.declared.verbs.Command.{Command};
 ghost use Rattle.verb_codes.specs.Verbs as spec;
 
-use crate::bits::{field, joined};
+use crate::bits::{bits_of, joined};
 use crate::codes;
 use crate::verbs::{Command, Verb};
 
@@ -32,12 +32,12 @@ pub fn decode(word: u32) -> Option<Command>
     ensures reading { result ≡ spec.reading_of word }
     ensures exact { (c : Command) → (result ≡ Some c) ↔ (spec.IsInRange c × (word ≡ spec.word_of c)) }
 {
-    let codec = field(word, 28, 4);
-    let nid = field(word, 20, 8);
+    let codec = bits_of(word, 28, 4);
+    let nid = bits_of(word, 20, 8);
     if codec > LAST_CODEC || nid > LAST_NID {
         return None;
     }
-    let verb = verb_of(field(word, 0, 20))?;
+    let verb = verb_of(bits_of(word, 0, 20))?;
     Some(Command {
         codec: codec as u8,
         nid: nid as u8,
@@ -101,10 +101,10 @@ fn verb_of(bits: u32) -> Option<Verb>
     requires { bits < 2 ^ 20 }
     ensures { result ≡ spec.verb_of_bits bits }
 {
-    let payload = field(bits, 0, 16) as u16;
-    let code = field(bits, 8, 12);
-    let argument = field(bits, 0, 8) as u8;
-    match field(bits, 16, 4) {
+    let payload = bits_of(bits, 0, 16) as u16;
+    let code = bits_of(bits, 8, 12);
+    let argument = bits_of(bits, 0, 8) as u8;
+    match bits_of(bits, 16, 4) {
         codes::SET_FORMAT => Some(Verb::SetFormat(payload)),
         codes::SET_AMP => Some(Verb::SetAmp(payload)),
         codes::GET_FORMAT if payload == 0 => Some(Verb::GetFormat),

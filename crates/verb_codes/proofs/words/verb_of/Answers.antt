@@ -8,17 +8,17 @@ use Rattle.verb_codes.proofs.Readings.{reads_verb, reads_none, payload-lt, allow
 use Rattle.verb_codes.proofs.words.verb_of.Goals as goal
 
 pub returns-in-2 : goal.returns-in-2
-returns-in-2 c = sym (reads_verb c.args.bits (verb.SetFormat c.field-payload.result) (omega arith) refl (omega arith))
+returns-in-2 c = sym (reads_verb c.args.bits (verb.SetFormat c.bits_of-payload.result) (omega arith) refl (omega arith))
 
 pub returns-in-3 : goal.returns-in-3
-returns-in-3 c = sym (reads_verb c.args.bits (verb.SetAmp c.field-payload.result) (omega arith) refl (omega arith))
+returns-in-3 c = sym (reads_verb c.args.bits (verb.SetAmp c.bits_of-payload.result) (omega arith) refl (omega arith))
 
 pub returns-in-10 : goal.returns-in-10
 returns-in-10 c = sym (reads_verb c.args.bits verb.GetFormat (omega arith) refl (omega arith))
 
 pub returns-in-11 : goal.returns-in-11
 returns-in-11 c =
-    sym (reads_verb c.args.bits (verb.GetAmp c.field-payload.result) (omega arith) (eq-eqb _ 0 c.if-payload-eq0-2.true) (omega arith))
+    sym (reads_verb c.args.bits (verb.GetAmp c.bits_of-payload.result) (omega arith) (eq-eqb _ 0 c.if-payload-eq0-2.true) (omega arith))
 
 pub returns-in_default : goal.returns-in_default
 returns-in_default c = sym (reads_none c.args.bits (λ v r e. none c v (payload-lt v r) (allowed-of v r) e))
@@ -32,7 +32,7 @@ returns-in_default-2 c = sym (reads_none c.args.bits (λ v r e. none c v (payloa
   where
     none : (c : goal.Else-payload-eq0-2) (v : Verb) → (row_of v).payload < 2 ^ (row_of v).width → is_allowed v ≡ true → c.args.bits ≡ verb_bits v → ⊥
     none c (verb.GetAmp side) lt allowed e =
-        let same : c.field-payload.result ≡ side = omega arith in
+        let same : c.bits_of-payload.result ≡ side = omega arith in
         c.if-payload-eq0-2.false (ap (λ x. bit_and x get_amp_zeros) same ∙ eqb-true _ 0 allowed)
     none c (verb.SetDefault place byte) lt allowed e = let p : place < 4 = ltb-true place 4 allowed in omega arith
     none c _ lt allowed e = omega arith

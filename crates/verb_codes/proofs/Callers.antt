@@ -1,0 +1,25 @@
+-- What the proofs of other crates cite.
+use Rattle.std.proofs.Common.{◌≡◌, ◌<◌, ◌*◌, ◌^◌, ℕ, Bool, true, List, length, Some, IsTrue}
+use Rattle.verb_codes.specs.declared.verbs.Command.{Command}
+use Rattle.verb_codes.specs.declared.verbs.Verb.{Verb}
+use Rattle.verb_codes.specs.Verbs.{row_of, is_allowed, is_verb_in_range, IsInRange, word_of, reading_of}
+use Rattle.verb_codes.specs.Lists.{entries_of_words, entries_per_word}
+use Rattle.verb_codes.proofs.Readings as readings
+use Rattle.verb_codes.proofs.Commands as commands
+use Rattle.verb_codes.proofs.Packing as packing
+
+-- the payload of a verb in range fits its width
+pub payload-lt : (verb : Verb) → IsTrue (is_verb_in_range verb) → (row_of verb).payload < 2 ^ (row_of verb).width
+payload-lt verb h = readings.payload-lt verb h
+
+-- a verb in range has arguments that are allowed
+pub allowed-of : (verb : Verb) → IsTrue (is_verb_in_range verb) → is_allowed verb ≡ true
+allowed-of verb h = readings.allowed-of verb h
+
+-- a word that reads as a command is the word of that command, which is in range
+pub reading_of-sound : (word : ℕ) (command : Command) → reading_of word ≡ Some command → IsInRange command × (word ≡ word_of command)
+reading_of-sound word command e = commands.reading_of-sound word command e
+
+-- words have so many entries each
+pub length-entries : (long : Bool) (words : List ℕ) → length (entries_of_words long words) ≡ length words * entries_per_word long
+length-entries long words = packing.length-entries long words
