@@ -1,3 +1,4 @@
+pub mod ReadableLists
 pub mod Tables
 pub mod Reaching
 pub mod KeyOrder

@@ -3,7 +3,7 @@
 use Rattle.std.specs.Prelude.{ℕ, Bool, false, ◌==◌, ◌&&◌, not, Option, Some, None, nat_le}
 use Rattle.codec_graph.specs.declared.raw.RawNode.{RawNode}
 use Rattle.codec_graph.specs.declared.raw.RawCodec.{RawCodec}
-use Rattle.codec_graph.specs.Words.{has_bit, bits_of}
+use Rattle.verb_codes.specs.Words.{has_bit, bits_of}
 use Rattle.codec_graph.specs.Widget.{node_at, is_pin, is_stereo, is_digital}
 
 abbrev pub connectivity : RawNode → ℕ

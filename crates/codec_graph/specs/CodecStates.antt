@@ -6,7 +6,7 @@ use Rattle.codec_graph.specs.declared.raw.RawCodec.{RawCodec}
 use Rattle.codec_graph.specs.declared.controls.Control.TheVariants.{Unsol}
 use Rattle.codec_graph.specs.declared.waiting.Waiting.{Waiting}
 use Rattle.codec_graph.specs.declared.waiting.Waiting.TheVariants.{Answer, Unsolicited}
-use Rattle.codec_graph.specs.Words.{has_bit}
+use Rattle.verb_codes.specs.Words.{has_bit}
 use Rattle.codec_graph.specs.Widget.{node_at, is_pin}
 use Rattle.codec_graph.specs.Cycles.{IsWellFormed}
 use Rattle.codec_graph.specs.Settings.{Entries, setting_of, sends_unsolicited, detects_presence, IsSettingsOf}

@@ -1,10 +1,12 @@
 -- Cycles of mixers and selectors, and well-formed graphs. This project's own, over the standard's connection lists (7.1.2).
-use Rattle.std.specs.Prelude.{◌≡◌, ◌≤◌, ℕ, List, [], ◌∷◌, Option, Some, None, if◌then◌else◌, Contains}
+use Rattle.std.specs.Prelude.{◌≡◌, ◌≤◌, ℕ, List, [], ◌∷◌, Option, Some, None, if◌then◌else◌, All, Contains}
 use Rattle.codec_graph.specs.declared.raw.RawNode.{RawNode}
 use Rattle.codec_graph.specs.declared.raw.RawCodec.{RawCodec}
 use Rattle.codec_graph.specs.declared.fault.GraphFault.{GraphFault}
 use Rattle.codec_graph.specs.declared.fault.GraphFault.TheVariants.{Cycle}
 use Rattle.codec_graph.specs.Widget.{node_at, is_inner, normal}
+use Rattle.codec_graph.specs.Listed.{HasReadableList}
+use Rattle.codec_graph.specs.Widths.{HasWords}
 use Rattle.codec_graph.specs.Faults.{table_faults, first_fault}
 
 -- the connections of a mixer or selector, and none of any other node
@@ -41,6 +43,8 @@ pub record HasSoundTables (codec : RawCodec) : Type 0 where
 pub record IsWellFormed (codec : RawCodec) : Type 0 where
   pub tables : HasSoundTables codec
   pub acyclic : (nid : ℕ) → IsOnCycle codec nid → ⊥
+  pub lists : All HasReadableList codec.nodes
+  pub words : HasWords codec
 
 -- the fault is a cycle's, named by its least node
 abbrev pub IsCycleFault : RawCodec → GraphFault → Type 0

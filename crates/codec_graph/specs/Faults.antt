@@ -5,7 +5,7 @@ use Rattle.codec_graph.specs.declared.raw.RawNode.{RawNode}
 use Rattle.codec_graph.specs.declared.raw.RawCodec.{RawCodec}
 use Rattle.codec_graph.specs.declared.fault.GraphFault.{GraphFault}
 use Rattle.codec_graph.specs.declared.fault.GraphFault.TheVariants.{NoAudioGroup, BadCount, ConnectionOutside, ListTooLong, AmpOffset}
-use Rattle.codec_graph.specs.Words.{bits_of}
+use Rattle.verb_codes.specs.Words.{bits_of}
 use Rattle.codec_graph.specs.Widget.{is_mixer, is_widget, amplifier_offset, amplifier_steps}
 
 -- the fault where the test holds

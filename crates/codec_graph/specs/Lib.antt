@@ -1,9 +1,12 @@
-pub mod Words
 pub mod Widget
+pub mod Listed
+pub mod Widths
 pub mod Faults
 pub mod Cycles
 pub mod Candidates
-pub mod Marks
 pub mod Settings
 pub mod VerbMeaning
 pub mod CodecStates
+
+-- what private functions promise one another
+pub mod Marks

@@ -10,7 +10,7 @@ use Rattle.codec_graph.specs.declared.controls.Control.{Control}
 use Rattle.codec_graph.specs.declared.controls.Control.TheVariants.{Select, Power, Stream, Pin, Unsol, Eapd, Digital, Default, Format, OutLeft, OutRight, InLeft, InRight}
 use Rattle.codec_graph.specs.declared.controls.ControlKey.{ControlKey}
 use Rattle.codec_graph.specs.contracts.controls.ControlKeyOrd.TheImpl as key_order
-use Rattle.codec_graph.specs.Words.{has_bit}
+use Rattle.verb_codes.specs.Words.{has_bit}
 use Rattle.codec_graph.specs.Widget.{node_at, is_mixer, is_pin, is_converter, is_digital, has_power_control, has_input_amplifier, has_output_amplifier, input_amplifier_word, output_amplifier_word, amplifier_offset, can_mute}
 
 -- a finite map from controls of nodes to numbers, as its entries in the order of the keys

@@ -1,8 +1,32 @@
 -- What the words of one widget say. Bits of the audio widget capabilities: High Definition Audio 1.0a, 7.3.4.6.
-use Rattle.std.specs.Prelude.{ℕ, Bool, ◌==◌, ◌&&◌, ◌||◌, [], map, Option, None, if◌then◌else◌, nat_lt, nat_le, ◌-◌, ◌+◌, slice_get}
+use Rattle.std.specs.Prelude.{ℕ, Bool, false, ◌==◌, ◌&&◌, ◌||◌, [], map, Option, None, if◌then◌else◌, nat_lt, nat_le, ◌-◌, ◌+◌, slice_get}
 use Rattle.codec_graph.specs.declared.raw.RawNode.{RawNode}
 use Rattle.codec_graph.specs.declared.raw.RawCodec.{RawCodec}
-use Rattle.codec_graph.specs.Words.{has_bit, bits_of, kept_word}
+use Rattle.verb_codes.specs.Words.{has_bit, bits_of}
+
+-- how many node identifiers there are: they have seven bits (7.1.2)
+abbrev pub node_identifiers : ℕ
+node_identifiers = 128
+
+-- a word where it applies, and 0 where it does not
+abbrev pub kept_word : Bool → ℕ → ℕ
+kept_word applies word = if applies then word else 0
+
+-- a widget with these capabilities of which nothing else is known yet
+abbrev pub plain_node : ℕ → RawNode
+plain_node caps = record {
+  caps = caps;
+  pcm = 0;
+  formats = 0;
+  pin_caps = 0;
+  amp_in = 0;
+  amp_out = 0;
+  power = 0;
+  default = 0;
+  long = false;
+  entries = [];
+  list = [];
+}
 
 -- bits 23:20 are the widget's type
 abbrev pub is_output_converter : RawNode → Bool

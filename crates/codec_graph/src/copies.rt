@@ -3,10 +3,10 @@ ghost use Rattle.std.specs.Prelude.{◌≡◌, IfOk};
 
 use crate::raw::{GroupWords, RawCodec, RawNode};
 use hda_items::Items;
-use std::alloc::{AllocError, Global};
+use std::alloc::AllocError;
 
 /// Equal words of a codec.
-pub(crate) fn copy_codec(alloc: Global, codec: &RawCodec) -> Result<RawCodec, AllocError>
+pub(crate) fn copy_codec(codec: &RawCodec) -> Result<RawCodec, AllocError>
     ensures { IfOk result (λ copy. copy ≡ codec.now) }
 {
     Ok(RawCodec {
@@ -18,7 +18,7 @@ pub(crate) fn copy_codec(alloc: Global, codec: &RawCodec) -> Result<RawCodec, Al
         group_words: copy_group_words(&codec.group_words),
         first: codec.first,
         count: codec.count,
-        nodes: copy_nodes(alloc, codec.nodes.as_slice())?,
+        nodes: copy_nodes(&codec.nodes)?,
     })
 }
 
@@ -36,31 +36,36 @@ fn copy_group_words(words: &GroupWords) -> GroupWords
 }
 
 /// Equal widgets.
-fn copy_nodes(alloc: Global, nodes: &[RawNode]) -> Result<Items<RawNode>, AllocError>
+fn copy_nodes(nodes: &Items<RawNode>) -> Result<Items<RawNode>, AllocError>
     ensures { IfOk result (λ copies. copies ≡ nodes.now) }
 {
-    let mut copies = Items::new(alloc);
-    for node in nodes {
-        copies.push(copy_node(alloc, node)?)?;
+    let mut copies = Items::new(nodes.allocator());
+    for node in nodes.as_slice() {
+        copies.push(node.copy()?)?;
     }
     Ok(copies)
 }
 
-/// An equal widget.
-fn copy_node(alloc: Global, node: &RawNode) -> Result<RawNode, AllocError>
-    ensures { IfOk result (λ copy. copy ≡ node.now) }
-{
-    Ok(RawNode {
-        caps: node.caps,
-        pcm: node.pcm,
-        formats: node.formats,
-        pin_caps: node.pin_caps,
-        amp_in: node.amp_in,
-        amp_out: node.amp_out,
-        power: node.power,
-        default: node.default,
-        long: node.long,
-        entries: Items::from_slice(alloc, node.entries.as_slice())?,
-        list: Items::from_slice(alloc, node.list.as_slice())?,
-    })
+impl RawNode {
+    /// An equal widget, in memory of its own.
+    ///
+    /// # Errors
+    /// Want of memory.
+    pub fn copy(&self) -> Result<RawNode, AllocError>
+        ensures { IfOk result (λ copy. copy ≡ self.now) }
+    {
+        Ok(RawNode {
+            caps: self.caps,
+            pcm: self.pcm,
+            formats: self.formats,
+            pin_caps: self.pin_caps,
+            amp_in: self.amp_in,
+            amp_out: self.amp_out,
+            power: self.power,
+            default: self.default,
+            long: self.long,
+            entries: self.entries.copy()?,
+            list: self.list.copy()?,
+        })
+    }
 }

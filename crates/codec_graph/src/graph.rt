@@ -1,7 +1,8 @@
 //! A checked graph, and the check that makes it.
-ghost use Rattle.std.specs.Prelude.{◌≡◌, ◌<◌, ◌+◌, IfOk, OnOk, IfErr, Some, false, length, nat_lt, not};
+ghost use Rattle.std.specs.Prelude.{All, ◌≡◌, ◌<◌, ◌+◌, IfOk, OnOk, IfErr, Some, false, length, nat_lt, not};
 ghost use Rattle.std.specs.List.{list_all};
-ghost use Rattle.codec_graph.specs.Words as words;
+ghost use Rattle.codec_graph.specs.Listed.{HasReadableList};
+ghost use Rattle.codec_graph.specs.Widths.{HasWords};
 ghost use Rattle.codec_graph.specs.Widget as widget;
 ghost use Rattle.codec_graph.specs.Faults as faults;
 ghost use Rattle.codec_graph.specs.Cycles.{IsWellFormed, IsFirstFault};
@@ -11,9 +12,9 @@ use crate::copies::copy_codec;
 use crate::cycles::check_cycles;
 use crate::fault::GraphFault;
 use crate::raw::{RawCodec, RawNode};
-use crate::words::bits_of;
+use verb_codes::bits_of;
 use hda_items::Items;
-use std::alloc::{AllocError, Global};
+use std::alloc::AllocError;
 use std::marker::Model;
 
 /// A codec's well-formed graph. Contracts see the normalised words that [`Graph::raw`] gives.
@@ -35,14 +36,17 @@ impl Model for Graph {
 
 impl Graph {
     ghost use Rattle.codec_graph.specs.Cycles.{IsWellFormed, IsFirstFault};
+    ghost use Rattle.codec_graph.specs.Listed.{HasReadableList};
 
     /// Checks a codec's words and makes the graph of those that apply: every other word is 0, and a node without a
-    /// connection list has none.
+    /// connection list has none. Each list is the expansion of its entries, as [`RawCodec::expand_lists`] leaves it where none
+    /// has a fault, and has at most 127 entries.
     ///
     /// # Errors
     /// The first fault: the group's type, the count, then at the group and at each widget ascending its connections, their
     /// number and its amplifier words, and last the cycle with the least node.
     pub fn check(raw: RawCodec) -> Result<Graph, GraphFault>
+        requires { All HasReadableList raw.nodes }
         ensures graph { IfOk result (λ graph. graph ≡ widget.normal raw) }
         ensures well_formed { IfOk result IsWellFormed }
         ensures fault { IfErr result (IsFirstFault (widget.normal raw)) }
@@ -64,10 +68,10 @@ impl Graph {
     ///
     /// # Errors
     /// Want of memory.
-    pub fn copy(&self, alloc: Global) -> Result<Graph, AllocError>
+    pub fn copy(&self) -> Result<Graph, AllocError>
         ensures { IfOk result (λ copy. copy ≡ self.now) }
     {
-        let raw = copy_codec(alloc, &self.raw)?;
+        let raw = copy_codec(&self.raw)?;
         Ok(Graph { raw })
     }
 
@@ -85,7 +89,9 @@ impl Graph {
 
 /// The codec with each word that does not apply set to 0.
 fn normalised(raw: RawCodec) -> RawCodec
-    ensures { result ≡ widget.normal raw }
+    requires { All HasReadableList raw.nodes }
+    ensures value { result ≡ widget.normal raw }
+    ensures words { HasWords result }
 {
     let mut raw = raw;
     let mut nodes = raw.nodes.into_vec();
@@ -98,7 +104,9 @@ fn normalised(raw: RawCodec) -> RawCodec
 
 /// Whether the codec, whose words are normal, has no fault, or its first.
 fn check_normal(codec: &RawCodec) -> Result<(), GraphFault>
-    requires { widget.normal codec.now ≡ codec.now }
+    requires is_normal { widget.normal codec.now ≡ codec.now }
+    requires lists { All HasReadableList codec.now.nodes }
+    requires words { HasWords codec.now }
     ensures well_formed { OnOk result (IsWellFormed codec.now) }
     ensures fault { IfErr result (IsFirstFault codec.now) }
 {

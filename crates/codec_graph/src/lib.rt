@@ -7,22 +7,23 @@ mod copies;
 mod cycles;
 mod fault;
 mod graph;
+mod listed;
 mod parameters;
 mod presence;
 mod raw;
 mod settings;
 mod waiting;
-mod words;
 
 pub use answers::answer;
 pub use controls::{Control, ControlKey};
 pub use fault::GraphFault;
 pub use graph::Graph;
+pub use listed::FaultyList;
 pub use presence::Presence;
 pub use raw::{GroupWords, RawCodec, RawNode};
 pub use settings::Settings;
 pub use waiting::Waiting;
-pub use words::{bits_of, has_bit};
+pub use verb_codes::{bits_of, has_bit};
 
 #[cfg(test)]
 mod tests;

@@ -1,14 +1,17 @@
 //! The words of a codec as they were read.
 ghost use Rattle.std.specs.Prelude.{◌≡◌, if◌then◌else◌, [], option_copied};
 ghost use Rattle.codec_graph.specs.Widget as widget;
-ghost use Rattle.codec_graph.specs.Words as words;
+ghost use Rattle.codec_graph.specs.Listed.{HasReadableList};
+ghost use Rattle.codec_graph.specs.Widths as widths;
+ghost use Rattle.verb_codes.specs.Words as words;
 ghost use Rattle.codec_graph.specs.Candidates as candidates;
 ghost use Rattle.codec_graph.specs.Cycles as cycles;
 ghost use Rattle.codec_graph.specs.Settings as settings;
 
 use crate::controls::Control;
-use crate::words::{bits_of, has_bit, kept_word};
 use hda_items::Items;
+use std::alloc::Global;
+use verb_codes::{bits_of, has_bit};
 
 /// The parameters of the audio function group that its widgets fall back to (HDA 1.0a, 7.3.4.7 to 7.3.4.12).
 #[derive(Debug, Drop)]
@@ -76,6 +79,25 @@ pub struct RawCodec {
 }
 
 impl RawNode {
+    /// A widget with these capabilities of which nothing else is known yet: every other word is 0, and it lists nothing.
+    pub fn new(alloc: Global, caps: u32) -> RawNode
+        ensures { result ≡ widget.plain_node caps }
+    {
+        RawNode {
+            caps,
+            pcm: 0,
+            formats: 0,
+            pin_caps: 0,
+            amp_in: 0,
+            amp_out: 0,
+            power: 0,
+            default: 0,
+            long: false,
+            entries: Items::new(alloc),
+            list: Items::new(alloc),
+        }
+    }
+
     /// Whether the widget is an audio output converter.
     pub fn is_output_converter(&self) -> bool
         ensures { result ≡ widget.is_output_converter self.now }
@@ -257,8 +279,12 @@ impl RawNode {
 
     /// Sets each word that does not apply to 0, and empties a connection list that the widget does not have.
     pub(crate) fn normalise(&mut self)
-        ensures { self.new ≡ widget.normal_node self.old }
+        requires { HasReadableList self.old }
+        ensures value { self.new ≡ widget.normal_node self.old }
+        ensures words { widths.HasNodeWords self.new }
     {
+        // What is read has the width of its type.
+        let _caps = self.caps;
         let own_formats = self.is_converter() && self.overrides_formats();
         let own_amplifiers = self.overrides_amplifiers();
         let is_pin = self.is_pin();
@@ -361,4 +387,11 @@ impl RawCodec {
             self.group_words.formats
         }
     }
+}
+
+/// The word where it applies, and 0 where it does not.
+fn kept_word(applies: bool, word: u32) -> u32
+    ensures { result ≡ widget.kept_word applies word }
+{
+    if applies { word } else { 0 }
 }

@@ -11,7 +11,7 @@ ghost use Rattle.verb_codes.specs.Verbs.{is_verb_in_range};
 use crate::controls::{Control, ControlKey};
 use crate::graph::Graph;
 use crate::raw::{RawCodec, RawNode};
-use crate::words::{bits_of, has_bit};
+use verb_codes::{bits_of, has_bit};
 use std::alloc::{AllocError, Global};
 use std::collections::BTreeMap;
 use std::marker::Model;

@@ -66,6 +66,11 @@ impl<T> Items<T> {
         self.inner.is_empty()
     }
 
+    /// Where the list takes its memory from.
+    pub fn allocator(&self) -> Global {
+        *self.inner.allocator()
+    }
+
     /// Puts an item last, or gives it back where memory is wanting.
     pub fn push(&mut self, item: T) -> Result<(), AllocFailed<T>>
         ensures ok { OnOk result (self.new ≡ self.old ++ item ∷ []) }
@@ -93,6 +98,16 @@ impl<T: Copy> Items<T> {
         Ok(Items {
             inner: Vec::from_slice(alloc, items)?,
         })
+    }
+
+    /// An equal list, in memory of its own.
+    ///
+    /// # Errors
+    /// Want of memory.
+    pub fn copy(&self) -> Result<Self, AllocError>
+        ensures { IfOk result (λ copy. copy ≡ self.now) }
+    {
+        Items::from_slice(self.allocator(), self.as_slice())
     }
 }
 

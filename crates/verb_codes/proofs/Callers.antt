@@ -1,12 +1,14 @@
 -- What the proofs of other crates cite.
-use Rattle.std.proofs.Common.{◌≡◌, ◌<◌, ◌*◌, ◌^◌, ℕ, Bool, true, List, length, Some, IsTrue}
+use Rattle.std.proofs.Common.{◌≡◌, ◌<◌, ◌*◌, ◌^◌, ℕ, Bool, true, List, length, Some, Ok, IsTrue}
+use Rattle.std.specs.Prelude.{All}
 use Rattle.verb_codes.specs.declared.verbs.Command.{Command}
 use Rattle.verb_codes.specs.declared.verbs.Verb.{Verb}
 use Rattle.verb_codes.specs.Verbs.{row_of, is_allowed, is_verb_in_range, IsInRange, word_of, reading_of}
-use Rattle.verb_codes.specs.Lists.{entries_of_words, entries_per_word}
+use Rattle.verb_codes.specs.Lists.{entries_of_words, entries_per_word, expansion_of}
 use Rattle.verb_codes.proofs.Readings as readings
 use Rattle.verb_codes.proofs.Commands as commands
 use Rattle.verb_codes.proofs.Packing as packing
+use Rattle.verb_codes.proofs.Expansions as expansions
 
 -- the payload of a verb in range fits its width
 pub payload-lt : (verb : Verb) → IsTrue (is_verb_in_range verb) → (row_of verb).payload < 2 ^ (row_of verb).width
@@ -23,3 +25,7 @@ reading_of-sound word command e = commands.reading_of-sound word command e
 -- words have so many entries each
 pub length-entries : (long : Bool) (words : List ℕ) → length (entries_of_words long words) ≡ length words * entries_per_word long
 length-entries long words = packing.length-entries long words
+
+-- each node for which a connection list stands has a node identifier of seven bits
+pub expansion_of-small : (long : Bool) (entries nids : List ℕ) → expansion_of long entries ≡ Ok nids → All (λ nid. nid < 128) nids
+expansion_of-small long entries nids e = expansions.expansion_of-small long entries nids e
