@@ -1,10 +1,9 @@
 -- A codec file has one reading.
-use Rattle.std.proofs.Common.{◌≡◌, ◌≤◌, ◌<◌, ℕ, List, [], ◌∷◌, Option, None, Some, Result, Ok, Err, IfOk, inl, inr, ◌⊎◌, refl, sym, ap, subst, ◌∙◌, arith, suc}
+use Rattle.std.proofs.Common.{◌≡◌, ◌≤◌, ℕ, List, Option, None, Some, Result, Ok, Err, IfOk, inl, inr, ◌⊎◌, refl, sym, ap, subst, ◌∙◌, arith}
 use Rattle.std.specs.Prelude.{IsUtf8}
 use Rattle.std.specs.Str.{is_utf8}
 use Rattle.std.proofs.lemmas.Str.{IsUtf8-from_is_utf8, is_utf8-from_IsUtf8}
 use Rattle.std.proofs.lemmas.Bool.{cases_order, cases_Bool}
-use Rattle.std.proofs.lemmas.Bool.Decides.{eqb_tells}
 use Rattle.toml.specs.Data.{Members}
 use Rattle.toml.specs.Parse.{parse_document}
 use Rattle.verb_codes.specs.declared.entries.ListFault as declared_fault
@@ -12,6 +11,7 @@ use Rattle.codec_graph.specs.declared.raw.RawCodec.{RawCodec}
 use Rattle.codec_graph.specs.declared.fault.GraphFault.{GraphFault}
 use Rattle.codec_graph.specs.declared.fault.GraphFault.TheVariants.{Cycle}
 use Rattle.codec_graph.specs.Widget.{normal}
+use Rattle.codec_graph.specs.Listed.{HasNoListFault, IsFirstListFault}
 use Rattle.codec_graph.specs.Faults.{table_faults, first_fault}
 use Rattle.codec_graph.specs.Cycles.{IsOnCycle, IsWellFormed, IsCycleFault, IsFirstFaultBy, IsFirstFault}
 use Rattle.hda_files.specs.declared.node.NodeTable.{NodeTable}
@@ -22,29 +22,20 @@ use Rattle.hda_files.specs.declared.fault.FileFault.{FileFault}
 use Rattle.hda_files.specs.declared.fault.FileFault.TheVariants.{List as ListFault, Graph, TooManyPins}
 use Rattle.hda_files.specs.Memory.{OrMemory}
 use Rattle.hda_files.specs.Codecs.{laid_out}
-use Rattle.hda_files.specs.ListFaults.{list_fault_at, HasNoListFault, IsFirstListFault}
+use Rattle.hda_files.specs.ListFaults.{list_fault_at}
 use Rattle.hda_files.specs.Tops.{machine_table_of}
 use Rattle.hda_files.specs.Machines.{codec_file, IsGoodCodec, IsJudgedCodec, HasFewPins, IsJudgedMachine, IsJudged, IsReadingOf, HasTable, IsReadingOfBytes, Reads, IsOnlyReading}
-use Rattle.hda_files.proofs.TableBounds.{AreSmall, machine_table-small}
-
--- a list with a fault stands at a small node identifier
-fault-small : (nodes : List NodeTable) (nid : ℕ) (fault : declared_fault.ListFault) → AreSmall nodes → list_fault_at nodes nid ≡ Some fault → nid < 128
-fault-small [] nid fault small e = cc
-fault-small (node ∷ nodes) nid fault small e =
-    elim (eqb_tells node.nid nid) [
-      | inl same ↦ let here : node.nid ≤ 127 = small 0 node (omega arith) in omega arith
-      | inr other ↦ fault-small nodes nid fault (λ k d within. small (suc k) d (omega arith)) (rw other.0 at e)
-    ]
+use Rattle.hda_files.proofs.TableBounds.{AreSmall, fault-small, machine_table-small}
 
 -- lists without a fault have no first one
-none_and_first : (nodes : List NodeTable) (nid : ℕ) (fault : declared_fault.ListFault) → AreSmall nodes → HasNoListFault nodes → IsFirstListFault nodes nid fault → ⊥
+none_and_first : (nodes : List NodeTable) (nid : ℕ) (fault : declared_fault.ListFault) → AreSmall nodes → HasNoListFault (list_fault_at nodes) → IsFirstListFault (list_fault_at nodes) nid fault → ⊥
 none_and_first nodes nid fault small none first =
     let absent = none nid (fault-small nodes nid fault small first.here) in
     let here = first.here in
     cc
 
 -- lists have one first fault
-one_nid : (nodes : List NodeTable) (nid other : ℕ) (fault twin : declared_fault.ListFault) → IsFirstListFault nodes nid fault → IsFirstListFault nodes other twin → other ≡ nid
+one_nid : (nodes : List NodeTable) (nid other : ℕ) (fault twin : declared_fault.ListFault) → IsFirstListFault (list_fault_at nodes) nid fault → IsFirstListFault (list_fault_at nodes) other twin → other ≡ nid
 one_nid nodes nid other fault twin h k =
     elim (cases_order nid other) [
       | inl same ↦ sym same
@@ -54,7 +45,7 @@ one_nid nodes nid other fault twin h k =
       ]
     ]
 
-one_list_fault : (nodes : List NodeTable) (nid other : ℕ) (fault twin : declared_fault.ListFault) → IsFirstListFault nodes nid fault → IsFirstListFault nodes other twin → twin ≡ fault
+one_list_fault : (nodes : List NodeTable) (nid other : ℕ) (fault twin : declared_fault.ListFault) → IsFirstListFault (list_fault_at nodes) nid fault → IsFirstListFault (list_fault_at nodes) other twin → twin ≡ fault
 one_list_fault nodes nid other fault twin h k =
     let same = one_nid nodes nid other fault twin h k in
     let here = h.here in

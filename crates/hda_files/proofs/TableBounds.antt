@@ -1,10 +1,11 @@
 -- Node identifiers of what a table says are small.
-use Rattle.std.proofs.Common.{◌≤◌, ◌==◌, ◌++◌, ℕ, ℤ, pos, negsuc, Bool, true, false, if◌then◌else◌, List, [], ◌∷◌, length, Option, None, Some, IfSome, Result, Ok, Err, IfOk, All, arith}
+use Rattle.std.proofs.Common.{◌≡◌, ◌<◌, ◌≤◌, ◌==◌, ◌++◌, ℕ, ℤ, pos, negsuc, Bool, true, false, if◌then◌else◌, List, [], ◌∷◌, length, suc, inl, inr, Option, None, Some, IfSome, Result, Ok, Err, IfOk, All, arith}
 use Rattle.std.specs.Option.{ok_or}
 use Rattle.std.specs.List.{list_any}
-use Rattle.std.proofs.lemmas.Bool.Decides.{nat_tests}
+use Rattle.std.proofs.lemmas.Bool.Decides.{nat_tests, eqb_tells}
 use Rattle.std.proofs.lemmas.List.Elements.{All-nil, All-push}
 use Rattle.toml.specs.Data.{Data, Members}
+use Rattle.verb_codes.specs.declared.entries.ListFault.{ListFault}
 use Rattle.codec_graph.specs.declared.raw.RawNode.{RawNode}
 use Rattle.hda_files.specs.declared.opening.NodeOpening.{NodeOpening}
 use Rattle.hda_files.specs.declared.fault.Place.{Place}
@@ -19,6 +20,7 @@ use Rattle.hda_files.specs.declared.top.MachineTable.{MachineTable}
 use Rattle.hda_files.specs.Values.{◌>>=◌, value_at, given_number, number_or, tables_at, within, number_of, required_number}
 use Rattle.hda_files.specs.Nodes.{nid_of, words_of, entries_of, node_with, node_of, nodes_after}
 use Rattle.hda_files.specs.Openings.{opening_of}
+use Rattle.hda_files.specs.ListFaults.{list_fault_at}
 use Rattle.hda_files.specs.Codecs.{codec_words_of, codec_with, codec_of}
 use Rattle.hda_files.specs.Tops.{ring_size_at, only_codec, codec_at, machine_table_of}
 
@@ -70,7 +72,7 @@ node-small codec earlier table =
     let place = Node codec (length earlier) in
     IfOk-then (λ n. n ≤ 127) Q (nid_of table place earlier) _ (nid-small table place earlier)
     (λ nid small. IfOk-after Q (words_of table place) _
-    (λ words. IfOk-after Q (entries_of place words.caps words.long (value_at table ListKey)) _
+    (λ words. IfOk-after Q (entries_of place words (value_at table ListKey)) _
     (λ entries. opened-small (opening_of table place) nid (record words { entries = entries }) small)))
 
 nodes-small : (codec : ℕ) (earlier : List NodeTable) (tables : List Members) → AreSmall earlier → IfOk (nodes_after codec earlier tables) AreSmall
@@ -106,3 +108,12 @@ machine_table-small top =
     (λ corb. IfOk-after Q (ring_size_at top Rirb) _
     (λ rirb. IfOk-then P Q (codec_at top) (λ codec. Ok (record { fifo = fifo; corb = corb; rirb = rirb; codec = codec }))
     (IfOk-after P (tables_at top Top CodecKey 1) only_codec only_codec-small) (λ codec small. small))))
+
+-- a list with a fault stands at a small node identifier
+pub fault-small : (nodes : List NodeTable) (nid : ℕ) (fault : ListFault) → AreSmall nodes → list_fault_at nodes nid ≡ Some fault → nid < 128
+fault-small [] nid fault small e = cc
+fault-small (node ∷ nodes) nid fault small e =
+    elim (eqb_tells node.nid nid) [
+      | inl same ↦ let here : node.nid ≤ 127 = small 0 node (omega arith) in omega arith
+      | inr other ↦ fault-small nodes nid fault (λ k d within. small (suc k) d (omega arith)) (rw other.0 at e)
+    ]
