@@ -1,3 +1,5 @@
+-- what the proofs of other crates cite
+pub mod Callers
 pub mod ArrayLemmas
 pub mod JudgeLemmas
 pub mod Meant

@@ -1,32 +1,17 @@
 -- Connection lists of a codec without a list fault are readable.
-use Rattle.std.proofs.Common.{◌≡◌, ◌≤◌, ◌<◌, ◌-◌, ◌^◌, ℕ, Bool, true, false, List, [], ◌∷◌, map, filter, length, get_or, Option, None, Some, Result, Ok, Err, All, suc, inl, inr, refl, arith}
+use Rattle.std.proofs.Common.{◌≡◌, ◌<◌, ◌^◌, ℕ, false, List, [], ◌∷◌, map, filter, get_or, Option, None, Some, All, suc, inl, inr, refl, arith}
 use Rattle.std.specs.List.{range_with_len}
-use Rattle.std.specs.Result.{result_err, result_unwrap_or}
 use Rattle.std.proofs.lemmas.Bool.Decides.{eqb_tells}
 use Rattle.std.proofs.lemmas.List.Elements.{All-nil, All-append, All-map}
 use Rattle.verb_codes.specs.declared.entries.ListFault.{ListFault}
-use Rattle.verb_codes.specs.Lists.{entry_width, expansion_of}
-use Rattle.codec_graph.specs.declared.raw.RawNode.{RawNode}
-use Rattle.codec_graph.specs.Listed.{most_entries, list_fault, listed_node, HasNoListFault, HasReadableList}
+use Rattle.verb_codes.specs.Lists.{entry_width}
+use Rattle.codec_graph.specs.Listed.{HasNoListFault, HasReadableList}
 use Rattle.hda_files.specs.declared.node.NodeTable.{NodeTable}
 use Rattle.hda_files.specs.declared.codec.CodecTable.{CodecTable}
 use Rattle.hda_files.specs.Codecs.{vendor_widget, widget_at, is_outside, laid_out}
 use Rattle.hda_files.specs.ListFaults.{list_fault_at}
 use Rattle.hda_files.specs.Readers.{IsReadNode}
 use Rattle.hda_files.proofs.TableBounds.{fault-small}
-
--- a number up to the greatest entry of a form fits the form
-pub fits : (long : Bool) (entry : ℕ) → entry ≤ 2 ^ entry_width long - 1 → entry < 2 ^ entry_width long
-fits true entry most = omega arith
-fits false entry most = omega arith
-
-good : (expansion : Result (List ℕ) ListFault) → result_err expansion ≡ None → expansion ≡ Ok (result_unwrap_or expansion [])
-good (Ok nids) none = refl
-good (Err fault) none = cc
-
--- a widget whose few fitting entries have no fault is readable once its list is their expansion
-pub readable-from_listed : (words : RawNode) → length words.entries ≤ most_entries → All (λ entry. entry < 2 ^ entry_width words.long) words.entries → list_fault words ≡ None → HasReadableList (listed_node words)
-readable-from_listed words few fit none = record { few = few; fit = fit; expanded = good (expansion_of words.long words.entries) none }
 
 vendor-readable : HasReadableList vendor_widget
 vendor-readable = record { few = omega arith; fit = All-nil (λ entry. entry < 2 ^ entry_width false); expanded = refl }
