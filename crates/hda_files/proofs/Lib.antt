@@ -1,5 +1,3 @@
--- what the proofs of other crates cite
-pub mod Callers
 pub mod ArrayLemmas
 pub mod JudgeLemmas
 pub mod Meant
@@ -10,3 +8,6 @@ pub mod ReadableLemmas
 pub mod Readings
 pub mod StartLemmas
 pub mod TableBounds
+
+-- what the proofs of other crates cite
+pub mod Callers

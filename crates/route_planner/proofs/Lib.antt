@@ -1,5 +1,3 @@
--- what the proofs of other crates cite
-pub mod Callers
 pub mod LeftLemmas
 pub mod Targets
 pub mod Ends
@@ -20,3 +18,6 @@ pub mod Unblocked
 pub mod OneWay
 pub mod OnlyPlan
 pub mod PlanParts
+
+-- what the proofs of other crates cite
+pub mod Callers
