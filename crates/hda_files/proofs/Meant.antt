@@ -2,7 +2,7 @@
 use Rattle.std.proofs.Common.{◌≡◌, ap, inl, inr, Result, Ok, Err, IfOk, IfErr}
 use Rattle.hda_files.specs.declared.fault.FileFault.{FileFault}
 use Rattle.hda_files.specs.declared.fault.FileFault.TheVariants.{OutOfMemory}
-use Rattle.hda_files.specs.Memory.{IsMeant}
+use Rattle.hda_files.specs.Readers.{IsMeant}
 
 -- of a call that fails for want of memory alone
 pub IsMeant-from : {A : Type 0} (result : Result A FileFault) (x : A) → IfOk result (λ y. y ≡ x) → IfErr result (λ fault. fault ≡ OutOfMemory) → IsMeant result (Ok x)

@@ -1,9 +1,10 @@
 -- The table of a codec. This project's own; the words are those of High Definition Audio 1.0a, 7.3.4.
-use Rattle.std.specs.Prelude.{ℕ, Bool, false, not, ◌==◌, ◌&&◌, ◌+◌, ◌-◌, List, [], ◌++◌, map, filter, fold, min, max, nat_le, nat_lt, Option, Some, None, unwrap_or, Result, Ok}
+use Rattle.std.specs.Prelude.{ℕ, Bool, not, ◌==◌, ◌&&◌, ◌+◌, ◌-◌, List, [], ◌++◌, map, filter, fold, min, max, nat_le, nat_lt, Option, Some, None, unwrap_or, Result, Ok}
 use Rattle.std.specs.List.{find, range_with_len}
 use Rattle.toml.specs.Data.{Members}
 use Rattle.codec_graph.specs.declared.raw.RawNode.{RawNode}
 use Rattle.codec_graph.specs.declared.raw.RawCodec.{RawCodec}
+use Rattle.codec_graph.specs.Widget.{plain_node}
 use Rattle.hda_files.specs.declared.node.NodeTable.{NodeTable}
 use Rattle.hda_files.specs.declared.codec.CodecTable.{CodecTable}
 use Rattle.hda_files.specs.declared.fault.Place.{Place}
@@ -39,9 +40,9 @@ greatest_nid nodes = fold (λ greatest node. max greatest node.nid) 0 nodes
 abbrev pub nid_span : List NodeTable → ℕ
 nid_span nodes = greatest_nid nodes - least_nid nodes + 1
 
--- the widget of a node identifier without a table: vendor defined, without words and connections
+-- the widget of a node identifier without a table: vendor defined, without other words and connections
 abbrev pub vendor_widget : RawNode
-vendor_widget = record { caps = 0x00F00000; pcm = 0; formats = 0; pin_caps = 0; amp_in = 0; amp_out = 0; power = 0; default = 0; long = false; entries = []; list = [] }
+vendor_widget = plain_node 0x00F00000
 
 abbrev pub widget_or_vendor : Option NodeTable → RawNode
 widget_or_vendor None = vendor_widget
@@ -55,9 +56,10 @@ widget_at nodes nid = widget_or_vendor (find (λ node. node.nid == nid) nodes)
 abbrev pub is_outside : ℕ → ℕ → NodeTable → Bool
 is_outside first count node = not (nat_le first node.nid && nat_lt node.nid (first + count))
 
--- the widgets from `first` on, and after them those of the tables outside, which make them more than `count`
+-- the widgets from `first` on, and after them those of the tables outside, which make them more than `count`; each is that of
+-- its node identifier
 abbrev pub widgets_of : ℕ → ℕ → List NodeTable → List RawNode
-widgets_of first count nodes = map (widget_at nodes) (range_with_len first count) ++ map (λ node. node.widget) (filter (is_outside first count) nodes)
+widgets_of first count nodes = map (widget_at nodes) (range_with_len first count) ++ map (λ node. widget_at nodes node.nid) (filter (is_outside first count) nodes)
 
 -- the codec of these words and these tables of its widgets; where `first` or `count` is not given, the tables say it
 abbrev pub codec_with : RawCodec → ℕ → Option ℕ → Option ℕ → List NodeTable → CodecTable

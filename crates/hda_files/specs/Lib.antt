@@ -1,7 +1,6 @@
 pub mod Keys
 pub mod Values
 pub mod Memory
-pub mod Arrays
 pub mod Openings
 pub mod Nodes
 pub mod Codecs
@@ -9,3 +8,6 @@ pub mod Tops
 pub mod ListFaults
 pub mod Starts
 pub mod Machines
+-- what private functions promise one another
+pub mod Arrays
+pub mod Readers

@@ -1,5 +1,5 @@
 -- The faults of a codec's connection lists, by node identifier. This project's own.
-use Rattle.std.specs.Prelude.{◌≡◌, ◌<◌, ℕ, ◌==◌, List, Option, Some, None, option_and_then}
+use Rattle.std.specs.Prelude.{ℕ, ◌==◌, List, Option, option_and_then}
 use Rattle.std.specs.List.{find}
 use Rattle.verb_codes.specs.declared.entries.ListFault.{ListFault}
 use Rattle.hda_files.specs.declared.node.NodeTable.{NodeTable}
@@ -7,12 +7,3 @@ use Rattle.hda_files.specs.declared.node.NodeTable.{NodeTable}
 -- the fault of the list of the table with this node identifier, if there is one
 abbrev pub list_fault_at : List NodeTable → ℕ → Option ListFault
 list_fault_at nodes nid = option_and_then (λ (node : NodeTable). node.list_fault) (find (λ node. node.nid == nid) nodes)
-
--- no list has a fault; node identifiers are below 128
-abbrev pub HasNoListFault : List NodeTable → Type 0
-HasNoListFault nodes = (nid : ℕ) → nid < 128 → list_fault_at nodes nid ≡ None
-
--- the list of this node has this fault, and that of no lesser one has any
-pub record IsFirstListFault (nodes : List NodeTable) (nid : ℕ) (fault : ListFault) : Type 0 where
-  pub here : list_fault_at nodes nid ≡ Some fault
-  pub before : (lesser : ℕ) → lesser < nid → list_fault_at nodes lesser ≡ None

@@ -5,7 +5,8 @@ use Rattle.std.specs.List.Sorted.{IsStrictlyIncreasing}
 use Rattle.toml.specs.Data.{Members}
 use Rattle.toml.specs.Parse.{parse_document}
 use Rattle.codec_graph.specs.declared.raw.RawCodec.{RawCodec}
-use Rattle.codec_graph.specs.Widget.{normal}
+use Rattle.codec_graph.specs.Widget.{node_identifiers, normal}
+use Rattle.codec_graph.specs.Listed.{HasNoListFault, IsFirstListFault}
 use Rattle.codec_graph.specs.Candidates.{is_candidate}
 use Rattle.codec_graph.specs.Settings.{IsSettingsOf}
 use Rattle.codec_graph.specs.Cycles.{IsWellFormed, IsFirstFault}
@@ -17,7 +18,7 @@ use Rattle.hda_files.specs.declared.fault.FileFault.{FileFault}
 use Rattle.hda_files.specs.declared.fault.FileFault.TheVariants.{Toml, List as ListFault, Graph, TooManyPins}
 use Rattle.hda_files.specs.Memory.{OrMemory}
 use Rattle.hda_files.specs.Codecs.{laid_out}
-use Rattle.hda_files.specs.ListFaults.{HasNoListFault, IsFirstListFault}
+use Rattle.hda_files.specs.ListFaults.{list_fault_at}
 use Rattle.hda_files.specs.Starts.{settings_of, presence_of}
 use Rattle.hda_files.specs.Tops.{machine_table_of}
 
@@ -25,12 +26,12 @@ use Rattle.hda_files.specs.Tops.{machine_table_of}
 unfoldable pub candidates_below : RawCodec → ℕ → ℕ
 candidates_below codec end = count_by (is_candidate codec) (range_with_len 0 end)
 
--- a file has at most 16 candidate pins; node identifiers are below 128
+-- a file has at most 16 candidate pins
 abbrev pub HasFewPins : RawCodec → Type 0
-HasFewPins codec = candidates_below codec 128 ≤ 16
+HasFewPins codec = candidates_below codec node_identifiers ≤ 16
 
 abbrev pub HasManyPins : RawCodec → Type 0
-HasManyPins codec = 16 < candidates_below codec 128
+HasManyPins codec = 16 < candidates_below codec node_identifiers
 
 -- the codec that a table describes: its normalised graph, and its settings and plugs at the start
 abbrev pub codec_file : CodecTable → CodecFile
@@ -42,16 +43,16 @@ codec_file codec = record {
 
 -- the codec has no fault of a connection list and none of its graph
 pub record IsGoodCodec (codec : CodecTable) : Type 0 where
-  pub lists : HasNoListFault codec.nodes
+  pub lists : HasNoListFault (list_fault_at codec.nodes)
   pub graph : IsWellFormed (normal (laid_out codec))
 
 -- what a codec's table means whose keys are good: the codec, or else, with the codec's address, the fault of the list of the
 -- least node identifier that has one, or else the graph's first fault
 abbrev pub IsJudgedCodec : CodecTable → Result CodecFile FileFault → Type 0
 IsJudgedCodec codec (Ok file) = (file ≡ codec_file codec) × IsGoodCodec codec
-IsJudgedCodec codec (Err (ListFault address nid fault)) = (address ≡ codec.words.address) × IsFirstListFault codec.nodes nid fault
+IsJudgedCodec codec (Err (ListFault address nid fault)) = (address ≡ codec.words.address) × IsFirstListFault (list_fault_at codec.nodes) nid fault
 IsJudgedCodec codec (Err (Graph address fault)) =
-    (address ≡ codec.words.address) × HasNoListFault codec.nodes × IsFirstFault (normal (laid_out codec)) fault
+    (address ≡ codec.words.address) × HasNoListFault (list_fault_at codec.nodes) × IsFirstFault (normal (laid_out codec)) fault
 IsJudgedCodec codec (Err _) = ⊥
 
 -- the machine that a top table describes
@@ -96,3 +97,11 @@ pub record IsReadingOfBytes (bytes : List ℕ) (result : Result Machine FileFaul
 -- the result says what the bytes mean, or memory was wanting
 abbrev pub Reads : List ℕ → Result Machine FileFault → Type 0
 Reads bytes result = OrMemory result (IsReadingOfBytes bytes result)
+
+-- every reading of the bytes is this one
+abbrev pub IsOnlyReading : List ℕ → Result Machine FileFault → Type 0
+IsOnlyReading bytes result = (other : Result Machine FileFault) → IsReadingOfBytes bytes other → other ≡ result
+
+-- no other result says what the bytes mean, or memory was wanting
+abbrev pub ReadsOnly : List ℕ → Result Machine FileFault → Type 0
+ReadsOnly bytes result = OrMemory result (IsOnlyReading bytes result)

@@ -1,12 +1,11 @@
 -- The tables of a codec's widgets. This project's own; the words are those of High Definition Audio 1.0a, 7.3.4.
-use Rattle.std.specs.Prelude.{ℕ, Bool, ◌==◌, List, [], ◌∷◌, ◌++◌, length, Option, Some, None, Result, Ok, Err, if◌then◌else◌}
-use Rattle.std.specs.Result.{result_unwrap_or, result_err}
+use Rattle.std.specs.Prelude.{ℕ, ◌==◌, ◌-◌, ◌^◌, List, [], ◌∷◌, ◌++◌, length, Option, Some, None, Result, Ok, Err, if◌then◌else◌}
 use Rattle.std.specs.List.{list_any}
 use Rattle.toml.specs.Data.{Data, Members}
-use Rattle.verb_codes.specs.declared.entries.ListFault.{ListFault}
-use Rattle.verb_codes.specs.Lists.{expansion_of}
-use Rattle.codec_graph.specs.Words.{has_bit}
+use Rattle.verb_codes.specs.Lists.{entry_width}
 use Rattle.codec_graph.specs.declared.raw.RawNode.{RawNode}
+use Rattle.codec_graph.specs.Widget.{plain_node, has_list}
+use Rattle.codec_graph.specs.Listed.{most_entries, list_fault, listed_node}
 use Rattle.hda_files.specs.declared.node.NodeTable.{NodeTable}
 use Rattle.hda_files.specs.declared.opening.NodeOpening.{NodeOpening}
 use Rattle.hda_files.specs.declared.fault.Place.{Place}
@@ -17,7 +16,7 @@ use Rattle.hda_files.specs.declared.fault.FileFault.TheVariants.{OutOfRange, Dou
 use Rattle.hda_files.specs.Values.{◌>>=◌, value_at, required_number, word_or_zero, most_word, flag_at, numbers_of}
 use Rattle.hda_files.specs.Openings.{opening_of}
 
--- the words of a widget, with an empty connection list
+-- the words of a widget; the words that are not given are 0, and the connection list is empty
 abbrev pub words_of : Members → Place → Result RawNode FileFault
 words_of table place = do
   caps ← required_number table place Caps 0 most_word
@@ -29,26 +28,15 @@ words_of table place = do
   power ← word_or_zero table place Power
   default ← word_or_zero table place Default
   long ← flag_at table place Long
-  Ok (record { caps = caps; pcm = pcm; formats = formats; pin_caps = pin_caps; amp_in = amp_in; amp_out = amp_out; power = power; default = default; long = long; entries = []; list = [] })
+  Ok (record (plain_node caps) { pcm = pcm; formats = formats; pin_caps = pin_caps; amp_in = amp_in; amp_out = amp_out; power = power; default = default; long = long })
 
--- the greatest entry of a connection list: of 16 bits in the long form, else of 8 (7.3.3.3)
-abbrev pub most_entry : Bool → ℕ
-most_entry long = if long then 65535 else 255
-
--- the entries of a connection list as they are given, by a widget that has one: bit 8 of its capabilities is set (7.3.4.6)
-abbrev pub entries_of : Place → ℕ → Bool → Option Data → Result (List ℕ) FileFault
-entries_of place caps long None = Ok []
-entries_of place caps long (Some value) = do
-  entries ← numbers_of place ListKey 127 (most_entry long) value
-  if has_bit caps 8 then Ok entries else Err (OutOfRange place ListKey)
-
--- the nodes that the widget's entries stand for, or the fault of the first faulty entry
-abbrev pub expansion : RawNode → Result (List ℕ) ListFault
-expansion widget = expansion_of widget.long widget.entries
-
--- the widget's list is the expansion of its entries; it stays empty where they have a fault
-abbrev pub expanded : RawNode → RawNode
-expanded widget = record widget { list = result_unwrap_or (expansion widget) [] }
+-- the entries of the connection list of a widget with these words, as they are given: of 16 bits in the long form, else of 8
+-- (7.3.3.3), and only where the widget has a list
+abbrev pub entries_of : Place → RawNode → Option Data → Result (List ℕ) FileFault
+entries_of place words None = Ok []
+entries_of place words (Some value) = do
+  entries ← numbers_of place ListKey most_entries (2 ^ entry_width words.long - 1) value
+  if has_list words then Ok entries else Err (OutOfRange place ListKey)
 
 -- the node identifier, which no earlier node of the codec has
 abbrev pub nid_of : Members → Place → List NodeTable → Result ℕ FileFault
@@ -57,14 +45,14 @@ nid_of table place earlier = do
   if list_any (λ node. node.nid == nid) earlier then Err (Doubled place Nid) else Ok nid
 
 abbrev pub node_with : ℕ → RawNode → NodeOpening → NodeTable
-node_with nid widget opening = record { nid = nid; widget = expanded widget; list_fault = result_err (expansion widget); opening = opening }
+node_with nid widget opening = record { nid = nid; widget = listed_node widget; list_fault = list_fault widget; opening = opening }
 
 -- what one table says of its widget, after the earlier ones of the same codec
 abbrev pub node_of : ℕ → List NodeTable → Members → Result NodeTable FileFault
 node_of codec earlier table = do
   nid ← nid_of table (Node codec (length earlier)) earlier
   words ← words_of table (Node codec (length earlier))
-  entries ← entries_of (Node codec (length earlier)) words.caps words.long (value_at table ListKey)
+  entries ← entries_of (Node codec (length earlier)) words (value_at table ListKey)
   opening ← opening_of table (Node codec (length earlier))
   Ok (node_with nid (record words { entries = entries }) opening)
 

@@ -13,10 +13,14 @@ use Rattle.hda_files.specs.Values.{◌>>=◌, value_at, given_number, numbers_of
 abbrev pub given_byte : Members → Place → Key → Result (Option ℕ) FileFault
 given_byte table place key = given_number table place key 0 255
 
--- mute and gain of the input amplifier for each place of the connection list: at most 16 of 8 bits
+-- how many inputs of a widget can have an amplifier: their place has four bits (7.3.3.7)
+abbrev pub most_gains : ℕ
+most_gains = 16
+
+-- mute and gain of the input amplifier for each place of the connection list, of 8 bits
 abbrev pub gains_of : Place → Option Data → Result (List ℕ) FileFault
 gains_of place None = Ok []
-gains_of place (Some value) = numbers_of place GainIn 16 255 value
+gains_of place (Some value) = numbers_of place GainIn most_gains 255 value
 
 -- what a table says of its widget's settings
 abbrev pub opening_of : Members → Place → Result NodeOpening FileFault

@@ -1,22 +1,33 @@
 -- What the settings keys of a codec file come to: each key that is given acts as its set verb, after the opening of the codec.
 -- Verbs: High Definition Audio 1.0a, 7.3.3. The keys are this project's own.
-use Rattle.std.specs.Prelude.{◌+◌, ◌*◌, ℕ, Bool, ◌==◌, ◌&&◌, List, [], ◌∷◌, map, fold, slice_get, Option, None, Some}
+use Rattle.std.specs.Prelude.{ℕ, Bool, true, false, not, ◌==◌, ◌&&◌, List, [], ◌∷◌, map, fold, slice_get, Option, None, Some}
 use Rattle.std.specs.Option.{option_map}
 use Rattle.std.specs.List.{list_any, range_with_len}
 use Rattle.verb_codes.specs.declared.verbs.Verb.{Verb}
 use Rattle.verb_codes.specs.declared.verbs.Verb.TheVariants.{SetSelect, SetPower, SetStream, SetPin, SetUnsol, SetEapd, SetDigital, SetFormat, SetAmp}
+use Rattle.verb_codes.specs.declared.amplifiers.AmpSetting.{AmpSetting}
+use Rattle.verb_codes.specs.Words.{has_bit, bits_of}
+use Rattle.verb_codes.specs.Amplifiers.{setting_payload}
 use Rattle.codec_graph.specs.declared.raw.RawCodec.{RawCodec}
+use Rattle.codec_graph.specs.Widget.{node_identifiers}
 use Rattle.codec_graph.specs.Settings.{Entries, opening}
 use Rattle.codec_graph.specs.VerbMeaning.{after}
 use Rattle.hda_files.specs.declared.opening.NodeOpening.{NodeOpening}
+use Rattle.hda_files.specs.Openings.{most_gains}
 use Rattle.hda_files.specs.declared.node.NodeTable.{NodeTable}
 
--- mute and gain of both sides: of the output amplifier, and of the input amplifier at a place (7.3.3.7)
+-- mute, in bit 7, and gain of both sides: of the output amplifier or else of the input amplifier at a place (7.3.3.7)
+abbrev pub both_sides : Bool → ℕ → ℕ → AmpSetting
+both_sides output place gain = record { output = output; input = not output; left = true; right = true; place = place; mute = has_bit gain 7; gain = bits_of gain 0 7 }
+
+abbrev pub amplifier_verb : Bool → ℕ → ℕ → Verb
+amplifier_verb output place gain = SetAmp (setting_payload (both_sides output place gain))
+
 abbrev pub output_gain : ℕ → Verb
-output_gain gain = SetAmp (0xB000 + gain)
+output_gain gain = amplifier_verb true 0 gain
 
 abbrev pub input_gain : ℕ → ℕ → Verb
-input_gain place gain = SetAmp (0x7000 + 0x100 * place + gain)
+input_gain place gain = amplifier_verb false place gain
 
 -- the set verbs of a table's keys, where they are given
 abbrev pub control_verbs : NodeOpening → List (Option Verb)
@@ -30,7 +41,7 @@ abbrev pub gain_verb : List ℕ → ℕ → Option Verb
 gain_verb gains place = option_map (input_gain place) (slice_get gains place)
 
 abbrev pub gain_verbs : List ℕ → List (Option Verb)
-gain_verbs gains = map (gain_verb gains) (range_with_len 0 16)
+gain_verbs gains = map (gain_verb gains) (range_with_len 0 most_gains)
 
 -- the settings after a verb to this node, where there is one
 abbrev pub set_given : RawCodec → ℕ → Entries → Option Verb → Entries
@@ -57,4 +68,4 @@ is_plugged nodes nid = list_any (λ node. node.nid == nid && node.opening.presen
 
 -- whether something is plugged in at the start, by node identifier
 abbrev pub presence_of : List NodeTable → List Bool
-presence_of nodes = map (is_plugged nodes) (range_with_len 0 128)
+presence_of nodes = map (is_plugged nodes) (range_with_len 0 node_identifiers)

@@ -3,7 +3,7 @@ ghost use Rattle.std.specs.Prelude.{◌≡◌, ◌==◌, ◌≤◌, ◌++◌, Al
 ghost use Rattle.std.specs.List.{find, range_with_len};
 ghost use Rattle.toml.specs.View.{table_view};
 ghost use Rattle.hda_files.specs.Codecs as codecs;
-ghost use Rattle.hda_files.specs.Memory.{IsMeant};
+ghost use Rattle.hda_files.specs.Readers.{IsMeant, IsReadNode, IsReadCodec};
 
 use crate::fault::{FileFault, Key, Place};
 use crate::node::{NodeTable, read_nodes};
@@ -12,6 +12,9 @@ use codec_graph::{GroupWords, RawCodec, RawNode};
 use hda_items::Items;
 use std::alloc::{AllocError, Global};
 use toml::Table;
+
+/// The capabilities of a vendor defined widget, of which nothing else is known.
+const VENDOR_DEFINED: u32 = 0x00F0_0000;
 
 /// The PCM sizes and rates of a function group whose table does not give them: 16 bits at 48 kHz.
 const USUAL_PCM: u32 = 0x0002_0040;
@@ -79,50 +82,10 @@ fn greatest_nid(nodes: &[NodeTable]) -> u8
 
 /// How many node identifiers there are from the least of the tables to the greatest.
 fn nid_span(nodes: &[NodeTable]) -> u8
-    requires { All (λ node. node.nid ≤ 127) nodes.now }
+    requires { All IsReadNode nodes.now }
     ensures { result ≡ codecs.nid_span nodes.now }
 {
     greatest_nid(nodes).saturating_sub(least_nid(nodes)) + 1
-}
-
-/// A vendor defined widget, without words and connections.
-fn vendor_widget(alloc: Global) -> RawNode
-    ensures { result ≡ codecs.vendor_widget }
-{
-    RawNode {
-        caps: 0x00F0_0000,
-        pcm: 0,
-        formats: 0,
-        pin_caps: 0,
-        amp_in: 0,
-        amp_out: 0,
-        power: 0,
-        default: 0,
-        long: false,
-        entries: Items::new(alloc),
-        list: Items::new(alloc),
-    }
-}
-
-/// A copy of a widget.
-fn copy_of(alloc: Global, widget: &RawNode) -> Result<RawNode, AllocError>
-    ensures { IfOk result (λ copy. copy ≡ widget.now) }
-{
-    let entries = Items::from_slice(alloc, widget.entries.as_slice())?;
-    let list = Items::from_slice(alloc, widget.list.as_slice())?;
-    Ok(RawNode {
-        caps: widget.caps,
-        pcm: widget.pcm,
-        formats: widget.formats,
-        pin_caps: widget.pin_caps,
-        amp_in: widget.amp_in,
-        amp_out: widget.amp_out,
-        power: widget.power,
-        default: widget.default,
-        long: widget.long,
-        entries,
-        list,
-    })
 }
 
 /// The table with this node identifier.
@@ -137,8 +100,8 @@ fn widget_at(alloc: Global, nodes: &[NodeTable], nid: u16) -> Result<RawNode, Al
     ensures { IfOk result (λ widget. widget ≡ codecs.widget_at nodes.now nid) }
 {
     match table_with(nodes, nid) {
-        Some(node) => copy_of(alloc, &node.widget),
-        None => Ok(vendor_widget(alloc)),
+        Some(node) => node.widget.copy(),
+        None => Ok(RawNode::new(alloc, VENDOR_DEFINED)),
     }
 }
 
@@ -167,7 +130,7 @@ fn is_outside(first: u8, count: u8, node: &NodeTable) -> bool
     !(first <= node.nid && u16::from(node.nid) < end)
 }
 
-/// The widgets from `first` on, and after them those of the tables outside.
+/// The widgets from `first` on, and after them those of the tables outside, each by its node identifier.
 fn lay_out(
     alloc: Global,
     first: u8,
@@ -179,7 +142,7 @@ fn lay_out(
     let mut widgets = widgets_inside(alloc, first, count, nodes)?;
     for node in nodes {
         if is_outside(first, count, node) {
-            widgets.push(copy_of(alloc, &node.widget)?)?;
+            widgets.push(widget_at(alloc, nodes, u16::from(node.nid))?)?;
         }
     }
     Ok(widgets)
@@ -201,7 +164,7 @@ pub(crate) fn laid_out(
 /// Reads the table of the codec at this place of the array.
 pub(crate) fn read_codec(alloc: Global, table: &Table, codec: u8) -> Result<CodecTable, FileFault>
     ensures value { IsMeant result (codecs.codec_of codec (table_view table.now)) }
-    ensures address { IfOk result (λ codec. codec.words.address ≤ 14) }
+    ensures read { IfOk result IsReadCodec }
 {
     let place = Place::Codec(codec);
     let mut words = read_codec_words(alloc, table, place)?;

@@ -37,6 +37,7 @@
 
 mod codec;
 mod fault;
+mod laws;
 mod list_faults;
 mod machine;
 mod node;
@@ -47,5 +48,6 @@ mod top;
 mod values;
 
 pub use fault::{FileFault, Key, Place};
+pub use laws::one_reading;
 pub use machine::{CodecFile, Machine, read_machine};
 pub use top::RingSize;

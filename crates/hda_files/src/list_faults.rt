@@ -1,9 +1,10 @@
 //! The faults of a codec's connection lists, by node identifier.
 ghost use Rattle.std.specs.Prelude.{◌≡◌, MatchOption};
+ghost use Rattle.codec_graph.specs.Listed.{HasNoListFault, IsFirstListFault};
 ghost use Rattle.hda_files.specs.ListFaults as list_faults;
 
 use crate::codec::table_with;
-use crate::node::NodeTable;
+use crate::node::{NODE_IDENTIFIERS, NodeTable};
 use verb_codes::ListFault;
 
 /// What the list of the table with this node identifier has wrong.
@@ -15,10 +16,10 @@ fn list_fault_at(nodes: &[NodeTable], nid: u8) -> Option<ListFault>
 
 /// The least node identifier whose list has a fault, and the fault.
 pub(crate) fn first_list_fault(nodes: &[NodeTable]) -> Option<(u8, ListFault)>
-    ensures { MatchOption result (list_faults.HasNoListFault nodes.now)
-        (λ found. list_faults.IsFirstListFault nodes.now found.0 found.1) }
+    ensures { MatchOption result (HasNoListFault (list_faults.list_fault_at nodes.now))
+        (λ found. IsFirstListFault (list_faults.list_fault_at nodes.now) found.0 found.1) }
 {
-    for nid in 0..128 {
+    for nid in 0..NODE_IDENTIFIERS {
         if let Some(fault) = list_fault_at(nodes, nid) {
             return Some((nid, fault));
         }

@@ -1,13 +1,15 @@
 //! Reads a whole codec file.
-ghost use Rattle.std.specs.Prelude.{◌≡◌, ◌≤◌, IfOk};
+ghost use Rattle.std.specs.Prelude.{◌≡◌, IfOk};
 ghost use Rattle.toml.specs.View.{table_view};
 ghost use Rattle.hda_files.specs.Machines as machines;
-ghost use Rattle.hda_files.specs.Machines.{Reads, IsSound, IsSoundCodec};
+ghost use Rattle.hda_files.specs.Machines.{Reads, ReadsOnly, IsSound, IsSoundCodec};
 ghost use Rattle.hda_files.specs.Memory.{OrMemory};
+ghost use Rattle.hda_files.specs.Readers.{IsReadCodec};
 
 use crate::codec::{CodecTable, laid_out};
 use crate::fault::FileFault;
 use crate::list_faults::first_list_fault;
+use crate::node::NODE_IDENTIFIERS;
 use crate::start::{presence_of, settings_of};
 use crate::top::{MachineTable, RingSize, read_machine_table};
 use codec_graph::{Graph, Presence, Settings};
@@ -50,6 +52,7 @@ const MOST_PINS: usize = 16;
 /// [`FileFault::TooManyPins`]. [`FileFault::OutOfMemory`] says nothing of the file.
 pub fn read_machine(alloc: Global, bytes: &[u8]) -> Result<Machine, FileFault>
     ensures reading { Reads bytes.now result }
+    ensures only { ReadsOnly bytes.now result }
     ensures sound { IfOk result IsSound }
 {
     match toml::table_from_slice(alloc, bytes) {
@@ -70,12 +73,12 @@ fn read_top(alloc: Global, top: &Table) -> Result<Machine, FileFault>
 
 /// Checks the codec's lists and graph and its number of candidate pins.
 fn judge_machine(alloc: Global, table: MachineTable) -> Result<Machine, FileFault>
-    requires { table.codec.words.address ≤ 14 }
+    requires { IsReadCodec table.codec }
     ensures judged { OrMemory result (machines.IsJudgedMachine table result) }
     ensures sound { IfOk result IsSound }
 {
     let codec = judge_codec(alloc, table.codec)?;
-    if candidates_below(&codec.graph, 128) > MOST_PINS {
+    if candidates_below(&codec.graph, NODE_IDENTIFIERS) > MOST_PINS {
         return Err(FileFault::TooManyPins);
     }
     let mut codecs = Items::new(alloc);
@@ -90,7 +93,7 @@ fn judge_machine(alloc: Global, table: MachineTable) -> Result<Machine, FileFaul
 
 /// Checks a codec's lists and its graph.
 fn judge_codec(alloc: Global, table: CodecTable) -> Result<CodecFile, FileFault>
-    requires { table.words.address ≤ 14 }
+    requires { IsReadCodec table }
     ensures judged { OrMemory result (machines.IsJudgedCodec table result) }
     ensures sound { IfOk result IsSoundCodec }
 {

@@ -4,7 +4,7 @@ ghost use Rattle.std.specs.List.{list_all, filter_map};
 ghost use Rattle.toml.specs.View.{view, array_view};
 ghost use Rattle.hda_files.specs.Values as values;
 ghost use Rattle.hda_files.specs.Arrays.{values_in};
-ghost use Rattle.hda_files.specs.Memory.{IsMeant};
+ghost use Rattle.hda_files.specs.Readers.{IsMeant};
 
 use crate::fault::{FileFault, Key, Place};
 use crate::values::{array_of, within};

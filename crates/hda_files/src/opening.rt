@@ -3,7 +3,7 @@ ghost use Rattle.std.specs.Prelude.{◌≡◌, ◌≤◌, length, IfOk};
 ghost use Rattle.toml.specs.View.{table_view};
 ghost use Rattle.hda_files.specs.Openings as openings;
 ghost use Rattle.hda_files.specs.Values as values;
-ghost use Rattle.hda_files.specs.Memory.{IsMeant};
+ghost use Rattle.hda_files.specs.Readers.{IsMeant};
 
 use crate::fault::{FileFault, Key, Place};
 use crate::numbers::read_bytes;
@@ -11,6 +11,9 @@ use crate::values::{flag_at, given_byte, given_short, value_at};
 use hda_items::Items;
 use std::alloc::Global;
 use toml::Table;
+
+/// How many inputs of a widget can have an amplifier: their place has four bits (HDA 1.0a, 7.3.3.7).
+pub(crate) const MOST_GAINS: u8 = 16;
 
 /// What a table says of its widget's settings at the start (HDA 1.0a, 7.3.3). A setting that is not given is `None`.
 #[derive(Debug, Drop)]
@@ -51,7 +54,7 @@ fn gains_at(alloc: Global, table: &Table, place: Place) -> Result<Items<u8>, Fil
     ensures { IsMeant result (openings.gains_of place (values.value_at (table_view table.now) Key.GainIn)) }
 {
     match value_at(table, Key::GainIn) {
-        Some(value) => read_bytes(alloc, value, place, Key::GainIn, 16),
+        Some(value) => read_bytes(alloc, value, place, Key::GainIn, usize::from(MOST_GAINS)),
         None => Ok(Items::new(alloc)),
     }
 }

@@ -1,18 +1,15 @@
 //! The settings and the plugs with which a codec starts: each key of its tables acts as the set verb of its control.
-ghost use Rattle.std.specs.Prelude.{◌≡◌, ◌<◌, IfOk, IfSome, IsTrue};
+ghost use Rattle.std.specs.Prelude.{◌≡◌, ◌<◌, ◌^◌, IfOk, IfSome, IsTrue};
 ghost use Rattle.std.specs.Option.{ForSome};
 ghost use Rattle.verb_codes.specs.Verbs.{is_verb_in_range};
 ghost use Rattle.codec_graph.specs.Settings.{IsSettingsOf};
 ghost use Rattle.hda_files.specs.Starts as starts;
 
-use crate::node::NodeTable;
-use crate::opening::NodeOpening;
+use crate::node::{NODE_IDENTIFIERS, NodeTable};
+use crate::opening::{MOST_GAINS, NodeOpening};
 use codec_graph::{Graph, Presence, Settings};
 use std::alloc::{AllocError, Global};
-use verb_codes::{Command, Verb};
-
-/// How many inputs of a widget can have an amplifier.
-const AMPLIFIED_INPUTS: u8 = 16;
+use verb_codes::{AmpSetting, Command, Verb, bits_of, has_bit};
 
 /// Sets what the verb sets at the node, where there is one.
 fn set_given(settings: &mut Settings, graph: &Graph, nid: u8, verb: Option<Verb>)
@@ -44,22 +41,41 @@ fn set_controls(settings: &mut Settings, graph: &Graph, nid: u8, keys: &NodeOpen
     set_given(settings, graph, nid, keys.format.map(Verb::SetFormat));
 }
 
+/// The verb that sets mute, in bit 7, and gain of both sides: of the output amplifier or else of the input amplifier at a place.
+fn amplifier_verb(output: bool, place: u8, gain: u8) -> Verb
+    requires { place < 2 ^ 4 }
+    ensures value { result ≡ starts.amplifier_verb output place gain }
+    ensures in_range { IsTrue (is_verb_in_range result) }
+{
+    let word = u32::from(gain);
+    let setting = AmpSetting {
+        output,
+        input: !output,
+        left: true,
+        right: true,
+        place,
+        mute: has_bit(word, 7),
+        gain: bits_of(word, 0, 7) as u8,
+    };
+    Verb::SetAmp(setting.payload())
+}
+
 /// The verb that sets mute and gain of both sides of the output amplifier.
 fn output_gain(gain: u8) -> Verb
     ensures value { result ≡ starts.output_gain gain }
     ensures in_range { IsTrue (is_verb_in_range result) }
 {
-    Verb::SetAmp(0xB000 + u16::from(gain))
+    amplifier_verb(true, 0, gain)
 }
 
 /// The verb that sets mute and gain of both sides of the input amplifier at a place, where they are given.
 fn gain_verb(gains: &[u8], place: u8) -> Option<Verb>
-    requires { place < 16 }
+    requires { place < 2 ^ 4 }
     ensures value { result ≡ starts.gain_verb gains.now place }
     ensures in_range { IfSome result (λ verb. IsTrue (is_verb_in_range verb)) }
 {
     match gains.get(usize::from(place)) {
-        Some(gain) => Some(Verb::SetAmp(0x7000 + 0x100 * u16::from(place) + u16::from(*gain))),
+        Some(gain) => Some(amplifier_verb(false, place, *gain)),
         None => None,
     }
 }
@@ -70,7 +86,7 @@ fn set_gains(settings: &mut Settings, graph: &Graph, nid: u8, gains: &[u8])
     ensures value { settings.new ≡ starts.set_all graph.now nid settings.old (starts.gain_verbs gains.now) }
     ensures of_graph { IsSettingsOf graph.now settings.new }
 {
-    for place in 0..AMPLIFIED_INPUTS {
+    for place in 0..MOST_GAINS {
         set_given(settings, graph, nid, gain_verb(gains, place));
     }
 }
@@ -123,7 +139,7 @@ pub(crate) fn presence_of(nodes: &[NodeTable]) -> Presence
     ensures { result ≡ starts.presence_of nodes.now }
 {
     let mut present = Presence::none();
-    for nid in 0..128u8 {
+    for nid in 0..NODE_IDENTIFIERS {
         present.set(nid, is_plugged(nodes, nid));
     }
     present

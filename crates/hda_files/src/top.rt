@@ -1,8 +1,8 @@
 //! Reads the top table of a codec file.
-ghost use Rattle.std.specs.Prelude.{◌≡◌, ◌≤◌, IfOk};
+ghost use Rattle.std.specs.Prelude.{◌≡◌, IfOk};
 ghost use Rattle.toml.specs.View.{table_view};
 ghost use Rattle.hda_files.specs.Tops as tops;
-ghost use Rattle.hda_files.specs.Memory.{IsMeant};
+ghost use Rattle.hda_files.specs.Readers.{IsMeant, IsReadCodec};
 
 use crate::codec::{CodecTable, read_codec};
 use crate::fault::{FileFault, Key, Place};
@@ -57,7 +57,7 @@ fn ring_size_at(top: &Table, key: Key) -> Result<RingSize, FileFault>
 /// Reads the codec of a top table.
 fn read_only_codec(alloc: Global, top: &Table) -> Result<CodecTable, FileFault>
     ensures value { IsMeant result (tops.codec_at (table_view top.now)) }
-    ensures address { IfOk result (λ codec. codec.words.address ≤ 14) }
+    ensures read { IfOk result IsReadCodec }
 {
     let array = tables_at(top, Place::Top, Key::Codec, 1)?;
     match array.first().and_then(Value::as_table) {
@@ -69,7 +69,7 @@ fn read_only_codec(alloc: Global, top: &Table) -> Result<CodecTable, FileFault>
 /// Reads the keys of the top table and of its codec.
 pub(crate) fn read_machine_table(alloc: Global, top: &Table) -> Result<MachineTable, FileFault>
     ensures value { IsMeant result (tops.machine_table_of (table_view top.now)) }
-    ensures address { IfOk result (λ table. table.codec.words.address ≤ 14) }
+    ensures read { IfOk result (λ table. IsReadCodec table.codec) }
 {
     let fifo = short_or(top, Place::Top, Key::Fifo, 8, 4096, 192)?;
     let corb = ring_size_at(top, Key::Corb)?;

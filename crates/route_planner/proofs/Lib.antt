@@ -17,3 +17,7 @@ pub mod Tables
 pub mod Unblocked
 pub mod OneWay
 pub mod OnlyPlan
+pub mod PlanParts
+
+-- what the proofs of other crates cite
+pub mod Callers

@@ -11,7 +11,7 @@ use Rattle.std.proofs.lemmas.List.Sums.{AllPass-from_list_all, list_all-from_All
 use Rattle.codec_graph.specs.declared.raw.RawNode.{RawNode}
 use Rattle.codec_graph.specs.declared.raw.RawCodec.{RawCodec}
 use Rattle.codec_graph.specs.Widget.{node_at, is_inner, is_pin, is_stereo, is_digital}
-use Rattle.codec_graph.specs.Words.{has_bit}
+use Rattle.verb_codes.specs.Words.{has_bit}
 use Rattle.codec_graph.specs.Candidates.{is_candidate, is_candidate_at, connectivity, device, association}
 use Rattle.route_planner.specs.declared.routes.Hop.{Hop}
 use Rattle.route_planner.specs.declared.routes.Route.{Route}

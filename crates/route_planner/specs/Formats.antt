@@ -3,7 +3,7 @@
 use Rattle.std.specs.Prelude.{ℕ, Bool, ◌&&◌}
 use Rattle.codec_graph.specs.declared.raw.RawNode.{RawNode}
 use Rattle.codec_graph.specs.declared.raw.RawCodec.{RawCodec}
-use Rattle.codec_graph.specs.Words.{has_bit}
+use Rattle.verb_codes.specs.Words.{has_bit}
 use Rattle.codec_graph.specs.Widget.{pcm_word, formats_word}
 use Rattle.route_planner.specs.declared.format.Rate.{Rate}
 use Rattle.route_planner.specs.declared.format.Rate.TheVariants.{R8, R16, R44, R48, R96, R192}

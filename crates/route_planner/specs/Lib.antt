@@ -2,9 +2,10 @@ pub mod Formats
 pub mod Order
 pub mod Paths
 pub mod Plans
+pub mod Laws
+-- what private functions promise one another
 pub mod Search
 pub mod Levels
 pub mod Ways
 pub mod Places
 pub mod Found
-pub mod Laws

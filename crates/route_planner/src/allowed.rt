@@ -7,7 +7,8 @@ ghost use Rattle.route_planner.specs.Search as spec;
 use crate::format::{Bits, Format, Rate};
 use crate::left::Left;
 use crate::routes::{Outcome, PinPlan};
-use codec_graph::{RawCodec, RawNode, has_bit};
+use codec_graph::{RawCodec, RawNode};
+use verb_codes::has_bit;
 
 /// Whether the node has two channels and carries no digital stream.
 fn is_analog_stereo(node: &RawNode) -> bool

@@ -5,4 +5,4 @@ use Rattle.hda_files.proofs.codec.lay_out.Given as goal
 
 abbrev pub invariant-loop-node : goal.invariant-loop-node
 invariant-loop-node l =
-    l.widgets.items ≡ map (widget_at l.nodes) (range_with_len l.first l.count) ++ map (λ node. node.widget) (filter (is_outside l.first l.count) (take l.node-index l.nodes))
+    l.widgets.items ≡ map (widget_at l.nodes) (range_with_len l.first l.count) ++ map (λ node. widget_at l.nodes node.nid) (filter (is_outside l.first l.count) (take l.node-index l.nodes))

@@ -1,6 +1,13 @@
 use Rattle.std.proofs.Common.{inr}
 use Rattle.hda_files.proofs.JudgeLemmas.{judged-good}
+use Rattle.hda_files.proofs.ReadableLemmas.{laid_out-readable}
 use Rattle.hda_files.proofs.machine.judge_codec.Goals as goal
+
+pub check-requires : goal.check-requires
+check-requires c =
+    let lists = rw c.as_slice.ensures at c.in_default.ensures in
+    let raw = rw c.as_slice-2.ensures at c.in_ok-raw.ensures in
+    rw raw (laid_out-readable c.args.table c.requires.nodes lists)
 
 pub returns-clause-judged : goal.returns-clause-judged
 returns-clause-judged c =

@@ -1,9 +1,10 @@
-use Rattle.std.proofs.Common.{◌≤◌, ◌+◌, drop, ap, ◌∙◌, sym, arith, rules}
+use Rattle.std.proofs.Common.{◌+◌, drop, ap, ◌∙◌, sym, arith, rules}
 use Rattle.std.proofs.lemmas.List.{length_push}
 use Rattle.std.proofs.lemmas.List.Elements.{All-push}
 use Rattle.std.specs.List.{cons_option}
 use Rattle.toml.specs.View.{table_view}
 use Rattle.hda_files.specs.Nodes.{nodes_after}
+use Rattle.hda_files.specs.Readers.{IsReadNode}
 use Rattle.hda_files.proofs.ArrayLemmas.{tables_of_list, tables_of_list-drop}
 use Rattle.hda_files.proofs.NodeLemmas.{nodes_after-good}
 use Rattle.hda_files.proofs.node.read_nodes.Goals as goal
@@ -22,13 +23,13 @@ loop-value-preserved c =
           let meant = rw w.as_slice.ensures.value at w.in_ok-node.ensures.value in
           rw (w.nodes-is, w.in_ok-push.ensures.items) (record {
             few = omega (arith, length_push nodes node, c.loop-value.invariant.few);
-            bound = All-push (λ n. n.nid ≤ 127) nodes node c.loop-value.invariant.bound w.in_ok-node.ensures.bound;
+            read = All-push IsReadNode nodes node c.loop-value.invariant.read w.in_ok-node.ensures.read;
             rest = so_far ∙ ap (λ o. nodes_after c.args.codec nodes (cons_option o left)) (sym w.in-Some.ensures) ∙ nodes_after-good c.args.codec nodes (table_view w.in-Some.table.now) left node meant;
           })
       | in_default w ↦
           rw w.nodes-is (record {
             few = omega (arith, c.loop-value.invariant.few);
-            bound = c.loop-value.invariant.bound;
+            read = c.loop-value.invariant.read;
             rest = so_far ∙ ap (λ o. nodes_after c.args.codec nodes (cons_option o left)) (sym w.in_default.ensures);
           })
     ]
