@@ -3,10 +3,13 @@ pub mod Tables
 pub mod Reaching
 pub mod KeyOrder
 pub mod Maps
+pub mod Ascending
 pub mod Openings
 pub mod Nodes
 pub mod Controlled
 pub mod Writes
-pub mod Laws
+pub mod Narrow
+pub mod Unchanged
 pub mod Sound
 pub mod ListWords
+pub mod Callers

@@ -1,5 +1,5 @@
 -- Settings as lists of entries.
-use Rattle.std.proofs.Common.{◌≡◌, ◌<◌, ◌+◌, ℕ, zero, suc, Bool, true, false, cond, List, [], ◌∷◌, ◌++◌, Some, None, map, length, get_or, set, take, drop, refl, sym, ap, subst, arith}
+use Rattle.std.proofs.Common.{◌≡◌, ◌<◌, ◌≤◌, ◌+◌, ℕ, zero, suc, Bool, true, false, cond, List, [], ◌∷◌, ◌++◌, Some, None, map, length, get_or, set, take, drop, refl, sym, ap, subst, arith}
 use Rattle.std.specs.Prelude.{All}
 use Rattle.std.proofs.lemmas.List.{take_more_set}
 use Rattle.std.proofs.lemmas.List.Elements.{All-nil, All-cons, All-append}
@@ -25,3 +25,9 @@ pub get_or-changed : {X : Type 0} (f : X → X) (xs : List X) (i : ℕ) (d : X) 
 get_or-changed f [] i d h = absurd (omega arith)
 get_or-changed f (x ∷ xs) zero d h = refl
 get_or-changed f (x ∷ xs) (suc i) d h = get_or-changed f xs i d (omega arith)
+
+pub all_changed : {X : Type 0} (f : X → X) (xs : List X) (i : ℕ) → length xs ≤ i → map f (take i xs) ++ drop i xs ≡ map f xs
+all_changed f [] zero h = refl
+all_changed f [] (suc i) h = refl
+all_changed f (x ∷ xs) zero h = absurd (omega arith)
+all_changed f (x ∷ xs) (suc i) h = ap (λ ys. f x ∷ ys) (all_changed f xs i (omega arith))

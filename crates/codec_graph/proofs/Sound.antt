@@ -14,7 +14,7 @@ use Rattle.codec_graph.specs.CodecStates.{CodecState, is_answer, answers, unsoli
 use Rattle.codec_graph.proofs.Writes.{IsSettingsOf-after}
 use Rattle.verb_codes.specs.declared.verbs.Command.{Command}
 use Rattle.verb_codes.specs.Verbs.{reading_of}
-use Rattle.verb_codes.proofs.Commands.{reading_of-sound}
+use Rattle.verb_codes.proofs.Callers.{reading_of-sound}
 
 -- an item that comes last is counted
 pub answers-push : (waiting : List Waiting) (item : Waiting) → answers (waiting ++ item ∷ []) ≡ answers waiting + cond (is_answer item) 1 0

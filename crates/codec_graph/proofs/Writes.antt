@@ -14,25 +14,25 @@ use Rattle.codec_graph.specs.declared.controls.Control.TheVariants.{Select, Powe
 use Rattle.codec_graph.specs.declared.controls.ControlKey.{ControlKey}
 use Rattle.codec_graph.specs.Cycles.{IsWellFormed}
 use Rattle.codec_graph.specs.Widget.{node_at, amplifier_steps, can_mute}
-use Rattle.codec_graph.specs.Settings.{Entries, key, key_cmp, setting_at, setting_of, put, put_all, has_control, opening, IsSetting, IsSettingsOf}
+use Rattle.codec_graph.specs.Settings.{Entries, key, key_cmp, setting_at, setting_of, put, put_all, has_control, controls_of, IsSetting, IsSettingsOf}
 use Rattle.codec_graph.specs.VerbMeaning.{written, written_side, node_connections, node_output_word, node_input_word, kept_amplifier, amplifier_writes, with_byte, verb_writes, writes_of, after}
 use Rattle.codec_graph.proofs.Maps.{set_value-absent}
 use Rattle.codec_graph.proofs.Openings.{each-put}
 use Rattle.codec_graph.proofs.Controlled.{is_some-setting_at}
 use Rattle.verb_codes.specs.declared.verbs.Command.{Command}
 use Rattle.verb_codes.specs.declared.verbs.Verb.{Verb}
-use Rattle.verb_codes.specs.declared.verbs.Verb.TheVariants.{SetSelect, SetPower, SetStream, SetPin, SetUnsol, SetEapd, SetDigital, SetDefault, SetFormat, SetAmp}
+use Rattle.verb_codes.specs.declared.verbs.Verb.TheVariants.{GetParam, GetSelect, GetList, GetPower, GetStream, GetPin, GetUnsol, GetSense, GetEapd, GetDigital, GetDefault, GetFormat, GetAmp, SetSelect, SetPower, SetStream, SetPin, SetUnsol, SetEapd, SetDigital, SetDefault, SetFormat, SetAmp}
 use Rattle.verb_codes.specs.declared.amplifiers.AmpSetting.{AmpSetting}
 use Rattle.verb_codes.specs.Amplifiers as amplifiers
 use Rattle.verb_codes.specs.Verbs.{is_verb_in_range}
-use Rattle.verb_codes.proofs.Readings.{payload-lt, allowed-of}
+use Rattle.verb_codes.proofs.Callers.{payload-lt, allowed-of}
 
 nothing : {X : Type 0} (o : Option X) → is_some o ≡ false → o ≡ None
 nothing None e = refl
 nothing (Some x) e = cc
 
 -- what is written where the node has the control is put, since settings have no other control
-pub put_all_written : (codec : RawCodec) (settings : Entries) (nid : ℕ) (control : Control) (value : ℕ) → IsWellFormed codec → keys_of settings ≡ keys_of (opening codec) → put_all settings (written codec nid control value) ≡ put settings (key nid control) value
+pub put_all_written : (codec : RawCodec) (settings : Entries) (nid : ℕ) (control : Control) (value : ℕ) → IsWellFormed codec → keys_of settings ≡ controls_of codec → put_all settings (written codec nid control value) ≡ put settings (key nid control) value
 put_all_written codec settings nid control value well keys = by (has_control codec nid control) refl
   where
     by : (b : Bool) → has_control codec nid control ≡ b → put_all settings (cond b ((key nid control, value) ∷ []) []) ≡ put settings (key nid control) value
@@ -55,7 +55,7 @@ each-put_all settings (write ∷ writes) each writes-each =
     each-put_all (put settings write.0 write.1) writes (each-put settings write.0 write.1 each (All-head IsSetting write writes writes-each)) (All-tail IsSetting write writes writes-each)
 
 -- one side of an amplifier
-side : (codec : RawCodec) (before now : Entries) (nid : ℕ) (named : Bool) (control : Control) (value : ℕ) → IsWellFormed codec → keys_of before ≡ keys_of (opening codec) → now ≡ cond named (put before (key nid control) value) before → (now ≡ put_all before (written_side codec nid named control value)) × (keys_of now ≡ keys_of (opening codec))
+side : (codec : RawCodec) (before now : Entries) (nid : ℕ) (named : Bool) (control : Control) (value : ℕ) → IsWellFormed codec → keys_of before ≡ controls_of codec → now ≡ cond named (put before (key nid control) value) before → (now ≡ put_all before (written_side codec nid named control value)) × (keys_of now ≡ controls_of codec)
 side codec before now nid named control value well keys e =
     let same = e ∙ sym (by named) in
     (same, ap (λ (entries : Entries). keys_of entries) same ∙ keys-put_all before (written_side codec nid named control value) ∙ keys)
@@ -73,7 +73,7 @@ sides_with codec nid setting output input =
     ++ written_side codec nid (setting.input && setting.right) (InRight setting.place) input))
 
 -- the sides of both amplifiers
-pub sides-put : (codec : RawCodec) (before one two three four : Entries) (nid : ℕ) (setting : AmpSetting) (output input : ℕ) → IsWellFormed codec → keys_of before ≡ keys_of (opening codec)
+pub sides-put : (codec : RawCodec) (before one two three four : Entries) (nid : ℕ) (setting : AmpSetting) (output input : ℕ) → IsWellFormed codec → keys_of before ≡ controls_of codec
     → one ≡ cond (setting.output && setting.left) (put before (key nid OutLeft) output) before
     → two ≡ cond (setting.output && setting.right) (put one (key nid OutRight) output) one
     → three ≡ cond (setting.input && setting.left) (put two (key nid (InLeft setting.place)) input) two
@@ -114,7 +114,7 @@ unfolding is_power
 plain nid control value other fits = record { narrow = fits; state = λ e. absurd (true≢false (sym (ap is_power e) ∙ other)) }
 
 -- a setting has 32 bits
-narrow_of : (settings : Entries) (nid : ℕ) (control : Control) → All IsSetting settings → setting_of settings nid control < 2 ^ 32
+pub narrow_of : (settings : Entries) (nid : ℕ) (control : Control) → All IsSetting settings → setting_of settings nid control < 2 ^ 32
 narrow_of [] nid control each = lit< tt
 narrow_of (entry ∷ settings) nid control each =
     by (is_at (key_cmp (key nid control)) entry.0) (narrow_of settings nid control (All-tail IsSetting entry settings each))
@@ -182,7 +182,19 @@ each-verb_writes codec settings nid (SetDefault place byte) each h =
 each-verb_writes codec settings nid (SetFormat format) each h =
     let p = payload-lt (SetFormat format) h in each-written codec nid Format format (plain nid Format format refl (omega arith))
 each-verb_writes codec settings nid (SetAmp payload) each h = each-amplifier codec nid payload
-each-verb_writes codec settings nid _ each h = All-nil IsSetting
+each-verb_writes codec settings nid (GetParam number) each h = All-nil IsSetting
+each-verb_writes codec settings nid GetSelect each h = All-nil IsSetting
+each-verb_writes codec settings nid (GetList place) each h = All-nil IsSetting
+each-verb_writes codec settings nid GetPower each h = All-nil IsSetting
+each-verb_writes codec settings nid GetStream each h = All-nil IsSetting
+each-verb_writes codec settings nid GetPin each h = All-nil IsSetting
+each-verb_writes codec settings nid GetUnsol each h = All-nil IsSetting
+each-verb_writes codec settings nid GetSense each h = All-nil IsSetting
+each-verb_writes codec settings nid GetEapd each h = All-nil IsSetting
+each-verb_writes codec settings nid GetDigital each h = All-nil IsSetting
+each-verb_writes codec settings nid GetDefault each h = All-nil IsSetting
+each-verb_writes codec settings nid GetFormat each h = All-nil IsSetting
+each-verb_writes codec settings nid (GetAmp side) each h = All-nil IsSetting
 
 -- the settings after a command are still those of the codec
 pub IsSettingsOf-after : (codec : RawCodec) (settings : Entries) (command : Command) → IsSettingsOf codec settings → IsTrue (is_verb_in_range command.verb) → IsSettingsOf codec (after codec settings command)

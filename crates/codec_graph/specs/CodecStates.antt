@@ -1,4 +1,4 @@
--- A codec as a device: its graph, its settings, what is plugged in, and what waits to be sent to the controller in order of arrival.
+-- A codec, as commands and its pins change it: its graph, its settings, what is plugged in, and what waits to be sent to the controller in order of arrival.
 -- Unsolicited responses: High Definition Audio 1.0a, 7.3.3.14 and 3.7.2. The queue, its limits and what is lost are this project's own.
 use Rattle.std.specs.Prelude.{◌≡◌, ◌≤◌, ◌*◌, ◌%◌, ◌^◌, ℕ, Bool, true, false, ◌==◌, ◌&&◌, not, List, [], ◌∷◌, ◌++◌, length, drop, count_by, slice_set, nat_lt, if◌then◌else◌, Option, Some, None}
 use Rattle.codec_graph.specs.declared.raw.RawNode.{RawNode}
@@ -7,14 +7,14 @@ use Rattle.codec_graph.specs.declared.controls.Control.TheVariants.{Unsol}
 use Rattle.codec_graph.specs.declared.waiting.Waiting.{Waiting}
 use Rattle.codec_graph.specs.declared.waiting.Waiting.TheVariants.{Answer, Unsolicited}
 use Rattle.verb_codes.specs.Words.{has_bit}
-use Rattle.codec_graph.specs.Widget.{node_at, is_pin}
+use Rattle.codec_graph.specs.Widget.{node_identifiers, node_at, is_pin}
 use Rattle.codec_graph.specs.Cycles.{IsWellFormed}
 use Rattle.codec_graph.specs.Settings.{Entries, setting_of, sends_unsolicited, detects_presence, IsSettingsOf}
 use Rattle.codec_graph.specs.VerbMeaning.{is_present, answer_of, after}
 use Rattle.verb_codes.specs.declared.verbs.Command.{Command}
 use Rattle.verb_codes.specs.Verbs.{reading_of}
 
--- a codec: whether something is plugged in stands by node identifier, 0 to 127
+-- a codec: whether something is plugged in stands by node identifier
 pub record CodecState : Type 0 where
   pub graph : RawCodec
   pub settings : Entries
@@ -32,9 +32,16 @@ answers waiting = count_by is_answer waiting
 abbrev pub unsolicited : List Waiting → ℕ
 unsolicited waiting = count_by (λ item. not (is_answer item)) waiting
 
+-- how many answers to commands can wait, and how many unsolicited responses beside them
+abbrev pub most_answers : ℕ
+most_answers = 64
+
+abbrev pub most_unsolicited : ℕ
+most_unsolicited = 64
+
 -- whether no further answer to a command can wait
 abbrev pub is_full : CodecState → Bool
-is_full codec = answers codec.waiting == 64
+is_full codec = answers codec.waiting == most_answers
 
 -- the answer to a word: to the command that it reads as, and 0 where it has no reading
 abbrev pub reading_answer : CodecState → Option Command → ℕ
@@ -69,11 +76,11 @@ abbrev pub response_of : ℕ → Waiting
 response_of control = Unsolicited (control % 2 ^ 6 * 2 ^ 26)
 
 -- whether the pin's new presence is told: it can detect presence, its presence changed, it can send unsolicited responses,
--- they are enabled, and fewer than 64 wait
+-- they are enabled, and there is room for another
 abbrev pub is_told : CodecState → ℕ → Bool → RawNode → Bool
 is_told codec nid present node =
     detects_presence node && changes (is_present codec.present nid) present && sends_unsolicited node
-    && is_enabled (setting_of codec.settings nid Unsol) && nat_lt (unsolicited codec.waiting) 64
+    && is_enabled (setting_of codec.settings nid Unsol) && nat_lt (unsolicited codec.waiting) most_unsolicited
 
 -- the pin has this presence; where it is told, a response waits last
 abbrev pub pin_plugged : CodecState → ℕ → Bool → RawNode → CodecState
@@ -110,6 +117,6 @@ cleared codec = record codec { waiting = [] }
 pub record IsSound (codec : CodecState) : Type 0 where
   pub well_formed : IsWellFormed codec.graph
   pub settings : IsSettingsOf codec.graph codec.settings
-  pub present : length codec.present ≡ 128
-  pub answers_fit : answers codec.waiting ≤ 64
-  pub unsolicited_fit : unsolicited codec.waiting ≤ 64
+  pub present : length codec.present ≡ node_identifiers
+  pub answers_fit : answers codec.waiting ≤ most_answers
+  pub unsolicited_fit : unsolicited codec.waiting ≤ most_unsolicited

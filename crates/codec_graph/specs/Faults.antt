@@ -1,12 +1,12 @@
 -- The faults of a codec's tables. The rules and their order are this project's own.
-use Rattle.std.specs.Prelude.{ℕ, Bool, ◌==◌, ◌||◌, not, List, [], ◌∷◌, ◌++◌, length, if◌then◌else◌, nat_lt, ◌+◌, Option, Some, None, Result, Ok, Err}
+use Rattle.std.specs.Prelude.{ℕ, Bool, ◌==◌, ◌||◌, not, List, [], ◌∷◌, ◌++◌, length, if◌then◌else◌, nat_lt, nat_le, ◌+◌, Option, Some, None, Result, Ok, Err}
 use Rattle.std.specs.List.{list_all}
 use Rattle.codec_graph.specs.declared.raw.RawNode.{RawNode}
 use Rattle.codec_graph.specs.declared.raw.RawCodec.{RawCodec}
 use Rattle.codec_graph.specs.declared.fault.GraphFault.{GraphFault}
 use Rattle.codec_graph.specs.declared.fault.GraphFault.TheVariants.{NoAudioGroup, BadCount, ConnectionOutside, ListTooLong, AmpOffset}
 use Rattle.verb_codes.specs.Words.{bits_of}
-use Rattle.codec_graph.specs.Widget.{is_mixer, is_widget, amplifier_offset, amplifier_steps}
+use Rattle.codec_graph.specs.Widget.{node_identifiers, most_amplified, is_mixer, is_widget, amplifier_offset, amplifier_steps}
 
 -- the fault where the test holds
 abbrev pub fault_if : Bool → GraphFault → List GraphFault
@@ -20,16 +20,19 @@ is_no_audio_group codec = not (bits_of codec.group_type 0 8 == 1)
 -- or the function group has no identifier of its own
 abbrev pub has_bad_count : RawCodec → Bool
 has_bad_count codec =
-    codec.count == 0 || codec.first == 0 || nat_lt 128 (codec.first + codec.count) || not (length codec.nodes == codec.count)
-    || codec.group == 0 || nat_lt 127 codec.group || is_widget codec codec.group
+    codec.count == 0 || codec.first == 0 || nat_lt node_identifiers (codec.first + codec.count) || not (length codec.nodes == codec.count)
+    || codec.group == 0 || nat_le node_identifiers codec.group || is_widget codec codec.group
 
 -- the amplifier's 0 dB step is above its steps
 abbrev pub has_bad_offset : ℕ → Bool
 has_bad_offset word = nat_lt (amplifier_steps word) (amplifier_offset word)
 
--- how many connections a widget may list
+-- how many connections a widget may list, and a mixer, each of whose inputs can have an amplifier
+abbrev pub most_listed : ℕ
+most_listed = 64
+
 abbrev pub most_connections : RawNode → ℕ
-most_connections node = if is_mixer node then 16 else 64
+most_connections node = if is_mixer node then most_amplified else most_listed
 
 -- the faults of one widget, in the order in which they count
 abbrev pub node_faults : RawCodec → ℕ → RawNode → List GraphFault

@@ -10,3 +10,4 @@ pub mod CodecStates
 
 -- what private functions promise one another
 pub mod Marks
+pub mod Openings

@@ -8,6 +8,10 @@ use Rattle.verb_codes.specs.Words.{has_bit, bits_of}
 abbrev pub node_identifiers : ℕ
 node_identifiers = 128
 
+-- how many inputs of a widget can have an amplifier each: their place has four bits (7.3.3.7)
+abbrev pub most_amplified : ℕ
+most_amplified = 16
+
 -- a word where it applies, and 0 where it does not
 abbrev pub kept_word : Bool → ℕ → ℕ
 kept_word applies word = if applies then word else 0

@@ -1,5 +1,5 @@
 //! What a codec answers to a command.
-ghost use Rattle.std.specs.Prelude.{◌≡◌, ◌<◌, ◌≤◌, ◌%◌, ◌^◌, true, false, slice_index};
+ghost use Rattle.std.specs.Prelude.{◌≡◌, ◌<◌, ◌^◌, true, false, All, slice_index};
 ghost use Rattle.codec_graph.specs.Settings.{IsSettingsOf};
 ghost use Rattle.codec_graph.specs.Cycles.{IsWellFormed};
 ghost use Rattle.codec_graph.specs.VerbMeaning as spec;
@@ -72,6 +72,7 @@ fn sense(codec: &RawCodec, present: &Presence, nid: u8) -> u32
 
 /// The word of a node's connection list that has the entry at this place.
 fn connections(codec: &RawCodec, nid: u8, place: u8) -> u32
+    requires { IsWellFormed codec.now }
     ensures { result ≡ spec.node_list_word (node_at codec.now nid) place }
 {
     match codec.node(nid) {
@@ -86,23 +87,32 @@ fn list_word_long(entries: &[u16], place: u8) -> u32
     ensures { result ≡ spec.list_word true entries.now place }
 {
     let place = usize::from(place);
-    entry(entries, place, 16) + (entry(entries, place + 1, 16) << 16)
+    entry(entries, place) + (entry(entries, place + 1) << 16)
 }
 
 /// Four entries of 8 bits from this place on, lowest bits first.
 fn list_word_short(entries: &[u16], place: u8) -> u32
+    requires { All (λ entry. entry < 2 ^ 8) entries.now }
     ensures { result ≡ spec.list_word false entries.now place }
 {
     let place = usize::from(place);
-    let low = entry(entries, place, 8) + (entry(entries, place + 1, 8) << 8);
-    low + (entry(entries, place + 2, 8) << 16) + (entry(entries, place + 3, 8) << 24)
+    let low = short_entry(entries, place) + (short_entry(entries, place + 1) << 8);
+    low + (short_entry(entries, place + 2) << 16) + (short_entry(entries, place + 3) << 24)
 }
 
-/// The low `width` bits of the entry at this place, and 0 past the end.
-fn entry(entries: &[u16], place: usize, width: u32) -> u32
-    requires { width ≤ 16 }
-    ensures value { result ≡ slice_index entries.now place % 2 ^ width }
-    ensures narrow { result < 2 ^ width }
+/// The entry of 16 bits at this place, and 0 past the end.
+fn entry(entries: &[u16], place: usize) -> u32
+    ensures value { result ≡ slice_index entries.now place }
+    ensures narrow { result < 2 ^ 16 }
 {
-    entries.get(place).map_or(0, |entry| u32::from(*entry)) % (1 << width)
+    entries.get(place).map_or(0, |entry| u32::from(*entry))
+}
+
+/// The entry of 8 bits at this place, and 0 past the end.
+fn short_entry(entries: &[u16], place: usize) -> u32
+    requires { All (λ entry. entry < 2 ^ 8) entries.now }
+    ensures value { result ≡ slice_index entries.now place }
+    ensures narrow { result < 2 ^ 8 }
+{
+    entry(entries, place)
 }

@@ -5,6 +5,7 @@ ghost use Rattle.codec_graph.specs.Cycles.{Reaches, IsOnCycle, IsCycleFault};
 ghost use Rattle.codec_graph.specs.Marks.{IsMarked};
 
 use crate::fault::GraphFault;
+use crate::limits::NODE_IDENTIFIERS;
 use crate::raw::RawCodec;
 
 /// A mark for each node identifier that a connection list can name.
@@ -17,7 +18,7 @@ pub(crate) fn check_cycles(codec: &RawCodec) -> Result<(), GraphFault>
     ensures acyclic { OnOk result ((nid : ℕ) → IsOnCycle codec.now nid → ⊥) }
     ensures cycle { IfErr result (IsCycleFault codec.now) }
 {
-    for nid in 0..128 {
+    for nid in 0..NODE_IDENTIFIERS as u8 {
         if is_on_cycle(codec, nid) {
             return Err(GraphFault::Cycle(nid));
         }

@@ -8,14 +8,19 @@ ghost use Rattle.codec_graph.specs.Faults as faults;
 ghost use Rattle.codec_graph.specs.Cycles.{IsWellFormed, IsFirstFault};
 ghost use Rattle.codec_graph.specs.Candidates as candidates;
 
+use crate::amplifiers::{amplifier_offset, amplifier_steps};
 use crate::copies::copy_codec;
 use crate::cycles::check_cycles;
 use crate::fault::GraphFault;
+use crate::limits::{MOST_AMPLIFIED, NODE_IDENTIFIERS};
 use crate::raw::{RawCodec, RawNode};
 use verb_codes::bits_of;
 use hda_items::Items;
 use std::alloc::AllocError;
 use std::marker::Model;
+
+/// How many connections a widget may list. This project's own.
+const MOST_LISTED: usize = 64;
 
 /// A codec's well-formed graph. Contracts see the normalised words that [`Graph::raw`] gives.
 #[derive(Debug, Drop)]
@@ -170,7 +175,11 @@ fn lists_outside(codec: &RawCodec, node: &RawNode) -> bool
 fn lists_too_many(node: &RawNode) -> bool
     ensures { result ≡ nat_lt (faults.most_connections node.now) (length node.now.list) }
 {
-    let most = if node.is_mixer() { 16 } else { 64 };
+    let most = if node.is_mixer() {
+        usize::from(MOST_AMPLIFIED)
+    } else {
+        MOST_LISTED
+    };
     node.list.len() > most
 }
 
@@ -179,13 +188,13 @@ fn lists_too_many(node: &RawNode) -> bool
 fn has_bad_count(codec: &RawCodec) -> bool
     ensures { result ≡ faults.has_bad_count codec.now }
 {
-    let end = u16::from(codec.first) + u16::from(codec.count);
+    let end = usize::from(codec.first) + usize::from(codec.count);
     codec.count == 0
         || codec.first == 0
-        || end > 128
+        || end > NODE_IDENTIFIERS
         || codec.nodes.len() != usize::from(codec.count)
         || codec.group == 0
-        || codec.group > 127
+        || usize::from(codec.group) >= NODE_IDENTIFIERS
         || codec.is_widget(codec.group)
 }
 
@@ -193,5 +202,5 @@ fn has_bad_count(codec: &RawCodec) -> bool
 fn has_bad_offset(word: u32) -> bool
     ensures { result ≡ faults.has_bad_offset word }
 {
-    bits_of(word, 8, 7) < bits_of(word, 0, 7)
+    amplifier_steps(word) < amplifier_offset(word)
 }

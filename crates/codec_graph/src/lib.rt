@@ -1,12 +1,15 @@
 //! The graph of a codec's widgets: its words as read, the normalised and checked graph, and its candidate pins.
 #![tactic(auto)]
 
+mod amplifiers;
 mod answers;
 mod controls;
 mod copies;
 mod cycles;
 mod fault;
 mod graph;
+mod laws;
+mod limits;
 mod listed;
 mod parameters;
 mod presence;
@@ -14,10 +17,15 @@ mod raw;
 mod settings;
 mod waiting;
 
+pub use amplifiers::{amplifier_offset, amplifier_steps, can_mute};
 pub use answers::answer;
 pub use controls::{Control, ControlKey};
 pub use fault::GraphFault;
 pub use graph::Graph;
+pub use laws::{answers_fit, controls_ascend, limits_agree, list_words_have_entries};
+pub use limits::{
+    MOST_AMPLIFIED, MOST_ANSWERS, MOST_ENTRIES, MOST_UNSOLICITED, NODE_IDENTIFIERS,
+};
 pub use listed::FaultyList;
 pub use presence::Presence;
 pub use raw::{GroupWords, RawCodec, RawNode};

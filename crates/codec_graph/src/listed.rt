@@ -1,5 +1,5 @@
 //! The connection lists of a codec as the expansions of their entries.
-ghost use Rattle.std.specs.Prelude.{◌≡◌, ◌≤◌, ◌<◌, ◌+◌, ◌-◌, ℕ, Some, None, map, length, slice_get, IfOk, OnOk, OnErr};
+ghost use Rattle.std.specs.Prelude.{◌≡◌, ◌≤◌, ◌<◌, ◌+◌, ◌-◌, ℕ, Some, None, map, length, slice_get, MatchOption, IfOk, OnOk, OnErr};
 ghost use Rattle.std.specs.Option.{option_and_then};
 ghost use Rattle.codec_graph.specs.Listed as spec;
 
@@ -45,4 +45,46 @@ impl RawNode {
             Err(ListError::OutOfMemory) => Err(AllocError),
         }
     }
+}
+
+impl RawCodec {
+    /// Makes the connection list of each widget the expansion of its entries, and gives the first widget whose entries have a
+    /// fault. The node identifiers of the widgets fit a byte.
+    ///
+    /// # Errors
+    /// Want of memory. Then, and after a fault, some lists are expanded, and all else is as it was.
+    pub fn expand_lists(&mut self) -> Result<Option<FaultyList>, AllocError>
+        requires { self.old.first + length self.old.nodes ≤ 256 }
+        ensures found { IfOk result (λ found. MatchOption found
+            ((self.new ≡ spec.listed self.old) × spec.HasNoListFault (spec.codec_list_fault self.old))
+            (λ faulty. spec.IsFirstListFault (spec.codec_list_fault self.old) faulty.nid faulty.fault)) }
+        ensures kept { spec.listed self.new ≡ spec.listed self.old }
+    {
+        let none = Items::new(self.nodes.allocator());
+        let mut nodes = mem::replace(&mut self.nodes, none).into_vec();
+        let found = expand_nodes(nodes.as_mut_slice());
+        self.nodes = Items::from_vec(nodes);
+        let first = self.first;
+        Ok(found?.map(|(place, fault)| FaultyList {
+            nid: first + place as u8,
+            fault,
+        }))
+    }
+}
+
+/// Makes each connection list the expansion of its entries, up to the first with a fault: its place and the fault.
+fn expand_nodes(nodes: &mut [RawNode]) -> Result<Option<(usize, ListFault)>, AllocError>
+    ensures found { IfOk result (λ found. MatchOption found
+        ((nodes.new ≡ map spec.listed_node nodes.old)
+            × ((place : ℕ) → option_and_then spec.list_fault (slice_get nodes.old place) ≡ None))
+        (λ faulty. (faulty.0 < length nodes.old)
+            × spec.IsFirstListFault (λ place. option_and_then spec.list_fault (slice_get nodes.old place)) faulty.0 faulty.1)) }
+    ensures kept { map spec.listed_node nodes.new ≡ map spec.listed_node nodes.old }
+{
+    for place in 0..nodes.len() {
+        if let Some(fault) = nodes[place].expand()? {
+            return Ok(Some((place, fault)));
+        }
+    }
+    Ok(None)
 }

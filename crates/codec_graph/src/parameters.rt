@@ -1,5 +1,7 @@
 //! The parameters of a codec's nodes (HDA 1.0a, 7.3.4).
-ghost use Rattle.std.specs.Prelude.{◌≡◌, ◌+◌, ◌*◌, ◌^◌};
+ghost use Rattle.std.specs.Prelude.{◌≡◌, ◌≤◌, ◌+◌, ◌*◌, ◌^◌, length};
+ghost use Rattle.codec_graph.specs.Cycles.{IsWellFormed};
+ghost use Rattle.codec_graph.specs.Listed.{most_entries};
 ghost use Rattle.codec_graph.specs.VerbMeaning as spec;
 
 use crate::raw::{RawCodec, RawNode};
@@ -10,6 +12,7 @@ const LONG: u32 = 1 << 7;
 
 /// The parameter of this number at the root, the function group or a widget, and 0 where it has none.
 pub(crate) fn parameter(codec: &RawCodec, nid: u8, number: u8) -> u32
+    requires { IsWellFormed codec.now }
     ensures { result ≡ spec.parameter_at codec.now nid number }
 {
     match Parameter::of_number(number) {
@@ -20,6 +23,7 @@ pub(crate) fn parameter(codec: &RawCodec, nid: u8, number: u8) -> u32
 
 /// The parameter at the root, the function group or a widget.
 fn known_parameter(codec: &RawCodec, nid: u8, parameter: Parameter) -> u32
+    requires { IsWellFormed codec.now }
     ensures { result ≡ spec.known_parameter codec.now nid parameter }
 {
     if nid == 0 {
@@ -42,7 +46,9 @@ fn root_parameter(codec: &RawCodec, parameter: Parameter) -> u32
         Parameter::Vendor => codec.vendor,
         Parameter::Revision => codec.revision,
         Parameter::Nodes => nodes_word(codec.group, 1),
-        _ => 0,
+        Parameter::GroupType | Parameter::WidgetCapabilities | Parameter::PcmSizesAndRates => 0,
+        Parameter::StreamFormats | Parameter::PinCapabilities | Parameter::InputAmplifier => 0,
+        Parameter::ListLength | Parameter::PowerStates | Parameter::OutputAmplifier => 0,
     }
 }
 
@@ -58,12 +64,14 @@ fn group_parameter(codec: &RawCodec, parameter: Parameter) -> u32
         Parameter::InputAmplifier => codec.group_words.amp_in,
         Parameter::OutputAmplifier => codec.group_words.amp_out,
         Parameter::PowerStates => codec.group_words.power,
-        _ => 0,
+        Parameter::Vendor | Parameter::Revision | Parameter::WidgetCapabilities => 0,
+        Parameter::PinCapabilities | Parameter::ListLength => 0,
     }
 }
 
 /// The parameter of a widget.
 fn widget_parameter(node: &RawNode, parameter: Parameter) -> u32
+    requires { length node.now.entries ≤ most_entries }
     ensures { result ≡ spec.widget_parameter node.now parameter }
 {
     match parameter {
@@ -75,7 +83,7 @@ fn widget_parameter(node: &RawNode, parameter: Parameter) -> u32
         Parameter::OutputAmplifier => node.amp_out,
         Parameter::ListLength => list_length(node),
         Parameter::PowerStates => node.power,
-        _ => 0,
+        Parameter::Vendor | Parameter::Revision | Parameter::Nodes | Parameter::GroupType => 0,
     }
 }
 
@@ -88,8 +96,9 @@ fn nodes_word(first: u8, count: u8) -> u32
 
 /// The number of entries of the connection list in bits 6:0, and bit 7 where they are long.
 fn list_length(node: &RawNode) -> u32
+    requires { length node.now.entries ≤ most_entries }
     ensures { result ≡ spec.list_length node.now }
 {
-    let entries = (node.entries.len() % 128) as u32;
+    let entries = node.entries.len() as u32;
     if node.long { entries + LONG } else { entries }
 }

@@ -9,9 +9,11 @@ ghost use Rattle.codec_graph.specs.Cycles as cycles;
 ghost use Rattle.codec_graph.specs.Settings as settings;
 
 use crate::controls::Control;
+use crate::limits::MOST_AMPLIFIED;
+use bitflags::Flags;
 use hda_items::Items;
 use std::alloc::Global;
-use verb_codes::{bits_of, has_bit};
+use verb_codes::{PinCapabilities, WidgetCapabilities, bits_of};
 
 /// The parameters of the audio function group that its widgets fall back to (HDA 1.0a, 7.3.4.7 to 7.3.4.12).
 #[derive(Debug, Drop)]
@@ -144,56 +146,56 @@ impl RawNode {
     pub fn is_stereo(&self) -> bool
         ensures { result ≡ widget.is_stereo self.now }
     {
-        has_bit(self.caps, 0)
+        WidgetCapabilities(self.caps).contains(WidgetCapabilities::STEREO)
     }
 
     /// Whether the widget has an input amplifier.
     pub fn has_input_amplifier(&self) -> bool
         ensures { result ≡ widget.has_input_amplifier self.now }
     {
-        has_bit(self.caps, 1)
+        WidgetCapabilities(self.caps).contains(WidgetCapabilities::INPUT_AMPLIFIER)
     }
 
     /// Whether the widget has an output amplifier.
     pub fn has_output_amplifier(&self) -> bool
         ensures { result ≡ widget.has_output_amplifier self.now }
     {
-        has_bit(self.caps, 2)
+        WidgetCapabilities(self.caps).contains(WidgetCapabilities::OUTPUT_AMPLIFIER)
     }
 
     /// Whether the widget's amplifier words are its own, and not the function group's.
     pub fn overrides_amplifiers(&self) -> bool
         ensures { result ≡ widget.overrides_amplifiers self.now }
     {
-        has_bit(self.caps, 3)
+        WidgetCapabilities(self.caps).contains(WidgetCapabilities::OWN_AMPLIFIER_WORDS)
     }
 
     /// Whether the widget's PCM and stream format words are its own, and not the function group's.
     pub fn overrides_formats(&self) -> bool
         ensures { result ≡ widget.overrides_formats self.now }
     {
-        has_bit(self.caps, 4)
+        WidgetCapabilities(self.caps).contains(WidgetCapabilities::OWN_FORMATS)
     }
 
     /// Whether the widget has a connection list.
     pub fn has_list(&self) -> bool
         ensures { result ≡ widget.has_list self.now }
     {
-        has_bit(self.caps, 8)
+        WidgetCapabilities(self.caps).contains(WidgetCapabilities::CONNECTION_LIST)
     }
 
     /// Whether the widget carries a digital stream.
     pub fn is_digital(&self) -> bool
         ensures { result ≡ widget.is_digital self.now }
     {
-        has_bit(self.caps, 9)
+        WidgetCapabilities(self.caps).contains(WidgetCapabilities::DIGITAL)
     }
 
     /// Whether the widget has power control of its own.
     pub fn has_power_control(&self) -> bool
         ensures { result ≡ widget.has_power_control self.now }
     {
-        has_bit(self.caps, 10)
+        WidgetCapabilities(self.caps).contains(WidgetCapabilities::POWER_CONTROL)
     }
 
     /// The number of the pin's association (HDA 1.0a, 7.3.3.31).
@@ -219,7 +221,7 @@ impl RawNode {
         self.is_pin()
             && self.is_stereo()
             && !self.is_digital()
-            && has_bit(self.pin_caps, 4)
+            && self.can_output()
             && connectivity != 1
             && device <= 2
             && self.association() != 0
@@ -229,28 +231,28 @@ impl RawNode {
     pub fn sends_unsolicited(&self) -> bool
         ensures { result ≡ settings.sends_unsolicited self.now }
     {
-        has_bit(self.caps, 7)
+        WidgetCapabilities(self.caps).contains(WidgetCapabilities::UNSOLICITED)
     }
 
     /// Whether the widget is a pin that can tell whether something is plugged in.
     pub fn detects_presence(&self) -> bool
         ensures { result ≡ settings.detects_presence self.now }
     {
-        self.is_pin() && has_bit(self.pin_caps, 2)
+        self.is_pin() && self.can_detect()
     }
 
     /// Whether the widget is a pin with an external amplifier.
     pub fn has_eapd(&self) -> bool
         ensures { result ≡ settings.has_eapd self.now }
     {
-        self.is_pin() && has_bit(self.pin_caps, 16)
+        self.is_pin() && self.can_amplify()
     }
 
     /// Whether the widget has an input amplifier for the connection at this place.
     fn amplifies_input(&self, place: u8) -> bool
         ensures { result ≡ (settings.widget_has self.now (Control.InLeft place)) }
     {
-        let inputs = self.list.len().max(1).min(16);
+        let inputs = self.list.len().max(1).min(usize::from(MOST_AMPLIFIED));
         self.has_input_amplifier() && usize::from(place) < inputs
     }
 
@@ -269,6 +271,27 @@ impl RawNode {
             Control::OutLeft | Control::OutRight => self.has_output_amplifier(),
             Control::InLeft(place) | Control::InRight(place) => self.amplifies_input(place),
         }
+    }
+
+    /// Whether the pin capabilities have presence detection.
+    fn can_detect(&self) -> bool
+        ensures { result ≡ words.has_bit self.now.pin_caps 2 }
+    {
+        PinCapabilities(self.pin_caps).contains(PinCapabilities::PRESENCE)
+    }
+
+    /// Whether the pin capabilities have an output.
+    fn can_output(&self) -> bool
+        ensures { result ≡ words.has_bit self.now.pin_caps 4 }
+    {
+        PinCapabilities(self.pin_caps).contains(PinCapabilities::OUTPUT)
+    }
+
+    /// Whether the pin capabilities have an external amplifier.
+    fn can_amplify(&self) -> bool
+        ensures { result ≡ words.has_bit self.now.pin_caps 16 }
+    {
+        PinCapabilities(self.pin_caps).contains(PinCapabilities::EAPD)
     }
 
     fn widget_type(&self) -> u32

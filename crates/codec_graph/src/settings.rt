@@ -1,21 +1,24 @@
 //! What the controls of a codec's nodes are set to.
-ghost use Rattle.std.specs.Prelude.{◌≡◌, ℕ, Some, None, [], ◌<◌, ◌^◌, IsTrue, IfOk, OnOk, All, map, if◌then◌else◌, ◌&&◌};
+ghost use Rattle.std.specs.Prelude.{◌≡◌, ℕ, Some, None, [], ◌∷◌, ◌++◌, ◌+◌, ◌<◌, ◌^◌, IsTrue, IfOk, OnOk, All, if◌then◌else◌, ◌&&◌};
 ghost use Rattle.codec_graph.specs.declared.controls.Control.{Control};
 ghost use Rattle.codec_graph.specs.Cycles.{IsWellFormed};
 ghost use Rattle.codec_graph.specs.Settings as spec;
+ghost use Rattle.codec_graph.specs.Openings.{opened_so_far};
 ghost use Rattle.codec_graph.specs.VerbMeaning as meaning;
 ghost use Rattle.codec_graph.specs.Widget.{node_at};
 ghost use Rattle.std.specs.Map.{keys_of};
+ghost use Rattle.std.specs.List.Sorted.{IsStrictlySortedBy};
 ghost use Rattle.verb_codes.specs.Verbs.{is_verb_in_range};
 
+use crate::amplifiers::{amplifier_offset, amplifier_steps, can_mute};
 use crate::controls::{Control, ControlKey};
 use crate::graph::Graph;
+use crate::limits::{MOST_AMPLIFIED, NODE_IDENTIFIERS};
 use crate::raw::{RawCodec, RawNode};
-use verb_codes::{bits_of, has_bit};
 use std::alloc::{AllocError, Global};
 use std::collections::BTreeMap;
 use std::marker::Model;
-use verb_codes::{AmpSetting, Command, Verb};
+use verb_codes::{AmpSetting, Command, PinControl, Verb};
 
 /// The controls but those of the input amplifiers.
 const PLAIN_CONTROLS: [Control; 11] = [
@@ -32,11 +35,8 @@ const PLAIN_CONTROLS: [Control; 11] = [
     Control::OutRight,
 ];
 
-/// How many inputs of a widget can have an amplifier.
-const AMPLIFIED_INPUTS: u8 = 16;
-
 /// The bits of the pin control that are kept: headphone, out and in (HDA 1.0a, 7.3.3.13).
-const PIN_BITS: u8 = 0xE0;
+const PIN_BITS: u8 = PinControl::HEADPHONE.0 | PinControl::OUTPUT.0 | PinControl::INPUT.0;
 
 /// The bits of the control of unsolicited responses that are kept: enable and tag (HDA 1.0a, 7.3.3.14).
 const UNSOL_BITS: u8 = 0xBF;
@@ -77,30 +77,34 @@ impl Settings {
         let mut settings = Settings {
             map: BTreeMap::new(alloc),
         };
-        for nid in 0..128u8 {
+        for nid in 0..NODE_IDENTIFIERS as u8 {
             settings.open_node(codec, nid)?;
         }
         Ok(settings)
     }
 
-    /// Gives each control of the node its opening value.
+    /// Gives each control of the node its opening value, after those of the nodes below it.
     fn open_node(&mut self, codec: &RawCodec, nid: u8) -> Result<(), AllocError>
-        ensures value { OnOk result (self.new ≡ spec.open_controls codec.now self.old (map (spec.key nid) spec.controls)) }
+        requires { self.old ≡ opened_so_far codec.now (spec.keys_below nid) }
+        ensures value { OnOk result (self.new ≡ opened_so_far codec.now (spec.keys_below (nid + 1))) }
         ensures each { OnOk result (All spec.IsSetting self.old → All spec.IsSetting self.new) }
     {
         for control in PLAIN_CONTROLS {
             self.open(codec, nid, control)?;
         }
-        for place in 0..AMPLIFIED_INPUTS {
+        for place in 0..MOST_AMPLIFIED {
             self.open(codec, nid, Control::InLeft(place))?;
+        }
+        for place in 0..MOST_AMPLIFIED {
             self.open(codec, nid, Control::InRight(place))?;
         }
         Ok(())
     }
 
-    /// Gives the control its opening value, where the node has it.
+    /// Gives the control its opening value, where the node has it. It comes after the controls that have one.
     fn open(&mut self, codec: &RawCodec, nid: u8, control: Control) -> Result<(), AllocError>
-        ensures value { OnOk result (self.new ≡ spec.open_control codec.now self.old (spec.key nid control)) }
+        requires { IsStrictlySortedBy spec.key_cmp (keys_of self.old ++ spec.key nid control ∷ []) }
+        ensures value { OnOk result (self.new ≡ self.old ++ opened_so_far codec.now (spec.key nid control ∷ [])) }
         ensures each { OnOk result (All spec.IsSetting self.old → All spec.IsSetting self.new) }
     {
         if codec.has_control(nid, control) {
@@ -156,7 +160,7 @@ impl Settings {
     #[tactic(auto, using(crate::proofs::Writes::put_all_written))]
     fn apply_verb(&mut self, codec: &RawCodec, nid: u8, verb: &Verb)
         requires well_formed { IsWellFormed codec.now }
-        requires keys { keys_of self.old ≡ keys_of (spec.opening codec.now) }
+        requires keys { keys_of self.old ≡ spec.controls_of codec.now }
         requires verb { IsTrue (is_verb_in_range verb.now) }
         ensures { self.new ≡ spec.put_all self.old (meaning.verb_writes codec.now self.old nid verb.now) }
     {
@@ -180,7 +184,10 @@ impl Settings {
             Verb::SetAmp(payload) => {
                 self.set_amplifiers(codec, nid, AmpSetting::of_payload(payload));
             }
-            _ => {}
+            Verb::GetParam(_) | Verb::GetSelect | Verb::GetList(_) | Verb::GetPower => {}
+            Verb::GetStream | Verb::GetPin | Verb::GetUnsol | Verb::GetSense => {}
+            Verb::GetEapd | Verb::GetDigital | Verb::GetDefault => {}
+            Verb::GetFormat | Verb::GetAmp(_) => {}
         }
     }
 
@@ -188,7 +195,7 @@ impl Settings {
     #[tactic(auto, using(crate::proofs::Writes::put_all_written))]
     fn select(&mut self, codec: &RawCodec, nid: u8, place: u8)
         requires well_formed { IsWellFormed codec.now }
-        requires keys { keys_of self.old ≡ keys_of (spec.opening codec.now) }
+        requires keys { keys_of self.old ≡ spec.controls_of codec.now }
         ensures { self.new ≡ spec.put_all self.old (meaning.verb_writes codec.now self.old nid (Verb.SetSelect place)) }
     {
         if usize::from(place) < connections(codec, nid) {
@@ -199,7 +206,7 @@ impl Settings {
     /// Sets each side of an amplifier of the node that the setting names.
     fn set_amplifiers(&mut self, codec: &RawCodec, nid: u8, setting: AmpSetting)
         requires well_formed { IsWellFormed codec.now }
-        requires keys { keys_of self.old ≡ keys_of (spec.opening codec.now) }
+        requires keys { keys_of self.old ≡ spec.controls_of codec.now }
         ensures { self.new ≡ spec.put_all self.old (meaning.amplifier_writes codec.now nid setting) }
     {
         let (output, input) = amplifier_words(codec, nid);
@@ -279,8 +286,8 @@ fn amplifier_words(codec: &RawCodec, nid: u8) -> (u32, u32)
 fn kept_amplifier(word: u32, setting: AmpSetting) -> u32
     ensures { result ≡ meaning.kept_amplifier word setting }
 {
-    let gain = u32::from(setting.gain).min(bits_of(word, 8, 7));
-    if setting.mute && has_bit(word, 31) {
+    let gain = u32::from(setting.gain).min(amplifier_steps(word));
+    if setting.mute && can_mute(word) {
         gain + MUTE
     } else {
         gain
@@ -319,7 +326,8 @@ fn widget_opening(codec: &RawCodec, node: &RawNode, control: Control) -> u32
         Control::InLeft(_) | Control::InRight(_) => {
             amplifier_opening(codec.input_amplifier_word(node))
         }
-        _ => 0,
+        Control::Select | Control::Power | Control::Stream | Control::Pin => 0,
+        Control::Unsol | Control::Eapd | Control::Digital | Control::Format => 0,
     }
 }
 
@@ -327,9 +335,9 @@ fn widget_opening(codec: &RawCodec, node: &RawNode, control: Control) -> u32
 fn amplifier_opening(word: u32) -> u32
     ensures { result ≡ spec.amplifier_opening word }
 {
-    if has_bit(word, 31) {
-        0x80
+    if can_mute(word) {
+        MUTE
     } else {
-        bits_of(word, 0, 7)
+        amplifier_offset(word)
     }
 }

@@ -10,9 +10,9 @@ use Rattle.std.proofs.lemmas.Option.{same_Some, none-some}
 use Rattle.codec_graph.specs.declared.waiting.Waiting.{Waiting}
 use Rattle.codec_graph.specs.declared.waiting.Waiting.TheVariants.{Answer, Unsolicited}
 use Rattle.codec_graph.specs.CodecStates.{is_answer, answers, unsolicited, drop_answer}
-use Rattle.codec_graph.proofs.Sound.{answers-cons, answers-push, unsolicited-push, all-counted, unsolicited-drop_answer}
+use Rattle.codec_graph.proofs.Callers.{answers-cons, answers-push, unsolicited-push, all-counted, unsolicited-drop_answer}
 use Rattle.circular_buffer.specs.Buffer.{Buffer, buffer, keep_last}
-use Rattle.codec_nodes.specs.Queues.{IsCounted}
+use Rattle.codec_nodes.specs.Counts.{IsCounted}
 
 -- a ring with room keeps all its items
 pub keep_last-all : (n : ℕ) (items : List Waiting) → length items ≤ n → keep_last n items ≡ items

@@ -1,1 +1,4 @@
 pub mod Queues
+
+-- what private functions promise one another
+pub mod Counts

@@ -64,7 +64,7 @@ impl Codec {
         })
     }
 
-    /// Whether 64 answers to commands wait.
+    /// Whether as many answers to commands wait as can: `MOST_ANSWERS`.
     pub fn full(&self) -> bool
         ensures { result ≡ codecs.is_full self.now }
     {
@@ -89,7 +89,7 @@ impl Codec {
 
     /// Says whether something is plugged in at the pin; at a node that is no pin nothing happens. Where the pin can detect
     /// presence, its presence changed, it can send unsolicited responses and they are enabled, a response with their tag in bits
-    /// 31:26 waits last, unless 64 of them wait.
+    /// 31:26 waits last, unless `MOST_UNSOLICITED` of them wait.
     pub fn plug(&mut self, nid: u8, present: bool)
         ensures { self.new ≡ codecs.plugged self.old nid present }
     {

@@ -6,14 +6,12 @@ ghost use Rattle.codec_graph.specs.declared.waiting.Waiting.TheVariants as item;
 ghost use Rattle.circular_buffer.specs.Buffer.{buffer};
 
 use circular_buffer::HeapCircularBuffer;
-use codec_graph::Waiting;
+use codec_graph::{MOST_ANSWERS, MOST_UNSOLICITED, Waiting};
 use std::alloc::{AllocError, Global};
 use std::marker::Model;
 
-/// How many answers can wait, and how many unsolicited responses beside them.
-const MOST: usize = 64;
-
-/// At most 64 answers to commands and at most 64 unsolicited responses, first come first. Contracts see the items.
+/// At most [`MOST_ANSWERS`] answers to commands and [`MOST_UNSOLICITED`] unsolicited responses, first come first. Contracts see
+/// the items.
 #[derive(Drop)]
 pub(crate) struct Queue {
     items: HeapCircularBuffer<Waiting>,
@@ -27,7 +25,7 @@ impl Model for Queue {
 
     ghost Value = { List Waiting };
 
-    ghost use Rattle.codec_nodes.specs.Queues.{IsCounted};
+    ghost use Rattle.codec_nodes.specs.Counts.{IsCounted};
 
     ghost view = { λ queue. queue.items.items };
 
@@ -42,7 +40,7 @@ impl Queue {
     pub(crate) fn new(alloc: Global) -> Result<Queue, AllocError>
         ensures { IfOk result (λ queue. queue ≡ []) }
     {
-        let items = HeapCircularBuffer::with_capacity(alloc, 2 * MOST)?;
+        let items = HeapCircularBuffer::with_capacity(alloc, MOST_ANSWERS + MOST_UNSOLICITED)?;
         Ok(Queue {
             items,
             answers: 0,
@@ -50,23 +48,23 @@ impl Queue {
         })
     }
 
-    /// Whether 64 answers to commands wait.
+    /// Whether as many answers to commands wait as can.
     pub(crate) fn is_full(&self) -> bool
-        ensures { result ≡ (codecs.answers self.now == 64) }
+        ensures { result ≡ (codecs.answers self.now == codecs.most_answers) }
     {
-        self.answers == MOST
+        self.answers == MOST_ANSWERS
     }
 
     /// Whether another unsolicited response can wait.
     pub(crate) fn has_room(&self) -> bool
-        ensures { result ≡ nat_lt (codecs.unsolicited self.now) 64 }
+        ensures { result ≡ nat_lt (codecs.unsolicited self.now) codecs.most_unsolicited }
     {
-        self.unsolicited < MOST
+        self.unsolicited < MOST_UNSOLICITED
     }
 
     /// Puts the answer to a command last.
     pub(crate) fn push_answer(&mut self, word: u32)
-        requires { (codecs.answers self.old == 64) ≡ false }
+        requires { (codecs.answers self.old == codecs.most_answers) ≡ false }
         ensures { self.new ≡ self.old ++ item.Answer word ∷ [] }
     {
         self.items.push_back(Waiting::Answer(word));
@@ -75,7 +73,7 @@ impl Queue {
 
     /// Puts an unsolicited response last.
     pub(crate) fn push_unsolicited(&mut self, word: u32)
-        requires { nat_lt (codecs.unsolicited self.old) 64 ≡ true }
+        requires { nat_lt (codecs.unsolicited self.old) codecs.most_unsolicited ≡ true }
         ensures { self.new ≡ self.old ++ item.Unsolicited word ∷ [] }
     {
         self.items.push_back(Waiting::Unsolicited(word));

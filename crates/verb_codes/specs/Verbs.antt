@@ -21,27 +21,40 @@ long code payload = record { code = code; width = 16; payload = payload }
 
 -- the table of verbs; a get verb without an argument has payload 0
 abbrev pub row_of : Verb → Row
+-- Get Parameter (7.3.3.1)
 row_of (GetParam number) = short 0xF00 number
+-- Connection Select Control (7.3.3.2)
 row_of GetSelect = short 0xF01 0
 row_of (SetSelect place) = short 0x701 place
+-- Connection List Entry Control (7.3.3.3)
 row_of (GetList place) = short 0xF02 place
+-- Power State (7.3.3.10)
 row_of GetPower = short 0xF05 0
 row_of (SetPower state) = short 0x705 state
+-- Converter Stream, Channel (7.3.3.11)
 row_of GetStream = short 0xF06 0
 row_of (SetStream stream) = short 0x706 stream
+-- Pin Widget Control (7.3.3.13)
 row_of GetPin = short 0xF07 0
 row_of (SetPin control) = short 0x707 control
+-- Unsolicited Response (7.3.3.14)
 row_of GetUnsol = short 0xF08 0
 row_of (SetUnsol control) = short 0x708 control
+-- Pin Sense (7.3.3.15)
 row_of GetSense = short 0xF09 0
+-- EAPD/BTL Enable (7.3.3.16)
 row_of GetEapd = short 0xF0C 0
 row_of (SetEapd control) = short 0x70C control
+-- Digital Converter Control (7.3.3.9)
 row_of GetDigital = short 0xF0D 0
 row_of (SetDigital control) = short 0x70D control
+-- Configuration Default (7.3.3.31)
 row_of GetDefault = short 0xF1C 0
 row_of (SetDefault place byte) = short (0x71C + place) byte
+-- Converter Format (7.3.3.8)
 row_of GetFormat = long 0xA 0
 row_of (SetFormat format) = long 0x2 format
+-- Amplifier Gain/Mute (7.3.3.7)
 row_of (GetAmp side) = long 0xB side
 row_of (SetAmp setting) = long 0x3 setting
 

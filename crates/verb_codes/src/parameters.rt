@@ -3,29 +3,29 @@
 /// A parameter of a node (HDA 1.0a, 7.3.4). Every other number is 0 at every node.
 #[derive(Clone, Copy, Debug, PartialEq, Eq)]
 pub enum Parameter {
-    /// Vendor and device, of the root (7.3.4.1).
+    /// Vendor ID (7.3.4.1), of the root.
     Vendor,
-    /// Revision, of the root (7.3.4.2).
+    /// Revision ID (7.3.4.2), of the root.
     Revision,
-    /// The first node below in bits 23:16 and how many in 7:0, of the root and a function group (7.3.4.3).
+    /// Subordinate Node Count (7.3.4.3), of the root and a function group: the first node below in bits 23:16, how many in 7:0.
     Nodes,
-    /// The type of a function group (7.3.4.4).
+    /// Function Group Type (7.3.4.4).
     GroupType,
-    /// What a widget is and has (7.3.4.6).
+    /// Audio Widget Capabilities (7.3.4.6).
     WidgetCapabilities,
-    /// Supported PCM sizes and rates (7.3.4.7).
+    /// Supported PCM Size, Rates (7.3.4.7).
     PcmSizesAndRates,
-    /// Supported stream formats (7.3.4.8).
+    /// Supported Stream Formats (7.3.4.8).
     StreamFormats,
-    /// What a pin can do (7.3.4.9).
+    /// Pin Capabilities (7.3.4.9).
     PinCapabilities,
-    /// Capabilities of the input amplifier (7.3.4.10).
+    /// Amplifier Capabilities, of the input amplifier (7.3.4.10).
     InputAmplifier,
-    /// How many entries the connection list has in bits 6:0, and bit 7 where they are long (7.3.4.11).
+    /// Connection List Length (7.3.4.11): how many entries the list has in bits 6:0, and bit 7 where they are long.
     ListLength,
-    /// Supported power states (7.3.4.12).
+    /// Supported Power States (7.3.4.12).
     PowerStates,
-    /// Capabilities of the output amplifier (7.3.4.10).
+    /// Amplifier Capabilities, of the output amplifier (7.3.4.10).
     OutputAmplifier,
 }
 

@@ -3,51 +3,51 @@
 /// A verb with its argument (HDA 1.0a, 7.3.3). A get verb asks for what the set verb of its name changes; a set verb is answered with 0.
 #[derive(Clone, Copy, Debug, PartialEq, Eq)]
 pub enum Verb {
-    /// Asks for the parameter of this number (7.3.3.1, the numbers: 7.3.4). `Parameter` names those that a widget can have.
+    /// Get Parameter (7.3.3.1): asks for the parameter of this number (7.3.4). `Parameter` names those that a widget can have.
     GetParam(u8),
-    /// Asks for the selected place of the connection list (7.3.3.2).
+    /// Connection Select Control (7.3.3.2): asks for the selected place of the connection list.
     GetSelect,
-    /// Selects a place of the connection list, from 0 (7.3.3.2).
+    /// Connection Select Control (7.3.3.2): selects a place of the connection list, from 0.
     SetSelect(u8),
-    /// Asks for a word of entries of the connection list, from this place on (7.3.3.3).
+    /// Connection List Entry Control (7.3.3.3): asks for a word of entries of the connection list, from this place on.
     GetList(u8),
-    /// Asks for the power state (7.3.3.10).
+    /// Power State (7.3.3.10): asks for it.
     GetPower,
-    /// Sets the power state, bits 1:0 (7.3.3.10).
+    /// Power State (7.3.3.10): sets it, bits 1:0.
     SetPower(u8),
-    /// Asks for the stream tag and the channel (7.3.3.11).
+    /// Converter Stream, Channel (7.3.3.11): asks for the stream tag and the channel.
     GetStream,
-    /// Sets the stream tag, bits 7:4, and the lowest channel, bits 3:0 (7.3.3.11).
+    /// Converter Stream, Channel (7.3.3.11): sets the stream tag, bits 7:4, and the lowest channel, bits 3:0.
     SetStream(u8),
-    /// Asks for the pin control (7.3.3.13).
+    /// Pin Widget Control (7.3.3.13): asks for it.
     GetPin,
-    /// Sets the pin control: bit 7 headphone, 6 out, 5 in (7.3.3.13).
+    /// Pin Widget Control (7.3.3.13): sets it, bit 7 headphone, 6 out, 5 in.
     SetPin(u8),
-    /// Asks for the control of unsolicited responses (7.3.3.14).
+    /// Unsolicited Response (7.3.3.14): asks for its control.
     GetUnsol,
-    /// Sets the control of unsolicited responses: bit 7 enable, 5:0 tag (7.3.3.14).
+    /// Unsolicited Response (7.3.3.14): sets its control, bit 7 enable, 5:0 tag.
     SetUnsol(u8),
-    /// Asks whether something is plugged in: bit 31 (7.3.3.15).
+    /// Pin Sense (7.3.3.15): asks whether something is plugged in, bit 31.
     GetSense,
-    /// Asks for the control of the external amplifier (7.3.3.16).
+    /// EAPD/BTL Enable (7.3.3.16): asks for the control of the external amplifier.
     GetEapd,
-    /// Sets the control of the external amplifier: bit 1 turns it on (7.3.3.16).
+    /// EAPD/BTL Enable (7.3.3.16): sets the control of the external amplifier, which bit 1 turns on.
     SetEapd(u8),
-    /// Asks for the digital converter control (7.3.3.9).
+    /// Digital Converter Control (7.3.3.9): asks for it.
     GetDigital,
-    /// Sets the low byte of the digital converter control: bit 0 enables the digital side (7.3.3.9).
+    /// Digital Converter Control (7.3.3.9): sets its low byte, whose bit 0 enables the digital side.
     SetDigital(u8),
-    /// Asks for the configuration default (7.3.3.31).
+    /// Configuration Default (7.3.3.31): asks for it.
     GetDefault,
-    /// Sets one byte of the configuration default: its place, 0 to 3 from the lowest, and its value (7.3.3.31).
+    /// Configuration Default (7.3.3.31): sets one byte of it, by its place, 0 to 3 from the lowest, and its value.
     SetDefault(u8, u8),
-    /// Asks for the stream format (7.3.3.8).
+    /// Converter Format (7.3.3.8): asks for the stream format.
     GetFormat,
-    /// Sets the stream format (7.3.3.8).
+    /// Converter Format (7.3.3.8): sets the stream format.
     SetFormat(u16),
-    /// Asks for gain and mute of one side of an amplifier: bit 15 output, else input; bit 13 left, else right; 3:0 the input's place (7.3.3.7).
+    /// Amplifier Gain/Mute (7.3.3.7): asks for one side of an amplifier, bit 15 output, else input; bit 13 left, else right; 3:0 the input's place.
     GetAmp(u16),
-    /// Sets gain and mute: bit 15 output, 14 input, 13 left, 12 right, 11:8 the input's place, 7 mute, 6:0 gain (7.3.3.7).
+    /// Amplifier Gain/Mute (7.3.3.7): sets it, bit 15 output, 14 input, 13 left, 12 right, 11:8 the input's place, 7 mute, 6:0 gain.
     SetAmp(u16),
 }
 

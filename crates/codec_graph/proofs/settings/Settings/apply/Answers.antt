@@ -3,7 +3,7 @@ use Rattle.codec_graph.specs.Settings.{Entries, setting_at, put_all, IsSettingsO
 use Rattle.codec_graph.specs.VerbMeaning.{verb_writes, writes_of, after}
 use Rattle.codec_graph.specs.declared.raw.RawCodec.{RawCodec}
 use Rattle.std.specs.Map.{keys_of}
-use Rattle.codec_graph.proofs.Laws.{keys-after, setting_at-after, after-nothing}
+use Rattle.codec_graph.proofs.Unchanged.{keys-after, setting_at-after, after-nothing}
 use Rattle.codec_graph.proofs.Writes.{IsSettingsOf-after}
 use Rattle.codec_graph.proofs.settings.Settings.apply.Goals as goal
 

@@ -1,7 +1,7 @@
 use Rattle.std.proofs.Common.{List, sym, subst}
 use Rattle.codec_graph.specs.declared.waiting.Waiting.{Waiting}
 use Rattle.codec_graph.specs.CodecStates.{CodecState, IsSound}
-use Rattle.codec_graph.proofs.Sound.{IsSound-without_answer}
+use Rattle.codec_graph.proofs.Callers.{IsSound-without_answer}
 use Rattle.codec_nodes.proofs.codec.Codec.lose.Goals as goal
 
 pub invariant_of-self : goal.invariant_of-self

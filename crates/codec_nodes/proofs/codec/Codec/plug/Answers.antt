@@ -2,7 +2,7 @@ use Rattle.std.proofs.Common.{sym, ap, ◌∙◌}
 use Rattle.std.specs.Option.{option_copied}
 use Rattle.codec_graph.specs.declared.raw.RawCodec.{RawCodec}
 use Rattle.codec_graph.specs.Widget.{node_at}
-use Rattle.codec_graph.proofs.Nodes.{node_below}
+use Rattle.codec_graph.proofs.Callers.{node_below}
 use Rattle.codec_nodes.proofs.codec.Codec.plug.Goals as goal
 
 pub has-requires : goal.has-requires

@@ -1,0 +1,53 @@
+-- What the proofs of other crates cite.
+use Rattle.std.proofs.Common.{◌≡◌, ◌<◌, ◌+◌, ℕ, cond, not, List, [], ◌∷◌, ◌++◌, length, Some}
+use Rattle.codec_graph.specs.declared.raw.RawNode.{RawNode}
+use Rattle.codec_graph.specs.declared.raw.RawCodec.{RawCodec}
+use Rattle.codec_graph.specs.declared.waiting.Waiting.{Waiting}
+use Rattle.codec_graph.specs.Widget.{node_at, node_identifiers}
+use Rattle.codec_graph.specs.Listed.{HasReadableList}
+use Rattle.codec_graph.specs.Widths.{HasNodeWords}
+use Rattle.codec_graph.specs.Cycles.{IsWellFormed}
+use Rattle.codec_graph.specs.CodecStates.{CodecState, is_answer, answers, unsolicited, drop_answer, without_first, without_answer, IsSound}
+use Rattle.codec_graph.proofs.Nodes as nodes
+use Rattle.codec_graph.proofs.Narrow as narrow
+use Rattle.codec_graph.proofs.Sound as sound
+
+-- a widget of a well-formed graph has a node identifier of seven bits
+pub node_below : (codec : RawCodec) (nid : ℕ) (node : RawNode) → IsWellFormed codec → node_at codec nid ≡ Some node → nid < node_identifiers
+node_below codec nid node well there = nodes.node_below codec nid node well there
+
+-- its list is readable
+pub readable_at : (codec : RawCodec) (nid : ℕ) (node : RawNode) → IsWellFormed codec → node_at codec nid ≡ Some node → HasReadableList node
+readable_at codec nid node well there = narrow.readable_at codec nid node well there
+
+-- its words have 32 bits
+pub words_at : (codec : RawCodec) (nid : ℕ) (node : RawNode) → IsWellFormed codec → node_at codec nid ≡ Some node → HasNodeWords node
+words_at codec nid node well there = narrow.words_at codec nid node well there
+
+-- an answer that comes last is counted
+pub answers-push : (waiting : List Waiting) (item : Waiting) → answers (waiting ++ item ∷ []) ≡ answers waiting + cond (is_answer item) 1 0
+answers-push waiting item = sound.answers-push waiting item
+
+-- an unsolicited response that comes last is counted
+pub unsolicited-push : (waiting : List Waiting) (item : Waiting) → unsolicited (waiting ++ item ∷ []) ≡ unsolicited waiting + cond (not (is_answer item)) 1 0
+unsolicited-push waiting item = sound.unsolicited-push waiting item
+
+-- an answer that comes first is counted
+pub answers-cons : (item : Waiting) (waiting : List Waiting) → answers (item ∷ waiting) ≡ cond (is_answer item) 1 0 + answers waiting
+answers-cons item waiting = sound.answers-cons item waiting
+
+-- each item that waits is an answer or unsolicited
+pub all-counted : (waiting : List Waiting) → answers waiting + unsolicited waiting ≡ length waiting
+all-counted waiting = sound.all-counted waiting
+
+-- a lost answer leaves the unsolicited responses
+pub unsolicited-drop_answer : (waiting : List Waiting) → unsolicited (drop_answer waiting) ≡ unsolicited waiting
+unsolicited-drop_answer waiting = sound.unsolicited-drop_answer waiting
+
+-- a codec stays sound without the first item that waits
+pub IsSound-without_first : (codec : CodecState) → IsSound codec → IsSound (without_first codec)
+IsSound-without_first codec s = sound.IsSound-without_first codec s
+
+-- a codec stays sound without the first answer that waits
+pub IsSound-without_answer : (codec : CodecState) → IsSound codec → IsSound (without_answer codec)
+IsSound-without_answer codec s = sound.IsSound-without_answer codec s

@@ -1,0 +1,50 @@
+//! Laws of codecs, each the contract of a function that does nothing.
+ghost use Rattle.std.specs.Prelude.{◌≡◌, ◌<◌, ◌+◌, ◌^◌, ◌↔◌, ℕ, List, Bool, map, All, IsTrue, Contains, slice_index};
+ghost use Rattle.std.specs.List.{range_with_len};
+ghost use Rattle.std.specs.List.Sorted.{IsStrictlySortedBy};
+ghost use Rattle.std.specs.Map.{keys_of};
+ghost use Rattle.codec_graph.specs.declared.raw.RawCodec.{RawCodec};
+ghost use Rattle.codec_graph.specs.declared.controls.Control.{Control};
+ghost use Rattle.codec_graph.specs.Widget.{node_identifiers, most_amplified};
+ghost use Rattle.codec_graph.specs.Listed.{most_entries};
+ghost use Rattle.codec_graph.specs.Cycles.{IsWellFormed};
+ghost use Rattle.codec_graph.specs.Settings.{Entries, key, key_cmp, has_control, controls_of, IsSettingsOf};
+ghost use Rattle.codec_graph.specs.VerbMeaning.{list_word, answer_of};
+ghost use Rattle.codec_graph.specs.CodecStates.{most_answers, most_unsolicited};
+ghost use Rattle.verb_codes.specs.Lists.{entry_width, entries_per_word, entries_of_word};
+ghost use Rattle.verb_codes.specs.declared.verbs.Command.{Command};
+
+use crate::limits::{
+    MOST_AMPLIFIED, MOST_ANSWERS, MOST_ENTRIES, MOST_UNSOLICITED, NODE_IDENTIFIERS,
+};
+
+/// With the settings of a well-formed graph every answer has 32 bits.
+pub fn answers_fit()
+    ensures { (graph : RawCodec) (settings : Entries) (present : List Bool) (command : Command)
+        → IsWellFormed graph → IsSettingsOf graph settings → answer_of graph settings present command < 2 ^ 32 }
+{}
+
+/// The word that GetList answers has the entries from its place on, and zeros past the end of the list.
+pub fn list_words_have_entries()
+    ensures { (long : Bool) (entries : List ℕ) (place : ℕ) → All (λ entry. entry < 2 ^ entry_width long) entries
+        → entries_of_word long (list_word long entries place)
+        ≡ map (λ i. slice_index entries (place + i)) (range_with_len 0 (entries_per_word long)) }
+{}
+
+/// The controls of a codec are those that the table of controls gives its nodes, and they ascend; so do the keys of its settings.
+pub fn controls_ascend()
+    ensures exact { (codec : RawCodec) (nid : ℕ) (control : Control) → IsWellFormed codec
+        → Contains (controls_of codec) (key nid control) ↔ IsTrue (has_control codec nid control) }
+    ensures ascending { (codec : RawCodec) → IsStrictlySortedBy key_cmp (controls_of codec) }
+    ensures settings { (codec : RawCodec) (settings : Entries) → IsSettingsOf codec settings
+        → IsStrictlySortedBy key_cmp (keys_of settings) }
+{}
+
+/// The limits of the code are those of the definitions.
+pub fn limits_agree()
+    ensures identifiers { NODE_IDENTIFIERS ≡ node_identifiers }
+    ensures entries { MOST_ENTRIES ≡ most_entries }
+    ensures amplified { MOST_AMPLIFIED ≡ most_amplified }
+    ensures answers { MOST_ANSWERS ≡ most_answers }
+    ensures unsolicited { MOST_UNSOLICITED ≡ most_unsolicited }
+{}
