@@ -97,8 +97,8 @@ fn judge_codec(alloc: Global, table: CodecTable) -> Result<CodecFile, FileFault>
     ensures sound { IfOk result IsSoundCodec }
 {
     let address = table.words.address;
-    if let Some((nid, fault)) = first_list_fault(table.nodes.as_slice()) {
-        return Err(FileFault::List(address, nid, fault));
+    if let Some(list) = first_list_fault(table.nodes.as_slice()) {
+        return Err(FileFault::List(address, list.nid, list.fault));
     }
     let raw = laid_out(alloc, table.words, table.nodes.as_slice())?;
     let graph = match Graph::check(raw) {

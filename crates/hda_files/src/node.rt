@@ -53,7 +53,7 @@ fn read_words(alloc: Global, table: &Table, place: Place) -> Result<RawNode, Fil
 fn most_entry(long: bool) -> u16
     ensures { result ≡ 2 ^ lists.entry_width long - 1 }
 {
-    if long { u16::MAX } else { 255 }
+    if long { u16::MAX } else { u16::from(u8::MAX) }
 }
 
 /// The value as the entries of a widget with these words.
