@@ -1,5 +1,5 @@
 -- The keys of a codec's settings ascend.
-use Rattle.std.proofs.Common.{◌≡◌, ◌<◌, ◌≤◌, ◌+◌, ◌&&◌, ℕ, zero, suc, Bool, true, false, cond, List, [], ◌∷◌, ◌++◌, map, take, drop, length, get_or, refl, sym, ap, subst, ◌∙◌, Less, Equal, Greater, arith, lit<, add-one, nat_cmp, ◌-◌}
+use Rattle.std.proofs.Common.{◌≡◌, ◌<◌, ◌≤◌, ◌+◌, ◌&&◌, ℕ, zero, suc, Bool, true, false, cond, List, [], ◌∷◌, ◌++◌, map, take, drop, length, get_or, refl, sym, ap, subst, ◌∙◌, Less, Equal, Greater, arith, add-one, ◌-◌}
 use Rattle.std.specs.Prelude.{filter}
 use Rattle.std.specs.List.{AllByRecursion, list_all, range_with_len}
 use Rattle.std.specs.List.Sorted.{IsStrictlySortedBy}
@@ -16,7 +16,7 @@ use Rattle.std.proofs.lemmas.List.Kept.{IsStrictlySortedBy-filter}
 use Rattle.std.proofs.lemmas.List.FromFn.{get_or-map-range_with_len, length-map-range_with_len}
 use Rattle.codec_graph.specs.declared.raw.RawCodec.{RawCodec}
 use Rattle.codec_graph.specs.declared.controls.Control.{Control}
-use Rattle.codec_graph.specs.declared.controls.Control.TheVariants.{Select, InLeft, InRight}
+use Rattle.codec_graph.specs.declared.controls.Control.TheVariants.{InLeft, InRight}
 use Rattle.codec_graph.specs.declared.controls.ControlKey.{ControlKey}
 use Rattle.codec_graph.specs.contracts.controls.ControlOrd.TheImpl as control_order
 use Rattle.codec_graph.specs.Settings.{Entries, key, key_cmp, has_control, opening_value, plain_controls, controls, keys_below, had, controls_of, opened, IsSettingsOf}
@@ -167,9 +167,9 @@ keys_up_to-more nid i d lt =
 sorted_up_to : (nid i : ℕ) → IsStrictlySortedBy key_cmp (keys_up_to nid i)
 sorted_up_to nid i =
     let whole : keys_below (suc nid) ≡ keys_up_to nid i ++ map (key nid) (drop i controls) =
-        ap (λ xs. keys_below nid ++ map (key nid) xs) (sym (take-append-drop i controls))
-        ∙ ap (λ ks. keys_below nid ++ ks) (map-append (key nid) (take i controls) (drop i controls))
-        ∙ sym (append_assoc (keys_below nid) (map (key nid) (take i controls)) (map (key nid) (drop i controls))) in
+    ap (λ xs. keys_below nid ++ map (key nid) xs) (sym (take-append-drop i controls))
+    ∙ ap (λ ks. keys_below nid ++ ks) (map-append (key nid) (take i controls) (drop i controls))
+    ∙ sym (append_assoc (keys_below nid) (map (key nid) (take i controls)) (map (key nid) (drop i controls))) in
     sorted_front key_cmp (keys_up_to nid i) (map (key nid) (drop i controls)) (subst (IsStrictlySortedBy key_cmp) whole (sorted_below (suc nid)))
 
 pub keys_of-opened : (codec : RawCodec) (ks : List ControlKey) → keys_of (opened codec ks) ≡ ks
@@ -182,9 +182,9 @@ pub opens_last : (codec : RawCodec) (settings : Entries) (nid i : ℕ) (control 
 opens_last codec settings nid i control d lt is so_far =
     let has : ControlKey → Bool = λ at. has_control codec at.nid at.control in
     let more : keys_up_to nid (i + 1) ≡ keys_up_to nid i ++ key nid control ∷ [] =
-        keys_up_to-more nid i d lt ∙ ap (λ c. keys_up_to nid i ++ key nid c ∷ []) is in
+    keys_up_to-more nid i d lt ∙ ap (λ c. keys_up_to nid i ++ key nid c ∷ []) is in
     let names : keys_of settings ≡ filter has (keys_up_to nid i) =
-        ap (λ (entries : Entries). keys_of entries) so_far ∙ keys_of-opened codec (filter has (keys_up_to nid i)) in
+    ap (λ (entries : Entries). keys_of entries) so_far ∙ keys_of-opened codec (filter has (keys_up_to nid i)) in
     subst (λ ks. IsStrictlySortedBy key_cmp (ks ++ key nid control ∷ [])) (sym names)
     (sorted_kept_last key_cmp has (keys_up_to nid i) (key nid control) (subst (IsStrictlySortedBy key_cmp) more (sorted_up_to nid (i + 1))))
 

@@ -1,5 +1,5 @@
 -- Which keys the settings of a codec have.
-use Rattle.std.proofs.Common.{◌≡◌, ◌<◌, ◌==◌, ◌&&◌, ◌||◌, ℕ, Bool, true, false, cond, List, [], ◌∷◌, ◌++◌, Option, Some, None, map, length, get_or, zero, suc, refl, sym, ap, ◌∙◌, inl, inr, ◌+◌, ◌↔◌, IsTrue, arith, lit<}
+use Rattle.std.proofs.Common.{◌≡◌, ◌<◌, ◌==◌, ◌&&◌, ◌||◌, ℕ, Bool, true, false, cond, List, [], ◌∷◌, ◌++◌, Option, Some, None, map, get_or, zero, suc, refl, sym, ap, ◌∙◌, inl, inr, ◌+◌, ◌↔◌, IsTrue, arith, lit<}
 use Rattle.std.specs.Prelude.{Contains, is_some, nat_lt}
 use Rattle.std.specs.List.{list_any}
 use Rattle.std.specs.Ordering.{is_eq}
@@ -18,7 +18,7 @@ use Rattle.codec_graph.specs.declared.controls.ControlKey.{ControlKey}
 use Rattle.codec_graph.specs.Widget.{node_at, has_input_amplifier}
 use Rattle.codec_graph.specs.Cycles.{IsWellFormed}
 use Rattle.codec_graph.specs.Settings.{Entries, key, key_cmp, setting_at, group_has, node_has, has_control, amplified_inputs, opening_value, plain_controls, controls, keys_below, had, controls_of, opened, opening}
-use Rattle.codec_graph.proofs.KeyOrder.{key_cmp-exact, key_cmp-total}
+use Rattle.codec_graph.proofs.KeyOrder.{key_cmp-total}
 use Rattle.codec_graph.proofs.Openings.{same_key}
 use Rattle.codec_graph.proofs.Ascending.{length-controls, plain_at, left_at, right_at}
 use Rattle.codec_graph.proofs.Nodes.{node_at-high, group_below}

@@ -1,5 +1,5 @@
 -- The faults of a codec's tables. The rules and their order are this project's own.
-use Rattle.std.specs.Prelude.{ℕ, Bool, ◌==◌, ◌||◌, not, List, [], ◌∷◌, ◌++◌, length, if◌then◌else◌, nat_lt, nat_le, ◌+◌, Option, Some, None, Result, Ok, Err}
+use Rattle.std.specs.Prelude.{ℕ, Bool, ◌==◌, ◌||◌, not, List, [], ◌∷◌, ◌++◌, length, if◌then◌else◌, nat_lt, nat_le, ◌+◌, Option, Some, None}
 use Rattle.std.specs.List.{list_all}
 use Rattle.codec_graph.specs.declared.raw.RawNode.{RawNode}
 use Rattle.codec_graph.specs.declared.raw.RawCodec.{RawCodec}
@@ -58,8 +58,3 @@ table_faults codec =
 abbrev pub first_fault : List GraphFault → Option GraphFault
 first_fault [] = None
 first_fault (fault ∷ faults) = Some fault
-
--- the fault of a check that was refused
-abbrev pub fault_of : Result (Unit {0}) GraphFault → Option GraphFault
-fault_of (Ok _) = None
-fault_of (Err fault) = Some fault

@@ -7,7 +7,7 @@ pub mod Candidates
 pub mod Settings
 pub mod VerbMeaning
 pub mod CodecStates
-
 -- what private functions promise one another
+pub mod Checks
 pub mod Marks
 pub mod Openings

@@ -5,6 +5,7 @@ ghost use Rattle.codec_graph.specs.Listed.{HasReadableList};
 ghost use Rattle.codec_graph.specs.Widths.{HasWords};
 ghost use Rattle.codec_graph.specs.Widget as widget;
 ghost use Rattle.codec_graph.specs.Faults as faults;
+ghost use Rattle.codec_graph.specs.Checks.{fault_of};
 ghost use Rattle.codec_graph.specs.Cycles.{IsWellFormed, IsFirstFault};
 ghost use Rattle.codec_graph.specs.Candidates as candidates;
 
@@ -14,10 +15,10 @@ use crate::cycles::check_cycles;
 use crate::fault::GraphFault;
 use crate::limits::{MOST_AMPLIFIED, NODE_IDENTIFIERS};
 use crate::raw::{RawCodec, RawNode};
-use verb_codes::bits_of;
 use hda_items::Items;
 use std::alloc::AllocError;
 use std::marker::Model;
+use verb_codes::bits_of;
 
 /// How many connections a widget may list. This project's own.
 const MOST_LISTED: usize = 64;
@@ -121,7 +122,7 @@ fn check_normal(codec: &RawCodec) -> Result<(), GraphFault>
 
 /// Whether the codec has no fault of its tables, or the first.
 fn check_tables(codec: &RawCodec) -> Result<(), GraphFault>
-    ensures { faults.fault_of result ≡ faults.first_fault (faults.table_faults codec.now) }
+    ensures { fault_of result ≡ faults.first_fault (faults.table_faults codec.now) }
 {
     if bits_of(codec.group_type, 0, 8) != 1 {
         return Err(GraphFault::NoAudioGroup(codec.group));
@@ -138,7 +139,7 @@ fn check_tables(codec: &RawCodec) -> Result<(), GraphFault>
 /// Whether no widget has a fault, or the first fault of the first widget that has one.
 fn check_nodes(codec: &RawCodec) -> Result<(), GraphFault>
     requires { faults.has_bad_count codec.now ≡ false }
-    ensures { faults.fault_of result ≡ faults.first_fault (faults.nodes_faults codec.now codec.now.first codec.now.nodes) }
+    ensures { fault_of result ≡ faults.first_fault (faults.nodes_faults codec.now codec.now.first codec.now.nodes) }
 {
     let mut nid = codec.first;
     for node in codec.nodes.as_slice() {
@@ -150,7 +151,7 @@ fn check_nodes(codec: &RawCodec) -> Result<(), GraphFault>
 
 /// Whether the widget has no fault, or its first.
 fn check_node(codec: &RawCodec, nid: u8, node: &RawNode) -> Result<(), GraphFault>
-    ensures { faults.fault_of result ≡ faults.first_fault (faults.node_faults codec.now nid node.now) }
+    ensures { fault_of result ≡ faults.first_fault (faults.node_faults codec.now nid node.now) }
 {
     if lists_outside(codec, node) {
         return Err(GraphFault::ConnectionOutside(nid));

@@ -14,6 +14,7 @@ mod listed;
 mod parameters;
 mod presence;
 mod raw;
+mod readable;
 mod settings;
 mod waiting;
 
@@ -23,15 +24,13 @@ pub use controls::{Control, ControlKey};
 pub use fault::GraphFault;
 pub use graph::Graph;
 pub use laws::{answers_fit, controls_ascend, limits_agree, list_words_have_entries};
-pub use limits::{
-    MOST_AMPLIFIED, MOST_ANSWERS, MOST_ENTRIES, MOST_UNSOLICITED, NODE_IDENTIFIERS,
-};
+pub use limits::{MOST_AMPLIFIED, MOST_ANSWERS, MOST_ENTRIES, MOST_UNSOLICITED, NODE_IDENTIFIERS};
 pub use listed::FaultyList;
 pub use presence::Presence;
 pub use raw::{GroupWords, RawCodec, RawNode};
 pub use settings::Settings;
-pub use waiting::Waiting;
 pub use verb_codes::{bits_of, has_bit};
+pub use waiting::Waiting;
 
 #[cfg(test)]
 mod tests;

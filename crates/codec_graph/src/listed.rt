@@ -29,11 +29,7 @@ impl RawNode {
         ensures list { OnOk result (self.new ≡ spec.listed_node self.old) }
         ensures err { OnErr result (self.new ≡ self.old) }
     {
-        match expand_entries(
-            self.entries.allocator(),
-            self.long,
-            self.entries.as_slice(),
-        ) {
+        match expand_entries(self.entries.allocator(), self.long, self.entries.as_slice()) {
             Ok(nids) => {
                 self.list = Items::from_vec(nids);
                 Ok(None)
@@ -76,9 +72,9 @@ impl RawCodec {
 fn expand_nodes(nodes: &mut [RawNode]) -> Result<Option<(usize, ListFault)>, AllocError>
     ensures found { IfOk result (λ found. MatchOption found
         ((nodes.new ≡ map spec.listed_node nodes.old)
-            × ((place : ℕ) → option_and_then spec.list_fault (slice_get nodes.old place) ≡ None))
+        × ((place : ℕ) → option_and_then spec.list_fault (slice_get nodes.old place) ≡ None))
         (λ faulty. (faulty.0 < length nodes.old)
-            × spec.IsFirstListFault (λ place. option_and_then spec.list_fault (slice_get nodes.old place)) faulty.0 faulty.1)) }
+        × spec.IsFirstListFault (λ place. option_and_then spec.list_fault (slice_get nodes.old place)) faulty.0 faulty.1)) }
     ensures kept { map spec.listed_node nodes.new ≡ map spec.listed_node nodes.old }
 {
     for place in 0..nodes.len() {

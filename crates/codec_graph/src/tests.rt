@@ -1,7 +1,8 @@
 //! Graphs built by hand, with the fault that each has.
-use super::{Graph, GraphFault, GroupWords, RawCodec, RawNode};
+use super::{FaultyList, Graph, GraphFault, GroupWords, RawCodec, RawNode};
 use hda_items::Items;
 use std::alloc::{AllocError, Global};
+use verb_codes::ListFault;
 
 fn node(alloc: Global, caps: u32, list: &[u8]) -> Result<RawNode, AllocError> {
     let mut entries = Items::new(alloc);
@@ -51,8 +52,9 @@ fn codec(alloc: Global, mixer: &[u8], selector: &[u8]) -> Result<RawCodec, Alloc
 
 #[test]
 fn keeps_what_applies(rt: HostRuntime) -> Result<(), AllocError> {
-    let checked = Graph::check(codec(rt.alloc(), &[2, 4], &[2])?);
-    let Ok(graph) = checked else {
+    let raw = codec(rt.alloc(), &[2, 4], &[2])?;
+    assert!(rt; raw.has_readable_lists()?);
+    let Ok(graph) = Graph::check(raw) else {
         panic!(rt; "a well-formed codec was refused");
     };
     let raw = graph.raw();
@@ -86,8 +88,31 @@ fn names_the_first_fault(rt: HostRuntime) -> Result<(), AllocError> {
         (&[2], &long, None),
     ];
     for (mixer, selector, fault) in cases {
-        let found = Graph::check(codec(alloc, mixer, selector)?).err();
+        let raw = codec(alloc, mixer, selector)?;
+        assert!(rt; raw.has_readable_lists()?);
+        let found = Graph::check(raw).err();
         assert!(rt; found == fault, "at {mixer:?}, {selector:?}: {found:?}");
     }
+    Ok(())
+}
+
+#[test]
+fn expands_entries(rt: HostRuntime) -> Result<(), AllocError> {
+    let mut widget = node(rt.alloc(), 0x0040_010D, &[0x0C])?;
+    widget.entries.push(0x8F)?;
+    assert!(rt; !widget.has_readable_list()?);
+    assert!(rt; widget.expand()? == None && widget.has_readable_list()?);
+    assert!(rt; widget.list.as_slice() == [0x0C, 0x0D, 0x0E, 0x0F].as_slice());
+    let mut faulty = codec(rt.alloc(), &[2, 0x83, 0x84], &[0])?;
+    assert!(rt; faulty.first == 2 && faulty.nodes.len() == 4);
+    let found = faulty.expand_lists()?;
+    assert!(rt;
+        found
+            == Some(FaultyList {
+                nid: 3,
+                fault: ListFault::RangeAfterRange
+            }),
+        "{found:?}"
+    );
     Ok(())
 }

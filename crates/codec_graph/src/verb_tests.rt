@@ -102,7 +102,9 @@ fn first_wrong(
 
 #[test]
 fn answers_from_the_entries(rt: HostRuntime) -> Result<(), AllocError> {
-    let Ok(graph) = Graph::check(ranged_codec(rt.alloc())?) else {
+    let raw = ranged_codec(rt.alloc())?;
+    assert!(rt; raw.has_readable_lists()?);
+    let Ok(graph) = Graph::check(raw) else {
         panic!(rt; "a well-formed codec was refused");
     };
     let mut settings = Settings::opening(rt.alloc(), &graph)?;
@@ -121,10 +123,12 @@ fn answers_from_the_entries(rt: HostRuntime) -> Result<(), AllocError> {
 #[test]
 fn keeps_what_is_set(rt: HostRuntime) -> Result<(), AllocError> {
     let alloc = rt.alloc();
-    let Ok(checked) = Graph::check(small_codec(alloc)?) else {
+    let raw = small_codec(alloc)?;
+    assert!(rt; raw.has_readable_lists()?);
+    let Ok(checked) = Graph::check(raw) else {
         panic!(rt; "a well-formed codec was refused");
     };
-    let graph = checked.copy(alloc)?;
+    let graph = checked.copy()?;
     let mut settings = Settings::opening(alloc, &graph)?.copy()?;
     let mut present = Presence::none();
     present.set(0x14, true);

@@ -1,4 +1,3 @@
 pub mod Queues
-
 -- what private functions promise one another
 pub mod Counts

@@ -47,7 +47,11 @@ fn words(alloc: Global) -> Result<RawCodec, AllocError> {
 
 /// The codec of the pin 14, whose responses are enabled with the tag 1.
 fn codec(alloc: Global) -> Result<Option<Codec>, AllocError> {
-    let Ok(graph) = Graph::check(words(alloc)?) else {
+    let raw = words(alloc)?;
+    if !raw.has_readable_lists()? {
+        return Ok(None);
+    }
+    let Ok(graph) = Graph::check(raw) else {
         return Ok(None);
     };
     let mut settings = Settings::opening(alloc, &graph)?;

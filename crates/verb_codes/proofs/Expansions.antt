@@ -1,11 +1,10 @@
 -- The expansion of a list, one entry at a time.
-use Rattle.std.proofs.Common.{◌≡◌, ◌<◌, ◌≤◌, ◌+◌, ◌-◌, ◌==◌, ℕ, Bool, true, false, cond, List, [], ◌∷◌, ◌++◌, map, length, get_or, drop, Option, None, Some, Result, Ok, Err, refl, sym, ap, subst, ◌∙◌, arith, rules, tests}
+use Rattle.std.proofs.Common.{◌≡◌, ◌<◌, ◌≤◌, ◌+◌, ◌-◌, ◌==◌, ℕ, Bool, true, false, cond, List, [], ◌∷◌, ◌++◌, map, length, get_or, drop, Option, None, Some, Result, Ok, Err, refl, sym, ap, subst, ◌∙◌, arith}
 use Rattle.std.specs.Prelude.{All, nat_lt}
-use Rattle.std.specs.List.{range_with_len}
 use Rattle.std.proofs.lemmas.List.Elements.{All-nil, All-append, All-from_get_or}
 use Rattle.std.proofs.lemmas.List.FromFn.{get_or-range_with_len, length-range_with_len}
 use Rattle.std.proofs.lemmas.Bool.{ltb-false}
-use Rattle.std.proofs.lemmas.List.{append_assoc, drop_more, drop_all, get_or-map, get_or-take, length-map, length-take-le}
+use Rattle.std.proofs.lemmas.List.{append_assoc, drop_more, drop_all, get_or-map, length-map}
 use Rattle.verb_codes.specs.declared.entries.Entry.{Entry}
 use Rattle.verb_codes.specs.declared.entries.ListFault.{ListFault}
 use Rattle.verb_codes.specs.declared.entries.ListFault.TheVariants.{Zero, Beyond}
@@ -59,8 +58,8 @@ nids_small before entry sound =
     let nids = nids_of before entry in
     let small = entry_small before entry sound in
     All-from_get_or (λ nid. nid < 128) nids 0 (λ i h. let within : i < entry.nid + 1 - first = omega (arith, length-range_with_len first (entry.nid + 1 - first)) in
-      let e = get_or-range_with_len first (entry.nid + 1 - first) i 0 within in
-      rw e (omega arith))
+    let e = get_or-range_with_len first (entry.nid + 1 - first) i 0 within in
+    rw e (omega arith))
 
 -- so has each node of an expansion
 expansion_small : (before : Option Entry) (entries : List Entry) (nids : List ℕ) → expansion_after before entries ≡ Ok nids → All (λ nid. nid < 128) nids

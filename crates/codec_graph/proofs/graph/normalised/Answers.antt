@@ -1,4 +1,4 @@
-use Rattle.std.proofs.Common.{◌≡◌, ◌<◌, length, get_or, map, take, drop, ◌++◌, List, sym, ap, subst, ◌∙◌, arith}
+use Rattle.std.proofs.Common.{◌≡◌, ◌<◌, length, get_or, take, List, sym, ap, subst, ◌∙◌, arith}
 use Rattle.std.specs.Prelude.{All}
 use Rattle.std.proofs.lemmas.Grind.{common_steps}
 use Rattle.std.proofs.lemmas.List.Edits.{map_over_more}
@@ -17,8 +17,8 @@ normalise-requires c =
     let within : at < length raw = omega arith in
     let source : raw ≡ c.args.raw.nodes = c.deref_mut-node-items.ensures.value ∙ c.into_vec-nodes.ensures in
     let same : get_or c.loop-node.node-items at c.node-item.result ≡ get_or raw at c.node-item.result =
-        ap (λ (nodes : List RawNode). get_or nodes at c.node-item.result) c.loop-node.invariant.value
-        ∙ get_or-changed normal_node raw at c.node-item.result within in
+    ap (λ (nodes : List RawNode). get_or nodes at c.node-item.result) c.loop-node.invariant.value
+    ∙ get_or-changed normal_node raw at c.node-item.result within in
     subst HasReadableList (sym same) (All-get_or HasReadableList raw at c.node-item.result within (subst (All HasReadableList) (sym source) c.requires))
 
 pub loop-node-preserved : goal.loop-node-preserved

@@ -1,4 +1,4 @@
-use Rattle.std.proofs.Common.{◌≡◌, ◌≤◌, ◌+◌, ◌-◌, ◌∷◌, ◌++◌, map, drop, length, get_or, Some, ap, sym, ◌∙◌, arith}
+use Rattle.std.proofs.Common.{◌≡◌, ◌+◌, ◌-◌, ◌∷◌, ◌++◌, map, drop, get_or, Some, ap, sym, ◌∙◌, arith}
 use Rattle.std.specs.List.{range_with_len}
 use Rattle.verb_codes.specs.Lists.{entry_of, after, expansion_after}
 use Rattle.verb_codes.proofs.Expansions.{drop-entries, one_more_entry, faulty_entry}

@@ -1,6 +1,5 @@
 use Rattle.std.proofs.Common.{sym, subst}
-use Rattle.std.specs.Prelude.{All, List}
-use Rattle.codec_graph.specs.declared.raw.RawNode.{RawNode}
+use Rattle.std.specs.Prelude.{All}
 use Rattle.codec_graph.specs.declared.raw.RawCodec.{RawCodec}
 use Rattle.codec_graph.specs.Listed.{HasReadableList}
 use Rattle.codec_graph.proofs.Tables.{normal-normal}

@@ -1,8 +1,6 @@
-use Rattle.std.proofs.Common.{◌≡◌, arith, ap, sym, subst}
+use Rattle.std.proofs.Common.{arith, sym, subst}
 use Rattle.std.specs.Prelude.{All, ◌<◌, ◌^◌, ℕ, List}
-use Rattle.codec_graph.specs.declared.raw.RawNode.{RawNode}
-use Rattle.codec_graph.specs.Widget.{normal_node}
-use Rattle.codec_graph.proofs.ReadableLists.{readable_normal, listed_narrow}
+use Rattle.codec_graph.proofs.ReadableLists.{listed_narrow}
 use Rattle.std.proofs.lemmas.List.Elements.{All-nil}
 use Rattle.codec_graph.proofs.raw.RawNode.normalise.Goals as goal
 
