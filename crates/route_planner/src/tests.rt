@@ -8,6 +8,10 @@ use std::test::Fail;
 
 /// A widget with these audio widget capabilities, this configuration default and these connections.
 fn widget(alloc: Global, caps: u32, default: u32, list: &[u8]) -> Result<RawNode, AllocError> {
+    let mut entries = Items::new(alloc);
+    for nid in list {
+        entries.push(u16::from(*nid))?;
+    }
     Ok(RawNode {
         caps,
         pcm: 0,
@@ -18,7 +22,7 @@ fn widget(alloc: Global, caps: u32, default: u32, list: &[u8]) -> Result<RawNode
         power: 0,
         default,
         long: false,
-        entries: Items::new(alloc),
+        entries,
         list: Items::from_slice(alloc, list)?,
     })
 }
@@ -50,6 +54,9 @@ fn graph(alloc: Global) -> Result<Graph, Fail> {
         count: 6,
         nodes,
     };
+    if !raw.has_readable_lists()? {
+        return Err("a list that no codec gives".into());
+    }
     Ok(Graph::check(raw)?)
 }
 
