@@ -8,6 +8,5 @@ pub mod ReadableLemmas
 pub mod Readings
 pub mod StartLemmas
 pub mod TableBounds
-
 -- what the proofs of other crates cite
 pub mod Callers

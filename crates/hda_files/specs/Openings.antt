@@ -2,6 +2,7 @@
 -- 1.0a, 7.3.3.
 use Rattle.std.specs.Prelude.{ℕ, List, [], Option, Some, None, Result, Ok}
 use Rattle.toml.specs.Data.{Data, Members}
+use Rattle.codec_graph.specs.Widget.{most_amplified}
 use Rattle.hda_files.specs.declared.opening.NodeOpening.{NodeOpening}
 use Rattle.hda_files.specs.declared.fault.Place.{Place}
 use Rattle.hda_files.specs.declared.fault.Key.{Key}
@@ -13,14 +14,10 @@ use Rattle.hda_files.specs.Values.{◌>>=◌, value_at, given_number, numbers_of
 abbrev pub given_byte : Members → Place → Key → Result (Option ℕ) FileFault
 given_byte table place key = given_number table place key 0 255
 
--- how many inputs of a widget can have an amplifier: their place has four bits (7.3.3.7)
-abbrev pub most_gains : ℕ
-most_gains = 16
-
--- mute and gain of the input amplifier for each place of the connection list, of 8 bits
+-- mute and gain, of 8 bits, of the input amplifiers from the first place of the connection list on
 abbrev pub gains_of : Place → Option Data → Result (List ℕ) FileFault
 gains_of place None = Ok []
-gains_of place (Some value) = numbers_of place GainIn most_gains 255 value
+gains_of place (Some value) = numbers_of place GainIn most_amplified 255 value
 
 -- what a table says of its widget's settings
 abbrev pub opening_of : Members → Place → Result NodeOpening FileFault

@@ -9,11 +9,10 @@ use Rattle.verb_codes.specs.declared.amplifiers.AmpSetting.{AmpSetting}
 use Rattle.verb_codes.specs.Words.{has_bit, bits_of}
 use Rattle.verb_codes.specs.Amplifiers.{setting_payload}
 use Rattle.codec_graph.specs.declared.raw.RawCodec.{RawCodec}
-use Rattle.codec_graph.specs.Widget.{node_identifiers}
+use Rattle.codec_graph.specs.Widget.{node_identifiers, most_amplified}
 use Rattle.codec_graph.specs.Settings.{Entries, opening}
 use Rattle.codec_graph.specs.VerbMeaning.{after}
 use Rattle.hda_files.specs.declared.opening.NodeOpening.{NodeOpening}
-use Rattle.hda_files.specs.Openings.{most_gains}
 use Rattle.hda_files.specs.declared.node.NodeTable.{NodeTable}
 
 -- mute, in bit 7, and gain of both sides: of the output amplifier or else of the input amplifier at a place (7.3.3.7)
@@ -41,7 +40,7 @@ abbrev pub gain_verb : List ℕ → ℕ → Option Verb
 gain_verb gains place = option_map (input_gain place) (slice_get gains place)
 
 abbrev pub gain_verbs : List ℕ → List (Option Verb)
-gain_verbs gains = map (gain_verb gains) (range_with_len 0 most_gains)
+gain_verbs gains = map (gain_verb gains) (range_with_len 0 most_amplified)
 
 -- the settings after a verb to this node, where there is one
 abbrev pub set_given : RawCodec → ℕ → Entries → Option Verb → Entries

@@ -9,10 +9,9 @@ ghost use Rattle.hda_files.specs.Readers.{IsReadCodec};
 use crate::codec::{CodecTable, laid_out};
 use crate::fault::FileFault;
 use crate::list_faults::first_list_fault;
-use crate::node::NODE_IDENTIFIERS;
 use crate::start::{presence_of, settings_of};
 use crate::top::{MachineTable, RingSize, read_machine_table};
-use codec_graph::{Graph, Presence, Settings};
+use codec_graph::{Graph, NODE_IDENTIFIERS, Presence, Settings};
 use hda_items::Items;
 use std::alloc::Global;
 use toml::Table;
@@ -78,7 +77,7 @@ fn judge_machine(alloc: Global, table: MachineTable) -> Result<Machine, FileFaul
     ensures sound { IfOk result IsSound }
 {
     let codec = judge_codec(alloc, table.codec)?;
-    if candidates_below(&codec.graph, NODE_IDENTIFIERS) > MOST_PINS {
+    if candidates_below(&codec.graph, NODE_IDENTIFIERS as u8) > MOST_PINS {
         return Err(FileFault::TooManyPins);
     }
     let mut codecs = Items::new(alloc);
@@ -98,8 +97,8 @@ fn judge_codec(alloc: Global, table: CodecTable) -> Result<CodecFile, FileFault>
     ensures sound { IfOk result IsSoundCodec }
 {
     let address = table.words.address;
-    if let Some((nid, fault)) = first_list_fault(table.nodes.as_slice()) {
-        return Err(FileFault::List(address, nid, fault));
+    if let Some(list) = first_list_fault(table.nodes.as_slice()) {
+        return Err(FileFault::List(address, list.nid, list.fault));
     }
     let raw = laid_out(alloc, table.words, table.nodes.as_slice())?;
     let graph = match Graph::check(raw) {

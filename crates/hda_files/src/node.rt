@@ -13,18 +13,12 @@ use crate::fault::{FileFault, Key, Place};
 use crate::numbers::read_numbers;
 use crate::opening::{NodeOpening, read_opening};
 use crate::values::{flag_at, required_byte, required_word, value_at, word_or};
-use codec_graph::RawNode;
+use codec_graph::{MOST_ENTRIES, RawNode};
 use hda_items::Items;
 use std::alloc::Global;
 use toml::value::Array;
 use toml::{Table, Value};
 use verb_codes::ListFault;
-
-/// How many node identifiers there are: they have seven bits (HDA 1.0a, 7.1.2).
-pub(crate) const NODE_IDENTIFIERS: u8 = 128;
-
-/// How many entries a connection list can have: their number stands in seven bits (HDA 1.0a, 7.3.4.11).
-const MOST_ENTRIES: usize = 127;
 
 /// What one table says of its widget.
 #[derive(Debug, Drop)]
@@ -59,7 +53,7 @@ fn read_words(alloc: Global, table: &Table, place: Place) -> Result<RawNode, Fil
 fn most_entry(long: bool) -> u16
     ensures { result ≡ 2 ^ lists.entry_width long - 1 }
 {
-    if long { u16::MAX } else { 255 }
+    if long { u16::MAX } else { u16::from(u8::MAX) }
 }
 
 /// The value as the entries of a widget with these words.

@@ -8,12 +8,10 @@ ghost use Rattle.hda_files.specs.Readers.{IsMeant};
 use crate::fault::{FileFault, Key, Place};
 use crate::numbers::read_bytes;
 use crate::values::{flag_at, given_byte, given_short, value_at};
+use codec_graph::MOST_AMPLIFIED;
 use hda_items::Items;
 use std::alloc::Global;
 use toml::Table;
-
-/// How many inputs of a widget can have an amplifier: their place has four bits (HDA 1.0a, 7.3.3.7).
-pub(crate) const MOST_GAINS: u8 = 16;
 
 /// What a table says of its widget's settings at the start (HDA 1.0a, 7.3.3). A setting that is not given is `None`.
 #[derive(Debug, Drop)]
@@ -54,7 +52,13 @@ fn gains_at(alloc: Global, table: &Table, place: Place) -> Result<Items<u8>, Fil
     ensures { IsMeant result (openings.gains_of place (values.value_at (table_view table.now) Key.GainIn)) }
 {
     match value_at(table, Key::GainIn) {
-        Some(value) => read_bytes(alloc, value, place, Key::GainIn, usize::from(MOST_GAINS)),
+        Some(value) => read_bytes(
+            alloc,
+            value,
+            place,
+            Key::GainIn,
+            usize::from(MOST_AMPLIFIED),
+        ),
         None => Ok(Items::new(alloc)),
     }
 }

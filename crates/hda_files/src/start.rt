@@ -5,9 +5,9 @@ ghost use Rattle.verb_codes.specs.Verbs.{is_verb_in_range};
 ghost use Rattle.codec_graph.specs.Settings.{IsSettingsOf};
 ghost use Rattle.hda_files.specs.Starts as starts;
 
-use crate::node::{NODE_IDENTIFIERS, NodeTable};
-use crate::opening::{MOST_GAINS, NodeOpening};
-use codec_graph::{Graph, Presence, Settings};
+use crate::node::NodeTable;
+use crate::opening::NodeOpening;
+use codec_graph::{Graph, MOST_AMPLIFIED, NODE_IDENTIFIERS, Presence, Settings};
 use std::alloc::{AllocError, Global};
 use verb_codes::{AmpSetting, Command, Verb, bits_of, has_bit};
 
@@ -86,7 +86,7 @@ fn set_gains(settings: &mut Settings, graph: &Graph, nid: u8, gains: &[u8])
     ensures value { settings.new ≡ starts.set_all graph.now nid settings.old (starts.gain_verbs gains.now) }
     ensures of_graph { IsSettingsOf graph.now settings.new }
 {
-    for place in 0..MOST_GAINS {
+    for place in 0..MOST_AMPLIFIED {
         set_given(settings, graph, nid, gain_verb(gains, place));
     }
 }
@@ -139,7 +139,7 @@ pub(crate) fn presence_of(nodes: &[NodeTable]) -> Presence
     ensures { result ≡ starts.presence_of nodes.now }
 {
     let mut present = Presence::none();
-    for nid in 0..NODE_IDENTIFIERS {
+    for nid in 0..NODE_IDENTIFIERS as u8 {
         present.set(nid, is_plugged(nodes, nid));
     }
     present

@@ -1,6 +1,6 @@
 -- What tables without a fault say of node identifiers and connection lists.
 use Rattle.std.proofs.Common.{◌≡◌, ◌<◌, ◌≤◌, ◌+◌, ◌-◌, ◌==◌, ◌||◌, ℕ, Bool, true, false, not, cond, List, [], ◌∷◌, ◌++◌, length, None, refl, sym, ap, subst, ◌∙◌, zero, suc, arith}
-use Rattle.std.specs.Prelude.{is_some, slice_get, nat_lt}
+use Rattle.std.specs.Prelude.{is_some, slice_get, nat_lt, nat_le}
 use Rattle.std.proofs.lemmas.Bool.{ltb-false}
 use Rattle.std.specs.List.{list_all}
 use Rattle.std.proofs.lemmas.Bool.Decides.{nat_tests}
@@ -38,7 +38,7 @@ or_right false b e = e
 ends_below : (codec : RawCodec) → has_bad_count codec ≡ false → codec.first + length codec.nodes ≤ 128
 ends_below codec e =
     let a = or_left _ (is_widget codec codec.group) e in
-    let b = or_left _ (nat_lt 127 codec.group) a in
+    let b = or_left _ (nat_le 128 codec.group) a in
     let c = or_left _ (codec.group == 0) b in
     let many = or_right _ (not (length codec.nodes == codec.count)) c in
     let d = or_left _ (not (length codec.nodes == codec.count)) c in

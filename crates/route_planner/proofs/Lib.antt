@@ -18,6 +18,5 @@ pub mod Unblocked
 pub mod OneWay
 pub mod OnlyPlan
 pub mod PlanParts
-
 -- what the proofs of other crates cite
 pub mod Callers

@@ -4,7 +4,7 @@ use Rattle.std.specs.Prelude.{◌≡◌, ◌↔◌, ℕ, Bool, true, ◌==◌, �
 use Rattle.std.specs.List.{range_with_len}
 use Rattle.codec_graph.specs.declared.raw.RawNode.{RawNode}
 use Rattle.codec_graph.specs.declared.raw.RawCodec.{RawCodec}
-use Rattle.codec_graph.specs.Widget.{node_at}
+use Rattle.codec_graph.specs.Widget.{node_identifiers, node_at}
 use Rattle.codec_graph.specs.Candidates.{association, sequence, is_candidate}
 
 abbrev pub association_of : Option RawNode → ℕ
@@ -36,4 +36,4 @@ is_earlier_companion codec pin other =
 
 -- the channel pair of a pin: its rank among the candidates of its association, round the stream's pairs of channels
 abbrev pub pair_of : RawCodec → ℕ → ℕ → ℕ
-pair_of codec channels pin = count_by (is_earlier_companion codec pin) (range_with_len 0 128) % (channels / 2)
+pair_of codec channels pin = count_by (is_earlier_companion codec pin) (range_with_len 0 node_identifiers) % (channels / 2)

@@ -4,7 +4,8 @@ use Rattle.std.specs.Prelude.{◌≡◌, ◌<◌, ◌≤◌, ℕ, Bool, true, fa
 use Rattle.std.specs.List.{list_all}
 use Rattle.codec_graph.specs.declared.raw.RawNode.{RawNode}
 use Rattle.codec_graph.specs.declared.raw.RawCodec.{RawCodec}
-use Rattle.codec_graph.specs.Widget.{node_at, is_inner, is_output_converter}
+use Rattle.codec_graph.specs.Faults.{most_listed}
+use Rattle.codec_graph.specs.Widget.{node_identifiers, node_at, is_inner, is_output_converter}
 use Rattle.route_planner.specs.declared.left.Left.{Left}
 use Rattle.route_planner.specs.declared.left.Left.TheVariants.{Free, By, Never}
 use Rattle.route_planner.specs.declared.routes.Hop.{Hop}
@@ -70,10 +71,10 @@ unfoldable pub is_end : RawCodec → Format → List PinPlan → ℕ → ℕ →
 is_end codec format earlier pair nid =
     passes (can_end codec format) (node_at codec nid) && list_all (carries_alike pair nid) earlier
 
--- the widgets have node identifiers below 128, and at most 64 connections each
+-- the widgets have node identifiers, and no more connections than a widget may list
 pub record IsBounded (codec : RawCodec) : Type 0 where
-  pub within : (nid : ℕ) → is_some (node_at codec nid) ≡ true → nid < 128
-  pub short : (nid : ℕ) → length (list_of (node_at codec nid)) ≤ 64
+  pub within : (nid : ℕ) → is_some (node_at codec nid) ≡ true → nid < node_identifiers
+  pub short : (nid : ℕ) → length (list_of (node_at codec nid)) ≤ most_listed
 
 -- how many hops lead from a node to an end; 65535 where none are known
 abbrev pub level_of : List ℕ → ℕ → ℕ

@@ -9,7 +9,7 @@ use crate::allowed::{can_leave, is_end, is_inner};
 use crate::format::Format;
 use crate::left::Left;
 use crate::routes::PinPlan;
-use codec_graph::RawCodec;
+use codec_graph::{NODE_IDENTIFIERS, RawCodec};
 
 /// The level of a node from which no way is known.
 pub(crate) const FAR: u16 = u16::MAX;
@@ -39,7 +39,7 @@ pub(crate) fn end_levels(
     ensures { stage.AreEndLevels (spec.is_end codec.now format earlier.now pair) result }
 {
     let mut levels = [FAR; 256];
-    for nid in 0..128u8 {
+    for nid in 0..NODE_IDENTIFIERS as u8 {
         if is_end(codec, format, earlier, pair, nid) {
             levels[usize::from(nid)] = 0;
         }
@@ -95,7 +95,7 @@ fn mark_level(codec: &RawCodec, lefts: &[Left; 256], levels: &mut [u16; 256], le
     ensures same { OnFalse result (levels.new ≡ levels.old) }
 {
     let mut marked = false;
-    for nid in 0..128u8 {
+    for nid in 0..NODE_IDENTIFIERS as u8 {
         if is_next(codec, lefts, levels, nid, level) {
             levels[usize::from(nid)] = level + 1;
             marked = true;

@@ -1,12 +1,13 @@
 //! The order of the candidate pins, and the pair of channels of each.
 ghost use Rattle.std.specs.Prelude.{◌≡◌, ◌≤◌, ◌<◌, false, IfOk, MatchOption, count_by};
 ghost use Rattle.std.specs.List.{range_with_len};
+ghost use Rattle.codec_graph.specs.Widget.{node_identifiers};
 ghost use Rattle.codec_graph.specs.Candidates as candidates;
 ghost use Rattle.route_planner.specs.Order as spec;
 ghost use Rattle.route_planner.specs.Places as place_words;
 ghost use Rattle.route_planner.specs.Search as search_words;
 
-use codec_graph::{Graph, RawCodec};
+use codec_graph::{Graph, NODE_IDENTIFIERS, RawCodec};
 use std::alloc::{AllocError, Global};
 
 /// The place of a pin in the order.
@@ -42,7 +43,7 @@ fn places_of(alloc: Global, codec: &RawCodec) -> Result<Vec<Place>, AllocError>
     ensures { IfOk result (λ list. place_words.ArePlaces codec.now list.items) }
 {
     let mut places = Vec::new(alloc);
-    for nid in 0..128u8 {
+    for nid in 0..NODE_IDENTIFIERS as u8 {
         if let Some(place) = place_of(codec, nid) {
             places.push(place)?;
         }
@@ -81,9 +82,9 @@ fn is_earlier_companion(codec: &RawCodec, pin: u8, other: u8) -> bool
 
 /// How many candidates of the pin's association come before it.
 fn rank_of(codec: &RawCodec, pin: u8) -> usize
-    ensures { result ≡ count_by (spec.is_earlier_companion codec.now pin) (range_with_len 0 128) }
+    ensures { result ≡ count_by (spec.is_earlier_companion codec.now pin) (range_with_len 0 node_identifiers) }
 {
-    (0..128u8)
+    (0..NODE_IDENTIFIERS as u8)
         .filter(|other| is_earlier_companion(codec, pin, *other))
         .count()
 }
