@@ -1,2 +1,4 @@
 pub mod Stillness
 pub mod ToldBy
+-- what private functions promise one another
+pub mod Passing

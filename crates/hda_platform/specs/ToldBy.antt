@@ -1,11 +1,9 @@
 -- What a platform in memory tells.
-use Rattle.std.specs.Prelude.{◌≡◌, [], ◌∷◌, Option, Some, IfSome, length}
+use Rattle.std.specs.Prelude.{◌≡◌, Option, Some, IfSome, length}
 use Rattle.std.proofs.Common.{ap, ◌∙◌}
 use Rattle.hda_platform.specs.declared.memory_platform.MemoryPlatform.{MemoryPlatform}
 use Rattle.hda_world.specs.declared.world.TheConstants.{REGION_BYTES}
-use Rattle.hda_world.specs.Tellings.{Telling, world_of, Went}
-use Rattle.hda_world.specs.Events.{Stepped}
-use Rattle.hda_world.specs.declared.step.Step.TheVariants as step
+use Rattle.hda_world.specs.Tellings.{Telling, world_of}
 use Rattle.hda_platform.specs.Stillness.{still_telling}
 
 abbrev pub telling_of : MemoryPlatform → Telling
@@ -13,10 +11,6 @@ telling_of platform = still_telling platform.shape REGION_BYTES platform.entries
 
 abbrev pub told_by : MemoryPlatform → Option Telling
 told_by platform = Some (telling_of platform)
-
--- a link frame passed
-abbrev pub Passed : MemoryPlatform → MemoryPlatform → Type 0
-Passed old new = Went (telling_of old) (telling_of new) (Stepped (step.Link 1) ∷ [])
 
 -- its region has as many bytes at every moment
 pub told_whole : (platform : MemoryPlatform) → IfSome (told_by platform) (λ telling. length (world_of telling).memory ≡ REGION_BYTES)

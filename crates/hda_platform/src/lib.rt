@@ -6,6 +6,11 @@ mod notes;
 mod pieces;
 mod platform;
 
-pub use hda_world::{Entry, FRAMES_TO_DISCOVERY, Journal, REGION_BYTES, Step};
+pub use hda_world::{
+    Entry, FRAMES_TO_DISCOVERY, Journal, REGION_BYTES, Step, accesses_compose, codecs_are_apart,
+    discovery_comes_in_the_25th_frame, events_compose, memory_write_leaves, region_is_fixed,
+    register_write_leaves, steps_compose, steps_keep_discovery, steps_keep_reading,
+    steps_leave_other_codecs, steps_write_rirb_alone, write_beside_rings_leaves,
+};
 pub use memory_platform::MemoryPlatform;
 pub use platform::Platform;

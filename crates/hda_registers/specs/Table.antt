@@ -135,7 +135,7 @@ stream_row run Length = row SDCBL 0 32 (kept_at_rest run)  -- SDCBL, 3.3.38
 stream_row run LastIndex = row SDLVI 0 8 (kept_at_rest run)  -- SDLVI, 3.3.39
 stream_row run FifoSize = row SDFIFOS 0 16 ReadOnly  -- SDFIFOS, 3.3.40
 stream_row run Format = row SDFMT 0 16 (kept_at_rest run)  -- SDFMT, 3.3.41
-stream_row run ListBase = row SDBDPL 7 25 (kept_at_rest run)  -- SDBDPL, 3.3.42
+stream_row run ListBase = row SDBDPL 7 25 (kept_at_rest run)  -- SDBDPL (BDLPL), 3.3.42
 
 -- what CORBSIZE and RIRBSIZE read: the size in bits 1:0 and, as bits 6:4, that it is the only one
 abbrev pub size_code : RingSize → ℕ

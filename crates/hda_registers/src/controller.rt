@@ -8,63 +8,61 @@ ghost use Rattle.hda_registers.specs.Table.{size_code};
 use crate::accesses::Access;
 use crate::conditions::both;
 use crate::flags::{CorbControl, GlobalControl, InterruptControl, RirbControl};
-use crate::masks::{BASE, CORBRPRST, READ_POINTER, RINTCNT, WRITE_POINTER};
+use crate::masks::{BASE, CORBRPRST, READ_POINTER, RESPONSE_COUNT, WRITE_POINTER};
 use crate::places::{self, TICKS_PER_FRAME};
 use crate::pointers::{corb_pointers_after, rirb_pointers_after};
 use crate::shapes::{RingSize, Shape};
 use bitflags::Flags;
 use std::marker::Model;
 
-/// The words of four bytes that hold the registers, by number.
-const VERSION: u16 = places::GCAP / 4;
-
-const PAYLOADS: u16 = places::OUTPAY / 4;
-
-const GCTL: u16 = places::GCTL / 4;
-
-const WAKE: u16 = places::WAKEEN / 4;
-
-const INTCTL: u16 = places::INTCTL / 4;
-
-const INTSTS: u16 = places::INTSTS / 4;
-
-const WALCLK: u16 = places::WALCLK / 4;
-
-const CORB_BASE: u16 = places::CORBLBASE / 4;
-
-const CORB_POINTERS: u16 = places::CORBWP / 4;
-
-const CORB_CONTROL: u16 = places::CORBCTL / 4;
-
-const RIRB_BASE: u16 = places::RIRBLBASE / 4;
-
-const RIRB_POINTERS: u16 = places::RIRBWP / 4;
-
-const RIRB_CONTROL: u16 = places::RIRBCTL / 4;
+/// The word of GCAP, VMIN and VMAJ.
+const VERSION_AT: u16 = places::GCAP / 4;
+/// The word of OUTPAY and INPAY.
+const PAYLOADS_AT: u16 = places::OUTPAY / 4;
+/// The word of GCTL.
+const CONTROL_AT: u16 = places::GCTL / 4;
+/// The word of WAKEEN and STATESTS.
+const WAKE_AT: u16 = places::WAKEEN / 4;
+/// The word of INTCTL.
+const INTERRUPTS_AT: u16 = places::INTCTL / 4;
+/// The word of INTSTS.
+const STATUS_AT: u16 = places::INTSTS / 4;
+/// The word of WALCLK.
+const CLOCK_AT: u16 = places::WALCLK / 4;
+/// The word of CORBLBASE.
+const CORB_BASE_AT: u16 = places::CORBLBASE / 4;
+/// The word of CORBWP and CORBRP.
+const CORB_POINTERS_AT: u16 = places::CORBWP / 4;
+/// The word of CORBCTL and CORBSIZE.
+const CORB_CONTROL_AT: u16 = places::CORBCTL / 4;
+/// The word of RIRBLBASE.
+const RIRB_BASE_AT: u16 = places::RIRBLBASE / 4;
+/// The word of RIRBWP and RINTCNT.
+const RIRB_POINTERS_AT: u16 = places::RIRBWP / 4;
+/// The word of RIRBCTL, RIRBSTS and RIRBSIZE.
+const RIRB_CONTROL_AT: u16 = places::RIRBCTL / 4;
 
 /// GCAP with one input and one output stream, then version 1.0.
 const VERSION_WORD: u32 = 0x0100_1100;
 /// OUTPAY, and INPAY in the upper half.
 const PAYLOADS_WORD: u32 = 0x001D_003C;
-
-/// CRST and UNSOL.
-const CONTROL_BITS: u32 = 0x101;
-
-/// A bit per codec in the word of WAKEEN and STATESTS.
-const WAKEEN: u32 = 0x7FFF;
-
-const STATESTS: u32 = 0x7FFF_0000;
-
-/// GIE, CIE and the bits of both streams.
-const INTERRUPT_BITS: u32 = 0xC000_0003;
-
-/// CMEIE and CORBRUN.
-const CORB_BITS: u32 = 0x3;
-
-/// RINTCTL, RIRBDMAEN and RIRBOIC.
-const RIRB_BITS: u32 = 0x7;
-/// RINTFL in the word of RIRBCTL and RIRBSTS.
-const RINTFL: u32 = 0x100;
+/// The bits of GCTL that are kept.
+const CONTROL_BITS: u32 = GlobalControl::CRST.0 | GlobalControl::UNSOL.0;
+/// The bits of WAKEEN, one per codec.
+const WAKE_BITS: u32 = 0x7FFF;
+/// The bits of STATESTS, one per codec.
+const STATE_BITS: u32 = 0x7FFF_0000;
+/// The bits of INTCTL that are kept.
+const INTERRUPT_BITS: u32 = InterruptControl::GIE.0
+    | InterruptControl::CIE.0
+    | InterruptControl::OUTPUT.0
+    | InterruptControl::INPUT.0;
+/// The bits of CORBCTL that are kept.
+const CORB_BITS: u32 = CorbControl::CMEIE.0 | CorbControl::CORBRUN.0;
+/// The bits of RIRBCTL that are kept.
+const RIRB_BITS: u32 = RirbControl::RINTCTL.0 | RirbControl::RIRBDMAEN.0 | RirbControl::RIRBOIC.0;
+/// RINTFL, the bit of RIRBSTS.
+const RINTFL: u32 = RirbControl::RINTFL.0;
 
 /// The words that hold them, each as it stands at its place.
 #[derive(Drop)]
@@ -118,7 +116,7 @@ impl Controller {
         ensures { self.new ≡ reset_global self.old.state_status }
     {
         self.control = GlobalControl(0);
-        self.wake &= STATESTS;
+        self.wake &= STATE_BITS;
         self.interrupts = InterruptControl(0);
         self.wall_clock = 0;
         self.corb_base = 0;
@@ -135,31 +133,35 @@ impl Controller {
         ensures { self.new ≡ global_written shape access self.old }
     {
         match access.word {
-            GCTL => self.control = GlobalControl(access.leaves(self.control.0, CONTROL_BITS, 0)),
-            WAKE => self.wake = access.leaves(self.wake, WAKEEN, STATESTS),
-            INTCTL => {
+            CONTROL_AT => self.control = GlobalControl(access.leaves(
+                self.control.0,
+                CONTROL_BITS,
+                0,
+            )),
+            WAKE_AT => self.wake = access.leaves(self.wake, WAKE_BITS, STATE_BITS),
+            INTERRUPTS_AT => {
                 self.interrupts = InterruptControl(access.leaves(
                     self.interrupts.0,
                     INTERRUPT_BITS,
                     0,
                 ))
             }
-            CORB_BASE => self.corb_base = access.leaves(self.corb_base, BASE, 0),
-            CORB_POINTERS => self.corb_pointers = corb_pointers_after(
+            CORB_BASE_AT => self.corb_base = access.leaves(self.corb_base, BASE, 0),
+            CORB_POINTERS_AT => self.corb_pointers = corb_pointers_after(
                 self.corb_pointers,
                 shape,
                 access,
             ),
-            CORB_CONTROL => {
+            CORB_CONTROL_AT => {
                 self.corb_control = CorbControl(access.leaves(self.corb_control.0, CORB_BITS, 0))
             }
-            RIRB_BASE => self.rirb_base = access.leaves(self.rirb_base, BASE, 0),
-            RIRB_POINTERS => self.rirb_pointers = rirb_pointers_after(
+            RIRB_BASE_AT => self.rirb_base = access.leaves(self.rirb_base, BASE, 0),
+            RIRB_POINTERS_AT => self.rirb_pointers = rirb_pointers_after(
                 self.rirb_pointers,
                 shape,
                 access,
             ),
-            RIRB_CONTROL => {
+            RIRB_CONTROL_AT => {
                 self.rirb_control = RirbControl(access.leaves(
                     self.rirb_control.0,
                     RIRB_BITS,
@@ -176,22 +178,22 @@ impl Controller {
             → global_shown shape self.now status (record { word = word; covered = covered; written = written }) ≡ bit_and result covered }
     {
         match word {
-            VERSION => VERSION_WORD,
-            PAYLOADS => PAYLOADS_WORD,
-            GCTL => self.control.0 & CONTROL_BITS,
-            WAKE => self.wake & (WAKEEN | STATESTS),
-            INTCTL => self.interrupts.0 & INTERRUPT_BITS,
-            INTSTS => status,
-            WALCLK => {
+            VERSION_AT => VERSION_WORD,
+            PAYLOADS_AT => PAYLOADS_WORD,
+            CONTROL_AT => self.control.0 & CONTROL_BITS,
+            WAKE_AT => self.wake & (WAKE_BITS | STATE_BITS),
+            INTERRUPTS_AT => self.interrupts.0 & INTERRUPT_BITS,
+            STATUS_AT => status,
+            CLOCK_AT => {
                 let ticks = self.wall_clock;
                 ticks
             }
-            CORB_BASE => self.corb_base & BASE,
-            CORB_POINTERS => self.corb_pointers & (WRITE_POINTER | READ_POINTER | CORBRPRST),
-            CORB_CONTROL => self.corb_control.0 & CORB_BITS | size_bits(shape.corb),
-            RIRB_BASE => self.rirb_base & BASE,
-            RIRB_POINTERS => self.rirb_pointers & (WRITE_POINTER | RINTCNT),
-            RIRB_CONTROL => self.rirb_control.0 & (RIRB_BITS | RINTFL) | size_bits(shape.rirb),
+            CORB_BASE_AT => self.corb_base & BASE,
+            CORB_POINTERS_AT => self.corb_pointers & (WRITE_POINTER | READ_POINTER | CORBRPRST),
+            CORB_CONTROL_AT => self.corb_control.0 & CORB_BITS | size_bits(shape.corb),
+            RIRB_BASE_AT => self.rirb_base & BASE,
+            RIRB_POINTERS_AT => self.rirb_pointers & (WRITE_POINTER | RESPONSE_COUNT),
+            RIRB_CONTROL_AT => self.rirb_control.0 & (RIRB_BITS | RINTFL) | size_bits(shape.rirb),
             _ => 0,
         }
     }
@@ -254,7 +256,7 @@ impl Controller {
     fn is_woken(&self) -> bool
         ensures { result ≡ nat_lt 0 (bit_and self.now.state_status self.now.wake_enable) }
     {
-        self.wake >> 16 & self.wake & WAKEEN > 0
+        self.wake >> 16 & self.wake & WAKE_BITS > 0
     }
 
     /// Whether INTCTL's bit of the input stream is 1.

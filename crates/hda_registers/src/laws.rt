@@ -1,9 +1,11 @@
 //! Laws of the registers. Each is the contract of a function with nothing to do.
-ghost use Rattle.std.specs.Prelude.{◌≡◌, ◌≢◌, ◌<◌, ◌≤◌, ◌+◌, ◌/◌, ℕ, true, false};
+ghost use Rattle.std.specs.Prelude.{◌≡◌, ◌≢◌, ◌<◌, ◌≤◌, ◌+◌, ◌/◌, ◌^◌, ℕ, Bool, true, false, bit_or};
 ghost use Rattle.hda_registers.specs.declared.shapes.Moved.{Moved};
 ghost use Rattle.hda_registers.specs.declared.shapes.Moved.TheVariants.{CorbRp, RirbWp, Lpib, Ready};
 ghost use Rattle.hda_registers.specs.declared.shapes.Raise.{Raise};
+ghost use Rattle.hda_registers.specs.declared.shapes.Raise.TheVariants.{Codec, Response, BufferDone, FifoError, DescriptorError};
 ghost use Rattle.hda_registers.specs.declared.shapes.Shape.{Shape};
+ghost use Rattle.hda_registers.specs.Status.{worth};
 ghost use Rattle.hda_registers.specs.declared.shapes.Width.{Width};
 ghost use Rattle.hda_registers.specs.declared.shapes.Width.TheVariants.{One};
 ghost use Rattle.hda_registers.specs.Access.{written, effects_of};
@@ -100,4 +102,28 @@ pub fn moves_leave_others()
         → moved fields (Lpib 0 bytes) ≡ record fields { input = record fields.input { link_position = bytes } } }
     ensures output { (fields : Fields) (bytes : ℕ)
         → moved fields (Lpib 1 bytes) ≡ record fields { output = record fields.output { link_position = bytes } } }
+    ensures input_ready { (fields : Fields) (ready : Bool)
+        → moved fields (Ready 0 ready) ≡ record fields { input = record fields.input { fifo_ready = worth ready 0 } } }
+    ensures output_ready { (fields : Fields) (ready : Bool)
+        → moved fields (Ready 1 ready) ≡ record fields { output = record fields.output { fifo_ready = worth ready 0 } } }
+{}
+
+/// An event leaves all but its status bit, and a descriptor error RUN of its stream too.
+pub fn events_leave_others()
+    ensures codec { (fields : Fields) (codec : ℕ) → raised fields (Codec codec)
+        ≡ record fields { global = record fields.global { state_status = bit_or fields.global.state_status (2 ^ codec) } } }
+    ensures response { (fields : Fields)
+        → raised fields Response ≡ record fields { global = record fields.global { response_flag = 1 } } }
+    ensures input_completion { (fields : Fields)
+        → raised fields (BufferDone 0) ≡ record fields { input = record fields.input { completion = 1 } } }
+    ensures output_completion { (fields : Fields)
+        → raised fields (BufferDone 1) ≡ record fields { output = record fields.output { completion = 1 } } }
+    ensures input_fifo { (fields : Fields)
+        → raised fields (FifoError 0) ≡ record fields { input = record fields.input { fifo_error = 1 } } }
+    ensures output_fifo { (fields : Fields)
+        → raised fields (FifoError 1) ≡ record fields { output = record fields.output { fifo_error = 1 } } }
+    ensures input_error { (fields : Fields)
+        → raised fields (DescriptorError 0) ≡ record fields { input = record fields.input { descriptor_error = 1; run = 0 } } }
+    ensures output_error { (fields : Fields)
+        → raised fields (DescriptorError 1) ≡ record fields { output = record fields.output { descriptor_error = 1; run = 0 } } }
 {}

@@ -15,9 +15,9 @@ mod shapes;
 mod streams;
 
 pub use laws::{
-    moves_leave_others, places_are_the_standards, reset_holds_values, reset_ignores_writes,
-    reset_keeps_state_status, status_write_leaves_others, write_keeps_reset, write_leaves_others,
-    write_leaves_rings, write_leaves_streams,
+    events_leave_others, moves_leave_others, places_are_the_standards, reset_holds_values,
+    reset_ignores_writes, reset_keeps_state_status, status_write_leaves_others, write_keeps_reset,
+    write_leaves_others, write_leaves_rings, write_leaves_streams,
 };
 pub use registers::Registers;
 pub use shapes::{Effects, Moved, Raise, RingSize, Shape, Width};

@@ -11,4 +11,4 @@ pub(crate) const CORBRPRST: u32 = 0x8000_0000;
 /// RIRBWPRST in the word of RIRB's pointers.
 pub(crate) const RIRBWPRST: u32 = 0x8000;
 /// RINTCNT in the word of RIRB's pointers.
-pub(crate) const RINTCNT: u32 = 0xFF_0000;
+pub(crate) const RESPONSE_COUNT: u32 = 0xFF_0000;

@@ -65,7 +65,7 @@ pub const SDLVI: u16 = 0x0C;
 pub const SDFIFOS: u16 = 0x10;
 /// Format: SDnFMT (HDA 1.0a, 3.3.41).
 pub const SDFMT: u16 = 0x12;
-/// Buffer Descriptor List Pointer, Lower: SDnBDPL (HDA 1.0a, 3.3.42).
+/// Buffer Descriptor List Pointer, Lower: SDnBDPL, also written BDLPL (HDA 1.0a, 3.3.42).
 pub const SDBDPL: u16 = 0x18;
 
 /// The ticks of the wall clock in a link frame: 24 MHz over 48 kHz (HDA 1.0a, 3.3.16).

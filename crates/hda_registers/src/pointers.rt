@@ -4,7 +4,7 @@ ghost use Rattle.hda_registers.specs.Table.{CorbWritePointer, CorbReadPointer, C
 ghost use Rattle.hda_registers.specs.Access.{part, ruled};
 
 use crate::accesses::Access;
-use crate::masks::{CORBRPRST, READ_POINTER, RINTCNT, RIRBWPRST, WRITE_POINTER};
+use crate::masks::{CORBRPRST, READ_POINTER, RESPONSE_COUNT, RIRBWPRST, WRITE_POINTER};
 use crate::shapes::Shape;
 
 /// What a write leaves of CORBWP, which is kept modulo the size, and of CORBRP, whose pointer is 0 where bit 15 is written 1.
@@ -43,7 +43,7 @@ pub(crate) fn rirb_pointers_after(old: u32, shape: Shape, access: Access) -> u32
     ensures write_pointer { part 0 8 result ≡ ruled access (global_row shape RirbWritePointer) (part 0 8 old) }
     ensures count { part 16 8 result ≡ ruled access (global_row shape ResponseCount) (part 16 8 old) }
 {
-    let word = access.leaves(old, RINTCNT, 0);
+    let word = access.leaves(old, RESPONSE_COUNT, 0);
     if access.written & RIRBWPRST == 0 {
         word
     } else {

@@ -54,7 +54,7 @@ pub struct Effects {
     pub reset: bool,
     /// CRST rose from 0 to 1.
     pub left_reset: bool,
-    /// SRST was written 1, whatever it was.
+    /// SRST was written 1, whatever it was, while CRST is 1.
     pub stream_reset: [bool; 2],
     /// RUN rose from 0 to 1.
     pub started: [bool; 2],

@@ -13,32 +13,30 @@ use crate::shapes::Shape;
 use bitflags::Flags;
 use std::marker::Model;
 
-/// The words of four bytes that hold the registers, by number in the descriptor.
-const CONTROL: u16 = places::SDCTL / 4;
+/// The word of SDnCTL and SDnSTS in the descriptor.
+const CONTROL_AT: u16 = places::SDCTL / 4;
+/// The word of SDnLPIB in the descriptor.
+const POSITION_AT: u16 = places::SDLPIB / 4;
+/// The word of SDnCBL in the descriptor.
+const LENGTH_AT: u16 = places::SDCBL / 4;
+/// The word of SDnLVI in the descriptor.
+const LAST_INDEX_AT: u16 = places::SDLVI / 4;
+/// The word of SDnFIFOS and SDnFMT in the descriptor.
+const FORMAT_AT: u16 = places::SDFIFOS / 4;
+/// The word of SDnBDPL in the descriptor.
+const LIST_BASE_AT: u16 = places::SDBDPL / 4;
 
-const POSITION: u16 = places::SDLPIB / 4;
-
-const LENGTH: u16 = places::SDCBL / 4;
-
-const LAST_INDEX: u16 = places::SDLVI / 4;
-
-const FORMAT: u16 = places::SDFIFOS / 4;
-
-const LIST_BASE: u16 = places::SDBDPL / 4;
-
-/// SRST in the word of SDnCTL and SDnSTS.
-const SRST: u32 = 0x1;
-/// SRST, RUN, IOCE, FEIE, DEIE and the tag.
+/// SRST.
+const SRST: u32 = StreamControl::SRST.0;
+/// The bits of SDnCTL that are kept: SRST, RUN, IOCE, FEIE, DEIE and the tag in 23:20.
 const CONTROL_BITS: u32 = 0xF0_001F;
-/// BCIS, FIFOE and DESE.
-const STATUS_BITS: u32 = 0x1C00_0000;
-/// FIFORDY in the word of SDnCTL and SDnSTS.
-const FIFORDY: u32 = 0x2000_0000;
-
+/// The bits of SDnSTS that a driver clears.
+const STATUS_BITS: u32 = StreamControl::BCIS.0 | StreamControl::FIFOE.0 | StreamControl::DESE.0;
+/// FIFORDY.
+const FIFORDY: u32 = StreamControl::FIFORDY.0;
 /// The last valid index in its word.
 const LVI: u32 = 0xFF;
-
-/// The format in the word of SDnFIFOS and SDnFMT.
+/// The format in its word.
 const FMT: u32 = 0xFFFF_0000;
 
 /// The words that hold them, each as it stands at its place.
@@ -91,7 +89,7 @@ impl Stream {
         ensures { self.new ≡ stream_written access self.old }
     {
         match access.word {
-            CONTROL => {
+            CONTROL_AT => {
                 if access.written & SRST == 0 {
                     let word = access.leaves(self.control.0, CONTROL_BITS, STATUS_BITS);
                     self.control = StreamControl(word);
@@ -99,14 +97,14 @@ impl Stream {
                     *self = Stream::reset_to(StreamControl(SRST));
                 }
             }
-            LENGTH => self.buffer_length = access.leaves(
+            LENGTH_AT => self.buffer_length = access.leaves(
                 self.buffer_length,
                 self.at_rest(u32::MAX),
                 0,
             ),
-            LAST_INDEX => self.last_index = access.leaves(self.last_index, self.at_rest(LVI), 0),
-            FORMAT => self.format = access.leaves(self.format, self.at_rest(FMT), 0),
-            LIST_BASE => self.list_base = access.leaves(self.list_base, self.at_rest(BASE), 0),
+            LAST_INDEX_AT => self.last_index = access.leaves(self.last_index, self.at_rest(LVI), 0),
+            FORMAT_AT => self.format = access.leaves(self.format, self.at_rest(FMT), 0),
+            LIST_BASE_AT => self.list_base = access.leaves(self.list_base, self.at_rest(BASE), 0),
             _ => {}
         }
     }
@@ -124,18 +122,18 @@ impl Stream {
             → stream_shown shape self.now (record { word = word; covered = covered; written = written }) ≡ bit_and result covered }
     {
         match word {
-            CONTROL => self.control.0 & (CONTROL_BITS | STATUS_BITS | FIFORDY),
-            POSITION => {
+            CONTROL_AT => self.control.0 & (CONTROL_BITS | STATUS_BITS | FIFORDY),
+            POSITION_AT => {
                 let bytes = self.position;
                 bytes
             }
-            LENGTH => {
+            LENGTH_AT => {
                 let bytes = self.buffer_length;
                 bytes
             }
-            LAST_INDEX => self.last_index & LVI,
-            FORMAT => self.format & FMT | u32::from(shape.fifo),
-            LIST_BASE => self.list_base & BASE,
+            LAST_INDEX_AT => self.last_index & LVI,
+            FORMAT_AT => self.format & FMT | u32::from(shape.fifo),
+            LIST_BASE_AT => self.list_base & BASE,
             _ => 0,
         }
     }

@@ -1,17 +1,76 @@
 -- What proofs of the layers above cite.
 
--- what every move keeps, a step and a list of steps keep; what single responses, ticks and discoveries keep, whole moves keep
-pub use Rattle.hda_world.proofs.Stepping.{after_steps-append, kept_step, kept_steps}
+-- steps in a row are those of the front and then those of the back
+pub use Rattle.hda_world.proofs.Stepping.{after_steps-append}
+-- what every move keeps, a step keeps
+pub use Rattle.hda_world.proofs.Stepping.{kept_step}
+-- and steps in a row keep
+pub use Rattle.hda_world.proofs.Stepping.{kept_steps}
+-- what single responses, ticks and discoveries keep, whole moves keep
 pub use Rattle.hda_world.proofs.Singly.{kept_singly}
--- relations of what is told: one after another, weakened, grown by accesses, before an access
-pub use Rattle.hda_world.proofs.Telling.{after-append, AreHonest-append, world_of-went, went_none, went_both, grew_both, grew_access, told_both, told_map, world_of-access, accessed_after}
--- accesses in a row
-pub use Rattle.hda_world.proofs.Rows.{makes_both, row_one, row_more, row_both, grew_row, rows}
--- a relation through an access
+-- events in a row are those of the front and then those of the back
+pub use Rattle.hda_world.proofs.Telling.{after-append}
+-- and are honest where both are
+pub use Rattle.hda_world.proofs.Telling.{AreHonest-append}
+-- the world that is told now is what the events since made of the one before
+pub use Rattle.hda_world.proofs.Telling.{world_of-went}
+-- nothing went on
+pub use Rattle.hda_world.proofs.Telling.{went_none}
+-- some events and then others went on
+pub use Rattle.hda_world.proofs.Telling.{went_both}
+-- the journal grew, and grew again
+pub use Rattle.hda_world.proofs.Telling.{grew_both}
+-- over an access the journal grew
+pub use Rattle.hda_world.proofs.Telling.{grew_access}
+-- one relation of what is told and then another
+pub use Rattle.hda_world.proofs.Telling.{told_both}
+-- a relation of what is told that leads to another
+pub use Rattle.hda_world.proofs.Telling.{told_map}
+-- an access before which the device made no step
+pub use Rattle.hda_world.proofs.Telling.{world_of-access}
+-- a step before an access is one of the steps before it
+pub use Rattle.hda_world.proofs.Telling.{accessed_after}
+-- a row of accesses and then another
+pub use Rattle.hda_world.proofs.Rows.{makes_both}
+-- one access is a row
+pub use Rattle.hda_world.proofs.Rows.{row_one}
+-- an access and then a row
+pub use Rattle.hda_world.proofs.Rows.{row_more}
+-- a row and then a row, as told
+pub use Rattle.hda_world.proofs.Rows.{row_both}
+-- over a row the journal grew
+pub use Rattle.hda_world.proofs.Rows.{grew_row}
+-- the rows together, for a function's tactics
+pub use Rattle.hda_world.proofs.Rows.{rows}
+-- what every move keeps and the access leads on, through an access
 pub use Rattle.hda_world.proofs.Accessing.{accessed_then}
--- what steps and accesses leave alone
-pub use Rattle.hda_world.proofs.Leaving.{steps_leave, access_leaves, write_memory, write_registers, plain_write, rising_write, beside_write, beside_rings, found_apart, graphs-with_codec}
+-- what steps leave alone
+pub use Rattle.hda_world.proofs.Leaving.{steps_leave}
+-- what a write of a register leaves of the codecs and the histories
+pub use Rattle.hda_world.proofs.Leaving.{access_leaves}
+-- it leaves the memory
+pub use Rattle.hda_world.proofs.Leaving.{write_memory}
+-- it writes the registers
+pub use Rattle.hda_world.proofs.Leaving.{write_registers}
+-- a write that resets
+pub use Rattle.hda_world.proofs.Leaving.{reset_write}
+-- a write that neither resets nor ends the reset
+pub use Rattle.hda_world.proofs.Leaving.{plain_write}
+-- a write by which CRST rises
+pub use Rattle.hda_world.proofs.Leaving.{rising_write}
+-- a write beside GCTL and the rings' registers changes the registers alone
+pub use Rattle.hda_world.proofs.Leaving.{beside_write}
+-- and leaves the rings'
+pub use Rattle.hda_world.proofs.Leaving.{beside_rings}
+-- a change of one codec leaves the others
+pub use Rattle.hda_world.proofs.Leaving.{found_apart}
+-- and the graphs, where it keeps its own
+pub use Rattle.hda_world.proofs.Leaving.{graphs-with_codec}
+-- a step leaves the codecs that it does not name
 pub use Rattle.hda_world.proofs.Others.{step_leaves_others}
--- how far the driver has read, and that the codecs are discovered
+-- and so do steps in turn
+pub use Rattle.hda_world.proofs.Others.{steps_leave_others}
+-- how far the driver has read is kept
 pub use Rattle.hda_world.proofs.Unread.{keeps_reading}
+-- that the codecs are discovered is kept
 pub use Rattle.hda_world.proofs.Discovery.{keeps_discovery}

@@ -240,6 +240,18 @@ no_rise left world none = rw none refl
 rises : (left : Bool) (world : World) → left ≡ true → counted_anew_if left world ≡ record world { frames = 0 }
 rises left world is = rw is refl
 
+-- a write that resets drops what waits
+dropped : (reset left : Bool) (world : World) → reset ≡ true
+    → counted_anew_if left (reset_if reset world) ≡ record world { codecs = map cleared world.codecs; waiting = []; frames = 0 }
+dropped true true world is = refl
+dropped true false world is = refl
+dropped false left world is = cc
+
+pub reset_write : (world : World) (at value : ℕ) (width : Width) → (effects_of world.registers at width value).reset ≡ true
+    → after_write at width value world ≡ record world { registers = written world.registers at width value; codecs = map cleared world.codecs; waiting = []; frames = 0 }
+reset_write world at value width is =
+    dropped (effects_of world.registers at width value).reset (effects_of world.registers at width value).left_reset (record world { registers = written world.registers at width value }) is
+
 pub plain_write : (world : World) (at value : ℕ) (width : Width) → (effects_of world.registers at width value).reset ≡ false
     → (effects_of world.registers at width value).left_reset ≡ false
     → after_write at width value world ≡ record world { registers = written world.registers at width value }

@@ -3,14 +3,13 @@ use Rattle.std.proofs.Common.{◌≡◌, ◌≢◌, ◌+◌, ℕ, zero, suc, Boo
 use Rattle.codec_graph.specs.declared.waiting.Waiting.{Waiting}
 use Rattle.codec_graph.specs.CodecStates.{CodecState, taken, plugged, without_first, without_answer}
 use Rattle.hda_registers.specs.Fields.{is_out_of_reset}
-use Rattle.ring_entries.specs.Entries.{next_command}
-use Rattle.ring_entries.specs.Engines.{can_fetch}
+use Rattle.ring_entries.specs.Engines.{next_word}
 use Rattle.ring_entries.specs.declared.response.TheConstants.{MOST_WAITING}
 use Rattle.hda_world.specs.declared.step.Step.{Step}
 use Rattle.hda_world.specs.declared.step.Step.TheVariants as step
 use Rattle.hda_world.specs.Worlds.{World, codec_at, with_codec}
-use Rattle.hda_world.specs.Steps.{address_of, handed, handed_next, is_busy, sent_first, items_of, lost, passed, frame_step, times, after_step}
-use Rattle.hda_world.specs.Leaving.{NamesOthers}
+use Rattle.hda_world.specs.Steps.{address_of, handed, handed_next, is_busy, sent_first, items_of, lost, passed, frame_step, times, after_step, after_steps}
+use Rattle.hda_world.specs.Leaving.{AddressesOther, NamesOthers, NameOthers}
 use Rattle.hda_world.proofs.Leaving.{found_apart, graph-plugged}
 
 module _ (address : ℕ) where
@@ -24,13 +23,11 @@ module _ (address : ℕ) where
   either_not true new old same = refl
   either_not false new old same = same
 
-  corb_by : (can : Bool) (world : World) → address ≢ address_of (next_command world.registers world.memory)
-      → codec_at address (handed_next (if can then Some (next_command world.registers world.memory) else None) world).codecs ≡ codec_at address world.codecs
-  corb_by true world apart =
-      let word = next_command world.registers world.memory in
+  corb_leaves : (next : Option ℕ) (world : World) → AddressesOther next address → codec_at address (handed_next next world).codecs ≡ codec_at address world.codecs
+  corb_leaves None world apart = refl
+  corb_leaves (Some word) world apart =
       either_not (is_busy (codec_at (address_of word) world.codecs)) (handed word world) world
       (found_apart (address_of word) address (λ codec. taken codec word) (λ codec. refl) apart world.codecs)
-  corb_by false world apart = refl
 
   sent_leaves : (items : List Waiting) (codec : ℕ) (world : World) → address ≢ codec → codec_at address (sent_first codec items world).codecs ≡ codec_at address world.codecs
   sent_leaves [] codec world apart = refl
@@ -45,7 +42,7 @@ module _ (address : ℕ) where
 
 pub step_leaves_others : (step : Step) (world : World) (address : ℕ) → NamesOthers step world address
     → codec_at address (after_step step world).codecs ≡ codec_at address world.codecs
-step_leaves_others step.Corb world address others = corb_by address (can_fetch world.registers) world others
+step_leaves_others step.Corb world address others = corb_leaves address (next_word world.registers world.memory) world others
 step_leaves_others (step.Answer codec) world address others =
     either address (is_out_of_reset world.registers.global && nat_lt (length world.waiting) MOST_WAITING) _ world (sent_leaves address (items_of (codec_at codec world.codecs)) codec world others)
 step_leaves_others (step.Lose codec) world address others =
@@ -55,3 +52,9 @@ step_leaves_others (step.Fetch stream most) world address others = refl
 step_leaves_others (step.Link frames) world address others = frames_leave address frames world
 step_leaves_others (step.Plug codec nid) world address others = found_apart codec address (λ codec. plugged codec nid true) (graph-plugged nid true) others world.codecs
 step_leaves_others (step.Unplug codec nid) world address others = found_apart codec address (λ codec. plugged codec nid false) (graph-plugged nid false) others world.codecs
+
+pub steps_leave_others : (steps : List Step) (world : World) (address : ℕ) → NameOthers steps world address
+    → codec_at address (after_steps steps world).codecs ≡ codec_at address world.codecs
+steps_leave_others [] world address others = refl
+steps_leave_others (step ∷ steps) world address others =
+    steps_leave_others steps (after_step step world) address others.1 ∙ step_leaves_others step world address others.0

@@ -1,13 +1,13 @@
 -- What steps of the device and accesses of the driver leave alone. This project's own.
-use Rattle.std.specs.Prelude.{◌≡◌, ◌≢◌, ◌<◌, ◌≤◌, ◌⊎◌, ℕ, ◌+◌, ◌*◌, false, List, ◌++◌, length, map, slice_index}
+use Rattle.std.specs.Prelude.{◌≡◌, ◌≢◌, ◌<◌, ◌≤◌, ◌⊎◌, ℕ, ◌+◌, ◌*◌, false, List, [], ◌∷◌, ◌++◌, Option, None, Some, length, map, slice_index}
 use Rattle.codec_graph.specs.declared.raw.RawCodec.{RawCodec}
 use Rattle.hda_registers.specs.Fields.{Fields, entries_of, rirb_address, is_running}
 use Rattle.ring_entries.specs.declared.entries.TheConstants.{RESPONSE_BYTES}
-use Rattle.ring_entries.specs.Entries.{next_command}
+use Rattle.ring_entries.specs.Engines.{next_word}
 use Rattle.hda_world.specs.declared.step.Step.{Step}
 use Rattle.hda_world.specs.declared.step.Step.TheVariants as step
 use Rattle.hda_world.specs.Worlds.{World}
-use Rattle.hda_world.specs.Steps.{address_of}
+use Rattle.hda_world.specs.Steps.{address_of, after_step}
 
 -- the registers are the old ones but for what the device itself moves: the wall clock, the codecs' bits of the state change
 -- status, and the pointers and the flag of the rings; a descriptor stays where its stream does not run
@@ -47,8 +47,8 @@ pub record StepsLeave (old new : World) : Type 0 where
   pub commands : WentOn old.commands new.commands
   pub written : WentOn old.written new.written
 
--- what an event leaves alone that is no step of the device: an access changes the registers or a piece of memory, and nothing of
--- what the codecs keep but that a reset drops what waits
+-- what an event leaves alone that is no step of the device: an access changes the registers or a piece of memory, and of the
+-- codecs nothing but what waits at them, which a reset drops
 pub record AccessLeaves (old new : World) : Type 0 where
   pub commands : new.commands ≡ old.commands
   pub written : new.written ≡ old.written
@@ -56,9 +56,15 @@ pub record AccessLeaves (old new : World) : Type 0 where
   pub settings : map (λ codec. codec.settings) new.codecs ≡ map (λ codec. codec.settings) old.codecs
   pub present : map (λ codec. codec.present) new.codecs ≡ map (λ codec. codec.present) old.codecs
 
--- the step does not name the codec of this address. The engine of CORB names the codec of its next command
+-- a word, if there is one, does not name this address
+abbrev pub AddressesOther : Option ℕ → ℕ → Type 0
+AddressesOther None address = Unit {0}
+AddressesOther (Some word) address = address ≢ address_of word
+
+-- the step does not name the codec of this address. The engine of CORB names the codec of the command that it fetches, if it
+-- fetches one
 abbrev pub NamesOthers : Step → World → ℕ → Type 0
-NamesOthers step.Corb world address = address ≢ address_of (next_command world.registers world.memory)
+NamesOthers step.Corb world address = AddressesOther (next_word world.registers world.memory) address
 NamesOthers (step.Answer codec) world address = address ≢ codec
 NamesOthers (step.Lose codec) world address = address ≢ codec
 NamesOthers step.Rirb world address = Unit {0}
@@ -66,3 +72,8 @@ NamesOthers (step.Fetch stream most) world address = Unit {0}
 NamesOthers (step.Link frames) world address = Unit {0}
 NamesOthers (step.Plug codec nid) world address = address ≢ codec
 NamesOthers (step.Unplug codec nid) world address = address ≢ codec
+
+-- nor does any of some steps in turn
+abbrev pub NameOthers : List Step → World → ℕ → Type 0
+NameOthers [] world address = Unit {0}
+NameOthers (step ∷ steps) world address = NamesOthers step world address × NameOthers steps (after_step step world) address

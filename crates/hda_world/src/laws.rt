@@ -1,7 +1,7 @@
 //! Laws of the world, each the contract of a function that does nothing.
-ghost use Rattle.std.specs.Prelude.{◌≡◌, ◌≢◌, ◌<◌, ◌≤◌, ◌+◌, ℕ, true, false, List, ◌++◌, length};
+ghost use Rattle.std.specs.Prelude.{◌≡◌, ◌≢◌, ◌<◌, ◌≤◌, ◌+◌, ℕ, true, false, List, [], ◌++◌, map, length};
 ghost use Rattle.hda_registers.specs.declared.shapes.Width.{Width};
-ghost use Rattle.codec_graph.specs.CodecStates.{CodecState};
+ghost use Rattle.codec_graph.specs.CodecStates.{CodecState, cleared};
 ghost use Rattle.hda_world.specs.declared.step.Step.{Step};
 ghost use Rattle.hda_world.specs.declared.step.Step.TheVariants as step;
 ghost use Rattle.hda_world.specs.Worlds.{World, codec_at, with_codec};
@@ -14,7 +14,7 @@ ghost use Rattle.hda_registers.specs.Laws.{IsBesideRings, LeavesRings};
 ghost use Rattle.hda_world.specs.Tellings.{Telling, Makes};
 ghost use Rattle.hda_world.specs.Unread.{HasReadTo};
 ghost use Rattle.hda_world.specs.Discovery.{IsDiscovered, AreSet, addresses_of};
-ghost use Rattle.hda_world.specs.Leaving.{StepsLeave, AccessLeaves, NamesOthers};
+ghost use Rattle.hda_world.specs.Leaving.{StepsLeave, AccessLeaves, NamesOthers, NameOthers};
 
 use crate::world::REGION_BYTES;
 
@@ -37,10 +37,13 @@ pub fn steps_write_rirb_alone()
     ensures { (steps : List Step) (world : World) → StepsLeave world (after_steps steps world) }
 {}
 
-/// A step leaves each codec alone that it does not name. The engine of CORB names the codec of its next command.
+/// A step leaves each codec alone that it does not name, and so do steps in turn. The engine of CORB names the codec of the command
+/// that it fetches, if it fetches one.
 pub fn steps_leave_other_codecs()
-    ensures { (step : Step) (world : World) (address : ℕ) → NamesOthers step world address
+    ensures one { (step : Step) (world : World) (address : ℕ) → NamesOthers step world address
         → codec_at address (after_step step world).codecs ≡ codec_at address world.codecs }
+    ensures all { (steps : List Step) (world : World) (address : ℕ) → NameOthers steps world address
+        → codec_at address (after_steps steps world).codecs ≡ codec_at address world.codecs }
 {}
 
 /// How far the driver has read RIRB's responses is kept by steps of the device: while RINTFL is 0 nothing is unread, and always
@@ -75,12 +78,20 @@ pub fn accesses_compose()
 {}
 
 /// A write of a register changes no memory and no codec's graph, settings or presence, and appends to no history. Where CRST was
-/// neither written 0 nor rises it changes the registers alone; where CRST rises the link frames are counted from 0 too.
+/// neither written 0 nor rises it changes the registers alone; where CRST rises the link frames are counted from 0 too. Where it is
+/// written 0 all that waits at the codecs and in the controller is dropped (HDA 1.0a, 5.5.1).
 pub fn register_write_leaves()
     ensures memory { (world : World) (at value : ℕ) (width : Width) → (after_write at width value world).memory ≡ world.memory }
     ensures codecs { (world : World) (at value : ℕ) (width : Width) → AccessLeaves world (after_write at width value world) }
     ensures registers { (world : World) (at value : ℕ) (width : Width)
         → (after_write at width value world).registers ≡ written world.registers at width value }
+    ensures resetting { (world : World) (at value : ℕ) (width : Width) → (effects_of world.registers at width value).reset ≡ true
+        → after_write at width value world ≡ record world {
+          registers = written world.registers at width value;
+          codecs = map cleared world.codecs;
+          waiting = [];
+          frames = 0;
+        } }
     ensures plain { (world : World) (at value : ℕ) (width : Width) → (effects_of world.registers at width value).reset ≡ false
         → (effects_of world.registers at width value).left_reset ≡ false
         → after_write at width value world ≡ record world { registers = written world.registers at width value } }

@@ -1,9 +1,9 @@
 //! Laws of memory and of the ring of responses, each the contract of a function that does nothing.
-ghost use Rattle.std.specs.Prelude.{◌≡◌, ◌≤◌, ◌<◌, ◌+◌, ℕ, List, Some, length, slice_get, slice_index};
+ghost use Rattle.std.specs.Prelude.{◌≡◌, ◌≤◌, ◌<◌, ◌+◌, ◌/◌, ◌%◌, ◌^◌, if◌then◌else◌, ℕ, List, Some, length, slice_get, slice_index};
 ghost use Rattle.hda_registers.specs.Fields.{Fields, entries_of};
 ghost use Rattle.ring_entries.specs.declared.response.Response.{Response};
 ghost use Rattle.ring_entries.specs.Memory.{stored, IsOutside, PieceStored};
-ghost use Rattle.ring_entries.specs.Entries.{responses_stored};
+ghost use Rattle.ring_entries.specs.Entries.{response_source, responses_stored};
 ghost use Rattle.ring_entries.specs.Standing.{StandsAt, IsRirbInside};
 
 use crate::entries::{COMMAND_BYTES, RESPONSE_BYTES};
@@ -14,6 +14,13 @@ pub fn sizes_are_fixed()
     ensures command { COMMAND_BYTES ≡ 4 }
     ensures response { RESPONSE_BYTES ≡ 8 }
     ensures waiting { MOST_WAITING ≡ 256 }
+{}
+
+/// The second word of a response has the codec's address, at most 14, in bits 3:0 and the mark of an unsolicited one in bit 4, and
+/// no other bit (HDA 1.0a, 4.4.2).
+pub fn sources_are_read_back()
+    ensures codec { (response : Response) → response.codec ≤ 14 → response_source response % 2 ^ 4 ≡ response.codec }
+    ensures mark { (response : Response) → response.codec ≤ 14 → response_source response / 2 ^ 4 ≡ (if response.unsolicited then 1 else 0) }
 {}
 
 /// A piece that lies in the memory stands there once it is stored. Whether or not it does, the memory keeps its length and every

@@ -1,6 +1,7 @@
 //! The accesses of a platform in memory: before each a link frame passes, and both are noted.
 ghost use Rattle.std.specs.Prelude.{◌≡◌, ◌≤◌, ◌<◌, ◌+◌, ◌/◌, [], ◌∷◌};
-ghost use Rattle.hda_platform.specs.ToldBy.{told_by, told_whole, Passed};
+ghost use Rattle.hda_platform.specs.ToldBy.{told_by, told_whole};
+ghost use Rattle.hda_platform.specs.Passing.{Passed};
 
 use crate::memory_platform::MemoryPlatform;
 use crate::notes::{note, note_bytes};
