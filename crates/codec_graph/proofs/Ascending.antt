@@ -19,7 +19,7 @@ use Rattle.codec_graph.specs.declared.controls.Control.{Control}
 use Rattle.codec_graph.specs.declared.controls.Control.TheVariants.{InLeft, InRight}
 use Rattle.codec_graph.specs.declared.controls.ControlKey.{ControlKey}
 use Rattle.codec_graph.specs.contracts.controls.ControlOrd.TheImpl as control_order
-use Rattle.codec_graph.specs.Settings.{Entries, key, key_cmp, has_control, opening_value, plain_controls, controls, keys_below, had, controls_of, opened, IsSettingsOf}
+use Rattle.codec_graph.specs.Settings.{Entries, key, key_cmp, has_control, opening_value, plain_controls, controls, keys_below, owned_keys, controls_of, opened, IsSettingsOf}
 use Rattle.codec_graph.specs.Openings.{opened_so_far}
 use Rattle.codec_graph.proofs.KeyOrder.{key_cmp-total}
 
@@ -191,7 +191,7 @@ opens_last codec settings nid i control d lt is so_far =
 opened_so_far-append : (codec : RawCodec) (ks more : List ControlKey) → opened_so_far codec (ks ++ more) ≡ opened_so_far codec ks ++ opened_so_far codec more
 opened_so_far-append codec ks more =
     ap (opened codec) (filter-append (λ at. has_control codec at.nid at.control) ks more)
-    ∙ map-append (λ (at : ControlKey). (at, opening_value codec at.nid at.control)) (had codec ks) (had codec more)
+    ∙ map-append (λ (at : ControlKey). (at, opening_value codec at.nid at.control)) (owned_keys codec ks) (owned_keys codec more)
 
 pub opened-next : (codec : RawCodec) (settings next : Entries) (nid i : ℕ) (control d : Control) → i < 43 → get_or controls i d ≡ control
     → next ≡ settings ++ opened_so_far codec (key nid control ∷ []) → settings ≡ opened_so_far codec (keys_up_to nid i) → next ≡ opened_so_far codec (keys_up_to nid (i + 1))

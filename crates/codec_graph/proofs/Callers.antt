@@ -1,16 +1,18 @@
 -- What the proofs of other crates cite.
-use Rattle.std.proofs.Common.{◌≡◌, ◌<◌, ◌+◌, ℕ, cond, not, List, [], ◌∷◌, ◌++◌, length, Some}
+use Rattle.std.proofs.Common.{◌≡◌, ◌<◌, ◌+◌, ℕ, cond, not, List, [], ◌∷◌, ◌++◌, length, Some, None}
+use Rattle.std.specs.Prelude.{All}
 use Rattle.codec_graph.specs.declared.raw.RawNode.{RawNode}
 use Rattle.codec_graph.specs.declared.raw.RawCodec.{RawCodec}
 use Rattle.codec_graph.specs.declared.waiting.Waiting.{Waiting}
 use Rattle.codec_graph.specs.Widget.{node_at, node_identifiers}
-use Rattle.codec_graph.specs.Listed.{HasReadableList}
+use Rattle.codec_graph.specs.Listed.{HasEntries, HasReadableList, list_fault, listed_node, codec_list_fault, listed}
 use Rattle.codec_graph.specs.Widths.{HasNodeWords}
 use Rattle.codec_graph.specs.Cycles.{IsWellFormed}
 use Rattle.codec_graph.specs.CodecStates.{CodecState, is_answer, answers, unsolicited, drop_answer, without_first, without_answer, IsSound}
 use Rattle.codec_graph.proofs.Nodes as nodes
 use Rattle.codec_graph.proofs.Narrow as narrow
 use Rattle.codec_graph.proofs.Sound as sound
+use Rattle.codec_graph.proofs.ReadableLists as readable
 
 -- a widget of a well-formed graph has a node identifier of seven bits
 pub node_below : (codec : RawCodec) (nid : ℕ) (node : RawNode) → IsWellFormed codec → node_at codec nid ≡ Some node → nid < node_identifiers
@@ -51,3 +53,11 @@ IsSound-without_first codec s = sound.IsSound-without_first codec s
 -- a codec stays sound without the first answer that waits
 pub IsSound-without_answer : (codec : CodecState) → IsSound codec → IsSound (without_answer codec)
 IsSound-without_answer codec s = sound.IsSound-without_answer codec s
+
+-- an expanded list without a fault is readable
+pub readable_listed : (node : RawNode) → HasEntries node → list_fault node ≡ None → HasReadableList (listed_node node)
+readable_listed node has none = readable.readable_listed node has none
+
+-- and so are those of a codec
+pub readable_codec : (codec : RawCodec) → All HasEntries codec.nodes → ((nid : ℕ) → codec_list_fault codec nid ≡ None) → All HasReadableList (listed codec).nodes
+readable_codec codec has none = readable.readable_codec codec has none

@@ -17,7 +17,7 @@ use Rattle.codec_graph.specs.declared.controls.Control.TheVariants.{Select, Powe
 use Rattle.codec_graph.specs.declared.controls.ControlKey.{ControlKey}
 use Rattle.codec_graph.specs.Widget.{node_at, has_input_amplifier}
 use Rattle.codec_graph.specs.Cycles.{IsWellFormed}
-use Rattle.codec_graph.specs.Settings.{Entries, key, key_cmp, setting_at, group_has, node_has, has_control, amplified_inputs, opening_value, plain_controls, controls, keys_below, had, controls_of, opened, opening}
+use Rattle.codec_graph.specs.Settings.{Entries, key, key_cmp, setting_at, group_has, node_has, has_control, amplified_inputs, opening_value, plain_controls, controls, keys_below, owned_keys, controls_of, opened, opening}
 use Rattle.codec_graph.proofs.KeyOrder.{key_cmp-total}
 use Rattle.codec_graph.proofs.Openings.{same_key}
 use Rattle.codec_graph.proofs.Ascending.{length-controls, plain_at, left_at, right_at}
@@ -41,12 +41,12 @@ lookup-opened codec q (k ∷ ks) = by (is_at (key_cmp q) k) refl (lookup-opened 
     by true e rest = ap (λ (x : ControlKey). Some (opening_value codec x.nid x.control)) (sym (same_key q k e))
     by false e rest = rest
 
-any-had : (codec : RawCodec) (q : ControlKey) (ks : List ControlKey) → list_any (is_at (key_cmp q)) (had codec ks) ≡ list_any (opens codec q) ks
-any-had codec q [] = refl
-any-had codec q (k ∷ ks) = by (has_control codec k.nid k.control) (any-had codec q ks)
+any-owned_keys : (codec : RawCodec) (q : ControlKey) (ks : List ControlKey) → list_any (is_at (key_cmp q)) (owned_keys codec ks) ≡ list_any (opens codec q) ks
+any-owned_keys codec q [] = refl
+any-owned_keys codec q (k ∷ ks) = by (has_control codec k.nid k.control) (any-owned_keys codec q ks)
   where
-    by : (b : Bool) → list_any (is_at (key_cmp q)) (had codec ks) ≡ list_any (opens codec q) ks
-        → list_any (is_at (key_cmp q)) (cond b (k ∷ had codec ks) (had codec ks)) ≡ ((b && is_at (key_cmp q) k) || list_any (opens codec q) ks)
+    by : (b : Bool) → list_any (is_at (key_cmp q)) (owned_keys codec ks) ≡ list_any (opens codec q) ks
+        → list_any (is_at (key_cmp q)) (cond b (k ∷ owned_keys codec ks) (owned_keys codec ks)) ≡ ((b && is_at (key_cmp q) k) || list_any (opens codec q) ks)
     by true rest = ap (λ b. is_at (key_cmp q) k || b) rest
     by false rest = rest
 
@@ -145,7 +145,7 @@ opened-has codec nid control well = by (has_control codec nid control) (list_any
 -- the controls of a codec are those that its nodes have
 pub any-controls_of : (codec : RawCodec) (nid : ℕ) (control : Control) → IsWellFormed codec → list_any (is_at (key_cmp (key nid control))) (controls_of codec) ≡ has_control codec nid control
 unfolding controls_of
-any-controls_of codec nid control well = any-had codec (key nid control) (keys_below 128) ∙ opened-has codec nid control well
+any-controls_of codec nid control well = any-owned_keys codec (key nid control) (keys_below 128) ∙ opened-has codec nid control well
 
 pub Contains-controls_of : (codec : RawCodec) (nid : ℕ) (control : Control) → IsWellFormed codec → Contains (controls_of codec) (key nid control) ↔ IsTrue (has_control codec nid control)
 Contains-controls_of codec nid control well = (

@@ -1,5 +1,5 @@
 -- Lists that are the expansions of their entries.
-use Rattle.std.proofs.Common.{◌≡◌, ◌<◌, ◌≤◌, ◌^◌, ◌&&◌, ℕ, zero, suc, Bool, true, false, cond, List, [], ◌∷◌, ◌++◌, length, map, get_or, set, take, drop, refl, sym, ap, ◌∙◌, Ok, None, arith}
+use Rattle.std.proofs.Common.{◌≡◌, ◌<◌, ◌≤◌, ◌+◌, ◌-◌, ◌^◌, ◌&&◌, nat_lt, if◌then◌else◌, ℕ, zero, suc, Bool, true, false, cond, List, [], ◌∷◌, ◌++◌, length, map, get_or, set, take, drop, refl, sym, ap, ◌∙◌, Ok, Err, Result, None, arith, rules, tests}
 use Rattle.std.specs.Prelude.{All, slice_get}
 use Rattle.std.specs.Option.{option_and_then}
 use Rattle.std.proofs.lemmas.Option.{slice_get_past}
@@ -9,7 +9,10 @@ use Rattle.verb_codes.proofs.Callers.{expansion_of-small}
 use Rattle.codec_graph.specs.declared.raw.RawNode.{RawNode}
 use Rattle.codec_graph.specs.Widget.{has_list, normal_node}
 use Rattle.codec_graph.proofs.Maps.{get_or-changed}
-use Rattle.codec_graph.specs.Listed.{HasReadableList, list_fault, listed_node}
+use Rattle.codec_graph.specs.declared.raw.RawCodec.{RawCodec}
+use Rattle.codec_graph.specs.Listed.{HasEntries, HasReadableList, list_fault, listed_node, codec_list_fault, listed}
+use Rattle.verb_codes.specs.declared.entries.ListFault.{ListFault}
+use Rattle.std.specs.Result.{result_err, result_unwrap_or}
 
 -- a node without a connection list has one that is readable
 pub readable_normal : (node : RawNode) → HasReadableList node → HasReadableList (normal_node node)
@@ -40,17 +43,6 @@ readable_nodes (node ∷ nodes) all =
 pub listed_narrow : (node : RawNode) → HasReadableList node → All (λ nid. nid < 2 ^ 8) node.list
 listed_narrow node h = λ i d lt. let small = expansion_of-small node.long node.entries node.list h.expanded i d lt in omega arith
 
--- lists that are expanded stay so, and their entries with them
-pub listed_so_far : (nodes : List RawNode) (i : ℕ) → map listed_node (map listed_node (take i nodes) ++ drop i nodes) ≡ map listed_node nodes
-listed_so_far nodes zero = refl
-listed_so_far [] (suc i) = refl
-listed_so_far (node ∷ nodes) (suc i) = ap (λ rest. listed_node node ∷ rest) (listed_so_far nodes i)
-
-pub listed_set : (nodes : List RawNode) (i : ℕ) (node before : RawNode) → i < length nodes → listed_node node ≡ listed_node (get_or nodes i before) → map listed_node (set nodes i node) ≡ map listed_node nodes
-listed_set [] i node before within e = absurd (omega arith)
-listed_set (n ∷ nodes) zero node before within e = ap (λ m. m ∷ map listed_node nodes) e
-listed_set (n ∷ nodes) (suc i) node before within e = ap (λ rest. listed_node n ∷ rest) (listed_set nodes i node before (omega arith) e)
-
 -- what stands in the way of the widget at a place
 pub fault_at : (nodes : List RawNode) (i : ℕ) (node : RawNode) → i < length nodes → option_and_then list_fault (slice_get nodes i) ≡ list_fault (get_or nodes i node)
 fault_at [] i node within = absurd (omega arith)
@@ -62,10 +54,41 @@ fault_past nodes i past = ap (option_and_then list_fault) (slice_get_past nodes 
 
 -- what the widgets are before one more list is expanded
 module _ (old now : List RawNode) (i : ℕ) (value : now ≡ map listed_node (take i old) ++ drop i old) where
-  pub kept_set : (node before : RawNode) → i < length now → listed_node node ≡ listed_node (get_or now i before) → map listed_node (set now i node) ≡ map listed_node old
-  kept_set node before within e =
-      listed_set now i node before within e ∙ ap (λ (nodes : List RawNode). map listed_node nodes) value ∙ listed_so_far old i
-
   pub fault_here : (node : RawNode) → i < length old → option_and_then list_fault (slice_get old i) ≡ list_fault (get_or now i node)
   fault_here node within =
       fault_at old i node within ∙ ap list_fault (sym (ap (λ (nodes : List RawNode). get_or nodes i node) value ∙ get_or-changed listed_node old i node within))
+
+-- an expansion without a fault is what the list becomes
+no_fault : (expansion : Result (List ℕ) ListFault) → result_err expansion ≡ None → expansion ≡ Ok (result_unwrap_or expansion [])
+no_fault (Ok nids) none = refl
+no_fault (Err fault) none = cc
+
+pub readable_listed : (node : RawNode) → HasEntries node → list_fault node ≡ None → HasReadableList (listed_node node)
+readable_listed node has none = record { few = has.few; fit = has.fit; expanded = no_fault (expansion_of node.long node.entries) none }
+
+readable_each : (nodes : List RawNode) → All HasEntries nodes → ((place : ℕ) → option_and_then list_fault (slice_get nodes place) ≡ None) → All HasReadableList (map listed_node nodes)
+readable_each [] has none = All-nil HasReadableList
+readable_each (node ∷ nodes) has none =
+    All-cons HasReadableList (listed_node node) (map listed_node nodes) (readable_listed node (All-head HasEntries node nodes has) (none 0))
+    (readable_each nodes (All-tail HasEntries node nodes has) (λ place. none (suc place)))
+
+not_below : (first place : ℕ) → nat_lt (first + place) first ≡ false
+not_below first place = search (rules, tests)
+
+back : (first place : ℕ) → first + place - first ≡ place
+back first place = omega arith
+
+placed : (codec : RawCodec) (place : ℕ) → codec_list_fault codec (codec.first + place) ≡ option_and_then list_fault (slice_get codec.nodes place)
+placed codec place = rw (not_below codec.first place, back codec.first place) refl
+
+pub readable_codec : (codec : RawCodec) → All HasEntries codec.nodes → ((nid : ℕ) → codec_list_fault codec nid ≡ None) → All HasReadableList (listed codec).nodes
+readable_codec codec has none = readable_each codec.nodes has (λ place. sym (placed codec place) ∙ none (codec.first + place))
+
+clean_by : (below : Bool) (nodes : List RawNode) (place : ℕ) → option_and_then list_fault (slice_get nodes place) ≡ None
+    → option_and_then list_fault (if below then None else slice_get nodes place) ≡ None
+clean_by true nodes place none = refl
+clean_by false nodes place none = none
+
+-- where no place has a fault no node identifier has
+pub clean_codec : (codec : RawCodec) → ((place : ℕ) → option_and_then list_fault (slice_get codec.nodes place) ≡ None) → (nid : ℕ) → codec_list_fault codec nid ≡ None
+clean_codec codec none nid = clean_by (nat_lt nid codec.first) codec.nodes (nid - codec.first) (none (nid - codec.first))

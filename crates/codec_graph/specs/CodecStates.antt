@@ -1,5 +1,5 @@
 -- A codec, as commands and its pins change it: its graph, its settings, what is plugged in, and what waits to be sent to the
--- controller in order of arrival. Unsolicited responses: High Definition Audio 1.0a, 7.3.3.14 and 3.7.2. The queue, its limits and
+-- controller in order of arrival. Unsolicited responses: High Definition Audio 1.0a, 7.3.3.14. The queue, its limits and
 -- what is lost are this project's own.
 use Rattle.std.specs.Prelude.{◌≡◌, ◌≤◌, ◌*◌, ◌%◌, ◌^◌, ℕ, Bool, true, false, ◌==◌, ◌&&◌, not, List, [], ◌∷◌, ◌++◌, length, drop, count_by, slice_set, nat_lt, if◌then◌else◌, Option, Some, None}
 use Rattle.codec_graph.specs.declared.raw.RawNode.{RawNode}

@@ -37,6 +37,11 @@ codec_list_fault codec nid = option_and_then list_fault (node_at codec nid)
 abbrev pub listed : RawCodec → RawCodec
 listed codec = record codec { nodes = map listed_node codec.nodes }
 
+-- entries as a codec gives them: few, each of which fits its form
+pub record HasEntries (node : RawNode) : Type 0 where
+  pub few : length node.entries ≤ most_entries
+  pub fit : All (λ entry. entry < 2 ^ entry_width node.long) node.entries
+
 -- a connection list as a codec gives it: few entries, each of which fits its form, and `list` is their expansion
 pub record HasReadableList (node : RawNode) : Type 0 where
   pub few : length node.entries ≤ most_entries

@@ -141,12 +141,12 @@ keys_below zero = []
 keys_below (suc nid) = keys_below nid ++ map (key nid) controls
 
 -- those of some keys whose control the node has
-abbrev pub had : RawCodec → List ControlKey → List ControlKey
-had codec keys = filter (λ at. has_control codec at.nid at.control) keys
+abbrev pub owned_keys : RawCodec → List ControlKey → List ControlKey
+owned_keys codec keys = filter (λ at. has_control codec at.nid at.control) keys
 
 -- the keys of a codec's settings: exactly the controls that its function group and its widgets have, ascending
 unfoldable pub controls_of : RawCodec → List ControlKey
-controls_of codec = had codec (keys_below node_identifiers)
+controls_of codec = owned_keys codec (keys_below node_identifiers)
 
 -- each of some keys with its opening value
 abbrev pub opened : RawCodec → List ControlKey → Entries

@@ -13,15 +13,12 @@ use crate::amplifiers::{amplifier_offset, amplifier_steps};
 use crate::copies::copy_codec;
 use crate::cycles::check_cycles;
 use crate::fault::GraphFault;
-use crate::limits::{MOST_AMPLIFIED, NODE_IDENTIFIERS};
+use crate::limits::{MOST_AMPLIFIED, MOST_LISTED, NODE_IDENTIFIERS};
 use crate::raw::{RawCodec, RawNode};
 use hda_items::Items;
 use std::alloc::AllocError;
 use std::marker::Model;
 use verb_codes::bits_of;
-
-/// How many connections a widget may list. This project's own.
-const MOST_LISTED: usize = 64;
 
 /// A codec's well-formed graph. Contracts see the normalised words that [`Graph::raw`] gives.
 #[derive(Debug, Drop)]

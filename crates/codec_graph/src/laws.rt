@@ -1,12 +1,14 @@
 //! Laws of codecs, each the contract of a function that does nothing.
-ghost use Rattle.std.specs.Prelude.{◌≡◌, ◌<◌, ◌+◌, ◌^◌, ◌↔◌, ℕ, List, Bool, map, All, IsTrue, Contains, slice_index};
+ghost use Rattle.std.specs.Prelude.{◌≡◌, ◌<◌, ◌+◌, ◌^◌, ◌↔◌, ℕ, None, List, Bool, map, All, IsTrue, Contains, slice_index};
 ghost use Rattle.std.specs.List.{range_with_len};
 ghost use Rattle.std.specs.List.Sorted.{IsStrictlySortedBy};
 ghost use Rattle.std.specs.Map.{keys_of};
 ghost use Rattle.codec_graph.specs.declared.raw.RawCodec.{RawCodec};
 ghost use Rattle.codec_graph.specs.declared.controls.Control.{Control};
 ghost use Rattle.codec_graph.specs.Widget.{node_identifiers, most_amplified};
-ghost use Rattle.codec_graph.specs.Listed.{most_entries};
+ghost use Rattle.codec_graph.specs.Listed.{most_entries, HasEntries, HasReadableList, list_fault, listed_node, codec_list_fault, listed};
+ghost use Rattle.codec_graph.specs.Faults.{most_listed};
+ghost use Rattle.codec_graph.specs.declared.raw.RawNode.{RawNode};
 ghost use Rattle.codec_graph.specs.Cycles.{IsWellFormed};
 ghost use Rattle.codec_graph.specs.Settings.{Entries, key, key_cmp, has_control, controls_of, IsSettingsOf};
 ghost use Rattle.codec_graph.specs.VerbMeaning.{list_word, answer_of};
@@ -15,7 +17,7 @@ ghost use Rattle.verb_codes.specs.Lists.{entry_width, entries_per_word, entries_
 ghost use Rattle.verb_codes.specs.declared.verbs.Command.{Command};
 
 use crate::limits::{
-    MOST_AMPLIFIED, MOST_ANSWERS, MOST_ENTRIES, MOST_UNSOLICITED, NODE_IDENTIFIERS,
+    MOST_AMPLIFIED, MOST_ANSWERS, MOST_ENTRIES, MOST_LISTED, MOST_UNSOLICITED, NODE_IDENTIFIERS,
 };
 
 /// With the settings of a well-formed graph every answer has 32 bits.
@@ -40,8 +42,16 @@ pub fn controls_ascend()
         → IsStrictlySortedBy key_cmp (keys_of settings) }
 {}
 
+/// A list without a fault that is expanded is readable, of one widget and of a whole codec: so [`crate::Graph::check`] takes it.
+pub fn expanded_lists_are_readable()
+    ensures node { (node : RawNode) → HasEntries node → list_fault node ≡ None → HasReadableList (listed_node node) }
+    ensures codec { (codec : RawCodec) → All HasEntries codec.nodes → ((nid : ℕ) → codec_list_fault codec nid ≡ None)
+        → All HasReadableList (listed codec).nodes }
+{}
+
 /// The limits of the code are those of the definitions.
 pub fn limits_agree()
+    ensures listed { MOST_LISTED ≡ most_listed }
     ensures identifiers { NODE_IDENTIFIERS ≡ node_identifiers }
     ensures entries { MOST_ENTRIES ≡ most_entries }
     ensures amplified { MOST_AMPLIFIED ≡ most_amplified }

@@ -23,8 +23,13 @@ pub use answers::answer;
 pub use controls::{Control, ControlKey};
 pub use fault::GraphFault;
 pub use graph::Graph;
-pub use laws::{answers_fit, controls_ascend, limits_agree, list_words_have_entries};
-pub use limits::{MOST_AMPLIFIED, MOST_ANSWERS, MOST_ENTRIES, MOST_UNSOLICITED, NODE_IDENTIFIERS};
+pub use laws::{
+    answers_fit, controls_ascend, expanded_lists_are_readable, limits_agree,
+    list_words_have_entries,
+};
+pub use limits::{
+    MOST_AMPLIFIED, MOST_ANSWERS, MOST_ENTRIES, MOST_LISTED, MOST_UNSOLICITED, NODE_IDENTIFIERS,
+};
 pub use listed::FaultyList;
 pub use presence::Presence;
 pub use raw::{GroupWords, RawCodec, RawNode};

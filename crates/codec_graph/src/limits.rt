@@ -6,6 +6,9 @@ pub const NODE_IDENTIFIERS: usize = 128;
 /// How many entries a connection list can have: their number has seven bits (HDA 1.0a, 7.3.4.11).
 pub const MOST_ENTRIES: usize = 127;
 
+/// How many connections a widget that is no mixer may list. This project's own.
+pub const MOST_LISTED: usize = 64;
+
 /// How many inputs of a widget can have an amplifier each: their place has four bits (HDA 1.0a, 7.3.3.7).
 pub const MOST_AMPLIFIED: u8 = 16;
 

@@ -1,5 +1,5 @@
 //! The connection lists of a codec as the expansions of their entries.
-ghost use Rattle.std.specs.Prelude.{◌≡◌, ◌≤◌, ◌<◌, ◌+◌, ◌-◌, ℕ, Some, None, map, length, slice_get, MatchOption, IfOk, OnOk, OnErr};
+ghost use Rattle.std.specs.Prelude.{◌≡◌, ◌≤◌, ◌<◌, ◌+◌, ◌-◌, ◌++◌, ℕ, Some, None, map, take, drop, length, slice_get, MatchOption, IfOk, OnOk, OnErr};
 ghost use Rattle.std.specs.Option.{option_and_then};
 ghost use Rattle.codec_graph.specs.Listed as spec;
 
@@ -48,23 +48,26 @@ impl RawCodec {
     /// fault. The node identifiers of the widgets fit a byte.
     ///
     /// # Errors
-    /// Want of memory. Then, and after a fault, some lists are expanded, and all else is as it was.
+    /// Want of memory. Then, and after a fault, the lists of the first widgets are expanded, and all else is as it was.
     pub fn expand_lists(&mut self) -> Result<Option<FaultyList>, AllocError>
         requires { self.old.first + length self.old.nodes ≤ 256 }
         ensures found { IfOk result (λ found. MatchOption found
-            ((self.new ≡ spec.listed self.old) × spec.HasNoListFault (spec.codec_list_fault self.old))
+            ((self.new ≡ spec.listed self.old) × ((nid : ℕ) → spec.codec_list_fault self.old nid ≡ None))
             (λ faulty. spec.IsFirstListFault (spec.codec_list_fault self.old) faulty.nid faulty.fault)) }
-        ensures kept { spec.listed self.new ≡ spec.listed self.old }
+        ensures front { (count : ℕ) × (self.new
+            ≡ record self.old { nodes = map spec.listed_node (take count self.old.nodes) ++ drop count self.old.nodes }) }
     {
         let none = Items::new(self.nodes.allocator());
         let mut nodes = mem::replace(&mut self.nodes, none).into_vec();
         let found = expand_nodes(nodes.as_mut_slice());
         self.nodes = Items::from_vec(nodes);
-        let first = self.first;
-        Ok(found?.map(|(place, fault)| FaultyList {
-            nid: first + place as u8,
-            fault,
-        }))
+        match found? {
+            Some((place, fault)) => Ok(Some(FaultyList {
+                nid: self.first + place as u8,
+                fault,
+            })),
+            None => Ok(None),
+        }
     }
 }
 
@@ -75,7 +78,7 @@ fn expand_nodes(nodes: &mut [RawNode]) -> Result<Option<(usize, ListFault)>, All
         × ((place : ℕ) → option_and_then spec.list_fault (slice_get nodes.old place) ≡ None))
         (λ faulty. (faulty.0 < length nodes.old)
         × spec.IsFirstListFault (λ place. option_and_then spec.list_fault (slice_get nodes.old place)) faulty.0 faulty.1)) }
-    ensures kept { map spec.listed_node nodes.new ≡ map spec.listed_node nodes.old }
+    ensures front { (count : ℕ) × (nodes.new ≡ map spec.listed_node (take count nodes.old) ++ drop count nodes.old) }
 {
     for place in 0..nodes.len() {
         if let Some(fault) = nodes[place].expand()? {

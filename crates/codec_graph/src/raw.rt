@@ -15,7 +15,8 @@ use hda_items::Items;
 use std::alloc::Global;
 use verb_codes::{PinCapabilities, WidgetCapabilities, bits_of};
 
-/// The parameters of the audio function group that its widgets fall back to (HDA 1.0a, 7.3.4.7 to 7.3.4.12).
+/// The parameters of the audio function group (HDA 1.0a, 7.3.4.7 to 7.3.4.12). Widgets without sizes and rates, formats or
+/// amplifier capabilities of their own have the group's.
 #[derive(Debug, Drop)]
 pub struct GroupWords {
     /// Supported PCM sizes and rates.

@@ -3,7 +3,7 @@
 /// A verb with its argument (HDA 1.0a, 7.3.3). A get verb asks for what the set verb of its name changes; a set verb is answered with 0.
 #[derive(Clone, Copy, Debug, PartialEq, Eq)]
 pub enum Verb {
-    /// Get Parameter (7.3.3.1): asks for the parameter of this number (7.3.4). `Parameter` names those that a widget can have.
+    /// Get Parameter (7.3.3.1): asks for the parameter of this number (7.3.4). `Parameter` names those that a node can have.
     GetParam(u8),
     /// Connection Select Control (7.3.3.2): asks for the selected place of the connection list.
     GetSelect,

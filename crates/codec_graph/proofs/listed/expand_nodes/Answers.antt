@@ -1,17 +1,23 @@
-use Rattle.std.proofs.Common.{◌≡◌, ◌<◌, ◌≤◌, List, length, map, set, None, inl, inr, sym, ap, ◌∙◌, arith, below_more}
+use Rattle.std.proofs.Common.{◌≡◌, ◌<◌, ◌≤◌, ◌+◌, List, length, map, set, None, inl, inr, sym, ap, ◌∙◌, arith, below_more}
 use Rattle.std.specs.Prelude.{slice_get}
 use Rattle.std.specs.Option.{option_and_then}
 use Rattle.std.proofs.lemmas.Bool.{cases_lt}
 use Rattle.std.proofs.lemmas.List.Edits.{map_over_more}
+use Rattle.std.proofs.lemmas.List.{set-get_or}
 use Rattle.codec_graph.specs.declared.raw.RawNode.{RawNode}
 use Rattle.codec_graph.specs.Listed.{list_fault, listed_node}
 use Rattle.codec_graph.proofs.Maps.{all_changed}
-use Rattle.codec_graph.proofs.ReadableLists.{listed_so_far, fault_past, kept_set, fault_here}
+use Rattle.codec_graph.proofs.ReadableLists.{fault_past, fault_here}
 use Rattle.codec_graph.proofs.listed.expand_nodes.Goals as goal
 
-pub returns-in_err-fault-clause-kept : goal.returns-in_err-fault-clause-kept
-returns-in_err-fault-clause-kept c =
-    kept_set c.args.nodes.now c.loop-place.nodes c.loop-place.place c.loop-place.invariant.value _ c.index-nodes-place.result (omega arith) (ap listed_node c.in_err-fault.ensures.err)
+pub returns-in_err-fault-clause-front : goal.returns-in_err-fault-clause-front
+returns-in_err-fault-clause-front c =
+    let same = c.in_err-fault.ensures.err in (
+      c.loop-place.place,
+      ap (λ (node : RawNode). set c.loop-place.nodes c.loop-place.place node) same
+          ∙ set-get_or c.loop-place.nodes c.loop-place.place c.index-nodes-place.result
+          ∙ c.loop-place.invariant.value,
+    )
 
 pub returns-in-Some-clause-found : goal.returns-in-Some-clause-found
 returns-in-Some-clause-found c =
@@ -26,9 +32,13 @@ returns-in-Some-clause-found c =
       },
     )
 
-pub returns-in-Some-clause-kept : goal.returns-in-Some-clause-kept
-returns-in-Some-clause-kept c =
-    kept_set c.args.nodes.now c.loop-place.nodes c.loop-place.place c.loop-place.invariant.value _ c.index-nodes-place.result (omega arith) (ap listed_node c.in_ok-fault.ensures.list)
+pub returns-in-Some-clause-front : goal.returns-in-Some-clause-front
+returns-in-Some-clause-front c =
+    let turn = map_over_more listed_node c.args.nodes.now c.loop-place.nodes c.loop-place.place c.index-nodes-place.result (omega arith) c.loop-place.invariant.value c.index-nodes-place.is in (
+      c.loop-place.place + 1,
+      ap (λ (node : RawNode). set c.loop-place.nodes c.loop-place.place node) (c.in_ok-fault.ensures.list ∙ ap listed_node (sym c.index-nodes-place.is))
+          ∙ turn,
+    )
 
 pub loop-place-preserved : goal.loop-place-preserved
 loop-place-preserved c =
@@ -54,6 +64,5 @@ returns-clause-found c =
       ],
     )
 
-pub returns-clause-kept : goal.returns-clause-kept
-returns-clause-kept c =
-    ap (λ (nodes : List RawNode). map listed_node nodes) c.loop-place.invariant.value ∙ listed_so_far c.args.nodes.now c.loop-place.place
+pub returns-clause-front : goal.returns-clause-front
+returns-clause-front c = (c.loop-place.place, c.loop-place.invariant.value)
