@@ -1,4 +1,5 @@
 //! Blocks of a pool: owned, lent, and seen through a window.
+ghost use Rattle.dma_pool.specs.declared.region.TheConstants.{REGION_BYTES};
 ghost use Rattle.std.specs.Prelude.{◌≡◌, ◌≤◌, ◌<◌, ◌+◌, ◌-◌, ◌%◌};
 
 /// Bytes of the region that have one owner. A block is not copied and not let go: it goes back to its pool.
@@ -8,7 +9,7 @@ pub struct Block {
     bytes: u32,
     pub ghost aligned: { address % 128 ≡ 0 },
     pub ghost some: { 1 ≤ bytes },
-    pub ghost inside: { address + bytes ≤ 4194304 },
+    pub ghost inside: { address + bytes ≤ REGION_BYTES },
 }
 
 impl Block {
@@ -16,7 +17,7 @@ impl Block {
     pub(crate) fn new(address: u32, bytes: u32) -> Block
         requires aligned { address % 128 ≡ 0 }
         requires some { 1 ≤ bytes }
-        requires inside { address + bytes ≤ 4194304 }
+        requires inside { address + bytes ≤ REGION_BYTES }
         ensures address { result.address ≡ address }
         ensures bytes { result.bytes ≡ bytes }
     {
@@ -27,7 +28,7 @@ impl Block {
     pub fn address(&self) -> u32
         ensures value { result ≡ self.now.address }
         ensures aligned { result % 128 ≡ 0 }
-        ensures inside { result + self.now.bytes ≤ 4194304 }
+        ensures inside { result + self.now.bytes ≤ REGION_BYTES }
     {
         self.address
     }
@@ -65,7 +66,7 @@ pub struct Lent {
     bytes: u32,
     pub ghost aligned: { address % 128 ≡ 0 },
     pub ghost some: { 1 ≤ bytes },
-    pub ghost inside: { address + bytes ≤ 4194304 },
+    pub ghost inside: { address + bytes ≤ REGION_BYTES },
 }
 
 impl Lent {
@@ -73,7 +74,7 @@ impl Lent {
     pub fn address(&self) -> u32
         ensures value { result ≡ self.now.address }
         ensures aligned { result % 128 ≡ 0 }
-        ensures inside { result + self.now.bytes ≤ 4194304 }
+        ensures inside { result + self.now.bytes ≤ REGION_BYTES }
     {
         self.address
     }

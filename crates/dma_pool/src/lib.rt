@@ -3,7 +3,9 @@
 
 mod blocks;
 mod pool;
+mod region;
 mod runs;
 
 pub use blocks::{Block, Lent, Window};
 pub use pool::{GRANULE, NoRun, Pool};
+pub use region::{MOST_GRANULES, REGION_BYTES, region_is_fixed};

@@ -5,6 +5,7 @@ ghost use Rattle.dma_pool.specs.Blocks.{run_at, IsElsewhere};
 ghost use Rattle.dma_pool.specs.declared.runs.Run.{Run};
 
 use crate::blocks::Block;
+use crate::region::MOST_GRANULES;
 use crate::runs::{Run, first_gap, free_granules, index_of};
 use std::alloc::{AllocError, Global};
 use std::marker::Model;
@@ -27,22 +28,23 @@ pub struct Pool {
 impl Model for Pool {
     ghost use Rattle.std.specs.Prelude.{◌≤◌, vec_capacity};
     ghost use Rattle.dma_pool.specs.Pools.{PoolState, IsLaidOut};
+    ghost use Rattle.dma_pool.specs.declared.region.TheConstants.{MOST_GRANULES};
 
     ghost Value = { PoolState };
 
     ghost view = { λ pool. record { granules = pool.granules; taken = pool.taken.items } };
 
-    ghost invariant = { λ pool. (pool.granules ≤ 32768) × IsLaidOut 0 pool.granules pool.taken.items × (pool.granules ≤ vec_capacity pool.taken) };
+    ghost invariant = { λ pool. (pool.granules ≤ MOST_GRANULES) × IsLaidOut 0 pool.granules pool.taken.items × (pool.granules ≤ vec_capacity pool.taken) };
 }
 
 impl Pool {
-    /// A pool of 1 to 32,768 granules, all of them free.
+    /// A pool of 1 to [`MOST_GRANULES`] granules, all of them free.
     ///
     /// # Errors
     /// Want of memory. No other call takes any.
     pub fn new(alloc: Global, granules: u32) -> Result<Pool, AllocError>
         requires some { 1 ≤ granules }
-        requires most { granules ≤ 32768 }
+        requires most { granules ≤ MOST_GRANULES }
         ensures { IfOk result (λ pool. pool ≡ record { granules = granules; taken = [] }) }
     {
         Ok(Pool {

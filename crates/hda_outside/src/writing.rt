@@ -18,7 +18,7 @@ pub const PIECE_LEN: usize = 4_096;
 pub fn write_all<K: Sink>(alloc: Global, out: &mut K, bytes: &[u8]) -> Result<(), Fault>
     ensures all { OnOk result (K.taken out.new ≡ taken_with (K.taken out.old) bytes.now) }
     ensures front { OnErr result (TookFront (K.taken out.old) (K.taken out.new) bytes.now) }
-    ensures pieces { K.longest out.new ≤ max (K.longest out.old) PIECE_LEN }
+    ensures pieces { K.longest out.new ≤ max (K.longest out.old) 4096 }
     ensures later { K.faults out.old ≤ K.faults out.new }
     ensures failed { result ≡ Err Fault.Failed → Rose (K.faults out.old) (K.faults out.new) }
 {

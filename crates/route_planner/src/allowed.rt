@@ -7,7 +7,7 @@ ghost use Rattle.route_planner.specs.Search as spec;
 use crate::format::{Bits, Format, Rate};
 use crate::left::Left;
 use crate::routes::{Outcome, PinPlan};
-use codec_graph::{RawCodec, RawNode};
+use codec_graph::{RawCodec, RawNode, can_mute};
 use verb_codes::has_bit;
 
 /// Whether the node has two channels and carries no digital stream.
@@ -22,7 +22,7 @@ fn can_be_left(codec: &RawCodec, index: usize, node: &RawNode) -> bool
     ensures { result ≡ paths.can_be_left codec.now index node.now }
 {
     let mixes = node.is_mixer() && node.list.len() >= 2;
-    let mutes = node.has_input_amplifier() && has_bit(codec.input_amplifier_word(node), 31);
+    let mutes = node.has_input_amplifier() && can_mute(codec.input_amplifier_word(node));
     let selects_amplifier = node.is_selector() && node.has_input_amplifier();
     (!mixes || mutes) && (!selects_amplifier || index <= 15)
 }
