@@ -3,7 +3,8 @@ ghost use Rattle.codec_graph.specs.Settings.{IsSettingsOf};
 
 use crate::codec_files::{LARGE, SMALL, read_codec};
 use codec_graph::{
-    Control, FaultyList, Graph, GraphFault, GroupWords, Presence, RawCodec, RawNode, Settings, answer,
+    Control, FaultyList, Graph, GraphFault, GroupWords, Presence, RawCodec, RawNode, Settings,
+    answer,
 };
 use hda_items::Items;
 use std::alloc::{AllocError, Global};
