@@ -1,5 +1,5 @@
 //! The plans of codec files.
-use crate::codec_files::{LARGE, SMALL, read_codec, two_pins};
+use crate::codec_files::{LARGE, LEAST, read_codec, two_pins};
 use route_planner::{Bits, Format, Outcome, Plan, Rate, order, plan};
 use std::alloc::Global;
 use std::fmt::Write;
@@ -59,7 +59,7 @@ fn plans_for_formats(rt: HostRuntime) -> Result<(), Fail> {
     let single = two_pins(alloc, "0x02", "0x00020040")?;
     let faster = two_pins(alloc, "0x02, 0x03", "0x00020140")?;
     let cases = [
-        (SMALL, Rate::R48, 2, ONE),
+        (LEAST, Rate::R48, 2, ONE),
         (both.as_str(), Rate::R48, 2, SHARED),
         (single.as_str(), Rate::R48, 2, SHARED),
         (single.as_str(), Rate::R48, 4, BLOCKED),
