@@ -8,7 +8,8 @@ use Rattle.std.proofs.lemmas.List.Elements.{All-append, All-push, Contains-appen
 use Rattle.std.specs.Int.{div_ceil}
 use Rattle.dma_pool.specs.declared.runs.Run.{Run}
 use Rattle.dma_pool.specs.Blocks.{run_at, IsElsewhere}
-use Rattle.dma_pool.specs.Pools.{IsLaidOut, IsApart, IsFree, IsGap, AddsRun, end_of, granules_of}
+use Rattle.dma_pool.specs.Pools.{IsLaidOut, IsApart, IsFree, AddsRun, end_of, granules_of}
+use Rattle.dma_pool.specs.Gaps.{IsGap}
 
 -- runs that begin later also begin later than what is lower
 pub laid_out-lower : (lower from granules : ℕ) (runs : List Run) → lower ≤ from → IsLaidOut from granules runs → IsLaidOut lower granules runs

@@ -1,2 +1,4 @@
 pub mod Pools
 pub mod Blocks
+-- what private functions promise one another
+pub mod Gaps

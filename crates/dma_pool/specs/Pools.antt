@@ -1,5 +1,5 @@
 -- Pools of granules, and where a run of them is free. This project's own.
-use Rattle.std.specs.Prelude.{◌≡◌, ◌≤◌, ◌+◌, ◌⊎◌, ℕ, List, [], ◌∷◌, ◌++◌, All, take, drop, length}
+use Rattle.std.specs.Prelude.{◌≡◌, ◌≤◌, ◌+◌, ◌⊎◌, ℕ, List, [], ◌∷◌, ◌++◌, All}
 use Rattle.std.specs.Int.{div_ceil}
 use Rattle.dma_pool.specs.declared.runs.Run.{Run}
 
@@ -50,9 +50,3 @@ granules_of (run ∷ runs) = run.count + granules_of runs
 -- how many granules so many bytes need
 abbrev pub granules_for : ℕ → ℕ
 granules_for bytes = div_ceil bytes 128
-
--- a run of so many granules may stand at this place of the list, and is the first fit
-pub record IsGap (granules : ℕ) (taken : List Run) (index first count : ℕ) : Type 0 where
-  pub fits : IsFirstFit granules taken first count
-  pub laid_out : IsLaidOut 0 granules (take index taken ++ record { first = first; count = count } ∷ drop index taken)
-  pub within : index ≤ length taken

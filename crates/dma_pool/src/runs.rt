@@ -1,6 +1,7 @@
 //! Runs of granules, and the gaps between them.
 ghost use Rattle.std.specs.Prelude.{◌≡◌, ◌≤◌, ◌<◌, ◌+◌, length, MatchOption, Contains, slice_index_or};
-ghost use Rattle.dma_pool.specs.Pools.{IsLaidOut, HasNoRun, IsGap, granules_of};
+ghost use Rattle.dma_pool.specs.Pools.{IsLaidOut, HasNoRun, granules_of};
+ghost use Rattle.dma_pool.specs.Gaps.{IsGap};
 
 /// Granules that stand together: the first, and how many.
 #[derive(Clone, Copy, Debug, PartialEq, Eq)]

@@ -11,7 +11,8 @@ use Rattle.hda_files.specs.declared.machine.Machine.{Machine}
 use Rattle.hda_files.specs.declared.fault.FileFault.{FileFault}
 use Rattle.hda_files.specs.declared.fault.FileFault.TheVariants.{OutOfMemory}
 use Rattle.hda_files.specs.Machines.{Reads}
-use Rattle.hda_play.specs.Answers.{IsMeant, IsFile, IsRouteOf, IsRefused, RouteAnswers, ReadingAnswers, HasEnded, WroteText, codec_lines, plans_status, has_route, most_codec_bytes}
+use Rattle.hda_play.specs.Writing.{WroteText}
+use Rattle.hda_play.specs.Answers.{IsMeant, IsFile, IsRouteOf, IsRefused, RouteAnswers, ReadingAnswers, HasEnded, codec_lines, plans_status, has_route, most_codec_bytes}
 
 -- a list of two is its two items
 pub two_items : {X : Type 0} (xs : List X) (x y : X) → 2 ≤ length xs → length xs < 3 → x ≡ get_or xs 0 x → y ≡ get_or xs 1 y → xs ≡ x ∷ y ∷ []

@@ -120,13 +120,6 @@ HasEnded told failed words before after sink_failed status =
     ⊎ (((status ≡ 4) × sink_failed × ((meant : ℕ) × (text : List ℕ) × IsMeant told failed words meant text × TookFront before after text))
     ⊎ ((status ≡ 12) × ((after ≡ before) ⊎ ((meant : ℕ) × (text : List ℕ) × IsMeant told failed words meant text × TookFront before after text))))
 
--- the text was written whole and the status is the answer's; or the sink failed or memory was wanting, and the sink took the front
-abbrev pub WroteText : ℕ → List ℕ → Option (List ℕ) → Option (List ℕ) → Type 0 → ℕ → Type 0
-WroteText meant text before after sink_failed status =
-    ((status ≡ meant) × (after ≡ taken_with before text))
-    ⊎ (((status ≡ 4) × sink_failed × TookFront before after text)
-    ⊎ ((status ≡ 12) × TookFront before after text))
-
 -- the words name a codec file that is too long, or whose bytes read as a fault
 abbrev pub IsRefused : Option Files → List (List ℕ) → Type 0
 IsRefused told words =

@@ -1,7 +1,8 @@
 //! The program over any shelf and sink.
 ghost use Rattle.std.specs.Prelude.{◌≡◌, ◌≤◌, ℕ, List, map, string_bytes, IsNone, true, false};
 ghost use Rattle.hda_outside.specs.Counts.{Rose};
-ghost use Rattle.hda_play.specs.Answers.{AsksForItsFile, IsCommand, IsRouteOf, IsRefused, IsPlanned, HasEnded, WroteText};
+ghost use Rattle.hda_play.specs.Answers.{AsksForItsFile, IsCommand, IsRouteOf, IsRefused, IsPlanned, HasEnded};
+ghost use Rattle.hda_play.specs.Writing.{WroteText};
 
 use crate::answer::{Answer, answer_words};
 use hda_outside::{Fault, Shelf, Sink, write_all};

@@ -66,7 +66,7 @@ same_list R asym (x ∷ xs) (y ∷ ys) up_x up_y there back =
     in
     cc
 
-same_order : (codec : RawCodec) (xs ys : List ℕ) → IsOrder codec xs → IsOrder codec ys → xs ≡ ys
+pub same_order : (codec : RawCodec) (xs ys : List ℕ) → IsOrder codec xs → IsOrder codec ys → xs ≡ ys
 same_order codec xs ys one other =
     same_list (λ pin other. comes_before codec pin other ≡ true) (asymmetric codec) xs ys one.ascending other.ascending (λ z has. (other.exactly z).1 ((one.exactly z).0 has)) (λ z has. (one.exactly z).1 ((other.exactly z).0 has))
 

@@ -3,6 +3,7 @@
 
 mod allowed;
 mod format;
+mod laws;
 mod left;
 mod levels;
 mod pin_order;
@@ -11,6 +12,7 @@ mod routes;
 mod walk;
 
 pub use format::{Bits, Format, Rate};
+pub use laws::one_order;
 pub use pin_order::order;
 pub use planner::plan;
 pub use routes::{Hop, Outcome, PinPlan, Plan, Route};
