@@ -1,34 +1,14 @@
 //! Codec files, and the machine or the fault that each reads as. More files with faults stand with the program, whose text names
 //! them.
-use crate::codec_files::read_codec;
+use crate::codec_files::{LEAST, read_codec};
 use codec_graph::{Control, GraphFault};
 use hda_files::{FileFault, Key, Place, RingSize, read_machine};
 use std::alloc::Global;
 use std::test::Fail;
 
-const THREE_NODES: &str = "[[codec]]
-address = 0
-vendor = 0x10EC0889
-[[codec.node]]
-nid = 0x02
-caps = 0x00000001
-[[codec.node]]
-nid = 0x0C
-caps = 0x0020010B
-amp_in = 0x80000000
-list = [0x02, 0x0B]
-[[codec.node]]
-nid = 0x14
-caps = 0x0040010D
-amp_out = 0x80000000
-pin_caps = 0x10
-default = 0x01014010
-list = [0x0C]
-";
-
 #[test]
 fn reads_three_nodes_and_the_gaps_between(rt: HostRuntime) -> Result<(), Fail> {
-    let machine = read_machine(rt.alloc(), THREE_NODES.as_bytes())?;
+    let machine = read_machine(rt.alloc(), LEAST.as_bytes())?;
     let codec = machine
         .codecs
         .as_slice()
