@@ -2,7 +2,7 @@
 use Rattle.std.specs.Prelude.{[], ◌∷◌}
 use Rattle.hda_world.specs.Events.{Stepped}
 use Rattle.hda_world.specs.Tellings.{Went}
-use Rattle.hda_world.specs.declared.step.Step.TheVariants as step
+use Rattle.device_steps.specs.declared.Step.TheVariants as step
 use Rattle.hda_platform.specs.declared.memory_platform.MemoryPlatform.{MemoryPlatform}
 use Rattle.hda_platform.specs.ToldBy.{telling_of}
 

@@ -2,9 +2,9 @@
 use Rattle.std.specs.Prelude.{◌≡◌, ◌==◌, ℕ, Bool, true, false, ◌<◌, ◌≤◌, ◌⊎◌, ◌++◌, if◌then◌else◌, List, [], ◌∷◌, length, Option, Some, None, Result, Ok, Err, codes, ◌≢◌}
 use Rattle.std.specs.List.{list_any, flat_map, zip, AllZip}
 use Rattle.codec_graph.specs.declared.raw.RawCodec.{RawCodec}
-use Rattle.route_planner.specs.declared.format.Format.{Format}
-use Rattle.route_planner.specs.declared.format.Rate.TheVariants.{R48}
-use Rattle.route_planner.specs.declared.format.Bits.TheVariants.{B16}
+use Rattle.stream_format.specs.declared.format.Format.{Format}
+use Rattle.stream_format.specs.declared.format.Rate.TheVariants.{R48}
+use Rattle.stream_format.specs.declared.format.Bits.TheVariants.{B16}
 use Rattle.route_planner.specs.declared.routes.Outcome.{Outcome}
 use Rattle.route_planner.specs.declared.routes.Outcome.TheVariants as outcome
 use Rattle.route_planner.specs.declared.routes.PinPlan.{PinPlan}

@@ -10,10 +10,10 @@ use Rattle.hda_registers.specs.Fields.{Fields, is_out_of_reset}
 use Rattle.hda_registers.specs.Moves.{framed, raised}
 use Rattle.ring_entries.specs.declared.response.Response.{Response}
 use Rattle.ring_entries.specs.Entries.{after_response, after_responses}
-use Rattle.hda_world.specs.declared.step.Step.{Step}
+use Rattle.device_steps.specs.declared.Step.{Step}
 use Rattle.hda_world.specs.declared.step.TheConstants.{FRAMES_TO_DISCOVERY}
 use Rattle.hda_world.specs.Worlds.{World, with_codec}
-use Rattle.hda_world.specs.declared.step.Step.TheVariants as step
+use Rattle.device_steps.specs.declared.Step.TheVariants as step
 use Rattle.hda_world.specs.Steps.{discovered, passed, frame_step, times, after_step, after_steps}
 use Rattle.hda_world.specs.Kept.{Kept}
 use Rattle.hda_world.specs.Discovery.{addresses_of, AreSet, IsDiscovered}

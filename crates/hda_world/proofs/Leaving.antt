@@ -18,7 +18,7 @@ use Rattle.ring_entries.specs.Memory.{IsOutside}
 use Rattle.ring_entries.proofs.Callers.{stored_outside}
 use Rattle.ring_entries.specs.Entries.{response_bytes, response_stored, response_place, responses_stored, after_response, after_responses}
 use Rattle.ring_entries.specs.Engines.{after_batch}
-use Rattle.hda_world.specs.declared.step.Step.{Step}
+use Rattle.device_steps.specs.declared.Step.{Step}
 use Rattle.hda_world.specs.Worlds.{World, codec_at, with_codec}
 use Rattle.hda_world.specs.Steps.{discovered, after_steps}
 use Rattle.hda_registers.specs.declared.shapes.Width.{Width}

@@ -5,8 +5,8 @@ use Rattle.codec_graph.specs.CodecStates.{CodecState, taken, plugged, without_fi
 use Rattle.hda_registers.specs.Fields.{is_out_of_reset}
 use Rattle.ring_entries.specs.Engines.{next_word}
 use Rattle.ring_entries.specs.declared.response.TheConstants.{MOST_WAITING}
-use Rattle.hda_world.specs.declared.step.Step.{Step}
-use Rattle.hda_world.specs.declared.step.Step.TheVariants as step
+use Rattle.device_steps.specs.declared.Step.{Step}
+use Rattle.device_steps.specs.declared.Step.TheVariants as step
 use Rattle.hda_world.specs.Worlds.{World, codec_at, with_codec}
 use Rattle.hda_world.specs.Steps.{address_of, handed, handed_next, is_busy, sent_first, items_of, lost, passed, frame_step, times, after_step, after_steps}
 use Rattle.hda_world.specs.Leaving.{AddressesOther, NamesOthers, NameOthers}

@@ -7,8 +7,8 @@ use Rattle.ring_entries.specs.declared.response.Response.{Response}
 use Rattle.ring_entries.specs.declared.response.TheConstants.{MOST_WAITING}
 use Rattle.ring_entries.specs.Entries.{next_command, after_responses, responses_stored}
 use Rattle.ring_entries.specs.Engines.{can_fetch, can_respond, batch_of, batch}
-use Rattle.hda_world.specs.declared.step.Step.{Step}
-use Rattle.hda_world.specs.declared.step.Step.TheVariants as step
+use Rattle.device_steps.specs.declared.Step.{Step}
+use Rattle.device_steps.specs.declared.Step.TheVariants as step
 use Rattle.hda_world.specs.declared.step.TheConstants.{FRAMES_TO_DISCOVERY}
 use Rattle.hda_world.specs.Worlds.{World, codec_at}
 use Rattle.hda_world.specs.Steps.{address_of, is_busy, handed, handed_next, items_of, sent_first, responded, discovered, passed, frame_step, times, corb_step, answer_step, lose_step, rirb_step, after_step, after_steps}

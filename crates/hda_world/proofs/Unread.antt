@@ -10,7 +10,7 @@ use Rattle.hda_registers.specs.Moves.{framed, raised}
 use Rattle.ring_entries.specs.declared.response.Response.{Response}
 use Rattle.ring_entries.specs.Entries.{after_response, after_responses}
 use Rattle.ring_entries.specs.Engines.{can_respond, batch_of, batch}
-use Rattle.hda_world.specs.declared.step.Step.{Step}
+use Rattle.device_steps.specs.declared.Step.{Step}
 use Rattle.hda_world.specs.declared.step.TheConstants.{FRAMES_TO_DISCOVERY}
 use Rattle.hda_world.specs.Worlds.{World}
 use Rattle.hda_world.specs.Steps.{discovered, after_steps}

@@ -5,7 +5,7 @@ use Rattle.codec_graph.specs.CodecStates.{cleared}
 use Rattle.hda_registers.specs.declared.shapes.Width.{Width}
 use Rattle.hda_registers.specs.Access.{value_at, written, effects_of}
 use Rattle.ring_entries.specs.Memory.{stored}
-use Rattle.hda_world.specs.declared.step.Step.{Step}
+use Rattle.device_steps.specs.declared.Step.{Step}
 use Rattle.hda_world.specs.Worlds.{World}
 use Rattle.hda_world.specs.Steps.{after_step}
 

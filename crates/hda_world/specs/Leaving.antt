@@ -4,8 +4,8 @@ use Rattle.codec_graph.specs.declared.raw.RawCodec.{RawCodec}
 use Rattle.hda_registers.specs.Fields.{Fields, entries_of, rirb_address, is_running}
 use Rattle.ring_entries.specs.declared.entries.TheConstants.{RESPONSE_BYTES}
 use Rattle.ring_entries.specs.Engines.{next_word}
-use Rattle.hda_world.specs.declared.step.Step.{Step}
-use Rattle.hda_world.specs.declared.step.Step.TheVariants as step
+use Rattle.device_steps.specs.declared.Step.{Step}
+use Rattle.device_steps.specs.declared.Step.TheVariants as step
 use Rattle.hda_world.specs.Worlds.{World}
 use Rattle.hda_world.specs.Steps.{address_of, after_step}
 

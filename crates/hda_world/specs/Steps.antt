@@ -12,8 +12,8 @@ use Rattle.ring_entries.specs.Entries.{fetched, responses_stored}
 use Rattle.ring_entries.specs.Engines.{next_word, batch, after_batch}
 use Rattle.ring_entries.specs.declared.response.Response.{Response}
 use Rattle.ring_entries.specs.declared.response.TheConstants.{MOST_WAITING}
-use Rattle.hda_world.specs.declared.step.Step.{Step}
-use Rattle.hda_world.specs.declared.step.Step.TheVariants as step
+use Rattle.device_steps.specs.declared.Step.{Step}
+use Rattle.device_steps.specs.declared.Step.TheVariants as step
 use Rattle.hda_world.specs.declared.step.TheConstants.{FRAMES_TO_DISCOVERY}
 use Rattle.hda_world.specs.Worlds.{World, TakenCommand, codec_at, with_codec}
 

@@ -2,8 +2,8 @@
 ghost use Rattle.std.specs.Prelude.{◌≡◌, ◌≢◌, ◌<◌, ◌≤◌, ◌+◌, ℕ, true, false, List, [], ◌++◌, map, length};
 ghost use Rattle.hda_registers.specs.declared.shapes.Width.{Width};
 ghost use Rattle.codec_graph.specs.CodecStates.{CodecState, cleared};
-ghost use Rattle.hda_world.specs.declared.step.Step.{Step};
-ghost use Rattle.hda_world.specs.declared.step.Step.TheVariants as step;
+ghost use Rattle.device_steps.specs.declared.Step.{Step};
+ghost use Rattle.device_steps.specs.declared.Step.TheVariants as step;
 ghost use Rattle.hda_world.specs.Worlds.{World, codec_at, with_codec};
 ghost use Rattle.hda_world.specs.Steps.{after_step, after_steps};
 ghost use Rattle.hda_world.specs.Events.{Event, DmaWrite, after, AreHonest, after_write, happens};

@@ -10,7 +10,7 @@ use Rattle.codec_graph.specs.Widget.{node_at, is_inner, is_output_converter}
 use Rattle.route_planner.specs.declared.left.Left.{Left}
 use Rattle.route_planner.specs.declared.routes.Hop.{Hop}
 use Rattle.route_planner.specs.declared.routes.PinPlan.{PinPlan}
-use Rattle.route_planner.specs.declared.format.Format.{Format}
+use Rattle.stream_format.specs.declared.format.Format.{Format}
 use Rattle.route_planner.specs.Formats.{supports}
 use Rattle.route_planner.specs.Paths.{passes, connection, LeadsTo, is_analog_stereo, can_be_left}
 use Rattle.route_planner.specs.Search.{left_at, allows, carries_alike, can_leave, can_end, target, is_inner_at, is_end}

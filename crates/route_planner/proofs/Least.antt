@@ -7,7 +7,7 @@ use Rattle.route_planner.specs.declared.left.Left.{Left}
 use Rattle.route_planner.specs.declared.routes.Hop.{Hop}
 use Rattle.route_planner.specs.declared.routes.Route.{Route}
 use Rattle.route_planner.specs.declared.routes.PinPlan.{PinPlan}
-use Rattle.route_planner.specs.declared.format.Format.{Format}
+use Rattle.stream_format.specs.declared.format.Format.{Format}
 use Rattle.route_planner.specs.Search.{level_of, target, is_inner_at, is_end, IsBounded}
 use Rattle.route_planner.specs.Ways.{IsWay, IsWayOut, LeadsToNoEnd, IsNearest, has_level_0, IsLeastWay}
 use Rattle.route_planner.specs.Found.{IsLeastOpen, HasNoOpenPath}

@@ -19,7 +19,7 @@ use Rattle.route_planner.specs.declared.routes.Outcome.{Outcome}
 use Rattle.route_planner.specs.declared.routes.Outcome.TheVariants as outcome
 use Rattle.route_planner.specs.declared.routes.PinPlan.{PinPlan}
 use Rattle.route_planner.specs.declared.routes.Plan.{Plan}
-use Rattle.route_planner.specs.declared.format.Format.{Format}
+use Rattle.stream_format.specs.declared.format.Format.{Format}
 use Rattle.route_planner.specs.Order.{pair_of, is_earlier_companion}
 use Rattle.route_planner.specs.Paths.{passes, IsAdmissible}
 use Rattle.route_planner.specs.Plans.{IsOutcome, HaveOutcomes, IsPlan}

@@ -8,7 +8,7 @@ use Rattle.codec_graph.specs.declared.raw.RawCodec.{RawCodec}
 use Rattle.codec_graph.specs.Widget.{node_at, is_inner}
 use Rattle.route_planner.specs.declared.left.Left.{Left}
 use Rattle.route_planner.specs.declared.routes.PinPlan.{PinPlan}
-use Rattle.route_planner.specs.declared.format.Format.{Format}
+use Rattle.stream_format.specs.declared.format.Format.{Format}
 use Rattle.route_planner.specs.Paths.{passes, list_of}
 use Rattle.route_planner.specs.Search.{left_at, can_leave, can_end, carries_alike, target, is_inner_at, is_end, IsBounded}
 

@@ -12,7 +12,7 @@ use Rattle.route_planner.specs.declared.routes.Route.{Route}
 use Rattle.route_planner.specs.declared.routes.Outcome.{Outcome}
 use Rattle.route_planner.specs.declared.routes.Outcome.TheVariants as outcome
 use Rattle.route_planner.specs.declared.routes.PinPlan.{PinPlan}
-use Rattle.route_planner.specs.declared.format.Format.{Format}
+use Rattle.stream_format.specs.declared.format.Format.{Format}
 use Rattle.route_planner.specs.Paths.{passes, IsAdmissible}
 use Rattle.route_planner.specs.Plans.{IsOpenPath}
 use Rattle.route_planner.specs.Search.{left_at, allows, is_alike, outcome_carries, carries_alike, target, is_inner_at, is_end, IsBounded}

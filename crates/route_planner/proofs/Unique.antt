@@ -4,7 +4,7 @@ use Rattle.std.specs.Prelude.{MatchOption}
 use Rattle.std.proofs.lemmas.Option.{same_Some}
 use Rattle.std.proofs.lemmas.List.{length-map}
 use Rattle.codec_graph.specs.declared.raw.RawCodec.{RawCodec}
-use Rattle.route_planner.specs.declared.format.Format.{Format}
+use Rattle.stream_format.specs.declared.format.Format.{Format}
 use Rattle.route_planner.specs.declared.routes.Hop.{Hop}
 use Rattle.route_planner.specs.declared.routes.Route.{Route}
 use Rattle.route_planner.specs.declared.routes.Outcome.TheVariants as outcome

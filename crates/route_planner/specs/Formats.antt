@@ -5,10 +5,10 @@ use Rattle.codec_graph.specs.declared.raw.RawNode.{RawNode}
 use Rattle.codec_graph.specs.declared.raw.RawCodec.{RawCodec}
 use Rattle.verb_codes.specs.Words.{has_bit}
 use Rattle.codec_graph.specs.Widget.{pcm_word, formats_word}
-use Rattle.route_planner.specs.declared.format.Rate.{Rate}
-use Rattle.route_planner.specs.declared.format.Rate.TheVariants.{R8, R16, R44, R48, R96, R192}
-use Rattle.route_planner.specs.declared.format.Bits.{Bits}
-use Rattle.route_planner.specs.declared.format.Bits.TheVariants.{B16, B24, B32}
+use Rattle.stream_format.specs.declared.format.Rate.{Rate}
+use Rattle.stream_format.specs.declared.format.Rate.TheVariants.{R8, R16, R44, R48, R96, R192}
+use Rattle.stream_format.specs.declared.format.Bits.{Bits}
+use Rattle.stream_format.specs.declared.format.Bits.TheVariants.{B16, B24, B32}
 
 -- the bit of the PCM word for a sample rate, and for a sample size
 abbrev pub rate_bit : Rate → ℕ

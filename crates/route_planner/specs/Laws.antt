@@ -1,7 +1,7 @@
 -- What follows from the plan's definition: a graph has one plan, and with one pair of channels no pin is blocked.
 use Rattle.std.specs.Prelude.{◌≡◌, All}
 use Rattle.codec_graph.specs.declared.raw.RawCodec.{RawCodec}
-use Rattle.route_planner.specs.declared.format.Format.{Format}
+use Rattle.stream_format.specs.declared.format.Format.{Format}
 use Rattle.route_planner.specs.declared.routes.Outcome.{Outcome}
 use Rattle.route_planner.specs.declared.routes.Outcome.TheVariants as outcome
 use Rattle.route_planner.specs.declared.routes.PinPlan.{PinPlan}

@@ -12,7 +12,7 @@ use Rattle.route_planner.specs.declared.routes.Hop.{Hop}
 use Rattle.route_planner.specs.declared.routes.Outcome.{Outcome}
 use Rattle.route_planner.specs.declared.routes.Outcome.TheVariants as outcome
 use Rattle.route_planner.specs.declared.routes.PinPlan.{PinPlan}
-use Rattle.route_planner.specs.declared.format.Format.{Format}
+use Rattle.stream_format.specs.declared.format.Format.{Format}
 use Rattle.route_planner.specs.Formats.{supports}
 use Rattle.route_planner.specs.Paths.{passes, list_of, connection, is_analog_stereo, can_be_left}
 

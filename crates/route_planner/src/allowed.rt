@@ -4,7 +4,7 @@ ghost use Rattle.route_planner.specs.Formats as formats;
 ghost use Rattle.route_planner.specs.Paths as paths;
 ghost use Rattle.route_planner.specs.Search as spec;
 
-use crate::format::{Bits, Format, Rate};
+use stream_format::{Bits, Format, Rate};
 use crate::left::Left;
 use crate::routes::{Outcome, PinPlan};
 use codec_graph::{RawCodec, RawNode, can_mute};

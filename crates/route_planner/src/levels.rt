@@ -6,7 +6,7 @@ ghost use Rattle.route_planner.specs.Levels as stage;
 ghost use Rattle.route_planner.specs.Ways as ways;
 
 use crate::allowed::{can_leave, is_end, is_inner};
-use crate::format::Format;
+use stream_format::Format;
 use crate::left::Left;
 use crate::routes::PinPlan;
 use codec_graph::{NODE_IDENTIFIERS, RawCodec};

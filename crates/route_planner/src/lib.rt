@@ -2,7 +2,6 @@
 #![tactic(auto)]
 
 mod allowed;
-mod format;
 mod laws;
 mod left;
 mod levels;
@@ -11,8 +10,9 @@ mod planner;
 mod routes;
 mod walk;
 
-pub use format::{Bits, Format, Rate};
+
 pub use laws::one_order;
 pub use pin_order::order;
 pub use planner::plan;
 pub use routes::{Hop, Outcome, PinPlan, Plan, Route};
+pub use stream_format::{Bits, Format, Rate};

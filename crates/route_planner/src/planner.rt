@@ -5,7 +5,7 @@ ghost use Rattle.route_planner.specs.Found as found;
 ghost use Rattle.route_planner.specs.Search as spec;
 ghost use Rattle.route_planner.specs.Laws as laws;
 
-use crate::format::Format;
+use stream_format::Format;
 use crate::left::lefts_of;
 use crate::levels::{end_levels, nearest_level};
 use crate::pin_order::{order, pair_of};

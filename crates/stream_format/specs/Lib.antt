@@ -1,0 +1,4 @@
+pub mod Words
+pub mod Cadence
+pub mod Samples
+pub mod Laws
