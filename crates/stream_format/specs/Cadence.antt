@@ -1,6 +1,6 @@
 -- How many sample blocks are due in each link frame of a running stream: High Definition Audio 1.0a, 5.4.2. In which frames 16 and
 -- 8 kHz have a block, and in which of its frames the cadence of 44.1 kHz begins, is this project's own.
-use Rattle.std.specs.Prelude.{ℕ, ◌+◌, ◌*◌, ◌%◌, List, [], ◌∷◌, ◌++◌, length, replicate, slice_index}
+use Rattle.std.specs.Prelude.{ℕ, ◌*◌, ◌%◌, List, [], ◌∷◌, ◌++◌, length, replicate, slice_index}
 use Rattle.std.specs.List.{flat_map}
 use Rattle.stream_format.specs.declared.format.Rate.{Rate}
 use Rattle.stream_format.specs.declared.format.Rate.TheVariants.{R8, R16, R44, R48, R96, R192}
@@ -12,11 +12,15 @@ use Rattle.stream_format.specs.declared.format.Format.{Format}
 abbrev pub frames_to_gap : ℕ → List ℕ
 frames_to_gap frames = replicate frames 1 ++ 0 ∷ []
 
+-- the frames of 44.1 kHz until they come again
+unfoldable pub cadence_44 : List ℕ
+cadence_44 = flat_map frames_to_gap (12 ∷ 11 ∷ 11 ∷ 12 ∷ 11 ∷ 11 ∷ 12 ∷ 11 ∷ 11 ∷ 12 ∷ 11 ∷ 11 ∷ 11 ∷ [])
+
 -- the blocks of each frame, for as many frames as it takes until they come again
 abbrev pub cadence : Rate → List ℕ
 cadence R8 = 1 ∷ 0 ∷ 0 ∷ 0 ∷ 0 ∷ 0 ∷ []
 cadence R16 = 1 ∷ 0 ∷ 0 ∷ []
-cadence R44 = flat_map frames_to_gap (12 ∷ 11 ∷ 11 ∷ 12 ∷ 11 ∷ 11 ∷ 12 ∷ 11 ∷ 11 ∷ 12 ∷ 11 ∷ 11 ∷ 11 ∷ [])
+cadence R44 = cadence_44
 cadence R48 = 1 ∷ []
 cadence R96 = 2 ∷ []
 cadence R192 = 4 ∷ []

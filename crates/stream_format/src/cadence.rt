@@ -1,5 +1,5 @@
 //! How many blocks are due in each link frame, and their bytes.
-ghost use Rattle.std.specs.Prelude.{◌≡◌};
+ghost use Rattle.std.specs.Prelude.{◌≡◌, if◌then◌else◌};
 ghost use Rattle.stream_format.specs.Cadence as spec;
 
 use crate::format::{Bits, Format, Rate};
@@ -28,6 +28,13 @@ fn most_blocks(rate: Rate) -> u32
     }
 }
 
+/// One block where it is due.
+fn one_if(due: bool) -> u32
+    ensures { result ≡ (if due then 1 else 0) }
+{
+    u32::from(due)
+}
+
 impl Format {
     /// The bytes of a block: those of a container for each channel (HDA 1.0a, 4.5.1).
     pub fn block_bytes(&self) -> u32
@@ -41,9 +48,9 @@ impl Format {
         ensures { result ≡ spec.blocks_of self.now.rate frame }
     {
         match self.rate {
-            Rate::R8 => u32::from(frame % 6 == 0),
-            Rate::R16 => u32::from(frame % 3 == 0),
-            Rate::R44 => u32::from(!GAPS.contains(&(frame % 160))),
+            Rate::R8 => one_if(frame % 6 == 0),
+            Rate::R16 => one_if(frame % 3 == 0),
+            Rate::R44 => one_if(!GAPS.contains(&(frame % 160))),
             Rate::R48 => 1,
             Rate::R96 => 2,
             Rate::R192 => 4,
