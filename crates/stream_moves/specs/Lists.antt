@@ -1,35 +1,25 @@
 -- The list of buffers that a stream fetches from: High Definition Audio 1.0a, 3.6.2 and 3.6.3. That a buffer which is empty or does
 -- not lie in the region stops the stream is this project's own.
-use Rattle.std.specs.Prelude.{ℕ, ◌==◌, ◌&&◌, ◌+◌, ◌*◌, ◌%◌, Bool, true, not, nat_le, List, length, slice_index, Option, Some, None, unwrap_or, if◌then◌else◌}
-use Rattle.byteorder.specs.Endian.{little_from}
+use Rattle.std.specs.Prelude.{ℕ, ◌==◌, ◌&&◌, ◌+◌, ◌*◌, ◌%◌, ◌^◌, Bool, not, nat_le, nat_lt, List, length, slice_index, Option, Some, None, unwrap_or, if◌then◌else◌}
 use Rattle.ring_entries.specs.Memory.{word_at}
-use Rattle.stream_moves.specs.declared.TheConstants.{BUFFER_ENTRY_BYTES, BUFFER_ALIGNMENT}
-
--- a buffer as its entry gives it
-pub record Buffer : Type 0 where
-  pub address : ℕ
-  pub bytes : ℕ
-  -- IOC: an interrupt is asked for when its last byte was fetched
-  pub interrupts : Bool
-
--- where a stream is in its list of buffers
-pub record ListPlace : Type 0 where
-  -- the entry in use, or else the one that is read next
-  pub index : ℕ
-  -- the buffer in use: its entry is read when its first byte is needed, and kept until its last byte was fetched
-  pub buffer : Option Buffer
-  -- how many bytes of it were fetched
-  pub fetched : ℕ
+use Rattle.stream_moves.specs.declared.buffers.Buffer.{Buffer}
+use Rattle.stream_moves.specs.declared.buffers.ListPlace.{ListPlace}
+use Rattle.stream_moves.specs.declared.buffers.TheConstants.{BUFFER_ENTRY_BYTES, BUFFER_ALIGNMENT}
 
 -- before the first byte
 abbrev pub list_start : ListPlace
 list_start = record { index = 0; buffer = None; fetched = 0 }
 
--- the buffer of an entry of the list at an address: its address in 8 bytes, its length in 4, and then IOC in bit 0
+-- the buffer of an entry of the list at an address: its address in two words, the lower one first, its length, and IOC in bit 0 of
+-- the last word
 abbrev pub buffer_of : List ℕ → ℕ → ℕ → Buffer
 buffer_of memory base index =
     let at = base + BUFFER_ENTRY_BYTES * index in
-    record { address = little_from at 8 memory; bytes = word_at memory (at + 8); interrupts = word_at memory (at + 12) % 2 == 1 }
+    record {
+      address = word_at memory at + 2 ^ 32 * word_at memory (at + 4);
+      bytes = word_at memory (at + 8);
+      interrupts = word_at memory (at + 12) % 2 == 1;
+    }
 
 -- the buffer that the next byte comes from
 abbrev pub next_buffer : List ℕ → ℕ → ListPlace → Buffer
@@ -50,7 +40,7 @@ is_last_byte buffer place = place.fetched + 1 == buffer.bytes
 
 -- after the last entry of the list the first one comes again
 abbrev pub next_index : ℕ → ℕ → ℕ
-next_index last index = if index == last then 0 else index + 1
+next_index last index = if nat_lt index last then index + 1 else 0
 
 -- the place after a byte of the buffer
 abbrev pub after_byte : ℕ → Buffer → ListPlace → ListPlace

@@ -1,9 +1,10 @@
 -- The moves of an output stream: a byte is fetched from memory into the FIFO, and a link frame takes the blocks that are due out of it.
 -- High Definition Audio 1.0a, 4.5 and 5.4. When a byte comes is the schedule's choice; that a frame takes all due blocks or none is
 -- this project's own.
-use Rattle.std.specs.Prelude.{ℕ, zero, suc, ◌==◌, ◌&&◌, ◌+◌, ◌%◌, Bool, false, true, not, nat_lt, nat_le, List, [], ◌∷◌, ◌++◌, length, take, if◌then◌else◌}
+use Rattle.std.specs.Prelude.{ℕ, zero, suc, ◌==◌, ◌&&◌, ◌||◌, ◌+◌, ◌%◌, Bool, false, true, not, nat_lt, nat_le, List, [], ◌∷◌, ◌++◌, length, take, if◌then◌else◌}
 use Rattle.hda_registers.specs.Fields.{Descriptor, is_running, list_address}
-use Rattle.stream_moves.specs.Lists.{Buffer, ListPlace, next_buffer, is_good, byte_of, is_last_byte, after_byte}
+use Rattle.stream_moves.specs.declared.buffers.Buffer.{Buffer}
+use Rattle.stream_moves.specs.Lists.{next_buffer, is_good, byte_of, is_last_byte, after_byte}
 use Rattle.stream_moves.specs.Streams.{StreamState, Stream, held, held_bytes, due, is_usable, with_ready, broke}
 
 -- ---- bytes from memory
@@ -56,6 +57,32 @@ moves (suc n) move stream = moves n move (move stream)
 -- a fetch of at most so many bytes
 abbrev pub fetch : ℕ → ℕ → List ℕ → Stream → Stream
 fetch most fifo memory stream = moves most (fetch_move fifo memory) stream
+
+-- the same of a FIFO alone, whose stream runs and whose registers can be used: its next byte comes where there is room and the buffer
+-- can be used
+abbrev pub can_come : ℕ → List ℕ → ℕ → StreamState → Bool
+can_come fifo memory base state = has_room fifo state && is_good memory (next_of memory base state)
+
+abbrev pub next_byte : ℕ → List ℕ → ℕ → ℕ → StreamState → StreamState
+next_byte fifo memory base last state = if can_come fifo memory base state then with_byte memory base last state else state
+
+-- the state after so many bytes at most
+abbrev pub bytes_came : ℕ → ℕ → List ℕ → ℕ → ℕ → StreamState → StreamState
+bytes_came zero fifo memory base last state = state
+bytes_came (suc n) fifo memory base last state = bytes_came n fifo memory base last (next_byte fifo memory base last state)
+
+-- some of them is the last of a buffer with IOC
+abbrev pub some_completes : ℕ → ℕ → List ℕ → ℕ → ℕ → StreamState → Bool
+some_completes zero fifo memory base last state = false
+some_completes (suc n) fifo memory base last state =
+    (can_come fifo memory base state && completes memory base state) || some_completes n fifo memory base last (next_byte fifo memory base last state)
+
+-- they come to a list entry that can't be used
+abbrev pub some_breaks : ℕ → ℕ → List ℕ → ℕ → ℕ → StreamState → Bool
+some_breaks zero fifo memory base last state = false
+some_breaks (suc n) fifo memory base last state =
+    (has_room fifo state && not (is_good memory (next_of memory base state)))
+    || some_breaks n fifo memory base last (next_byte fifo memory base last state)
 
 -- ---- link frames
 

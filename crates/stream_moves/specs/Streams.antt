@@ -6,7 +6,8 @@ use Rattle.hda_registers.specs.Fields.{Descriptor, is_running}
 use Rattle.hda_registers.specs.Access.{rose, fell}
 use Rattle.hda_registers.specs.Status.{worth}
 use Rattle.stream_format.specs.Layouts.{Layout, layout_of, frame_bytes, most_frame_bytes}
-use Rattle.stream_moves.specs.Lists.{ListPlace, list_start}
+use Rattle.stream_moves.specs.declared.buffers.ListPlace.{ListPlace}
+use Rattle.stream_moves.specs.Lists.{list_start}
 
 pub record StreamState : Type 0 where
   -- the link frames since RUN rose
