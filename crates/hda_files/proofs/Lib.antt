@@ -1,3 +1,4 @@
+pub mod AddressLemmas
 pub mod ArrayLemmas
 pub mod JudgeLemmas
 pub mod Meant
