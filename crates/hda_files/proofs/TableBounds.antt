@@ -32,11 +32,11 @@ AreSmall nodes = All (λ node. node.nid ≤ 127) nodes
 abbrev pub HaveSmallNodes : List CodecTable → Type 0
 HaveSmallNodes codecs = All (λ (codec : CodecTable). AreSmall codec.nodes) codecs
 
-IfOk-then : {A B : Type 0} (P : A → Type 0) (Q : B → Type 0) (r : Result A FileFault) (next : A → Result B FileFault) → IfOk r P → ((x : A) → P x → IfOk (next x) Q) → IfOk (r >>= next) Q
+pub IfOk-then : {A B : Type 0} (P : A → Type 0) (Q : B → Type 0) (r : Result A FileFault) (next : A → Result B FileFault) → IfOk r P → ((x : A) → P x → IfOk (next x) Q) → IfOk (r >>= next) Q
 IfOk-then P Q (Ok x) next here step = step x here
 IfOk-then P Q (Err fault) next here step = tt
 
-IfOk-after : {A B : Type 0} (Q : B → Type 0) (r : Result A FileFault) (next : A → Result B FileFault) → ((x : A) → IfOk (next x) Q) → IfOk (r >>= next) Q
+pub IfOk-after : {A B : Type 0} (Q : B → Type 0) (r : Result A FileFault) (next : A → Result B FileFault) → ((x : A) → IfOk (next x) Q) → IfOk (r >>= next) Q
 IfOk-after Q (Ok x) next step = step x
 IfOk-after Q (Err fault) next step = tt
 
@@ -56,7 +56,7 @@ number-most : (place : Place) (key : Key) (least most : ℕ) (value : Data) → 
 number-most place key least most value =
     IfOk-after (λ n. n ≤ most) _ _ (λ number. IfOk-ok_or (λ n. n ≤ most) (within least most number) _ (within-most least most number))
 
-required-most : (table : Members) (place : Place) (key : Key) (least most : ℕ) → IfOk (required_number table place key least most) (λ n. n ≤ most)
+pub required-most : (table : Members) (place : Place) (key : Key) (least most : ℕ) → IfOk (required_number table place key least most) (λ n. n ≤ most)
 required-most table place key least most =
     IfOk-after (λ n. n ≤ most) _ _ (λ value. number-most place key least most value)
 

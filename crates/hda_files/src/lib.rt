@@ -50,6 +50,6 @@ mod top;
 mod values;
 
 pub use fault::{FileFault, Key, Place};
-pub use laws::one_reading;
+pub use laws::{keeps_each_codec, one_reading};
 pub use machine::{CodecFile, Machine, read_machine};
 pub use top::RingSize;
