@@ -1,6 +1,6 @@
 -- The list of buffers that a stream fetches from: High Definition Audio 1.0a, 3.6.2 and 3.6.3. That a buffer which is empty or does
 -- not lie in the region stops the stream is this project's own.
-use Rattle.std.specs.Prelude.{ℕ, ◌==◌, ◌&&◌, ◌+◌, ◌*◌, ◌%◌, ◌^◌, Bool, not, nat_le, nat_lt, List, length, slice_index, Option, Some, None, unwrap_or, if◌then◌else◌}
+use Rattle.std.specs.Prelude.{ℕ, ◌==◌, ◌&&◌, ◌+◌, ◌*◌, ◌%◌, ◌^◌, Bool, not, nat_le, nat_lt, List, length, slice_index, Some, None, unwrap_or, if◌then◌else◌}
 use Rattle.ring_entries.specs.Memory.{word_at}
 use Rattle.stream_moves.specs.declared.buffers.Buffer.{Buffer}
 use Rattle.stream_moves.specs.declared.buffers.ListPlace.{ListPlace}

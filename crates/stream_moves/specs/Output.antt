@@ -1,8 +1,8 @@
 -- The moves of an output stream: a byte is fetched from memory into the FIFO, and a link frame takes the blocks that are due out of it.
 -- High Definition Audio 1.0a, 4.5 and 5.4. When a byte comes is the schedule's choice; that a frame takes all due blocks or none is
 -- this project's own.
-use Rattle.std.specs.Prelude.{ℕ, zero, suc, ◌==◌, ◌&&◌, ◌||◌, ◌+◌, ◌%◌, Bool, false, true, not, nat_lt, nat_le, List, [], ◌∷◌, ◌++◌, length, take, if◌then◌else◌}
-use Rattle.hda_registers.specs.Fields.{Descriptor, is_running, list_address}
+use Rattle.std.specs.Prelude.{ℕ, zero, suc, ◌==◌, ◌&&◌, ◌||◌, ◌+◌, ◌%◌, Bool, false, not, nat_lt, nat_le, List, [], ◌∷◌, ◌++◌, length, take, if◌then◌else◌}
+use Rattle.hda_registers.specs.Fields.{is_running, list_address}
 use Rattle.stream_moves.specs.declared.buffers.Buffer.{Buffer}
 use Rattle.stream_moves.specs.Lists.{next_buffer, is_good, byte_of, is_last_byte, after_byte}
 use Rattle.stream_moves.specs.Streams.{StreamState, Stream, held, held_bytes, due, is_usable, with_ready, broke}

@@ -1,0 +1,3 @@
+mod Placing
+mod Filling
+mod Passing

@@ -1,0 +1,4 @@
+pub mod Callers
+pub mod Coming
+pub mod Whole
+pub mod Formats
