@@ -1,0 +1,4 @@
+mod WordViews
+mod ClapRules
+mod ClapWalk
+mod ClapParts

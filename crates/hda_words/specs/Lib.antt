@@ -1,0 +1,7 @@
+pub mod Numbers
+pub mod Commands
+pub mod Tables
+pub mod Words
+pub mod Lines
+pub mod ClapCommand
+pub mod Asked
