@@ -2,3 +2,5 @@ mod WordViews
 mod ClapRules
 mod ClapWalk
 mod ClapParts
+mod ClapRows
+mod ClapAnswer
