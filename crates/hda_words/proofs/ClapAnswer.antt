@@ -1,7 +1,7 @@
 -- The answer of `clap` to the words after a command's name.
 use Rattle.std.proofs.Common.{◌≡◌, ◌∙◌, ℕ, Bool, true, false, not, List, [], ◌∷◌, ◌++◌, map, drop, Option, Some, None, refl, sym, ap, subst}
 use Rattle.std.proofs.Common.{◌⊎◌, inl, inr}
-use Rattle.std.specs.Prelude.{MatchOption, ◌&&◌, ◌||◌, if◌then◌else◌, fold, is_some, option_map, unwrap_or}
+use Rattle.std.specs.Prelude.{◌&&◌, ◌||◌, if◌then◌else◌, fold, is_some, option_map, unwrap_or}
 use Rattle.std.specs.List.{list_any}
 use Rattle.clap.specs.Kinds.{HasKind, IsAmong, Kinds, or_else}
 use Rattle.clap.specs.Walk.{Row, Rule, Held, Walk, finished, has_row, idle, nothing_held, rows_after, rows_of, settled, walk, walk_from, with_default}
@@ -15,7 +15,7 @@ use Rattle.clap.specs.declared.error.kind.ErrorKind.TheVariants.{MissingRequired
 use Rattle.clap.specs.declared.parser.matches.ArgMatches.{ArgMatches}
 use Rattle.clap.proofs.WalkLemmas.{raw_values-rows}
 use Rattle.hda_words.specs.Words.{Part, has_single, is_among, operands_of, parts_from, parts_of, values_of}
-use Rattle.hda_words.specs.ClapCommand.{HoldsParts, command_app, operands_id, values_found}
+use Rattle.hda_words.specs.ClapCommand.{FindsParts, HoldsParts, command_app, operands_id, values_found}
 use Rattle.hda_words.proofs.ClapRules.{built_app, built_command, built_operand, built_option, built_rules, built_shape, command_is_free, command_is_simple, has_rules}
 use Rattle.hda_words.proofs.ClapWalk.{Reads, Text, end_rows, rows_with, total_fault, walk_at}
 use Rattle.hda_words.proofs.ClapParts.{words_read}
@@ -86,11 +86,8 @@ rows_are name names words =
 found_rows : (m : ArgMatches) (id : Text) (rows : List Row) → rows_of (found_of m) ≡ rows → values_found m id ≡ values_in id rows
 found_rows m id rows is = (λ i. unwrap_or (raw_values-rows (found_of m) id i) []) ∙ ap (λ (rs : List Row). values_in id rs) is
 
-abbrev IsRead : List Text → Option (List Part) → ArgMatches → Type 0
-IsRead names o m = MatchOption o ⊥ (λ parts. HoldsParts names parts m)
-
 ok_by : (names : List Text) (o : Option (List Part)) (fault : Kinds) (rows : List Row) (m : ArgMatches) → is_among names operands_id ≡ false
-    → Reads o fault rows [] → HasKnown names o → fault ≡ [] → rows_of (found_of m) ≡ rows → IsRead names o m
+    → Reads o fault rows [] → HasKnown names o → fault ≡ [] → rows_of (found_of m) ≡ rows → FindsParts names o m
 ok_by names None fault rows m none reads known e is = reads e
 ok_by names (Some parts) fault rows m none reads known e is = record {
   operands = found_rows m operands_id rows is ∙ (ap (λ (rs : List Row). values_in operands_id rs) reads.1 ∙ operands_held names none [] parts known);
@@ -98,7 +95,7 @@ ok_by names (Some parts) fault rows m none reads known e is = record {
 }
 
 pub read_ok : (name : Text) (names words : List Text) (m : ArgMatches) → is_among names operands_id ≡ false → has_single (drop 1 words) ≡ false
-    → fault_of (command_app name names) words ≡ [] → HasMatchesOf (command_app name names) words m → IsRead names (parts_of names (drop 1 words)) m
+    → fault_of (command_app name names) words ≡ [] → HasMatchesOf (command_app name names) words m → FindsParts names (parts_of names (drop 1 words)) m
 read_ok name names words m none single e has =
     ok_by names (parts_of names (drop 1 words)) (fault_at name names (drop 1 words)) (walked_words names (drop 1 words)) m none
     (words_read name names (built_rules names) (has_rules names none) (drop 1 words) single) (parts_known names (drop 1 words) None tt)

@@ -4,3 +4,4 @@ mod ClapWalk
 mod ClapParts
 mod ClapRows
 mod ClapAnswer
+mod RowLemmas

@@ -5,6 +5,8 @@ use Rattle.clap.specs.Words.{App, Rule, Shape, found_of, matched_of, new_rule, r
 use Rattle.clap.specs.Simple.{new_shape}
 use Rattle.clap.specs.declared.builder.action.ArgAction.TheVariants.{Append}
 use Rattle.clap.specs.declared.parser.matches.ArgMatches.{ArgMatches}
+use Rattle.hda_words.specs.Commands.{OptionGrammar}
+use Rattle.hda_words.specs.Lines.{number_once, with_number}
 use Rattle.hda_words.specs.Words.{Part, is_among, operands_of, values_of}
 
 -- by this the operands are known to `clap`: no option has the name
@@ -31,3 +33,13 @@ values_found matches id = unwrap_or (option_map raw_values (matched_of (found_of
 pub record HoldsParts (names : List (List ℕ)) (parts : List Part) (matches : ArgMatches) : Type 0 where
   pub operands : values_found matches operands_id ≡ operands_of parts
   pub options : (name : List ℕ) → is_among names name ≡ true → values_found matches name ≡ values_of name parts
+
+-- the words have parts, and `clap` found them
+abbrev pub FindsParts : List (List ℕ) → Option (List Part) → ArgMatches → Type 0
+FindsParts names None matches = ⊥
+FindsParts names (Some parts) matches = HoldsParts names parts matches
+
+-- the numbers of the options, by what `clap` found
+abbrev pub numbers_found : List OptionGrammar → ArgMatches → Option (List ℕ)
+numbers_found [] matches = Some []
+numbers_found (option ∷ rest) matches = with_number (number_once option (values_found matches option.name)) (numbers_found rest matches)

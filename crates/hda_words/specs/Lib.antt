@@ -4,4 +4,5 @@ pub mod Tables
 pub mod Words
 pub mod Lines
 pub mod ClapCommand
+pub mod Seen
 pub mod Asked

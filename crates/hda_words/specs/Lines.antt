@@ -1,6 +1,6 @@
 -- What the words after a command's name say, by the grammar of the command: this project's own.
-use Rattle.std.specs.Prelude.{ℕ, List, [], ◌∷◌, Option, Some, None, ◌==◌, length, if◌then◌else◌, option_map, option_and_then}
-use Rattle.hda_words.specs.Numbers.{number_in}
+use Rattle.std.specs.Prelude.{◌≡◌, ⊤, true, ℕ, List, [], ◌∷◌, Option, Some, None, ◌==◌, length, if◌then◌else◌, option_map, option_and_then}
+use Rattle.hda_words.specs.Numbers.{is_taken, number_in}
 use Rattle.hda_words.specs.Commands.{CommandGrammar, OptionGrammar, option_names}
 use Rattle.hda_words.specs.Words.{Part, operands_of, parts_of, values_of}
 
@@ -36,3 +36,15 @@ line_of_parts grammar parts = line_with grammar (operands_of parts) (numbers_of 
 -- the words after the command's name as a line
 abbrev pub line_of : CommandGrammar → List (List ℕ) → Option CommandLine
 line_of grammar words = option_and_then (line_of_parts grammar) (parts_of (option_names grammar) words)
+
+-- each option has a number that it takes
+abbrev pub AllTaken : List OptionGrammar → List ℕ → Type 0
+AllTaken [] [] = ⊤
+AllTaken [] (number ∷ numbers) = ⊥
+AllTaken (option ∷ options) [] = ⊥
+AllTaken (option ∷ options) (number ∷ numbers) = (is_taken option.numbers number ≡ true) × AllTaken options numbers
+
+-- a line of the command
+pub record IsLineOf (grammar : CommandGrammar) (line : CommandLine) : Type 0 where
+  pub operands : length line.operands ≡ grammar.operands
+  pub numbers : AllTaken grammar.options line.numbers

@@ -47,6 +47,10 @@ single_at single later = true
 single_at ending later = false
 single_at _ later = later
 
+abbrev pub is_single : Word → Bool
+is_single single = true
+is_single _ = false
+
 abbrev pub has_single : List (List ℕ) → Bool
 has_single [] = false
 has_single (word ∷ rest) = single_at (word_of word) (has_single rest)

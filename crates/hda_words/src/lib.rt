@@ -7,7 +7,6 @@
 mod arguments;
 mod line;
 mod numbers;
-mod probe;
 mod request;
 mod table;
 

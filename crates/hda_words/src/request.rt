@@ -1,5 +1,10 @@
 //! What the words ask the program to do.
-ghost use Rattle.std.specs.Prelude.{◌≡◌, IfOk, Some, None, Err, map, string_bytes};
+ghost use Rattle.std.specs.Prelude.{◌≡◌, IfOk, Some, None, Err, map, string_bytes, true};
+ghost use Rattle.hda_words.specs.Asked.{asked_by, asked_of, hertz, request_of};
+ghost use Rattle.hda_words.specs.Commands.{rate_option, route_grammar};
+ghost use Rattle.hda_words.specs.Lines.{IsLineOf};
+ghost use Rattle.hda_words.specs.Numbers.{is_taken};
+ghost use Rattle.hda_words.specs.Seen.{line_seen};
 
 use crate::line::{Line, read_line};
 use crate::table::{CommandName, command_named};
@@ -40,35 +45,49 @@ impl<T: Drop> From<AllocFailed<T>> for WordsFault {
 }
 
 /// The rate of so many blocks in a second.
-fn rate_of(hertz: u64) -> Option<Rate> {
-    match hertz {
-        8000 => Some(Rate::R8),
-        16000 => Some(Rate::R16),
-        44100 => Some(Rate::R44),
-        48000 => Some(Rate::R48),
-        96000 => Some(Rate::R96),
-        192000 => Some(Rate::R192),
-        _ => None,
+fn rate_of(number: u64) -> Rate
+    requires { is_taken rate_option.numbers number ≡ true }
+    ensures { hertz result ≡ number }
+{
+    match number {
+        8000 => Rate::R8,
+        16000 => Rate::R16,
+        44100 => Rate::R44,
+        48000 => Rate::R48,
+        96000 => Rate::R96,
+        _ => Rate::R192,
+    }
+}
+
+/// What a line of `route` asks.
+fn route_of<'a>(line: &Line<'a>) -> Request<'a>
+    requires { IsLineOf route_grammar (line_seen line.now) }
+    ensures { asked_by result ≡ asked_of CommandName.Route (line_seen line.now) }
+{
+    let rate = rate_of(line.numbers[0]);
+    let channels = line.numbers[1] as u8;
+    Request::Route {
+        codec: line.operands[0],
+        format: Format {
+            rate,
+            bits: Bits::B16,
+            channels,
+        },
     }
 }
 
 /// Reads the words that stand after the program's name.
-pub fn read_words<'a>(alloc: Global, words: &'a [String]) -> Result<Request<'a>, WordsFault> {
+///
+/// The first is the name of a command, and those after it are its operands and options. Without `--rate` and `--channels` a route is
+/// for 48,000 blocks in a second and 2 channels, and always for 16 bits.
+pub fn read_words<'a>(alloc: Global, words: &'a [String]) -> Result<Request<'a>, WordsFault>
+    ensures asked { IfOk result (λ request. request_of (map string_bytes words.now) ≡ Some (asked_by request)) }
+    ensures no_command { result ≡ Err WordsFault.NoCommand → request_of (map string_bytes words.now) ≡ None }
+{
     let name = words.first().ok_or(WordsFault::NoCommand)?;
     let row = command_named(name.as_str()).ok_or(WordsFault::NoCommand)?;
     let line = read_line(alloc, &row, words)?;
     match row.command {
-        CommandName::Route => route_of(&line).ok_or(WordsFault::NoCommand),
+        CommandName::Route => Ok(route_of(&line)),
     }
-}
-
-/// `route` with its line.
-fn route_of<'a>(line: &Line<'a>) -> Option<Request<'a>> {
-    let codec = *line.operands.first()?;
-    let rate = rate_of(*line.numbers.first()?)?;
-    let channels = *line.numbers.get(1)?;
-    if channels == 2 || channels == 4 || channels == 6 || channels == 8 {
-        return Some(Request::Route { codec, format: Format { rate, bits: Bits::B16, channels: channels as u8 } });
-    }
-    None
 }

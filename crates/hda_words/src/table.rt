@@ -14,9 +14,9 @@ pub enum CommandName {
 #[derive(Clone, Copy)]
 pub enum Numbers {
     /// Those that are listed.
-    Listed(&'static [u32]),
+    Listed(&'static [u64]),
     /// All from the first to the second.
-    Between(u32, u32),
+    Between(u64, u64),
 }
 
 /// An option `--name`, the numbers that it takes, and the one that stands for it where it isn't given.
@@ -24,7 +24,7 @@ pub enum Numbers {
 pub struct OptionRow {
     pub name: &'static str,
     pub numbers: Numbers,
-    pub default: u32,
+    pub default: u64,
 }
 
 /// A command: its first word, how many operands it has, and its options.
@@ -36,8 +36,8 @@ pub struct CommandRow {
     pub options: &'static [OptionRow],
 }
 
-const RATES: [u32; 6] = [8000, 16000, 44100, 48000, 96000, 192000];
-const CHANNELS: [u32; 4] = [2, 4, 6, 8];
+const RATES: [u64; 6] = [8000, 16000, 44100, 48000, 96000, 192000];
+const CHANNELS: [u64; 4] = [2, 4, 6, 8];
 
 const ROUTE_OPTIONS: [OptionRow; 2] = [
     OptionRow {
