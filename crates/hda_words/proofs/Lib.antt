@@ -5,3 +5,4 @@ mod ClapParts
 mod ClapRows
 mod ClapAnswer
 mod RowLemmas
+mod NumberLemmas

@@ -5,6 +5,7 @@ ghost use Rattle.hda_words.specs.Commands.{rate_option, route_grammar};
 ghost use Rattle.hda_words.specs.Lines.{IsLineOf};
 ghost use Rattle.hda_words.specs.Numbers.{is_taken};
 ghost use Rattle.hda_words.specs.Seen.{line_seen};
+ghost use Rattle.hda_words.specs.declared.request.WordsFault.TheVariants.{OutOfMemory};
 
 use crate::line::{Line, read_line};
 use crate::table::{CommandName, command_named};
@@ -33,12 +34,16 @@ pub enum WordsFault {
 }
 
 impl From<AllocError> for WordsFault {
+    ghost from_gives = { λ _ fault. fault ≡ OutOfMemory };
+
     fn from(_: AllocError) -> Self {
         WordsFault::OutOfMemory
     }
 }
 
 impl<T: Drop> From<AllocFailed<T>> for WordsFault {
+    ghost from_gives = { λ _ fault. fault ≡ OutOfMemory };
+
     fn from(_: AllocFailed<T>) -> Self {
         WordsFault::OutOfMemory
     }

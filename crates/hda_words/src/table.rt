@@ -1,5 +1,6 @@
 //! The program's commands, with their operands and options.
-ghost use Rattle.std.specs.Prelude.{◌≡◌, IfSome, IfNone, Some, None, option_map};
+ghost use Rattle.std.specs.Prelude.{◌≡◌, find, option_map};
+ghost use Rattle.std.specs.Str.{bytes_eq};
 ghost use Rattle.hda_words.specs.Asked.{grammar_named};
 ghost use Rattle.hda_words.specs.Tables.{grammar_of};
 
@@ -61,9 +62,21 @@ const ROUTE: CommandRow = CommandRow {
 
 const COMMANDS: [CommandRow; 1] = [ROUTE];
 
+/// The row with this name.
+fn row_named(rows: &[CommandRow], name: &str) -> Option<CommandRow>
+    ensures { result ≡ find (λ row. bytes_eq row.name.now name.now) rows.now }
+{
+    for row in rows {
+        if row.name == name {
+            return Some(*row);
+        }
+    }
+    None
+}
+
 /// The command with this name.
 pub fn command_named(name: &str) -> Option<CommandRow>
     ensures { option_map grammar_of result ≡ grammar_named name.now }
 {
-    COMMANDS.iter().find(|row| row.name == name).copied()
+    row_named(COMMANDS.as_slice(), name)
 }
