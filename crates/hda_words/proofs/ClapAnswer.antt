@@ -5,7 +5,7 @@ use Rattle.std.specs.Prelude.{◌&&◌, ◌||◌, if◌then◌else◌, fold, is_
 use Rattle.std.specs.List.{list_any}
 use Rattle.clap.specs.Kinds.{HasKind, IsAmong, Kinds, or_else}
 use Rattle.clap.specs.Walk.{Row, Rule, Held, Walk, finished, has_row, idle, nothing_held, rows_after, rows_of, settled, walk, walk_from, with_default}
-use Rattle.clap.specs.Faults.{built_fault, check_fault, defaults_fault, entered_fault, fault_of, level_fault, settle_fault, walk_fault}
+use Rattle.clap.specs.Faults.{built_fault, check_fault, defaults_fault, entered_fault, fault_of, is_simple_and_free, level_fault, settle_fault, walk_fault}
 use Rattle.clap.specs.Takes.{is_given}
 use Rattle.clap.specs.Simple.{App, HasMatchesOf, entered, matches_of, names_of}
 use Rattle.clap.specs.Matches.{found_of, matched_of, raw_values}
@@ -112,3 +112,20 @@ read_err name names words e none single has other =
     err_by (parts_of names (drop 1 words)) (fault_at name names (drop 1 words)) (walked_words names (drop 1 words)) e
     (words_read name names (built_rules names) (has_rules names none) (drop 1 words) single)
     (subst (λ (k : Kinds). HasKind k e) (fault_is name names words) has) other
+
+-- ---- the same, of a command that was made of a row
+
+pub finds : (name : Text) (names words : List Text) (app : App) (m : ArgMatches) → is_among names operands_id ≡ false → has_single (drop 1 words) ≡ false
+    → app ≡ command_app name names → (is_simple_and_free app ≡ true → fault_of app words ≡ []) → HasMatchesOf app words m
+    → FindsParts names (parts_of names (drop 1 words)) m
+finds name names words app m none single is faults has =
+    read_ok name names words m none single
+    ((λ i. fault_of (sym is i) words) ∙ faults (ap is_simple_and_free is ∙ command_is_free name names))
+    (subst (λ (a : App). HasMatchesOf a words m) is has)
+
+pub refuses : (name : Text) (names words : List Text) (app : App) (e : Error) → is_among names operands_id ≡ false → has_single (drop 1 words) ≡ false
+    → app ≡ command_app name names → (is_simple_and_free app ≡ true → HasKind (fault_of app words) e) → (kind_of e ≡ OutOfMemory → ⊥)
+    → parts_of names (drop 1 words) ≡ None
+refuses name names words app e none single is faults other =
+    read_err name names words e none single
+    (subst (λ (a : App). HasKind (fault_of a words) e) is (faults (ap is_simple_and_free is ∙ command_is_free name names))) other

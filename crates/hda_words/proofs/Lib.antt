@@ -6,3 +6,5 @@ mod ClapRows
 mod ClapAnswer
 mod RowLemmas
 mod NumberLemmas
+mod NumberRows
+mod LineLemmas

@@ -1,13 +1,11 @@
 -- Rows, one after another.
-use Rattle.std.proofs.Common.{◌≡◌, ◌∙◌, ◌<◌, ◌+◌, ℕ, List, [], ◌∷◌, ◌++◌, map, take, drop, length, Option, Some, None, refl, sym, ap, ap₂, slice_index_or, arith, append_assoc, ◌≤◌, option_map}
-use Rattle.std.proofs.lemmas.List.{append-nil, drop_all, drop_more, take_more}
+use Rattle.std.proofs.Common.{◌≡◌, ◌∙◌, ◌<◌, ◌+◌, ℕ, List, [], ◌∷◌, ◌++◌, map, take, drop, length, refl, sym, ap, ap₂, slice_index_or, arith, ◌≤◌}
+use Rattle.std.proofs.lemmas.List.{take_all, take_more}
 use Rattle.clap.specs.Words.{App, Rule, with_rule}
 use Rattle.hda_words.specs.Commands.{OptionGrammar}
 use Rattle.hda_words.specs.Tables.{option_of}
 use Rattle.hda_words.specs.declared.table.OptionRow.{OptionRow}
-use Rattle.hda_words.specs.Lines.{number_once, with_number}
-use Rattle.clap.specs.declared.parser.matches.ArgMatches.{ArgMatches}
-use Rattle.hda_words.specs.ClapCommand.{command_shape, numbers_found, option_rule, values_found}
+use Rattle.hda_words.specs.ClapCommand.{command_app, command_shape, operand_rule, option_rule}
 
 abbrev pub names_of_rows : List OptionRow → List (List ℕ)
 names_of_rows rows = map (λ (o : OptionGrammar). o.name) (map option_of rows)
@@ -21,46 +19,21 @@ three [] y = refl
 three (x ∷ xs) y = ap (λ (rest : List Rule). option_rule x.name.now ∷ rest) (three xs y)
 
 -- one more row
-pub rules_more : (xs : List OptionRow) (i : ℕ) (x : OptionRow) → i < length xs → x ≡ slice_index_or xs i x
-    → map option_rule (names_of_rows (take i xs)) ++ option_rule x.name.now ∷ [] ≡ map option_rule (names_of_rows (take (i + 1) xs))
-rules_more xs i x lt is =
-    sym (ap (λ (rows : List OptionRow). map option_rule (names_of_rows rows)) (take_more xs i x lt)
-    ∙ (three (take i xs) (slice_index_or xs i x) ∙ ap (λ (o : OptionRow). map option_rule (names_of_rows (take i xs)) ++ option_rule o.name.now ∷ []) (sym is)))
+rules_more : (xs : List OptionRow) (i : ℕ) (d : OptionRow) → i < length xs
+    → map option_rule (names_of_rows (take i xs)) ++ option_rule (slice_index_or xs i d).name.now ∷ [] ≡ map option_rule (names_of_rows (take (i + 1) xs))
+rules_more xs i d lt =
+    sym (ap (λ (rows : List OptionRow). map option_rule (names_of_rows rows)) (take_more xs i d lt) ∙ three (take i xs) (slice_index_or xs i d))
 
--- ---- the numbers of the options
+-- a command with one more option
+pub command_more : (name : List ℕ) (xs : List OptionRow) (i : ℕ) (d : OptionRow) (old new : App) (rule : Rule) → i < length xs
+    → old ≡ app_with name (names_of_rows (take i xs)) → new ≡ with_rule old rule → rule ≡ option_rule (slice_index_or xs i d).name.now
+    → new ≡ app_with name (names_of_rows (take (i + 1) xs))
+command_more name xs i d old new rule lt before adds rule_is =
+    adds ∙ (ap₂ with_rule before rule_is
+    ∙ ap (λ (rules : List Rule). let app : App = record { top = command_shape name rules; subs = [] } in app) (rules_more xs i d lt))
 
-abbrev pub after_numbers : List ℕ → Option (List ℕ) → Option (List ℕ)
-after_numbers numbers = option_map (λ rest. numbers ++ rest)
-
-number_more : (numbers : List ℕ) (n : ℕ) (rest : Option (List ℕ)) → after_numbers numbers (with_number (Some n) rest) ≡ after_numbers (numbers ++ n ∷ []) rest
-number_more numbers n None = refl
-number_more numbers n (Some rest) = ap Some (sym (append_assoc numbers (n ∷ []) rest))
-
-abbrev pub numbers_from : List OptionRow → ℕ → ArgMatches → Option (List ℕ)
-numbers_from rows i matches = numbers_found (map option_of (drop i rows)) matches
-
-numbers_at : (rows : List OptionRow) (i : ℕ) (row : OptionRow) (matches : ArgMatches) (o : Option ℕ) → i < length rows → row ≡ slice_index_or rows i row
-    → o ≡ number_once (option_of row) (values_found matches row.name.now) → numbers_from rows i matches ≡ with_number o (numbers_from rows (i + 1) matches)
-numbers_at rows i row matches o lt is number =
-    ap (λ (rest : List OptionRow). numbers_found (map option_of rest) matches) (drop_more rows i row lt)
-    ∙ ((λ j. with_number (number_once (option_of (sym is j)) (values_found matches (sym is j).name.now)) (numbers_from rows (i + 1) matches))
-    ∙ ap (λ (m : Option ℕ). with_number m (numbers_from rows (i + 1) matches)) (sym number))
-
--- one more number
-pub numbers_step : (rows : List OptionRow) (i : ℕ) (row : OptionRow) (matches : ArgMatches) (numbers : List ℕ) (n : ℕ) (all : Option (List ℕ))
-    → i < length rows → row ≡ slice_index_or rows i row → Some n ≡ number_once (option_of row) (values_found matches row.name.now)
-    → all ≡ after_numbers numbers (numbers_from rows i matches) → all ≡ after_numbers (numbers ++ n ∷ []) (numbers_from rows (i + 1) matches)
-numbers_step rows i row matches numbers n all lt is number before =
-    before ∙ (ap (after_numbers numbers) (numbers_at rows i row matches (Some n) lt is number) ∙ number_more numbers n (numbers_from rows (i + 1) matches))
-
--- an option without a number
-pub numbers_stop : (rows : List OptionRow) (i : ℕ) (row : OptionRow) (matches : ArgMatches) (numbers : List ℕ) (all : Option (List ℕ))
-    → i < length rows → row ≡ slice_index_or rows i row → None ≡ number_once (option_of row) (values_found matches row.name.now)
-    → all ≡ after_numbers numbers (numbers_from rows i matches) → all ≡ None
-numbers_stop rows i row matches numbers all lt is number before =
-    before ∙ ap (after_numbers numbers) (numbers_at rows i row matches None lt is number)
-
-pub numbers_end : (rows : List OptionRow) (i : ℕ) (matches : ArgMatches) (numbers : List ℕ) (all : Option (List ℕ)) → length rows ≤ i
-    → all ≡ after_numbers numbers (numbers_from rows i matches) → all ≡ Some numbers
-numbers_end rows i matches numbers all end before =
-    before ∙ (ap (λ (rest : List OptionRow). after_numbers numbers (numbers_found (map option_of rest) matches)) (drop_all i rows end) ∙ ap Some (append-nil numbers))
+-- a command with all its options, and its operands
+pub command_done : (name : List ℕ) (xs : List OptionRow) (i : ℕ) (old new : App) (rule : Rule) → length xs ≤ i
+    → old ≡ app_with name (names_of_rows (take i xs)) → new ≡ with_rule old rule → rule ≡ operand_rule → new ≡ command_app name (names_of_rows xs)
+command_done name xs i old new rule end before adds rule_is =
+    adds ∙ (ap₂ with_rule before rule_is ∙ ap (λ (rows : List OptionRow). command_app name (names_of_rows rows)) (take_all i xs end))

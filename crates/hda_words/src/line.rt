@@ -82,7 +82,7 @@ pub fn read_line<'a>(alloc: Global, row: &CommandRow, words: &'a [String]) -> Re
     }
     let matches = find_parts(alloc, row, words)?;
     let operands = operands_given(alloc, &matches)?;
-    if operands.len() != row.operands {
+    if operands.as_slice().len() != row.operands {
         return Err(WordsFault::NoCommand);
     }
     let numbers = numbers_given(alloc, row.options, &matches)?;

@@ -1,7 +1,7 @@
 use Rattle.std.proofs.Common.{◌≡◌, map}
 use Rattle.hda_words.specs.ClapCommand.{numbers_found}
 use Rattle.hda_words.specs.Tables.{option_of}
-use Rattle.hda_words.proofs.RowLemmas.{after_numbers, numbers_from}
+use Rattle.hda_words.proofs.NumberRows.{after_numbers, numbers_from}
 use Rattle.hda_words.proofs.line.numbers_given.Given as goal
 
 -- the numbers so far stand before those of the options that are left
