@@ -9,6 +9,7 @@ use Rattle.hda_words.specs.Numbers.{Numbers, if_taken, is_taken, number_in, numb
 use Rattle.hda_words.specs.Commands.{CommandGrammar, OptionGrammar, commands, option_names, route_grammar}
 use Rattle.hda_words.specs.Words.{Part, Word, has_single, is_among, operands_of, part_met, parts_from, parts_of, single_at, values_of, with_part, word_of}
 use Rattle.hda_words.specs.Words as words
+use Rattle.hda_words.specs.Asked.{grammar_named}
 use Rattle.hda_words.specs.Lines.{AllTaken, CommandLine, IsLineOf, line_of, line_of_parts, line_with, number_of, number_once, numbers_of, with_number}
 use Rattle.hda_words.specs.ClapCommand.{FindsParts, HoldsParts, numbers_found, operands_id, values_found}
 
@@ -151,3 +152,13 @@ route_line ws line is = fits_of route_grammar (parts_of (option_names route_gram
 -- the words after the first
 pub words_after : {X Y : Type 0} (f : X → Y) (xs : List X) → map f (take (length xs - 1) (drop 1 xs)) ≡ drop 1 (map f xs)
 words_after f xs = ap (map f) (take_all (length xs - 1) (drop 1 xs) (simp length-drop (omega arith))) ∙ sym (drop-map f 1 xs)
+
+-- ---- the commands
+
+named_route : (b : Bool) (grammar : CommandGrammar) → (if b then Some route_grammar else None) ≡ Some grammar → grammar ≡ route_grammar
+named_route true grammar is = let same : route_grammar ≡ grammar = cc in sym same
+named_route false grammar is = let bad : None ≡ Some grammar = is in cc
+
+-- a command that has a name is `route`
+pub named_is_route : (name : List ℕ) (grammar : CommandGrammar) → grammar_named name ≡ Some grammar → grammar ≡ route_grammar
+named_is_route name grammar is = named_route (bytes_eq route_grammar.name name) grammar is
