@@ -1,25 +1,25 @@
 -- The answer of `clap` to the words after a command's name.
-use Rattle.std.proofs.Common.{◌≡◌, ◌∙◌, ℕ, Bool, true, false, not, List, [], ◌∷◌, ◌++◌, map, drop, Option, Some, None, refl, sym, ap, subst}
-use Rattle.std.proofs.Common.{◌⊎◌, inl, inr}
-use Rattle.std.specs.Prelude.{◌&&◌, ◌||◌, if◌then◌else◌, fold, is_some, option_map, unwrap_or}
+use Rattle.std.proofs.Common.{◌≡◌, ◌∙◌, Bool, true, false, not, List, [], ◌∷◌, drop, Option, Some, None, refl, sym, ap, subst}
+use Rattle.std.proofs.Common.{inl, inr}
+use Rattle.std.specs.Prelude.{◌&&◌, ◌||◌, if◌then◌else◌, fold, is_some, unwrap_or}
 use Rattle.std.specs.List.{list_any}
 use Rattle.clap.specs.Kinds.{HasKind, IsAmong, Kinds, or_else}
-use Rattle.clap.specs.Walk.{Row, Rule, Held, Walk, finished, has_row, idle, nothing_held, rows_after, rows_of, settled, walk, walk_from, with_default}
+use Rattle.clap.specs.Walk.{Row, Rule, Walk, finished, has_row, idle, nothing_held, rows_after, rows_of, settled, walk, walk_from, with_default}
 use Rattle.clap.specs.Faults.{built_fault, check_fault, defaults_fault, entered_fault, fault_of, is_simple_and_free, level_fault, settle_fault, walk_fault}
 use Rattle.clap.specs.Takes.{is_given}
 use Rattle.clap.specs.Simple.{App, HasMatchesOf, entered, matches_of, names_of}
-use Rattle.clap.specs.Matches.{found_of, matched_of, raw_values}
+use Rattle.clap.specs.Matches.{found_of}
 use Rattle.clap.specs.Values.{kind_of}
 use Rattle.clap.specs.declared.error.Error.{Error}
 use Rattle.clap.specs.declared.error.kind.ErrorKind.TheVariants.{MissingRequiredArgument, OutOfMemory}
 use Rattle.clap.specs.declared.parser.matches.ArgMatches.{ArgMatches}
 use Rattle.clap.proofs.WalkLemmas.{raw_values-rows}
-use Rattle.hda_words.specs.Words.{Part, has_single, is_among, operands_of, parts_from, parts_of, values_of}
-use Rattle.hda_words.specs.ClapCommand.{FindsParts, HoldsParts, command_app, operands_id, values_found}
-use Rattle.hda_words.proofs.ClapRules.{built_app, built_command, built_operand, built_option, built_rules, built_shape, command_is_free, command_is_simple, has_rules}
-use Rattle.hda_words.proofs.ClapWalk.{Reads, Text, end_rows, rows_with, total_fault, walk_at}
+use Rattle.hda_words.specs.Words.{Part, has_single, is_among, parts_of}
+use Rattle.hda_words.specs.ClapCommand.{FindsParts, command_app, operands_id, values_found}
+use Rattle.hda_words.proofs.ClapRules.{built_app, built_command, built_rules, built_shape, command_is_free, command_is_simple, has_rules}
+use Rattle.hda_words.proofs.ClapWalk.{Reads, Text, end_rows, total_fault, walk_at}
 use Rattle.hda_words.proofs.ClapParts.{words_read}
-use Rattle.hda_words.proofs.ClapRows.{AllKnown, HasKnown, operands_held, parts_known, values_held, values_in}
+use Rattle.hda_words.proofs.ClapRows.{HasKnown, operands_held, parts_known, values_held, values_in}
 
 nothing_or_none : (b : Bool) (x : Kinds) → (if b || true then [] else x) ≡ []
 nothing_or_none true x = refl

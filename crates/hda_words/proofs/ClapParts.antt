@@ -14,7 +14,7 @@ use Rattle.hda_words.specs.Words.{Part, Word, given, operand, has_single, is_amo
 use Rattle.hda_words.specs.Words as words
 use Rattle.hda_words.specs.ClapCommand.{operands_id}
 use Rattle.hda_words.proofs.ClapRules.{HasRules, built_operand, built_option, built_shape}
-use Rattle.hda_words.proofs.WordViews.{WordView, is_ending, is_option, is_plain, is_single, two_hyphens, view_of}
+use Rattle.hda_words.proofs.WordViews.{is_ending, is_option, is_plain, is_single, two_hyphens, view_of}
 use Rattle.hda_words.proofs.ClapWalk.{IsReady, Reads, Resting, Text, after_operand, at_rest, end_rows, fault_by, fault_ending, fault_long, fault_plain, first_empty, held_for, long_as, met_as, met_ending, met_long, met_plain, part_reads, row_added, total_fault, turn_by, turn_fails, turn_reads, waiting_for, walk_at, walked_by}
 
 never : {X : Type 0} (b : Bool) (x y : X) → (if b && false then x else y) ≡ y
@@ -29,7 +29,6 @@ equal_texts : (a : Text) → bytes_eq a a ≡ true
 equal_texts a = (bytes_eq-Decides a a).1 refl
 
 module _ (name : Text) (names : List Text) (rules : List Rule) (facts : HasRules names rules) where
-
   abbrev held_one : Text → Text → List Row → ℕ → Held
   held_one id text rows skip = record { rows = rows; pending = Some (id, text ∷ []); skip = skip }
 
@@ -245,22 +244,21 @@ module _ (name : Text) (names : List Text) (rules : List Rule) (facts : HasRules
   )
   both_read (word ∷ rest) single = elim (view_of word) [
     | is_plain is e long short ↦
-      let ih = both_read rest (subst (λ (k : Word). single_at k (has_single rest) ≡ false) is single) in
-      (plain_rest word rest is e long short ih.0, plain_wait word rest is e long short ih.0)
+        let ih = both_read rest (subst (λ (k : Word). single_at k (has_single rest) ≡ false) is single) in
+        (plain_rest word rest is e long short ih.0, plain_wait word rest is e long short ih.0)
     | is_single is ↦
-      let bad : true ≡ false = subst (λ (k : Word). single_at k (has_single rest) ≡ false) is single in absurd (true≢false bad)
+        let bad : true ≡ false = subst (λ (k : Word). single_at k (has_single rest) ≡ false) is single in absurd (true≢false bad)
     | is_ending is e ↦ (ending_rest word rest is e, ending_wait word rest is e)
     | is_option x v is e long ↦
-      let ih = both_read rest (subst (λ (k : Word). single_at k (has_single rest) ≡ false) is single) in
-      (
-        λ h rows r ready. subst (λ (k : Word). Reads (part_met names None k word rest (parts_from names rest)) (total_fault name rules (walk_at h (waiting_for r) false) (word ∷ rest))
-        (end_rows rules (walk_at h (waiting_for r) false) (word ∷ rest)) rows) (sym is)
-        (option_rest word rest x v (is_among names x) refl e long ih.0 ih.1 h rows r ready),
-        λ y among rows skip. subst (λ (k : Word). Reads (part_met names (Some y) k word rest (parts_from names rest))
-        (total_fault name rules (walk_at (held_for y rows skip) (walk.option y) false) (word ∷ rest))
-        (end_rows rules (walk_at (held_for y rows skip) (walk.option y) false) (word ∷ rest)) rows) (sym is)
-        (option_wait word rest y x v (is_among names x) refl e long among rows skip),
-      )
+        let ih = both_read rest (subst (λ (k : Word). single_at k (has_single rest) ≡ false) is single) in (
+          λ h rows r ready. subst (λ (k : Word). Reads (part_met names None k word rest (parts_from names rest)) (total_fault name rules (walk_at h (waiting_for r) false) (word ∷ rest))
+              (end_rows rules (walk_at h (waiting_for r) false) (word ∷ rest)) rows) (sym is)
+              (option_rest word rest x v (is_among names x) refl e long ih.0 ih.1 h rows r ready),
+          λ y among rows skip. subst (λ (k : Word). Reads (part_met names (Some y) k word rest (parts_from names rest))
+              (total_fault name rules (walk_at (held_for y rows skip) (walk.option y) false) (word ∷ rest))
+              (end_rows rules (walk_at (held_for y rows skip) (walk.option y) false) (word ∷ rest)) rows) (sym is)
+              (option_wait word rest y x v (is_among names x) refl e long among rows skip),
+        )
   ]
 
   pub words_read : (words : List Text) → has_single words ≡ false

@@ -1,16 +1,16 @@
 -- The values of an option or of the operands in the rows of parts.
-use Rattle.std.proofs.Common.{◌≡◌, ◌∙◌, ℕ, Bool, true, false, List, [], ◌∷◌, ◌++◌, map, Option, Some, None, refl, sym, ap, subst, true≢false, append_assoc}
+use Rattle.std.proofs.Common.{◌≡◌, ◌∙◌, Bool, true, false, List, [], ◌∷◌, ◌++◌, map, Option, Some, None, refl, sym, ap, append_assoc}
 use Rattle.std.proofs.lemmas.List.{append-nil}
-use Rattle.std.specs.Prelude.{⊤, ◌&&◌, ◌||◌, if◌then◌else◌, find, option_map, unwrap_or}
+use Rattle.std.specs.Prelude.{⊤, if◌then◌else◌, find, option_map, unwrap_or}
 use Rattle.std.specs.Str.{bytes_eq}
 use Rattle.std.proofs.lemmas.Slice.Eq.{bytes_eq-Decides}
-use Rattle.clap.specs.Walk.{Row, all_of, at_row, more_values, with_values}
+use Rattle.clap.specs.Walk.{Row, all_of, more_values, with_values}
 use Rattle.clap.specs.declared.builder.value_parser.Reading.TheVariants.{AsWritten}
 use Rattle.clap.specs.declared.parser.matches.ValueSource.TheVariants.{CommandLine}
 use Rattle.hda_words.specs.Words.{Part, Word, given, operand, is_among, operands_of, part_met, parts_from, values_of, with_part, word_of}
 use Rattle.hda_words.specs.Words as words
 use Rattle.hda_words.specs.ClapCommand.{operands_id}
-use Rattle.hda_words.proofs.ClapWalk.{Text, row_added, rows_with}
+use Rattle.hda_words.proofs.ClapWalk.{Text, rows_with}
 
 abbrev pub values_in : Text → List Row → List Text
 values_in id rows = unwrap_or (all_of id rows) []

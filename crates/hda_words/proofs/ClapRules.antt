@@ -1,14 +1,13 @@
 -- The rules of a command as `clap` builds them, and what its look-ups give.
 use Rattle.std.proofs.Common.{◌≡◌, ◌∙◌, ℕ, Bool, true, false, not, List, [], ◌∷◌, ◌++◌, map, Option, Some, None, refl, sym, ap, true≢false}
-use Rattle.std.specs.Prelude.{◌==◌, ◌&&◌, ◌||◌, if◌then◌else◌, nat_eq, count_by, is_some, suc}
+use Rattle.std.specs.Prelude.{◌&&◌, ◌||◌, if◌then◌else◌, count_by, is_some}
 use Rattle.std.specs.List.{list_any, list_all}
 use Rattle.std.specs.Str.{bytes_eq}
 use Rattle.std.proofs.lemmas.Slice.Eq.{bytes_eq-Decides}
 use Rattle.clap.specs.Walk.{Rule, arg_by_id, arg_by_index, arg_by_long, is_early_multiple}
-use Rattle.clap.specs.Simple.{App, Shape, built, filled_from, is_buildable, is_ready, is_ready_leaf, is_simple, new_shape}
+use Rattle.clap.specs.Simple.{App, Shape, built, filled_from, is_buildable, is_ready, is_ready_leaf, is_simple}
 use Rattle.clap.specs.Faults.{is_free_app, is_simple_and_free}
 use Rattle.clap.specs.declared.builder.value_parser.ValueParser.TheVariants as vp
-use Rattle.clap.specs.declared.builder.action.ArgAction.TheVariants.{Append}
 use Rattle.hda_words.specs.Words.{is_among}
 use Rattle.hda_words.specs.ClapCommand.{command_app, command_shape, operand_rule, operands_id, option_rule}
 

@@ -1,23 +1,19 @@
 -- What `clap` makes of the words after a command's name: their parts.
-use Rattle.std.proofs.Common.{◌≡◌, ◌∙◌, ◌⊎◌, inl, inr, ℕ, Bool, true, false, List, [], ◌∷◌, ◌++◌, map, Option, Some, None, refl, sym, ap, subst, true≢false}
-use Rattle.std.specs.Prelude.{◌==◌, ◌&&◌, ◌||◌, if◌then◌else◌, fold, nat_lt, is_some, option_and_then}
+use Rattle.std.proofs.Common.{◌≡◌, ◌∙◌, ℕ, Bool, true, false, List, [], ◌∷◌, Option, Some, None, refl, sym, subst}
+use Rattle.std.specs.Prelude.{if◌then◌else◌, fold}
 use Rattle.std.specs.Option.{option_map_or}
 use Rattle.std.specs.Str.{bytes_eq}
-use Rattle.std.proofs.lemmas.Slice.Eq.{bytes_eq-Decides}
 use Rattle.clap.specs.Lexer.{long_of, short_of}
 use Rattle.clap.specs.Kinds.{Kinds, or_else}
 use Rattle.clap.specs.Walk.{Held, Outcome, Row, Rule, Step, Waiting, Walk, after_flag, after_step, arg_by_id, arg_by_index, arg_by_long, done, idle, long_met, long_or_other, long_word, next, option_word, plain_word, positional, positional_held, pushed, reacted, settled, settled_rows, short_or_plain, subcommand_met, subcommand_or_other, takes_several, to_positional, trailing, used_by_id, value, waits, walked, with_values, word_met, is_pending}
 use Rattle.clap.specs.Walk as walk
-use Rattle.clap.specs.Faults.{bundle_fault, flag_word_fault, long_fault, other_fault, positional_fault, settle_fault, step_fault, stray_fault, turn_fault, use_fault, walk_fault, word_fault}
-use Rattle.clap.specs.Simple.{Shape}
+use Rattle.clap.specs.Faults.{bundle_fault, flag_word_fault, long_fault, other_fault, settle_fault, step_fault, turn_fault, walk_fault, word_fault}
 use Rattle.clap.specs.declared.builder.value_parser.Reading.TheVariants.{AsWritten}
 use Rattle.clap.specs.declared.parser.matches.ValueSource.TheVariants.{CommandLine}
-use Rattle.clap.specs.declared.error.kind.ErrorKind.TheVariants as kind
-use Rattle.hda_words.specs.Words.{Part, Word, given, operand, has_single, is_among, part_met, parts_from, single_at, with_part, word_of}
-use Rattle.hda_words.specs.Words as words
+use Rattle.hda_words.specs.Words.{Part, given, operand, with_part}
 use Rattle.hda_words.specs.ClapCommand.{operands_id}
-use Rattle.hda_words.proofs.ClapRules.{HasRules, built_operand, built_option, built_shape}
-use Rattle.hda_words.proofs.WordViews.{WordView, is_ending, is_option, is_plain, is_single, two_hyphens, view_of}
+use Rattle.hda_words.proofs.ClapRules.{built_shape}
+use Rattle.hda_words.proofs.WordViews.{two_hyphens}
 
 abbrev pub Text : Type 0
 Text = List ℕ

@@ -5,8 +5,8 @@ use Rattle.std.specs.Prelude.{⊤, ◌==◌, ◌||◌, if◌then◌else◌, opti
 use Rattle.std.specs.Str.{bytes_eq}
 use Rattle.std.proofs.lemmas.Slice.Eq.{bytes_eq-Decides}
 use Rattle.clap.specs.declared.parser.matches.ArgMatches.{ArgMatches}
-use Rattle.hda_words.specs.Numbers.{Numbers, if_taken, is_taken, number_in, number_written}
-use Rattle.hda_words.specs.Commands.{CommandGrammar, OptionGrammar, commands, option_names, route_grammar}
+use Rattle.hda_words.specs.Numbers.{Numbers, if_taken, is_taken, number_written}
+use Rattle.hda_words.specs.Commands.{CommandGrammar, OptionGrammar, option_names, route_grammar}
 use Rattle.hda_words.specs.Words.{Part, Word, has_single, is_among, operands_of, part_met, parts_from, parts_of, single_at, values_of, with_part, word_of}
 use Rattle.hda_words.specs.Words as words
 use Rattle.hda_words.specs.Asked.{grammar_named}
@@ -80,12 +80,6 @@ pub no_numbers : (grammar : CommandGrammar) (ws : List (List ℕ)) (m : ArgMatch
 no_numbers grammar ws m found none =
     line_found grammar (parts_of (option_names grammar) ws) m found
     ∙ (ap (line_with grammar (values_found m operands_id)) none ∙ neither (length (values_found m operands_id) == grammar.operands))
-
-pub no_operands : (grammar : CommandGrammar) (ws : List (List ℕ)) (m : ArgMatches) → FindsParts (option_names grammar) (parts_of (option_names grammar) ws) m
-    → (length (values_found m operands_id) == grammar.operands) ≡ false → line_of grammar ws ≡ None
-no_operands grammar ws m found apart =
-    line_found grammar (parts_of (option_names grammar) ws) m found
-    ∙ ap (λ (b : Bool). if b then option_map (λ ns. let l : CommandLine = record { operands = values_found m operands_id; numbers = ns } in l) (numbers_found grammar.options m) else None) apart
 
 pub line_is : (grammar : CommandGrammar) (ws : List (List ℕ)) (m : ArgMatches) (numbers : List ℕ) → FindsParts (option_names grammar) (parts_of (option_names grammar) ws) m
     → (length (values_found m operands_id) == grammar.operands) ≡ true → numbers_found grammar.options m ≡ Some numbers

@@ -1,5 +1,5 @@
 -- Rows, one after another.
-use Rattle.std.proofs.Common.{◌≡◌, ◌∙◌, ◌<◌, ◌+◌, ℕ, List, [], ◌∷◌, ◌++◌, map, take, drop, length, refl, sym, ap, ap₂, slice_index_or, arith, ◌≤◌}
+use Rattle.std.proofs.Common.{◌≡◌, ◌∙◌, ◌<◌, ◌+◌, ℕ, List, [], ◌∷◌, ◌++◌, map, take, length, refl, sym, ap, ap₂, slice_index_or, ◌≤◌}
 use Rattle.std.proofs.lemmas.List.{take_all, take_more}
 use Rattle.clap.specs.Words.{App, Rule, with_rule}
 use Rattle.hda_words.specs.Commands.{OptionGrammar}

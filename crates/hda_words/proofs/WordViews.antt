@@ -4,7 +4,7 @@ use Rattle.std.specs.Prelude.{◌==◌, ◌&&◌, if◌then◌else◌, option_an
 use Rattle.std.specs.List.{list_any, before_first, after_first}
 use Rattle.std.specs.Str.{bytes_eq}
 use Rattle.clap.specs.Lexer.{long_of, long_of_rest, short_of, short_of_rest, strip_byte}
-use Rattle.hda_words.specs.Words.{Word, plain, single, ending, option, word_of, word_from, word_after_one, is_equals}
+use Rattle.hda_words.specs.Words.{plain, single, ending, option, word_of, word_from, word_after_one, is_equals}
 
 abbrev pub two_hyphens : List ℕ
 two_hyphens = 45 ∷ 45 ∷ []

@@ -45,7 +45,11 @@ fn command_of<'a>(alloc: Global, row: &CommandRow) -> Result<Command<'a>, AllocE
 }
 
 /// What `clap` finds in the words, of which the first is the command's name.
-pub fn find_parts<'a>(alloc: Global, row: &CommandRow, words: &'a [String]) -> Result<ArgMatches<'a>, WordsFault>
+pub fn find_parts<'a>(
+    alloc: Global,
+    row: &CommandRow,
+    words: &'a [String],
+) -> Result<ArgMatches<'a>, WordsFault>
     requires apart { is_among (option_names (grammar_of row.now)) operands_id ≡ false }
     requires no_single { has_single (drop 1 (map string_bytes words.now)) ≡ false }
     ensures ok { IfOk result (FindsParts (option_names (grammar_of row.now))
@@ -64,7 +68,10 @@ pub fn find_parts<'a>(alloc: Global, row: &CommandRow, words: &'a [String]) -> R
 }
 
 /// The operands that were found.
-pub fn operands_given<'a>(alloc: Global, matches: &ArgMatches<'a>) -> Result<Vec<&'a str>, AllocError>
+pub fn operands_given<'a>(
+    alloc: Global,
+    matches: &ArgMatches<'a>,
+) -> Result<Vec<&'a str>, AllocError>
     ensures { IfOk result (λ operands. map (λ word. word.now) operands.items ≡ values_found matches.now operands_id) }
 {
     match matches.get_strs(OPERANDS) {

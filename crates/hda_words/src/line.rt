@@ -58,7 +58,11 @@ fn number_given(option: &OptionRow, matches: &ArgMatches) -> Option<u64>
 }
 
 /// The numbers of the options.
-fn numbers_given(alloc: Global, options: &[OptionRow], matches: &ArgMatches) -> Result<Vec<u64>, WordsFault>
+fn numbers_given(
+    alloc: Global,
+    options: &[OptionRow],
+    matches: &ArgMatches,
+) -> Result<Vec<u64>, WordsFault>
     ensures ok { IfOk result (λ numbers. numbers_found (map option_of options.now) matches.now ≡ Some numbers.items) }
     ensures err { result ≡ Err WordsFault.NoCommand → numbers_found (map option_of options.now) matches.now ≡ None }
 {
@@ -71,7 +75,11 @@ fn numbers_given(alloc: Global, options: &[OptionRow], matches: &ArgMatches) -> 
 }
 
 /// The words, of which the first is the name of the row's command.
-pub fn read_line<'a>(alloc: Global, row: &CommandRow, words: &'a [String]) -> Result<Line<'a>, WordsFault>
+pub fn read_line<'a>(
+    alloc: Global,
+    row: &CommandRow,
+    words: &'a [String],
+) -> Result<Line<'a>, WordsFault>
     requires apart { is_among (option_names (grammar_of row.now)) operands_id ≡ false }
     requires named { 0 < length words.now }
     ensures ok { IfOk result (λ line. line_of (grammar_of row.now) (drop 1 (map string_bytes words.now)) ≡ Some (line_seen line)) }

@@ -49,6 +49,10 @@ impl Numbers {
         ensures { result ≡ number_in (numbers_in self) text.now }
     {
         let number = number_of(text)?;
-        if self.contains(number) { Some(number) } else { None }
+        if self.contains(number) {
+            Some(number)
+        } else {
+            None
+        }
     }
 }

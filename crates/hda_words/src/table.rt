@@ -38,6 +38,7 @@ pub struct CommandRow {
 }
 
 const RATES: [u64; 6] = [8000, 16000, 44100, 48000, 96000, 192000];
+
 const CHANNELS: [u64; 4] = [2, 4, 6, 8];
 
 const ROUTE_OPTIONS: [OptionRow; 2] = [

@@ -1,4 +1,4 @@
-use Rattle.std.proofs.Common.{arith, rules}
+use Rattle.std.proofs.Common.{arith}
 use Rattle.std.proofs.lemmas.Result.{IfOk-weaker}
 use Rattle.hda_words.proofs.RowLemmas.{command_done, command_more}
 use Rattle.hda_words.proofs.arguments.command_of.Goals as goal

@@ -1,6 +1,5 @@
-use Rattle.std.proofs.Common.{◌≡◌, map, take}
+use Rattle.std.proofs.Common.{◌≡◌, take}
 use Rattle.clap.specs.Words.{app_of}
-use Rattle.hda_words.specs.Tables.{option_of}
 use Rattle.hda_words.proofs.RowLemmas.{app_with, names_of_rows}
 use Rattle.hda_words.proofs.arguments.command_of.Given as goal
 

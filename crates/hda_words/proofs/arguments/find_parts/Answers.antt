@@ -1,4 +1,4 @@
-use Rattle.std.proofs.Common.{◌∙◌, rules, sym}
+use Rattle.std.proofs.Common.{◌∙◌}
 use Rattle.hda_words.proofs.ClapAnswer.{finds, refuses}
 use Rattle.hda_words.proofs.arguments.find_parts.Goals as goal
 

@@ -1,4 +1,4 @@
-use Rattle.std.proofs.Common.{◌≡◌, ◌∙◌, true, false, map, drop, ap, rules, sym, string_bytes, List, ℕ, length, Some, eq-eqb, arith}
+use Rattle.std.proofs.Common.{◌≡◌, ◌∙◌, true, map, drop, ap, rules, sym, string_bytes, List, ℕ, length, Some, eq-eqb, arith}
 use Rattle.std.proofs.lemmas.List.{length-map}
 use Rattle.std.proofs.lemmas.Grind.{common_steps}
 use Rattle.std.specs.Borrow.{Bor}
@@ -6,7 +6,7 @@ use Rattle.hda_words.specs.Lines.{CommandLine}
 use Rattle.hda_words.specs.Words.{has_single}
 use Rattle.hda_words.specs.Tables.{grammar_of}
 use Rattle.hda_words.specs.ClapCommand.{operands_id, values_found}
-use Rattle.hda_words.proofs.LineLemmas.{line_is, no_numbers, no_operands, single_no_line, words_after}
+use Rattle.hda_words.proofs.LineLemmas.{line_is, no_numbers, single_no_line, words_after}
 use Rattle.hda_words.proofs.line.read_line.Goals as goal
 
 pub returns-then-has_single_hyphen-clause-err : goal.returns-then-has_single_hyphen-clause-err
