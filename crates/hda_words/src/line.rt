@@ -1,5 +1,5 @@
 //! The words after a command's name, by the row of the command.
-ghost use Rattle.std.specs.Prelude.{◌≡◌, ◌<◌, IfOk, Err, Some, None, drop, length, map, string_bytes, false};
+ghost use Rattle.std.specs.Prelude.{◌≡◌, ◌≢◌, ◌<◌, IfOk, Err, Some, None, drop, length, map, string_bytes, false};
 ghost use Rattle.hda_words.specs.ClapCommand.{numbers_found, operands_id, values_found};
 ghost use Rattle.hda_words.specs.Commands.{option_names};
 ghost use Rattle.hda_words.specs.Lines.{line_of, number_once};
@@ -27,8 +27,8 @@ fn is_single_hyphen(word: &str) -> bool
     word.as_bytes().starts_with(b"-".as_slice()) && !word.as_bytes().starts_with(b"--".as_slice())
 }
 
-/// Whether a word before any `--` has a single hyphen at its front. No command has such options, and `clap` would take a hyphen alone
-/// for an operand.
+/// Whether a word before any `--` has a single hyphen at its front. No command has options of one letter, and `clap` would take a
+/// hyphen alone for an operand.
 fn has_single_hyphen(words: &[String]) -> bool
     ensures { result ≡ has_single (map string_bytes words.now) }
 {
@@ -74,6 +74,24 @@ fn numbers_given(
     Ok(numbers)
 }
 
+/// The operands: as many as the row has.
+fn operands_of<'a>(
+    alloc: Global,
+    row: &CommandRow,
+    matches: &ArgMatches<'a>,
+) -> Result<Vec<&'a str>, WordsFault>
+    ensures found { IfOk result (λ operands. map (λ word. word.now) operands.items ≡ values_found matches.now operands_id) }
+    ensures count { IfOk result (λ operands. length operands.items ≡ row.now.operands) }
+    ensures err { result ≡ Err WordsFault.NoCommand → length (values_found matches.now operands_id) ≢ row.now.operands }
+{
+    let operands = operands_given(alloc, matches)?;
+    if operands.as_slice().len() == row.operands {
+        Ok(operands)
+    } else {
+        Err(WordsFault::NoCommand)
+    }
+}
+
 /// The words, of which the first is the name of the row's command.
 pub fn read_line<'a>(
     alloc: Global,
@@ -89,10 +107,7 @@ pub fn read_line<'a>(
         return Err(WordsFault::NoCommand);
     }
     let matches = find_parts(alloc, row, words)?;
-    let operands = operands_given(alloc, &matches)?;
-    if operands.as_slice().len() != row.operands {
-        return Err(WordsFault::NoCommand);
-    }
+    let operands = operands_of(alloc, row, &matches)?;
     let numbers = numbers_given(alloc, row.options, &matches)?;
     Ok(Line { operands, numbers })
 }

@@ -21,8 +21,8 @@ returns-in_err-numbers-clause-err c = λ e.
 
 pub returns-clause-ok : goal.returns-clause-ok
 returns-clause-ok c =
-    let found : map (λ (w : Bor (List ℕ)). w.now) c.in_ok-operands.operands.items ≡ values_found c.in_ok-matches.matches operands_id = c.in_ok-operands.ensures in
-    let count : length c.in_ok-operands.operands.items ≡ c.args.row.now.operands = first_of (cc, search rules, grind (arith, common_steps)) in
+    let found : map (λ (w : Bor (List ℕ)). w.now) c.in_ok-operands.operands.items ≡ values_found c.in_ok-matches.matches operands_id = c.in_ok-operands.ensures.found in
+    let count : length c.in_ok-operands.operands.items ≡ c.args.row.now.operands = c.in_ok-operands.ensures.count in
     let same_count : length (values_found c.in_ok-matches.matches operands_id) ≡ c.args.row.now.operands = ap length (sym found) ∙ (simp length-map count) in
     line_is (grammar_of c.args.row.now) (drop 1 (map string_bytes c.args.words.now)) c.in_ok-matches.matches c.in_ok-numbers.numbers.items c.in_ok-matches.ensures.ok
     (eq-eqb _ _ same_count) c.in_ok-numbers.ensures.ok
