@@ -1,5 +1,7 @@
+pub mod AddressLemmas
 pub mod ArrayLemmas
 pub mod JudgeLemmas
+pub mod KeptLemmas
 pub mod Meant
 pub mod NodeLemmas
 pub mod NumberLemmas

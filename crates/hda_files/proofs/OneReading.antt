@@ -1,9 +1,10 @@
 -- A codec file has one reading.
-use Rattle.std.proofs.Common.{◌≡◌, ◌≤◌, ℕ, List, Option, None, Some, Result, Ok, Err, IfOk, inl, inr, ◌⊎◌, refl, sym, ap, subst, ◌∙◌, arith}
+use Rattle.std.proofs.Common.{◌≡◌, ◌≤◌, ℕ, List, [], ◌∷◌, All, Option, None, Some, Result, Ok, Err, IfOk, inl, inr, ◌⊎◌, refl, sym, ap, subst, ◌∙◌, arith}
 use Rattle.std.specs.Prelude.{IsUtf8}
 use Rattle.std.specs.Str.{is_utf8}
 use Rattle.std.proofs.lemmas.Str.{IsUtf8-from_is_utf8, is_utf8-from_IsUtf8}
 use Rattle.std.proofs.lemmas.Bool.{cases_order, cases_Bool}
+use Rattle.std.proofs.lemmas.List.Elements.{All-head, All-tail}
 use Rattle.toml.specs.Data.{Members}
 use Rattle.toml.specs.Parse.{parse_document}
 use Rattle.verb_codes.specs.declared.entries.ListFault as declared_fault
@@ -24,8 +25,9 @@ use Rattle.hda_files.specs.Memory.{OrMemory}
 use Rattle.hda_files.specs.Codecs.{laid_out}
 use Rattle.hda_files.specs.ListFaults.{list_fault_at}
 use Rattle.hda_files.specs.Tops.{machine_table_of}
-use Rattle.hda_files.specs.Machines.{codec_file, IsGoodCodec, IsJudgedCodec, HasFewPins, IsJudgedMachine, IsJudged, IsReadingOf, HasTable, IsReadingOfBytes, Reads, IsOnlyReading}
-use Rattle.hda_files.proofs.TableBounds.{AreSmall, fault-small, machine_table-small}
+use Rattle.hda_files.specs.Machines.{codec_files, by_address, IsGoodCodec, IsJudgedCodec, IsFirstCodecFault, HasFewPins, IsJudgedMachine, IsJudged, IsReadingOf, HasTable, IsReadingOfBytes, Reads, IsOnlyReading}
+use Rattle.hda_files.proofs.TableBounds.{AreSmall, HaveSmallNodes, fault-small, machine_table-small}
+use Rattle.hda_files.proofs.AddressLemmas.{by_address-all}
 
 -- lists without a fault have no first one
 none_and_first : (nodes : List NodeTable) (nid : ℕ) (fault : declared_fault.ListFault) → AreSmall nodes → HasNoListFault (list_fault_at nodes) → IsFirstListFault (list_fault_at nodes) nid fault → ⊥
@@ -102,26 +104,50 @@ one_codec_fault codec (ListFault address nid fault) _ small h k = absurd k
 one_codec_fault codec (Graph address fault) _ small h k = absurd k
 one_codec_fault codec _ twin small h k = absurd h
 
+-- good codecs have no first fault
+good_and_first : (codecs : List CodecTable) (fault : FileFault) → HaveSmallNodes codecs → All IsGoodCodec codecs → IsFirstCodecFault codecs fault → ⊥
+good_and_first [] fault small good h = h
+good_and_first (codec ∷ codecs) fault small good (inl here) =
+    good_and_fault codec fault (All-head (λ (c : CodecTable). AreSmall c.nodes) codec codecs small) (All-head IsGoodCodec codec codecs good) here
+good_and_first (codec ∷ codecs) fault small good (inr later) =
+    good_and_first codecs fault (All-tail (λ (c : CodecTable). AreSmall c.nodes) codec codecs small) (All-tail IsGoodCodec codec codecs good) later.1
+
+-- codecs have one first fault
+one_first_codec_fault : (codecs : List CodecTable) (fault twin : FileFault) → HaveSmallNodes codecs → IsFirstCodecFault codecs fault → IsFirstCodecFault codecs twin → twin ≡ fault
+one_first_codec_fault [] fault twin small h k = absurd h
+one_first_codec_fault (codec ∷ codecs) fault twin small (inl h) (inl k) =
+    one_codec_fault codec fault twin (All-head (λ (c : CodecTable). AreSmall c.nodes) codec codecs small) h k
+one_first_codec_fault (codec ∷ codecs) fault twin small (inl h) (inr k) =
+    absurd (good_and_fault codec fault (All-head (λ (c : CodecTable). AreSmall c.nodes) codec codecs small) k.0 h)
+one_first_codec_fault (codec ∷ codecs) fault twin small (inr h) (inl k) =
+    absurd (good_and_fault codec twin (All-head (λ (c : CodecTable). AreSmall c.nodes) codec codecs small) h.0 k)
+one_first_codec_fault (codec ∷ codecs) fault twin small (inr h) (inr k) =
+    one_first_codec_fault codecs fault twin (All-tail (λ (c : CodecTable). AreSmall c.nodes) codec codecs small) h.1 k.1
+
+-- the codecs in the order of their addresses have small node identifiers
+ordered-small : (table : MachineTable) → HaveSmallNodes table.codecs → HaveSmallNodes (by_address table.codecs)
+ordered-small table small = by_address-all (λ (c : CodecTable). AreSmall c.nodes) table.codecs small
+
 -- a machine that may be has no fault
-machine_and_fault : (table : MachineTable) (fault : FileFault) → AreSmall table.codec.nodes → IsGoodCodec table.codec → HasFewPins (codec_file table.codec).graph → IsJudgedMachine table (Err fault) → ⊥
+machine_and_fault : (table : MachineTable) (fault : FileFault) → HaveSmallNodes table.codecs → All IsGoodCodec (by_address table.codecs) → HasFewPins (codec_files table.codecs) → IsJudgedMachine table (Err fault) → ⊥
 machine_and_fault table TooManyPins small good few h = let many = h.1 in omega arith
-machine_and_fault table fault small good few h = good_and_fault table.codec fault small good h
+machine_and_fault table fault small good few h = good_and_first (by_address table.codecs) fault (ordered-small table small) good h
 
 -- a machine has one fault
-one_machine_fault : (table : MachineTable) (fault twin : FileFault) → AreSmall table.codec.nodes → IsJudgedMachine table (Err fault) → IsJudgedMachine table (Err twin) → twin ≡ fault
+one_machine_fault : (table : MachineTable) (fault twin : FileFault) → HaveSmallNodes table.codecs → IsJudgedMachine table (Err fault) → IsJudgedMachine table (Err twin) → twin ≡ fault
 one_machine_fault table TooManyPins TooManyPins small h k = refl
-one_machine_fault table TooManyPins twin small h k = absurd (good_and_fault table.codec twin small h.0 k)
-one_machine_fault table fault TooManyPins small h k = absurd (good_and_fault table.codec fault small k.0 h)
-one_machine_fault table fault twin small h k = one_codec_fault table.codec fault twin small h k
+one_machine_fault table TooManyPins twin small h k = absurd (good_and_first (by_address table.codecs) twin (ordered-small table small) h.0 k)
+one_machine_fault table fault TooManyPins small h k = absurd (good_and_first (by_address table.codecs) fault (ordered-small table small) k.0 h)
+one_machine_fault table fault twin small h k = one_first_codec_fault (by_address table.codecs) fault twin (ordered-small table small) h k
 
 -- a table has one meaning
-one_machine : (table : MachineTable) (one other : Result Machine FileFault) → AreSmall table.codec.nodes → IsJudgedMachine table one → IsJudgedMachine table other → other ≡ one
+one_machine : (table : MachineTable) (one other : Result Machine FileFault) → HaveSmallNodes table.codecs → IsJudgedMachine table one → IsJudgedMachine table other → other ≡ one
 one_machine table (Ok machine) (Ok twin) small h k = ap Ok (k.0 ∙ sym h.0)
 one_machine table (Ok machine) (Err fault) small h k = absurd (machine_and_fault table fault small h.1 h.2 k)
 one_machine table (Err fault) (Ok machine) small h k = absurd (machine_and_fault table fault small k.1 k.2 h)
 one_machine table (Err fault) (Err twin) small h k = ap Err (one_machine_fault table fault twin small h k)
 
-one_judgement : (meant : Result MachineTable FileFault) (one other : Result Machine FileFault) → IfOk meant (λ table. AreSmall table.codec.nodes) → IsJudged meant one → IsJudged meant other → other ≡ one
+one_judgement : (meant : Result MachineTable FileFault) (one other : Result Machine FileFault) → IfOk meant (λ table. HaveSmallNodes table.codecs) → IsJudged meant one → IsJudged meant other → other ≡ one
 one_judgement (Ok table) one other small h k = one_machine table one other small h k
 one_judgement (Err fault) one other small h k = k ∙ sym h
 

@@ -17,22 +17,26 @@ use Rattle.hda_files.specs.declared.fault.FileFault.TheVariants.{Doubled}
 use Rattle.hda_files.specs.declared.node.NodeTable.{NodeTable}
 use Rattle.hda_files.specs.declared.codec.CodecTable.{CodecTable}
 use Rattle.hda_files.specs.declared.top.MachineTable.{MachineTable}
-use Rattle.hda_files.specs.Values.{◌>>=◌, value_at, given_number, number_or, tables_at, within, number_of, required_number}
+use Rattle.hda_files.specs.Values.{◌>>=◌, value_at, given_number, number_or, tables_at, within, number_of, required_number, each_after}
 use Rattle.hda_files.specs.Nodes.{nid_of, words_of, entries_of, node_with, node_of, nodes_after}
 use Rattle.hda_files.specs.Openings.{opening_of}
 use Rattle.hda_files.specs.ListFaults.{list_fault_at}
-use Rattle.hda_files.specs.Codecs.{codec_words_of, codec_with, codec_of}
-use Rattle.hda_files.specs.Tops.{ring_size_at, only_codec, codec_at, machine_table_of}
+use Rattle.hda_files.specs.Codecs.{codec_words_of, codec_with, codec_of, codecs_after}
+use Rattle.hda_files.specs.Tops.{ring_size_at, codecs_at, machine_table_of}
 
 -- each node identifier is at most 127
 abbrev pub AreSmall : List NodeTable → Type 0
 AreSmall nodes = All (λ node. node.nid ≤ 127) nodes
 
-IfOk-then : {A B : Type 0} (P : A → Type 0) (Q : B → Type 0) (r : Result A FileFault) (next : A → Result B FileFault) → IfOk r P → ((x : A) → P x → IfOk (next x) Q) → IfOk (r >>= next) Q
+-- those of each codec's widgets are
+abbrev pub HaveSmallNodes : List CodecTable → Type 0
+HaveSmallNodes codecs = All (λ (codec : CodecTable). AreSmall codec.nodes) codecs
+
+pub IfOk-then : {A B : Type 0} (P : A → Type 0) (Q : B → Type 0) (r : Result A FileFault) (next : A → Result B FileFault) → IfOk r P → ((x : A) → P x → IfOk (next x) Q) → IfOk (r >>= next) Q
 IfOk-then P Q (Ok x) next here step = step x here
 IfOk-then P Q (Err fault) next here step = tt
 
-IfOk-after : {A B : Type 0} (Q : B → Type 0) (r : Result A FileFault) (next : A → Result B FileFault) → ((x : A) → IfOk (next x) Q) → IfOk (r >>= next) Q
+pub IfOk-after : {A B : Type 0} (Q : B → Type 0) (r : Result A FileFault) (next : A → Result B FileFault) → ((x : A) → IfOk (next x) Q) → IfOk (r >>= next) Q
 IfOk-after Q (Ok x) next step = step x
 IfOk-after Q (Err fault) next step = tt
 
@@ -52,7 +56,7 @@ number-most : (place : Place) (key : Key) (least most : ℕ) (value : Data) → 
 number-most place key least most value =
     IfOk-after (λ n. n ≤ most) _ _ (λ number. IfOk-ok_or (λ n. n ≤ most) (within least most number) _ (within-most least most number))
 
-required-most : (table : Members) (place : Place) (key : Key) (least most : ℕ) → IfOk (required_number table place key least most) (λ n. n ≤ most)
+pub required-most : (table : Members) (place : Place) (key : Key) (least most : ℕ) → IfOk (required_number table place key least most) (λ n. n ≤ most)
 required-most table place key least most =
     IfOk-after (λ n. n ≤ most) _ _ (λ value. number-most place key least most value)
 
@@ -75,17 +79,22 @@ node-small codec earlier table =
     (λ words. IfOk-after Q (entries_of place words (value_at table ListKey)) _
     (λ entries. opened-small (opening_of table place) nid (record words { entries = entries }) small)))
 
-nodes-small : (codec : ℕ) (earlier : List NodeTable) (tables : List Members) → AreSmall earlier → IfOk (nodes_after codec earlier tables) AreSmall
-nodes-small codec earlier [] small = small
-nodes-small codec earlier (table ∷ tables) small =
-    IfOk-then (λ (node : NodeTable). node.nid ≤ 127) AreSmall (node_of codec earlier table) _ (node-small codec earlier table)
-    (λ node here. nodes-small codec (earlier ++ node ∷ []) tables (All-push (λ n. n.nid ≤ 127) earlier node small here))
+-- what holds of each that is read holds of all
+each-all : {A : Type 0} (P : A → Type 0) (read_one : List A → Members → Result A FileFault) → ((earlier : List A) (table : Members) → IfOk (read_one earlier table) P)
+    → (earlier : List A) (tables : List Members) → All P earlier → IfOk (each_after read_one earlier tables) (All P)
+each-all P read_one each earlier [] all = all
+each-all P read_one each earlier (table ∷ tables) all =
+    IfOk-then P (All P) (read_one earlier table) _ (each earlier table) (λ one here. each-all P read_one each (earlier ++ one ∷ []) tables (All-push P earlier one all here))
 
-codec-small : (codec : ℕ) (table : Members) → IfOk (codec_of codec table) (λ codec. AreSmall codec.nodes)
-codec-small codec table =
+nodes-small : (codec : ℕ) (earlier : List NodeTable) (tables : List Members) → AreSmall earlier → IfOk (nodes_after codec earlier tables) AreSmall
+nodes-small codec earlier tables small = each-all (λ node. node.nid ≤ 127) (node_of codec) (node-small codec) earlier tables small
+
+codec-small : (earlier : List CodecTable) (table : Members) → IfOk (codec_of earlier table) (λ codec. AreSmall codec.nodes)
+codec-small earlier table =
     let Q : CodecTable → Type 0 = λ read. AreSmall read.nodes in
+    let codec = length earlier in
     let place = Codec codec in
-    IfOk-after Q (codec_words_of table place) _
+    IfOk-after Q (codec_words_of table place earlier) _
     (λ words. IfOk-after Q (number_or table place GroupPower 0 3 0) _
     (λ group_power. IfOk-after Q (given_number table place First 0 127) _
     (λ first. IfOk-after Q (given_number table place Count 0 127) _
@@ -93,21 +102,20 @@ codec-small codec table =
     (λ tables. IfOk-then AreSmall Q (nodes_after codec [] tables) (λ nodes. Ok (codec_with words group_power first count nodes))
     (nodes-small codec [] tables (All-nil (λ n. n.nid ≤ 127))) (λ nodes small. small))))))
 
-only_codec-small : (tables : List Members) → IfOk (only_codec tables) (λ codec. AreSmall codec.nodes)
-only_codec-small [] = tt
-only_codec-small (table ∷ []) = codec-small 0 table
-only_codec-small (table ∷ other ∷ more) = tt
+codecs-small : (tables : List Members) → IfOk (codecs_after [] tables) HaveSmallNodes
+codecs-small tables =
+    let P : CodecTable → Type 0 = λ read. AreSmall read.nodes in each-all P codec_of codec-small [] tables (All-nil P)
 
 -- what a top table says has small node identifiers
-pub machine_table-small : (top : Members) → IfOk (machine_table_of top) (λ table. AreSmall table.codec.nodes)
+pub machine_table-small : (top : Members) → IfOk (machine_table_of top) (λ table. HaveSmallNodes table.codecs)
 machine_table-small top =
-    let P : CodecTable → Type 0 = λ read. AreSmall read.nodes in
-    let Q : MachineTable → Type 0 = λ read. AreSmall read.codec.nodes in
+    let P : List CodecTable → Type 0 = HaveSmallNodes in
+    let Q : MachineTable → Type 0 = λ read. HaveSmallNodes read.codecs in
     IfOk-after Q (number_or top Top Fifo 8 4096 192) _
     (λ fifo. IfOk-after Q (ring_size_at top Corb) _
     (λ corb. IfOk-after Q (ring_size_at top Rirb) _
-    (λ rirb. IfOk-then P Q (codec_at top) (λ codec. Ok (record { fifo = fifo; corb = corb; rirb = rirb; codec = codec }))
-    (IfOk-after P (tables_at top Top CodecKey 1) only_codec only_codec-small) (λ codec small. small))))
+    (λ rirb. IfOk-then P Q (codecs_at top) (λ codecs. Ok (record { fifo = fifo; corb = corb; rirb = rirb; codecs = codecs }))
+    (IfOk-after P (tables_at top Top CodecKey 4) (λ tables. codecs_after [] tables) codecs-small) (λ codecs small. small))))
 
 -- a list with a fault stands at a small node identifier
 pub fault-small : (nodes : List NodeTable) (nid : ℕ) (fault : ListFault) → AreSmall nodes → list_fault_at nodes nid ≡ Some fault → nid < 128

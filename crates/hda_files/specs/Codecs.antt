@@ -1,5 +1,5 @@
--- The table of a codec. This project's own; the words are those of High Definition Audio 1.0a, 7.3.4.
-use Rattle.std.specs.Prelude.{ℕ, Bool, not, ◌==◌, ◌&&◌, ◌+◌, ◌-◌, List, [], ◌++◌, map, filter, fold, min, max, nat_le, nat_lt, Option, Some, None, unwrap_or, Result, Ok}
+-- The tables of the codecs. This project's own; the words are those of High Definition Audio 1.0a, 7.3.4.
+use Rattle.std.specs.Prelude.{ℕ, Bool, not, ◌==◌, ◌&&◌, ◌+◌, ◌-◌, List, [], ◌++◌, length, map, filter, fold, min, max, nat_le, nat_lt, Option, Some, None, unwrap_or, Result, Ok, Err, is_some, if◌then◌else◌}
 use Rattle.std.specs.List.{find, range_with_len}
 use Rattle.toml.specs.Data.{Members}
 use Rattle.codec_graph.specs.declared.raw.RawNode.{RawNode}
@@ -11,13 +11,24 @@ use Rattle.hda_files.specs.declared.fault.Place.{Place}
 use Rattle.hda_files.specs.declared.fault.Place.TheVariants as place
 use Rattle.hda_files.specs.declared.fault.Key.TheVariants.{Address, Vendor, Revision, AmpIn, AmpOut, Power, Group, GroupType, Formats, Pcm, GroupPower, First, Count, Node}
 use Rattle.hda_files.specs.declared.fault.FileFault.{FileFault}
-use Rattle.hda_files.specs.Values.{◌>>=◌, required_number, given_number, number_or, word_or_zero, most_word, tables_at}
+use Rattle.hda_files.specs.declared.fault.FileFault.TheVariants.{Doubled}
+use Rattle.hda_files.specs.Values.{◌>>=◌, required_number, given_number, number_or, word_or_zero, most_word, tables_at, each_after}
 use Rattle.hda_files.specs.Nodes.{nodes_after}
 
--- the words of a codec and of its function group, with no widget
-abbrev pub codec_words_of : Members → Place → Result RawCodec FileFault
-codec_words_of table place = do
+-- the table of the codec with this address, if there is one
+abbrev pub codec_with_address : List CodecTable → ℕ → Option CodecTable
+codec_with_address codecs address = find (λ codec. codec.words.address == address) codecs
+
+-- the codec's address on the link, which no earlier codec of the file has
+abbrev pub address_of : Members → Place → List CodecTable → Result ℕ FileFault
+address_of table place earlier = do
   address ← required_number table place Address 0 14
+  if is_some (codec_with_address earlier address) then Err (Doubled place Address) else Ok address
+
+-- the words of a codec and of its function group, with no widget
+abbrev pub codec_words_of : Members → Place → List CodecTable → Result RawCodec FileFault
+codec_words_of table place earlier = do
+  address ← address_of table place earlier
   vendor ← required_number table place Vendor 0 most_word
   revision ← word_or_zero table place Revision
   amp_in ← word_or_zero table place AmpIn
@@ -69,16 +80,20 @@ codec_with words group_power first count nodes = record {
   nodes = nodes;
 }
 
--- what the table at a place of the array says of its codec
-abbrev pub codec_of : ℕ → Members → Result CodecTable FileFault
-codec_of codec table = do
-  words ← codec_words_of table (place.Codec codec)
-  group_power ← number_or table (place.Codec codec) GroupPower 0 3 0
-  first ← given_number table (place.Codec codec) First 0 127
-  count ← given_number table (place.Codec codec) Count 0 127
-  tables ← tables_at table (place.Codec codec) Node 126
-  nodes ← nodes_after codec [] tables
+-- what one table says of its codec, after the earlier ones of the file
+abbrev pub codec_of : List CodecTable → Members → Result CodecTable FileFault
+codec_of earlier table = do
+  words ← codec_words_of table (place.Codec (length earlier)) earlier
+  group_power ← number_or table (place.Codec (length earlier)) GroupPower 0 3 0
+  first ← given_number table (place.Codec (length earlier)) First 0 127
+  count ← given_number table (place.Codec (length earlier)) Count 0 127
+  tables ← tables_at table (place.Codec (length earlier)) Node 126
+  nodes ← nodes_after (length earlier) [] tables
   Ok (codec_with words group_power first count nodes)
+
+-- the codecs of the tables in order, after those already read: the first fault counts
+abbrev pub codecs_after : List CodecTable → List Members → Result (List CodecTable) FileFault
+codecs_after earlier tables = each_after codec_of earlier tables
 
 -- the codec with its widgets laid out by their node identifiers
 abbrev pub laid_out : CodecTable → RawCodec

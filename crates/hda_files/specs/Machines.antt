@@ -1,6 +1,6 @@
 -- What a codec file means: a machine, or its first fault. This project's own format.
-use Rattle.std.specs.Prelude.{◌≡◌, ◌≤◌, ◌<◌, ℕ, List, [], ◌∷◌, map, count_by, All, Some, Result, Ok, Err, IsUtf8}
-use Rattle.std.specs.List.{range_with_len}
+use Rattle.std.specs.Prelude.{◌≡◌, ◌≤◌, ◌<◌, ◌⊎◌, ℕ, List, [], ◌∷◌, map, count_by, sum_by, All, Some, Result, Ok, Err, IsUtf8}
+use Rattle.std.specs.List.{range_with_len, filter_map}
 use Rattle.std.specs.List.Sorted.{IsStrictlyIncreasing}
 use Rattle.toml.specs.Data.{Members}
 use Rattle.toml.specs.Parse.{parse_document}
@@ -17,7 +17,7 @@ use Rattle.hda_files.specs.declared.top.MachineTable.{MachineTable}
 use Rattle.hda_files.specs.declared.fault.FileFault.{FileFault}
 use Rattle.hda_files.specs.declared.fault.FileFault.TheVariants.{Toml, List as ListFault, Graph, TooManyPins}
 use Rattle.hda_files.specs.Memory.{OrMemory}
-use Rattle.hda_files.specs.Codecs.{laid_out}
+use Rattle.hda_files.specs.Codecs.{codec_with_address, laid_out}
 use Rattle.hda_files.specs.ListFaults.{list_fault_at}
 use Rattle.hda_files.specs.Starts.{settings_of, presence_of}
 use Rattle.hda_files.specs.Tops.{machine_table_of}
@@ -26,12 +26,24 @@ use Rattle.hda_files.specs.Tops.{machine_table_of}
 unfoldable pub candidates_below : RawCodec → ℕ → ℕ
 candidates_below codec end = count_by (is_candidate codec) (range_with_len 0 end)
 
--- a file has at most 16 candidate pins
-abbrev pub HasFewPins : RawCodec → Type 0
-HasFewPins codec = candidates_below codec node_identifiers ≤ 16
+-- how many candidate pins some codecs have together
+abbrev pub candidates_of : List CodecFile → ℕ
+candidates_of files = sum_by (λ (file : CodecFile). candidates_below file.graph node_identifiers) files
 
-abbrev pub HasManyPins : RawCodec → Type 0
-HasManyPins codec = 16 < candidates_below codec node_identifiers
+-- a file has at most 16 candidate pins
+abbrev pub HasFewPins : List CodecFile → Type 0
+HasFewPins files = candidates_of files ≤ 16
+
+abbrev pub HasManyPins : List CodecFile → Type 0
+HasManyPins files = 16 < candidates_of files
+
+-- how many addresses a codec can have: 0 to 14
+abbrev pub codec_addresses : ℕ
+codec_addresses = 15
+
+-- the tables of a file's codecs ascending by address: for each address the table with it, if there is one
+unfoldable pub by_address : List CodecTable → List CodecTable
+by_address codecs = filter_map (codec_with_address codecs) (range_with_len 0 codec_addresses)
 
 -- the codec that a table describes: its normalised graph, and its settings and plugs at the start
 abbrev pub codec_file : CodecTable → CodecFile
@@ -55,16 +67,30 @@ IsJudgedCodec codec (Err (Graph address fault)) =
     (address ≡ codec.words.address) × HasNoListFault (list_fault_at codec.nodes) × IsFirstFault (normal (laid_out codec)) fault
 IsJudgedCodec codec (Err _) = ⊥
 
+-- the first of the codecs that is not good has this fault
+abbrev pub IsFirstCodecFault : List CodecTable → FileFault → Type 0
+IsFirstCodecFault [] fault = ⊥
+IsFirstCodecFault (codec ∷ codecs) fault = IsJudgedCodec codec (Err fault) ⊎ (IsGoodCodec codec × IsFirstCodecFault codecs fault)
+
+-- what codecs in this order mean: each of them, or else the fault of the first that is not good
+abbrev pub AreJudgedCodecs : List CodecTable → Result (List CodecFile) FileFault → Type 0
+AreJudgedCodecs codecs (Ok files) = (files ≡ map codec_file codecs) × All IsGoodCodec codecs
+AreJudgedCodecs codecs (Err fault) = IsFirstCodecFault codecs fault
+
+-- the codecs that the tables describe, ascending by address
+abbrev pub codec_files : List CodecTable → List CodecFile
+codec_files codecs = map codec_file (by_address codecs)
+
 -- the machine that a top table describes
 abbrev pub machine_of : MachineTable → Machine
-machine_of table = record { fifo = table.fifo; corb = table.corb; rirb = table.rirb; codecs = codec_file table.codec ∷ [] }
+machine_of table = record { fifo = table.fifo; corb = table.corb; rirb = table.rirb; codecs = codec_files table.codecs }
 
--- what the file means whose keys are good: the machine, or else the fault of its codec, or else that it has too many
--- candidate pins
+-- what the file means whose keys are good: the machine, or else the first fault of its codecs ascending by address, or else
+-- that these have too many candidate pins together
 abbrev pub IsJudgedMachine : MachineTable → Result Machine FileFault → Type 0
-IsJudgedMachine table (Ok machine) = (machine ≡ machine_of table) × IsGoodCodec table.codec × HasFewPins (codec_file table.codec).graph
-IsJudgedMachine table (Err TooManyPins) = IsGoodCodec table.codec × HasManyPins (codec_file table.codec).graph
-IsJudgedMachine table (Err fault) = IsJudgedCodec table.codec (Err fault)
+IsJudgedMachine table (Ok machine) = (machine ≡ machine_of table) × All IsGoodCodec (by_address table.codecs) × HasFewPins (codec_files table.codecs)
+IsJudgedMachine table (Err TooManyPins) = All IsGoodCodec (by_address table.codecs) × HasManyPins (codec_files table.codecs)
+IsJudgedMachine table (Err fault) = IsFirstCodecFault (by_address table.codecs) fault
 
 -- what the file means whose keys give this: the first fault of the keys comes before all others
 abbrev pub IsJudged : Result MachineTable FileFault → Result Machine FileFault → Type 0

@@ -1,5 +1,5 @@
 -- The tables of a codec's widgets. This project's own; the words are those of High Definition Audio 1.0a, 7.3.4.
-use Rattle.std.specs.Prelude.{ℕ, ◌==◌, ◌-◌, ◌^◌, List, [], ◌∷◌, ◌++◌, length, Option, Some, None, Result, Ok, Err, if◌then◌else◌}
+use Rattle.std.specs.Prelude.{ℕ, ◌==◌, ◌-◌, ◌^◌, List, [], length, Option, Some, None, Result, Ok, Err, if◌then◌else◌}
 use Rattle.std.specs.List.{list_any}
 use Rattle.toml.specs.Data.{Data, Members}
 use Rattle.verb_codes.specs.Lists.{entry_width}
@@ -13,7 +13,7 @@ use Rattle.hda_files.specs.declared.fault.Place.TheVariants.{Node}
 use Rattle.hda_files.specs.declared.fault.Key.TheVariants.{Pcm, Formats, PinCaps, AmpIn, AmpOut, Power, Default, Nid, Caps, Long, List as ListKey}
 use Rattle.hda_files.specs.declared.fault.FileFault.{FileFault}
 use Rattle.hda_files.specs.declared.fault.FileFault.TheVariants.{OutOfRange, Doubled}
-use Rattle.hda_files.specs.Values.{◌>>=◌, value_at, required_number, word_or_zero, most_word, flag_at, numbers_of}
+use Rattle.hda_files.specs.Values.{◌>>=◌, value_at, required_number, word_or_zero, most_word, flag_at, numbers_of, each_after}
 use Rattle.hda_files.specs.Openings.{opening_of}
 
 -- the words of a widget; the words that are not given are 0, and the connection list is empty
@@ -58,7 +58,4 @@ node_of codec earlier table = do
 
 -- the widgets of the tables in order, after those already read: the first fault counts
 abbrev pub nodes_after : ℕ → List NodeTable → List Members → Result (List NodeTable) FileFault
-nodes_after codec earlier [] = Ok earlier
-nodes_after codec earlier (table ∷ tables) = do
-  node ← node_of codec earlier table
-  nodes_after codec (earlier ++ node ∷ []) tables
+nodes_after codec earlier tables = each_after (node_of codec) earlier tables

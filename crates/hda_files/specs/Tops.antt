@@ -1,6 +1,6 @@
 -- The top table of a codec file. This project's own; the sizes of the rings are those of High Definition Audio 1.0a, 3.3.24 and
 -- 3.3.31.
-use Rattle.std.specs.Prelude.{ℕ, ◌==◌, List, [], ◌∷◌, Option, Some, None, Result, Ok, Err, if◌then◌else◌}
+use Rattle.std.specs.Prelude.{ℕ, ◌==◌, List, [], Option, Some, None, Result, Ok, if◌then◌else◌}
 use Rattle.std.specs.Option.{ok_or}
 use Rattle.toml.specs.Data.{Members}
 use Rattle.hda_files.specs.declared.top.RingSize.{RingSize}
@@ -13,7 +13,7 @@ use Rattle.hda_files.specs.declared.fault.Key.TheVariants.{Fifo, Corb, Rirb, Cod
 use Rattle.hda_files.specs.declared.fault.FileFault.{FileFault}
 use Rattle.hda_files.specs.declared.fault.FileFault.TheVariants.{OutOfRange}
 use Rattle.hda_files.specs.Values.{◌>>=◌, number_or, most_word, tables_at}
-use Rattle.hda_files.specs.Codecs.{codec_of}
+use Rattle.hda_files.specs.Codecs.{codecs_after}
 
 -- the size of a ring with so many entries, if a ring can have so many
 abbrev pub ring_size : ℕ → Option RingSize
@@ -25,15 +25,11 @@ ring_size_at top key = do
   entries ← number_or top Top key 0 most_word 256
   ok_or (ring_size entries) (OutOfRange Top key)
 
--- a file has one codec
-abbrev pub only_codec : List Members → Result CodecTable FileFault
-only_codec (table ∷ []) = codec_of 0 table
-only_codec _ = Err (OutOfRange Top Codec)
-
-abbrev pub codec_at : Members → Result CodecTable FileFault
-codec_at top = do
-  tables ← tables_at top Top Codec 1
-  only_codec tables
+-- the codecs in the file's order; a file has one to four
+abbrev pub codecs_at : Members → Result (List CodecTable) FileFault
+codecs_at top = do
+  tables ← tables_at top Top Codec 4
+  codecs_after [] tables
 
 -- what a file's top table says of the machine, or the first fault of its keys
 abbrev pub machine_table_of : Members → Result MachineTable FileFault
@@ -41,5 +37,5 @@ machine_table_of top = do
   fifo ← number_or top Top Fifo 8 4096 192
   corb ← ring_size_at top Corb
   rirb ← ring_size_at top Rirb
-  codec ← codec_at top
-  Ok (record { fifo = fifo; corb = corb; rirb = rirb; codec = codec })
+  codecs ← codecs_at top
+  Ok (record { fifo = fifo; corb = corb; rirb = rirb; codecs = codecs })

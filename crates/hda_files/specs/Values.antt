@@ -1,5 +1,5 @@
 -- The values of a codec file's keys. A fault names the key and its table. This project's own.
-use Rattle.std.specs.Prelude.{ℕ, ℤ, pos, negsuc, Bool, false, ◌&&◌, List, [], ◌∷◌, length, nat_le, Option, Some, None, Result, Ok, Err, if◌then◌else◌, is_some, unwrap_or, option_and_then}
+use Rattle.std.specs.Prelude.{ℕ, ℤ, pos, negsuc, Bool, false, ◌&&◌, List, [], ◌∷◌, ◌++◌, length, nat_le, Option, Some, None, Result, Ok, Err, if◌then◌else◌, is_some, unwrap_or, option_and_then}
 use Rattle.std.specs.Option.{ok_or}
 use Rattle.std.specs.List.{list_all, filter_map}
 use Rattle.toml.specs.Data.{Data, Items, no_items, item, Members, get_member, as_integer, as_bool, as_array, as_table}
@@ -114,3 +114,10 @@ abbrev pub tables_at : Members → Place → Key → ℕ → Result (List Member
 tables_at table place key most = do
   value ← ok_or (value_at table key) (MissingKey place key)
   tables_of place key most value
+
+-- what the tables of an array say in order, where each is read after those before it: the first fault counts
+abbrev pub each_after : {A : Type 0} → (List A → Members → Result A FileFault) → List A → List Members → Result (List A) FileFault
+each_after read_one earlier [] = Ok earlier
+each_after read_one earlier (table ∷ tables) = do
+  one ← read_one earlier table
+  each_after read_one (earlier ++ one ∷ []) tables

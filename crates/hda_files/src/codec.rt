@@ -1,9 +1,10 @@
-//! Reads the table of a codec, and lays its widgets out by their node identifiers.
-ghost use Rattle.std.specs.Prelude.{◌≡◌, ◌==◌, ◌≤◌, ◌++◌, All, IfOk, filter, map, option_copied};
+//! Reads the tables of the codecs, and lays the widgets of a codec out by their node identifiers.
+ghost use Rattle.std.specs.Prelude.{◌≡◌, ◌==◌, ◌≤◌, ◌<◌, ◌++◌, [], All, IfOk, filter, map, option_copied, length, vec_len};
 ghost use Rattle.std.specs.List.{find, range_with_len};
 ghost use Rattle.toml.specs.View.{table_view};
 ghost use Rattle.hda_files.specs.Codecs as codecs;
-ghost use Rattle.hda_files.specs.Readers.{IsMeant, IsReadNode, IsReadCodec};
+ghost use Rattle.hda_files.specs.Readers.{IsMeant, items_of, IsReadNode, IsReadCodec};
+ghost use Rattle.hda_files.specs.Arrays.{tables_in};
 
 use crate::fault::{FileFault, Key, Place};
 use crate::node::{NodeTable, read_nodes};
@@ -12,6 +13,7 @@ use codec_graph::{GroupWords, RawCodec, RawNode};
 use hda_items::Items;
 use std::alloc::{AllocError, Global};
 use toml::Table;
+use toml::value::Array;
 
 /// The capabilities of a vendor defined widget, of which nothing else is known.
 const VENDOR_DEFINED: u32 = 0x00F0_0000;
@@ -30,12 +32,36 @@ pub(crate) struct CodecTable {
     pub nodes: Items<NodeTable>,
 }
 
-/// Reads the words of a codec and of its function group, with no widget.
-fn read_codec_words(alloc: Global, table: &Table, place: Place) -> Result<RawCodec, FileFault>
-    ensures value { result ≡ codecs.codec_words_of (table_view table.now) place }
-    ensures address { IfOk result (λ words. words.address ≤ 14) }
+/// The table of the codec with this address.
+pub(crate) fn codec_with_address(tables: &[CodecTable], address: u8) -> Option<&CodecTable>
+    ensures { option_copied result ≡ codecs.codec_with_address tables.now address }
+{
+    tables.iter().find(|codec| codec.words.address == address)
+}
+
+/// The address of a codec, which no earlier codec of the file has.
+fn address_at(table: &Table, place: Place, earlier: &[CodecTable]) -> Result<u8, FileFault>
+    ensures value { result ≡ codecs.address_of (table_view table.now) place earlier.now }
+    ensures bound { IfOk result (λ address. address ≤ 14) }
 {
     let address = required_byte(table, place, Key::Address, 0, 14)?;
+    if codec_with_address(earlier, address).is_some() {
+        return Err(FileFault::Doubled(place, Key::Address));
+    }
+    Ok(address)
+}
+
+/// Reads the words of a codec and of its function group, with no widget, after the earlier codecs of the file.
+fn read_codec_words(
+    alloc: Global,
+    table: &Table,
+    place: Place,
+    earlier: &[CodecTable],
+) -> Result<RawCodec, FileFault>
+    ensures value { result ≡ codecs.codec_words_of (table_view table.now) place earlier.now }
+    ensures address { IfOk result (λ words. words.address ≤ 14) }
+{
+    let address = address_at(table, place, earlier)?;
     let vendor = required_word(table, place, Key::Vendor)?;
     let revision = word_or(table, place, Key::Revision, 0)?;
     let amp_in = word_or(table, place, Key::AmpIn, 0)?;
@@ -149,25 +175,39 @@ fn lay_out(
 }
 
 /// The codec of a table with its widgets laid out by their node identifiers.
-pub(crate) fn laid_out(
-    alloc: Global,
-    words: RawCodec,
-    nodes: &[NodeTable],
-) -> Result<RawCodec, AllocError>
-    ensures { IfOk result (λ raw. raw ≡ record words { nodes = codecs.widgets_of words.first words.count nodes.now }) }
+pub(crate) fn laid_out(alloc: Global, codec: &CodecTable) -> Result<RawCodec, AllocError>
+    ensures { IfOk result (λ raw. raw ≡ codecs.laid_out codec.now) }
 {
-    let mut raw = words;
-    raw.nodes = Items::from_vec(lay_out(alloc, raw.first, raw.count, nodes)?);
-    Ok(raw)
+    let words = &codec.words;
+    let nodes = lay_out(alloc, words.first, words.count, codec.nodes.as_slice())?;
+    Ok(RawCodec {
+        address: words.address,
+        vendor: words.vendor,
+        revision: words.revision,
+        group: words.group,
+        group_type: words.group_type,
+        group_words: GroupWords {
+            pcm: words.group_words.pcm,
+            formats: words.group_words.formats,
+            amp_in: words.group_words.amp_in,
+            amp_out: words.group_words.amp_out,
+            power: words.group_words.power,
+        },
+        first: words.first,
+        count: words.count,
+        nodes: Items::from_vec(nodes),
+    })
 }
 
-/// Reads the table of the codec at this place of the array.
-pub(crate) fn read_codec(alloc: Global, table: &Table, codec: u8) -> Result<CodecTable, FileFault>
-    ensures value { IsMeant result (codecs.codec_of codec (table_view table.now)) }
+/// Reads what one table says of its codec, after the earlier ones of the file.
+fn read_codec(alloc: Global, table: &Table, earlier: &[CodecTable]) -> Result<CodecTable, FileFault>
+    requires { length earlier.now < 256 }
+    ensures value { IsMeant result (codecs.codec_of earlier.now (table_view table.now)) }
     ensures read { IfOk result IsReadCodec }
 {
+    let codec = earlier.len() as u8;
     let place = Place::Codec(codec);
-    let mut words = read_codec_words(alloc, table, place)?;
+    let mut words = read_codec_words(alloc, table, place, earlier)?;
     let group_power = byte_or(table, place, Key::GroupPower, 0, 3, 0)?;
     let first = given_byte(table, place, Key::First, 0, 127)?;
     let count = given_byte(table, place, Key::Count, 0, 127)?;
@@ -180,4 +220,20 @@ pub(crate) fn read_codec(alloc: Global, table: &Table, codec: u8) -> Result<Code
         group_power,
         nodes: Items::from_vec(nodes),
     })
+}
+
+/// Reads the codecs of an array of tables in order, each after the earlier ones.
+pub(crate) fn read_codecs(alloc: Global, array: &Array) -> Result<Vec<CodecTable>, FileFault>
+    requires { vec_len array.now ≤ 4 }
+    ensures value { IsMeant (items_of result) (codecs.codecs_after [] (tables_in array.now)) }
+    ensures read { IfOk result (λ codecs. All IsReadCodec codecs.items) }
+{
+    let mut codecs = Vec::new(alloc);
+    for value in array {
+        if let Some(table) = value.as_table() {
+            let codec = read_codec(alloc, table, codecs.as_slice())?;
+            codecs.push(codec)?;
+        }
+    }
+    Ok(codecs)
 }

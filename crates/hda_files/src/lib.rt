@@ -5,8 +5,8 @@
 //! |---|---|---|---|
 //! | top | `fifo` | 8 to 4,096 | 192 |
 //! | top | `corb`, `rirb` | 2, 16 or 256 | 256 |
-//! | top | `codec` | array of one table | refused |
-//! | codec | `address` | 0 to 14 | refused |
+//! | top | `codec` | array of 1 to 4 tables | refused |
+//! | codec | `address` | 0 to 14, of no earlier codec | refused |
 //! | codec | `vendor` | 32 bits | refused |
 //! | codec | `revision`, `amp_in`, `amp_out`, `power` | 32 bits | 0 |
 //! | codec | `group` | 1 to 127 | 1 |
@@ -27,11 +27,13 @@
 //! | node | `gain_in` | array of at most 16 numbers of 8 bits | as `gain_out`, place by place |
 //! | node | `present` | a truth value | `false` |
 //!
-//! Other keys are ignored. The keys of the top are tried first, then those of the codec and then those of each node in the
-//! array's order, each in the table's order. At a key it is tried whether it is missing, of a wrong type, out of range and
-//! doubled, in this order; a value of a wrong type in an array comes before all that is out of range there. When all keys are
-//! good, the faults of the connection lists come by node identifier, then the graph's fault, and last whether there are too
-//! many candidate pins. A node identifier of the codec without a table is a vendor defined widget.
+//! Other keys are ignored. The keys of the top are tried first, then those of the codecs in the array's order: for each its own
+//! keys and then those of each node in the array's order, each in the table's order. At a key it is tried whether it is missing,
+//! of a wrong type, out of range and doubled, in this order; a value of a wrong type in an array comes before all that is out of
+//! range there. When all keys of all codecs are good, the codecs are taken ascending by address, whatever their order in the
+//! file: for each the faults of its connection lists come by node identifier, and then its graph's fault. Last it is tried
+//! whether the codecs have too many candidate pins together. The machine's codecs stand ascending by address. A node identifier
+//! of a codec without a table is a vendor defined widget.
 //! The keys from `select` on and `group_power` act as the set verbs of their controls, after the opening of the codec.
 #![tactic(auto)]
 
@@ -48,6 +50,6 @@ mod top;
 mod values;
 
 pub use fault::{FileFault, Key, Place};
-pub use laws::one_reading;
+pub use laws::{keeps_each_codec, one_reading};
 pub use machine::{CodecFile, Machine, read_machine};
 pub use top::RingSize;

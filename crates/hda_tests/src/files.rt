@@ -5,6 +5,7 @@ use codec_graph::{Control, GraphFault};
 use hda_files::{FileFault, Key, Place, RingSize, read_machine};
 use std::alloc::Global;
 use std::test::Fail;
+use verb_codes::ListFault;
 
 #[test]
 fn reads_three_nodes_and_the_gaps_between(rt: HostRuntime) -> Result<(), Fail> {
@@ -177,7 +178,14 @@ fn refuses_by_the_first_fault(rt: HostRuntime) -> Result<(), Fail> {
         ("rirb = 8", FileFault::OutOfRange(top, Key::Rirb)),
         ("codec = [{}, {}, 1]", FileFault::WrongType(top, Key::Codec)),
         ("codec = []", FileFault::OutOfRange(top, Key::Codec)),
-        ("codec = [{}, {}]", FileFault::OutOfRange(top, Key::Codec)),
+        (
+            "codec = [{}, {}, {}, {}, {}]",
+            FileFault::OutOfRange(top, Key::Codec),
+        ),
+        (
+            "codec = [{}, {}, {}, {}]",
+            FileFault::MissingKey(codec, Key::Address),
+        ),
         (
             "codec = [{vendor = 1.5}]",
             FileFault::MissingKey(codec, Key::Address),
@@ -225,6 +233,128 @@ fn refuses_by_the_first_fault(rt: HostRuntime) -> Result<(), Fail> {
     Ok(())
 }
 
+const FOUR: &str = "codec = [
+    {address = 9, vendor = 91, node = [{nid = 2, caps = 0, stream = 9}]},
+    {address = 0, vendor = 1, node = [{nid = 2, caps = 0, stream = 0}]},
+    {address = 14, vendor = 141, node = [{nid = 2, caps = 0, stream = 14}]},
+    {address = 3, vendor = 31, node = [{nid = 2, caps = 0, stream = 3}]},
+]";
+
+#[test]
+fn takes_codecs_ascending_by_address(rt: HostRuntime) -> Result<(), Fail> {
+    let machine = read_machine(rt.alloc(), FOUR.as_bytes())?;
+    let want = [(0, 1), (3, 31), (9, 91), (14, 141)];
+    assert_eq!(rt; machine.codecs.len(), want.len());
+    for (codec, (address, vendor)) in machine.codecs.as_slice().iter().zip(want) {
+        let raw = codec.graph.raw();
+        assert_eq!(rt; (raw.address, raw.vendor), (address, vendor));
+        let stream = codec.settings.get(2, Control::Stream);
+        assert_eq!(rt; stream, Some(u32::from(address)), "{address}");
+    }
+    Ok(())
+}
+
+/// What stands in a codec's table beside its address: of a codec without faults, of one that lists node identifier 0, and of one
+/// whose function group is no audio function group.
+const GOOD: &str = "vendor = 1, node = [{nid = 2, caps = 0}]";
+
+const BAD_LIST: &str = "vendor = 1, node = [{nid = 2, caps = 0x100, list = [0]}]";
+
+const BAD_GRAPH: &str = "vendor = 1, group_type = 2, node = [{nid = 2, caps = 0}]";
+
+#[test]
+fn refuses_the_second_codec_in_its_turn(rt: HostRuntime) -> Result<(), Fail> {
+    let alloc = rt.alloc();
+    let second = Place::Codec(1);
+    let no_group = GraphFault::NoAudioGroup(1);
+    let cases = [
+        (GOOD, "", "", FileFault::MissingKey(second, Key::Address)),
+        (
+            GOOD,
+            "address = '4'",
+            "",
+            FileFault::WrongType(second, Key::Address),
+        ),
+        (
+            GOOD,
+            "address = 15",
+            "",
+            FileFault::OutOfRange(second, Key::Address),
+        ),
+        (
+            GOOD,
+            "address = 5",
+            "",
+            FileFault::Doubled(second, Key::Address),
+        ),
+        (
+            GOOD,
+            "address = 4",
+            "",
+            FileFault::MissingKey(second, Key::Vendor),
+        ),
+        (
+            GOOD,
+            "address = 4, ",
+            "vendor = 1, node = [{nid = 2, caps = 0}, {nid = 2}]",
+            FileFault::Doubled(Place::Node(1, 1), Key::Nid),
+        ),
+        (
+            GOOD,
+            "address = 4, ",
+            BAD_LIST,
+            FileFault::List(4, 2, ListFault::Zero),
+        ),
+        (
+            GOOD,
+            "address = 6, ",
+            BAD_GRAPH,
+            FileFault::Graph(6, no_group),
+        ),
+        (
+            "vendor = 1, node = [{nid = 2}]",
+            "",
+            "",
+            FileFault::MissingKey(Place::Node(0, 0), Key::Caps),
+        ),
+        (
+            BAD_LIST,
+            "address = 5",
+            "",
+            FileFault::Doubled(second, Key::Address),
+        ),
+        (
+            BAD_LIST,
+            "address = 4, ",
+            BAD_GRAPH,
+            FileFault::Graph(4, no_group),
+        ),
+        (
+            BAD_GRAPH,
+            "address = 4, ",
+            BAD_LIST,
+            FileFault::List(4, 2, ListFault::Zero),
+        ),
+        (
+            BAD_LIST,
+            "address = 6, ",
+            BAD_GRAPH,
+            FileFault::List(5, 2, ListFault::Zero),
+        ),
+        (
+            BAD_GRAPH,
+            "address = 6, ",
+            BAD_LIST,
+            FileFault::Graph(5, no_group),
+        ),
+    ];
+    for (first, address, rest, fault) in cases {
+        let text = format!(in alloc; "codec = [{{address = 5, {first}}}, {{{address}{rest}}}]")?;
+        assert_eq!(rt; fault_of(alloc, text.as_str()), Some(fault), "{text}");
+    }
+    Ok(())
+}
+
 #[test]
 fn takes_sixteen_pins_and_no_more(rt: HostRuntime) -> Result<(), Fail> {
     let alloc = rt.alloc();
@@ -235,14 +365,28 @@ fn takes_sixteen_pins_and_no_more(rt: HostRuntime) -> Result<(), Fail> {
         )?;
         text.push_str(pin.as_str())?;
     }
-    let most = format!(in alloc; "{text}]}}]")?;
-    assert_eq!(rt; fault_of(alloc, most.as_str()), None);
-    let many = format!(in alloc;
-        "{text}{{nid = 18, caps = 0x400001, pin_caps = 0x10, default = 0x10}}]}}]"
-    )?;
-    assert_eq!(rt;
-        fault_of(alloc, many.as_str()),
-        Some(FileFault::TooManyPins)
-    );
+    let cases = [
+        ("]}]", None),
+        (
+            "{nid = 18, caps = 0x400001, pin_caps = 0x10, default = 0x10}]}]",
+            Some(FileFault::TooManyPins),
+        ),
+        (
+            "]}, {address = 1, vendor = 1, node = [{nid = 2, caps = 0}]}]",
+            None,
+        ),
+        (
+            "]}, {address = 1, vendor = 1, node = [{nid = 2, caps = 0x400001, pin_caps = 0x10, default = 0x10}]}]",
+            Some(FileFault::TooManyPins),
+        ),
+        (
+            "]}, {address = 1, vendor = 1, group_type = 2, node = [{nid = 2, caps = 0x400001, pin_caps = 0x10, default = 0x10}]}]",
+            Some(FileFault::Graph(1, GraphFault::NoAudioGroup(1))),
+        ),
+    ];
+    for (rest, fault) in cases {
+        let file = format!(in alloc; "{text}{rest}")?;
+        assert_eq!(rt; fault_of(alloc, file.as_str()), fault, "{rest}");
+    }
     Ok(())
 }

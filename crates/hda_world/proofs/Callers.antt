@@ -74,3 +74,29 @@ pub use Rattle.hda_world.proofs.Others.{steps_leave_others}
 pub use Rattle.hda_world.proofs.Unread.{keeps_reading}
 -- that the codecs are discovered is kept
 pub use Rattle.hda_world.proofs.Discovery.{keeps_discovery}
+-- what a frame keeps, from what its tick, its discovery and its stream keep
+pub use Rattle.hda_world.proofs.Stepping.{frames_after}
+-- a link frame keeps the controller out of reset
+pub use Rattle.hda_world.proofs.Stepping.{passed_out}
+-- a relation of the output stream alone
+pub use Rattle.hda_world.proofs.Streaming.{OfOutput}
+-- is kept where the stream's moves keep it
+pub use Rattle.hda_world.proofs.Streaming.{stream_kept}
+-- that the output stream's FIFO is never overrun or empty is kept
+pub use Rattle.hda_world.proofs.Streaming.{keeps_fifo}
+-- LPIB is the bytes sent modulo CBL
+pub use Rattle.hda_world.proofs.Streaming.{keeps_position}
+-- FIFORDY is kept
+pub use Rattle.hda_world.proofs.Streaming.{keeps_ready}
+-- what was sent is what was fetched
+pub use Rattle.hda_world.proofs.Streaming.{keeps_sent}
+-- a stream that does not run stays
+pub use Rattle.hda_world.proofs.Streaming.{steps_leave_stopped}
+-- a step that names no stream leaves them
+pub use Rattle.hda_world.proofs.Streaming.{step_leaves_streams}
+-- and so do steps in turn
+pub use Rattle.hda_world.proofs.Streaming.{steps_leave_streams}
+-- a write beside GCTL and the descriptors leaves both streams
+pub use Rattle.hda_world.proofs.Writing.{beside_streams}
+-- a write keeps what the FIFO holds
+pub use Rattle.hda_world.proofs.Writing.{write_keeps_fifo}

@@ -1,6 +1,5 @@
 -- That the codecs are discovered is kept by every move of the device.
-use Rattle.std.proofs.Common.{◌≡◌, ◌<◌, ◌≤◌, ◌+◌, ◌^◌, ◌==◌, ℕ, zero, suc, Bool, true, false, bit_or, max, List, [], ◌∷◌, map, fold, if◌then◌else◌, refl, sym, ap, subst, ◌∙◌, arith, rules, tests, lit<, lit≤}
-use Rattle.std.specs.Prelude.{All}
+use Rattle.std.proofs.Common.{◌≡◌, ◌<◌, ◌≤◌, ◌+◌, ◌^◌, ◌==◌, ℕ, zero, suc, Bool, true, false, bit_or, List, [], ◌∷◌, if◌then◌else◌, refl, sym, ap, subst, ◌∙◌, arith, rules, tests, lit<, lit≤}
 use Rattle.std.specs.Int.{bit_at}
 use Rattle.std.proofs.lemmas.Nat.Bits.{bit_at_or, bit_at-lt, bit_at-pow_same}
 use Rattle.std.proofs.lemmas.List.Elements.{All-nil, All-cons, All-head, All-tail}
@@ -12,13 +11,14 @@ use Rattle.ring_entries.specs.declared.response.Response.{Response}
 use Rattle.ring_entries.specs.Entries.{after_response, after_responses}
 use Rattle.device_steps.specs.declared.Step.{Step}
 use Rattle.hda_world.specs.declared.step.TheConstants.{FRAMES_TO_DISCOVERY}
-use Rattle.hda_world.specs.Worlds.{World, with_codec}
+use Rattle.stream_moves.specs.Output.{frame_of}
+use Rattle.hda_world.specs.Worlds.{World, with_codec, output_of}
 use Rattle.device_steps.specs.declared.Step.TheVariants as step
-use Rattle.hda_world.specs.Steps.{discovered, passed, frame_step, times, after_step, after_steps}
+use Rattle.hda_world.specs.Steps.{discovered, passed, output_framed, frame_step, times, after_step, after_steps}
 use Rattle.hda_world.specs.Kept.{Kept}
 use Rattle.hda_world.specs.Discovery.{addresses_of, AreSet, IsDiscovered}
-use Rattle.hda_world.proofs.Stepping.{kept_step, kept_steps}
-use Rattle.hda_world.proofs.Leaving.{graphs-with_codec, graph-plugged}
+use Rattle.hda_world.proofs.Stepping.{kept_step, kept_steps, frames_after, passed_out}
+use Rattle.hda_world.proofs.Leaving.{graph-plugged}
 
 -- a bit that is 1 stays so, and the codec's own becomes 1
 bit_stays : (status bit address : ℕ) → bit_at status bit ≡ 1 → bit_at (bit_or status (2 ^ address)) bit ≡ 1
@@ -84,7 +84,19 @@ keeps_discovery = record {
   };
   responds = λ world response rest holds can are late.
       subst (λ (status : ℕ). AreSet status (addresses_of world.codecs)) (sym (status_after (response ∷ rest) world.registers)) (holds late);
-  passes = λ world holds out late. frame_by _ world refl holds late;
+  bytes = record {
+    comes = λ world holds can room good is. holds;
+    ends = λ world holds can room good is. holds;
+    breaks = λ world holds can room bad. holds;
+    refuses = λ world holds must. holds;
+  };
+  passes = λ world holds out still late. frame_by _ world refl holds late;
+  frames = frames_after IsDiscovered (λ world holds out late. frame_by _ world refl holds late) (record {
+    gaps = λ world holds can none. holds;
+    sends = λ world holds can some enough. holds;
+    misses = λ world holds can short. holds;
+    stops = λ world holds must. holds;
+  });
 }
 
 pub steps_keep_discovery : (steps : List Step) (world : World) → IsDiscovered world → IsDiscovered (after_steps steps world)
@@ -92,21 +104,11 @@ steps_keep_discovery steps world holds = kept_steps IsDiscovered keeps_discovery
 
 -- ---- when the codecs are discovered
 
-out_frame : (world : World) → is_out_of_reset world.registers.global ≡ true → frame_step world ≡ passed world
-out_frame world out = ap (λ (out : Bool). if out then passed world else world) out
-
-out-discovered : (codecs : List CodecState) (fields : Fields) → is_out_of_reset (discovered codecs fields).global ≡ is_out_of_reset fields.global
-out-discovered [] fields = refl
-out-discovered (codec ∷ codecs) fields = out-discovered codecs (raised fields (event.Codec codec.graph.address))
-
-out-frame : (now : Bool) (codecs : List CodecState) (fields : Fields) → is_out_of_reset (if now then discovered codecs fields else fields).global ≡ is_out_of_reset fields.global
-out-frame true codecs fields = out-discovered codecs fields
-out-frame false codecs fields = refl
+out_frame : (world : World) → is_out_of_reset world.registers.global ≡ true → frame_step world ≡ output_framed (frame_of (output_of world)) (passed world)
+out_frame world out = ap (λ (out : Bool). if out then output_framed (frame_of (output_of world)) (passed world) else world) out
 
 still_out : (world : World) → is_out_of_reset world.registers.global ≡ true → is_out_of_reset (frame_step world).registers.global ≡ true
-still_out world out =
-    ap (λ (after : World). is_out_of_reset after.registers.global) (out_frame world out)
-    ∙ out-frame (world.frames + 1 == FRAMES_TO_DISCOVERY) world.codecs (framed world.registers) ∙ out
+still_out world out = ap (λ (after : World). is_out_of_reset after.registers.global) (out_frame world out) ∙ passed_out world out
 
 frames_count : (n : ℕ) (world : World) → is_out_of_reset world.registers.global ≡ true → (times n frame_step world).frames ≡ world.frames + n
 frames_count zero world out = omega arith

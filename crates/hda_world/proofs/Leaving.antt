@@ -1,13 +1,14 @@
 -- What the device's steps leave alone.
 use Rattle.std.proofs.Common.{◌≡◌, ◌≢◌, ◌<◌, ◌≤◌, ◌⊎◌, ℕ, ◌+◌, ◌*◌, ◌/◌, ◌^◌, bit_or, Bool, true, false, cond, List, [], ◌∷◌, ◌++◌, length, map, fold, append-nil, refl, sym, ap, subst, ◌∙◌, append_assoc, Option, Some, None, if◌then◌else◌, ◌==◌, inl, inr, arith, rules, tests, lit<, length-append}
 use Rattle.std.proofs.Math.Nat.{mod-lt}
+use Rattle.std.proofs.lemmas.Bool.{true≢false}
 use Rattle.byteorder.specs.Numbers.{length-bytes_low_first}
 use Rattle.codec_graph.specs.CodecStates.{CodecState, plugged, pin_plugged, node_plugged, cleared}
 use Rattle.hda_registers.specs.declared.shapes.RingSize.{RingSize}
 use Rattle.hda_registers.specs.declared.shapes.RingSize.TheVariants.{Two, Sixteen, Full}
 use Rattle.hda_registers.specs.declared.shapes.Raise.TheVariants as event
 use Rattle.ring_entries.specs.declared.response.Response.{Response}
-use Rattle.hda_registers.specs.Fields.{Fields, Global, Descriptor, entries_of, rirb_address, is_running}
+use Rattle.hda_registers.specs.Fields.{Fields, Global, Descriptor, entries_of, rirb_address, is_out_of_reset, is_running}
 use Rattle.hda_registers.specs.Moves.{raised, moved, framed}
 use Rattle.hda_registers.specs.declared.shapes.Moved.TheVariants.{CorbRp, RirbWp}
 use Rattle.hda_registers.specs.declared.shapes.Shape.{Shape}
@@ -17,18 +18,19 @@ use Rattle.codec_graph.specs.Widget.{node_at, is_pin}
 use Rattle.ring_entries.specs.Memory.{IsOutside}
 use Rattle.ring_entries.proofs.Callers.{stored_outside}
 use Rattle.ring_entries.specs.Entries.{response_bytes, response_stored, response_place, responses_stored, after_response, after_responses}
-use Rattle.ring_entries.specs.Engines.{after_batch}
 use Rattle.device_steps.specs.declared.Step.{Step}
-use Rattle.hda_world.specs.Worlds.{World, codec_at, with_codec}
-use Rattle.hda_world.specs.Steps.{discovered, after_steps}
+use Rattle.stream_moves.specs.Streams.{StreamState}
+use Rattle.hda_world.specs.Worlds.{World, CarriedFrame, codec_at, with_codec}
+use Rattle.hda_world.specs.declared.step.TheConstants.{FRAMES_TO_DISCOVERY}
+use Rattle.hda_world.specs.Steps.{discovered, passed, after_steps}
 use Rattle.hda_registers.specs.declared.shapes.Width.{Width}
 use Rattle.hda_registers.specs.Laws.{IsBesideRings, LeavesRings}
 use Rattle.hda_registers.proofs.Callers.{keeps-reset, keeps-left, leaves-rings}
 use Rattle.hda_registers.specs.Access.{written, effects_of}
-use Rattle.hda_world.specs.Events.{reset_if, counted_anew_if, after_write}
-use Rattle.hda_world.specs.Kept.{Kept}
-use Rattle.hda_world.specs.Leaving.{RegistersStay, MemoryStays, IsOutsideRirb, StepsLeave, WentOn, AccessLeaves}
-use Rattle.hda_world.proofs.Stepping.{kept_steps}
+use Rattle.hda_world.specs.Events.{reset_if, counted_anew_if, streams_settled, registers_written, after_write}
+use Rattle.hda_world.specs.Kept.{Kept, KeptByBytes, KeptByFrames, unmoved}
+use Rattle.hda_world.specs.Leaving.{DescriptorStays, RegistersStay, MemoryStays, IsOutsideRirb, StepsLeave, WentOn, AccessLeaves}
+use Rattle.hda_world.proofs.Stepping.{kept_steps, frames_after}
 
 -- ---- RIRB
 
@@ -125,6 +127,98 @@ stay_discovered : (now : Bool) (codecs : List CodecState) (old new : Fields) →
 stay_discovered true codecs old new stay = stay_codecs codecs old new stay
 stay_discovered false codecs old new stay = stay
 
+-- ---- what the moves do to the output stream
+
+-- what was still is not moved
+was_running : (start world new : Descriptor) → (is_running start ≡ false → world ≡ start) → is_running world ≡ true → is_running start ≡ false → new ≡ start
+was_running start world new same runs still = absurd (true≢false (sym runs ∙ ap is_running (same still) ∙ still))
+
+stay_byte : (start world : Descriptor) (completion ready : ℕ) → is_running world ≡ true → DescriptorStays start world
+    → DescriptorStays start (record world { completion = completion; fifo_ready = ready })
+stay_byte start world completion ready runs stay = record {
+  only = ap (λ (d : Descriptor). record d { completion = completion; fifo_ready = ready }) stay.only;
+  run = stay.run;
+  still = was_running start world _ stay.still runs;
+}
+
+stay_blocks : (start world : Descriptor) (position ready : ℕ) → is_running world ≡ true → DescriptorStays start world
+    → DescriptorStays start (record world { link_position = position; fifo_ready = ready })
+stay_blocks start world position ready runs stay = record {
+  only = ap (λ (d : Descriptor). record d { link_position = position; fifo_ready = ready }) stay.only;
+  run = stay.run;
+  still = was_running start world _ stay.still runs;
+}
+
+stay_hole : (start world : Descriptor) → is_running world ≡ true → DescriptorStays start world → DescriptorStays start (record world { fifo_error = 1 })
+stay_hole start world runs stay = record {
+  only = ap (λ (d : Descriptor). record d { fifo_error = 1 }) stay.only;
+  run = stay.run;
+  still = was_running start world _ stay.still runs;
+}
+
+stay_broke : (start world : Descriptor) → is_running world ≡ true → DescriptorStays start world
+    → DescriptorStays start (record world { descriptor_error = 1; run = 0; fifo_ready = 0 })
+stay_broke start world runs stay = record {
+  only = ap (λ (d : Descriptor). record d { descriptor_error = 1; run = 0; fifo_ready = 0 }) stay.only;
+  run = inr (refl, refl);
+  still = was_running start world _ stay.still runs;
+}
+
+with_descriptor : (start fields : Fields) (output : Descriptor) → RegistersStay start fields → DescriptorStays start.output output → RegistersStay start (record fields { output = output })
+with_descriptor start fields output stay stream = record { shape = stay.shape; input = stay.input; output = stream; global = stay.global }
+
+-- the output stream moved, and link frames carried something
+stay_output : (start world : World) (output : Descriptor) (state : StreamState) (more : List CarriedFrame) → StepsLeave start world → DescriptorStays start.registers.output output
+    → StepsLeave start (record world { registers = record world.registers { output = output }; output = state; carried = world.carried ++ more })
+stay_output start world output state more stay stream = record {
+  memory = stay.memory;
+  registers = with_descriptor start.registers world.registers output stay.registers stream;
+  graphs = stay.graphs;
+  commands = stay.commands;
+  written = stay.written;
+  carried = went_on start.carried world.carried more stay.carried;
+}
+
+stay_fetched : (start world : World) (output : Descriptor) (state : StreamState) → StepsLeave start world → DescriptorStays start.registers.output output
+    → StepsLeave start (record world { registers = record world.registers { output = output }; output = state })
+stay_fetched start world output state stay stream = record {
+  memory = stay.memory;
+  registers = with_descriptor start.registers world.registers output stay.registers stream;
+  graphs = stay.graphs;
+  commands = stay.commands;
+  written = stay.written;
+  carried = stay.carried;
+}
+
+leaves_bytes : (start : World) → KeptByBytes (StepsLeave start)
+leaves_bytes start = record {
+  comes = λ world stay can room good is. stay_fetched start world _ _ stay (stay_byte start.registers.output world.registers.output _ _ can.runs stay.registers.output);
+  ends = λ world stay can room good is. stay_fetched start world _ _ stay (stay_byte start.registers.output world.registers.output _ _ can.runs stay.registers.output);
+  breaks = λ world stay can room bad. stay_fetched start world _ _ stay (stay_broke start.registers.output world.registers.output can.runs stay.registers.output);
+  refuses = λ world stay must. stay_fetched start world _ _ stay (stay_broke start.registers.output world.registers.output must.runs stay.registers.output);
+}
+
+leaves_frames : (start : World) → KeptByFrames (StepsLeave start) unmoved
+leaves_frames start = record {
+  gaps = λ world stay can none. stay_output start world _ _ _ stay stay.registers.output;
+  sends = λ world stay can some enough. stay_output start world _ _ _ stay (stay_blocks start.registers.output world.registers.output _ _ can.runs stay.registers.output);
+  misses = λ world stay can short. stay_output start world _ _ _ stay (stay_hole start.registers.output world.registers.output can.runs stay.registers.output);
+  stops = λ world stay must. stay_fetched start world _ _ stay (stay_broke start.registers.output world.registers.output must.runs stay.registers.output);
+}
+
+-- the discovery changes the controller's part alone
+leaves_passed : (start world : World) → StepsLeave start world → is_out_of_reset world.registers.global ≡ true → StepsLeave start (passed world)
+leaves_passed start world stay out = record {
+  memory = stay.memory;
+  graphs = stay.graphs;
+  commands = stay.commands;
+  written = stay.written;
+  carried = stay.carried;
+  registers = (
+      let moved = stay_discovered (world.frames + 1 == FRAMES_TO_DISCOVERY) world.codecs start.registers (framed world.registers) (stay_clock start.registers world.registers stay.registers) in
+      record { shape = stay.registers.shape; input = stay.registers.input; output = stay.registers.output; global = moved.global });
+}
+
 leaves : (start : World) → Kept (StepsLeave start)
 leaves start = record {
   codecs = record {
@@ -134,12 +228,14 @@ leaves start = record {
       graphs = graphs-with_codec _ _ (λ codec. refl) world.codecs ∙ stay.graphs;
       commands = went_on start.commands world.commands _ stay.commands;
       written = stay.written;
+      carried = stay.carried;
     };
     sends = λ world address item rest stay out room are. record {
       memory = stay.memory;
       registers = stay.registers;
       commands = stay.commands;
       written = stay.written;
+      carried = stay.carried;
       graphs = graphs-with_codec _ _ (λ codec. refl) world.codecs ∙ stay.graphs;
     };
     loses = λ world address stay out. record {
@@ -147,6 +243,7 @@ leaves start = record {
       registers = stay.registers;
       commands = stay.commands;
       written = stay.written;
+      carried = stay.carried;
       graphs = graphs-with_codec _ _ (λ codec. refl) world.codecs ∙ stay.graphs;
     };
     plugs = λ world address nid present stay. record {
@@ -154,6 +251,7 @@ leaves start = record {
       registers = stay.registers;
       commands = stay.commands;
       written = stay.written;
+      carried = stay.carried;
       graphs = graphs-with_codec address (λ codec. plugged codec nid present) (graph-plugged nid present) world.codecs ∙ stay.graphs;
     };
   };
@@ -165,23 +263,21 @@ leaves start = record {
         graphs = stay.graphs;
         commands = stay.commands;
         written = went_on start.written world.written _ stay.written;
+        carried = stay.carried;
       });
-  passes = λ world stay out. record {
-    memory = stay.memory;
-    graphs = stay.graphs;
-    commands = stay.commands;
-    written = stay.written;
-    registers = stay_discovered _ world.codecs start.registers (framed world.registers) (stay_clock start.registers world.registers stay.registers);
-  };
+  bytes = leaves_bytes start;
+  passes = λ world stay out still. leaves_passed start world stay out;
+  frames = frames_after (StepsLeave start) (leaves_passed start) (leaves_frames start);
 }
 
 nothing_left : (world : World) → StepsLeave world world
 nothing_left world = record {
   memory = record { size = refl; outside = λ still at apart. refl };
-  registers = record { shape = refl; input = λ still. refl; output = λ still. refl; global = refl };
+  registers = record { shape = refl; input = λ still. refl; output = record { only = refl; run = inl refl; still = λ still. refl }; global = refl };
   graphs = refl;
   commands = ([], sym (append-nil world.commands));
   written = ([], sym (append-nil world.written));
+  carried = ([], sym (append-nil world.carried));
 }
 
 pub steps_leave : (steps : List Step) (world : World) → StepsLeave world (after_steps steps world)
@@ -199,6 +295,7 @@ reset_leaves true world = (
   record {
     commands = refl;
     written = refl;
+    carried = refl;
     graphs = map-cleared (λ codec. codec.graph) (λ codec. refl) world.codecs;
     settings = map-cleared (λ codec. codec.settings) (λ codec. refl) world.codecs;
     present = map-cleared (λ codec. codec.present) (λ codec. refl) world.codecs;
@@ -206,7 +303,7 @@ reset_leaves true world = (
   refl,
   refl,
 )
-reset_leaves false world = (record { commands = refl; written = refl; graphs = refl; settings = refl; present = refl }, refl, refl)
+reset_leaves false world = (record { commands = refl; written = refl; carried = refl; graphs = refl; settings = refl; present = refl }, refl, refl)
 
 -- counting the frames anew changes nothing else
 counted_leaves : (anew : Bool) (world : World) → counted_anew_if anew world ≡ record world { frames = (counted_anew_if anew world).frames }
@@ -215,20 +312,20 @@ counted_leaves false world = refl
 
 pub access_leaves : (world : World) (at value : ℕ) (width : Width) → AccessLeaves world (after_write at width value world)
 access_leaves world at value width =
-    let after_reset = reset_if (effects_of world.registers at width value).reset (record world { registers = written world.registers at width value }) in
-    let left = (reset_leaves (effects_of world.registers at width value).reset (record world { registers = written world.registers at width value })).0 in
+    let after_reset = reset_if (effects_of world.registers at width value).reset (registers_written (written world.registers at width value) world) in
+    let left = (reset_leaves (effects_of world.registers at width value).reset (registers_written (written world.registers at width value) world)).0 in
     subst (AccessLeaves world) (sym (counted_leaves (effects_of world.registers at width value).left_reset after_reset))
-    (record { commands = left.commands; written = left.written; graphs = left.graphs; settings = left.settings; present = left.present })
+    (record { commands = left.commands; written = left.written; carried = left.carried; graphs = left.graphs; settings = left.settings; present = left.present })
 
 pub write_memory : (world : World) (at value : ℕ) (width : Width) → (after_write at width value world).memory ≡ world.memory
 write_memory world at value width =
     ap (λ (after : World). after.memory) (counted_leaves (effects_of world.registers at width value).left_reset _)
-    ∙ (reset_leaves (effects_of world.registers at width value).reset (record world { registers = written world.registers at width value })).1
+    ∙ (reset_leaves (effects_of world.registers at width value).reset (registers_written (written world.registers at width value) world)).1
 
-pub write_registers : (world : World) (at value : ℕ) (width : Width) → (after_write at width value world).registers ≡ written world.registers at width value
+pub write_registers : (world : World) (at value : ℕ) (width : Width) → (after_write at width value world).registers ≡ streams_settled world.registers (written world.registers at width value)
 write_registers world at value width =
     ap (λ (after : World). after.registers) (counted_leaves (effects_of world.registers at width value).left_reset _)
-    ∙ (reset_leaves (effects_of world.registers at width value).reset (record world { registers = written world.registers at width value })).2
+    ∙ (reset_leaves (effects_of world.registers at width value).reset (registers_written (written world.registers at width value) world)).2
 
 -- a write without reset changes the registers, and where CRST rises the count of frames
 no_reset : (reset : Bool) (world : World) → reset ≡ false → reset_if reset world ≡ world
@@ -248,22 +345,22 @@ dropped true false world is = refl
 dropped false left world is = cc
 
 pub reset_write : (world : World) (at value : ℕ) (width : Width) → (effects_of world.registers at width value).reset ≡ true
-    → after_write at width value world ≡ record world { registers = written world.registers at width value; codecs = map cleared world.codecs; waiting = []; frames = 0 }
+    → after_write at width value world ≡ record (registers_written (written world.registers at width value) world) { codecs = map cleared world.codecs; waiting = []; frames = 0 }
 reset_write world at value width is =
-    dropped (effects_of world.registers at width value).reset (effects_of world.registers at width value).left_reset (record world { registers = written world.registers at width value }) is
+    dropped (effects_of world.registers at width value).reset (effects_of world.registers at width value).left_reset (registers_written (written world.registers at width value) world) is
 
 pub plain_write : (world : World) (at value : ℕ) (width : Width) → (effects_of world.registers at width value).reset ≡ false
     → (effects_of world.registers at width value).left_reset ≡ false
-    → after_write at width value world ≡ record world { registers = written world.registers at width value }
+    → after_write at width value world ≡ registers_written (written world.registers at width value) world
 plain_write world at value width none still =
-    ap (counted_anew_if (effects_of world.registers at width value).left_reset) (no_reset (effects_of world.registers at width value).reset (record world { registers = written world.registers at width value }) none)
+    ap (counted_anew_if (effects_of world.registers at width value).left_reset) (no_reset (effects_of world.registers at width value).reset (registers_written (written world.registers at width value) world) none)
     ∙ no_rise (effects_of world.registers at width value).left_reset _ still
 
 pub rising_write : (world : World) (at value : ℕ) (width : Width) → (effects_of world.registers at width value).reset ≡ false
     → (effects_of world.registers at width value).left_reset ≡ true
-    → after_write at width value world ≡ record world { registers = written world.registers at width value; frames = 0 }
+    → after_write at width value world ≡ record (registers_written (written world.registers at width value) world) { frames = 0 }
 rising_write world at value width none risen =
-    ap (counted_anew_if (effects_of world.registers at width value).left_reset) (no_reset (effects_of world.registers at width value).reset (record world { registers = written world.registers at width value }) none)
+    ap (counted_anew_if (effects_of world.registers at width value).left_reset) (no_reset (effects_of world.registers at width value).reset (registers_written (written world.registers at width value) world) none)
     ∙ rises (effects_of world.registers at width value).left_reset _ risen
 
 not_control : (at : ℕ) → (at < 0x08) ⊎ (0x0C ≤ at) → at / 4 ≢ 2
@@ -271,7 +368,7 @@ not_control at (inl below) = omega arith
 not_control at (inr above) = omega arith
 
 pub beside_write : (world : World) (at value : ℕ) (width : Width) → IsBesideRings at
-    → after_write at width value world ≡ record world { registers = written world.registers at width value }
+    → after_write at width value world ≡ registers_written (written world.registers at width value) world
 beside_write world at value width beside =
     let apart = not_control at beside.control in
     plain_write world at value width (keeps-reset world.registers at width value apart) (keeps-left world.registers at width value apart)

@@ -8,3 +8,5 @@ pub mod Leaving
 pub mod Others
 pub mod Unread
 pub mod Discovery
+pub mod Streaming
+pub mod Writing

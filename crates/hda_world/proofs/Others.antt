@@ -1,14 +1,15 @@
 -- A step leaves the codecs alone that it does not name.
-use Rattle.std.proofs.Common.{◌≡◌, ◌≢◌, ◌+◌, ℕ, zero, suc, Bool, true, false, List, [], ◌∷◌, if◌then◌else◌, ◌&&◌, nat_lt, length, Option, Some, None, refl, ◌∙◌}
+use Rattle.std.proofs.Common.{◌≡◌, ◌≢◌, ℕ, zero, suc, Bool, true, false, List, [], ◌∷◌, if◌then◌else◌, ◌&&◌, ◌==◌, nat_lt, length, Option, Some, None, refl, ◌∙◌}
 use Rattle.codec_graph.specs.declared.waiting.Waiting.{Waiting}
-use Rattle.codec_graph.specs.CodecStates.{CodecState, taken, plugged, without_first, without_answer}
+use Rattle.codec_graph.specs.CodecStates.{taken, plugged, without_first, without_answer}
 use Rattle.hda_registers.specs.Fields.{is_out_of_reset}
 use Rattle.ring_entries.specs.Engines.{next_word}
 use Rattle.ring_entries.specs.declared.response.TheConstants.{MOST_WAITING}
 use Rattle.device_steps.specs.declared.Step.{Step}
 use Rattle.device_steps.specs.declared.Step.TheVariants as step
-use Rattle.hda_world.specs.Worlds.{World, codec_at, with_codec}
-use Rattle.hda_world.specs.Steps.{address_of, handed, handed_next, is_busy, sent_first, items_of, lost, passed, frame_step, times, after_step, after_steps}
+use Rattle.stream_moves.specs.Output.{frame_of}
+use Rattle.hda_world.specs.Worlds.{World, codec_at, output_of}
+use Rattle.hda_world.specs.Steps.{address_of, handed, handed_next, is_busy, sent_first, items_of, lost, passed, output_framed, output_fetched, frame_step, times, after_step, after_steps}
 use Rattle.hda_world.specs.Leaving.{AddressesOther, NamesOthers, NameOthers}
 use Rattle.hda_world.proofs.Leaving.{found_apart, graph-plugged}
 
@@ -34,7 +35,7 @@ module _ (address : ℕ) where
   sent_leaves (item ∷ items) codec world apart = found_apart codec address without_first (λ codec. refl) apart world.codecs
 
   frame_leaves : (world : World) → codec_at address (frame_step world).codecs ≡ codec_at address world.codecs
-  frame_leaves world = either (is_out_of_reset world.registers.global) (passed world) world refl
+  frame_leaves world = either (is_out_of_reset world.registers.global) (output_framed (frame_of (output_of world)) (passed world)) world refl
 
   frames_leave : (frames : ℕ) (world : World) → codec_at address (times frames frame_step world).codecs ≡ codec_at address world.codecs
   frames_leave zero world = refl
@@ -48,7 +49,7 @@ step_leaves_others (step.Answer codec) world address others =
 step_leaves_others (step.Lose codec) world address others =
     either address (is_out_of_reset world.registers.global) (lost codec world) world (found_apart codec address without_answer (λ codec. refl) others world.codecs)
 step_leaves_others step.Rirb world address others = refl
-step_leaves_others (step.Fetch stream most) world address others = refl
+step_leaves_others (step.Fetch stream most) world address others = either address (is_out_of_reset world.registers.global && stream == 1) (output_fetched most world) world refl
 step_leaves_others (step.Link frames) world address others = frames_leave address frames world
 step_leaves_others (step.Plug codec nid) world address others = found_apart codec address (λ codec. plugged codec nid true) (graph-plugged nid true) others world.codecs
 step_leaves_others (step.Unplug codec nid) world address others = found_apart codec address (λ codec. plugged codec nid false) (graph-plugged nid false) others world.codecs

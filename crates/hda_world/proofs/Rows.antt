@@ -1,7 +1,7 @@
 -- Accesses in a row.
-use Rattle.std.proofs.Common.{◌≡◌, List, [], ◌∷◌, ◌++◌, Option, refl, sym, subst}
+use Rattle.std.proofs.Common.{List, [], ◌∷◌, ◌++◌, Option, refl, sym, subst}
 use Rattle.hda_world.specs.Events.{Event}
-use Rattle.hda_world.specs.Tellings.{Telling, Accessed, Grew, Between, Then, Makes, MakesBy}
+use Rattle.hda_world.specs.Tellings.{Telling, Accessed, Grew, Between, Makes, MakesBy}
 use Rattle.hda_world.proofs.Telling.{told_both, told_map, went_none, grew_both, grew_access}
 
 made_both : (first second : List Event) (old middle new : Telling) → MakesBy first old middle → MakesBy second middle new → MakesBy (first ++ second) old new

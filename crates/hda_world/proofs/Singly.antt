@@ -7,9 +7,9 @@ use Rattle.ring_entries.specs.Entries.{after_responses, responses_stored}
 use Rattle.ring_entries.specs.Engines.{can_respond, batch_of, batch}
 use Rattle.hda_world.specs.declared.step.TheConstants.{FRAMES_TO_DISCOVERY}
 use Rattle.hda_world.specs.Worlds.{World}
-use Rattle.hda_world.specs.Steps.{responded, discovered, passed}
-use Rattle.hda_world.specs.Kept.{Kept, KeptSingly, wrote_one, flagged, ticked, announced}
-use Rattle.hda_world.proofs.Stepping.{batch_some}
+use Rattle.hda_world.specs.Steps.{responded, discovered}
+use Rattle.hda_world.specs.Kept.{Kept, KeptSingly, wrote_one, flagged, ticked}
+use Rattle.hda_world.proofs.Stepping.{batch_some, frames_after}
 
 wrote_all : List Response → World → World
 wrote_all [] world = world
@@ -57,7 +57,7 @@ module _ (Holds : World → Type 0) (kept : KeptSingly Holds) where
       subst (λ (after : World). Holds (flagged after)) (wrote_all-batch (response ∷ rest) world) one_by_one
 
   frame_by : (now : Bool) (world : World) → (world.frames + 1 == FRAMES_TO_DISCOVERY) ≡ now → is_out_of_reset world.registers.global ≡ true → Holds world
-      → Holds (record world { registers = if now then discovered world.codecs (framed world.registers) else framed world.registers; frames = world.frames + 1 })
+      → Holds (record world { registers = record world.registers { global = (if now then discovered world.codecs (framed world.registers) else framed world.registers).global }; frames = world.frames + 1 })
   frame_by true world is out holds = kept.announces (ticked world) (kept.ticks world holds out) out (frames_are (world.frames + 1) is)
   frame_by false world is out holds = kept.ticks world holds out
 
@@ -65,5 +65,7 @@ module _ (Holds : World → Type 0) (kept : KeptSingly Holds) where
   kept_singly = record {
     codecs = kept.codecs;
     responds = kept_responses;
-    passes = λ world holds out. frame_by _ world refl out holds;
+    bytes = kept.bytes;
+    passes = λ world holds out still. frame_by _ world refl out holds;
+    frames = frames_after Holds (λ world holds out. frame_by _ world refl out holds) kept.frames;
   }

@@ -1,18 +1,22 @@
 -- What every move of the device keeps, every list of steps keeps.
-use Rattle.std.proofs.Common.{◌≡◌, ◌<◌, ℕ, zero, suc, ◌+◌, Bool, true, false, ◌&&◌, ◌==◌, List, [], ◌∷◌, ◌++◌, length, take, drop, Option, Some, None, append-nil, append_assoc, refl, sym, ap, subst, ◌∙◌, nat_lt, if◌then◌else◌, rules, tests}
+use Rattle.std.proofs.Common.{◌≡◌, ◌<◌, ℕ, zero, suc, ◌+◌, Bool, true, false, ◌&&◌, ◌==◌, nat_le, List, [], ◌∷◌, ◌++◌, length, take, Some, None, append-nil, refl, sym, ap, subst, ◌∙◌, nat_lt, if◌then◌else◌, rules, tests}
 use Rattle.codec_graph.specs.declared.waiting.Waiting.{Waiting}
-use Rattle.hda_registers.specs.Fields.{Fields, is_out_of_reset}
-use Rattle.hda_registers.specs.Moves.{framed}
+use Rattle.codec_graph.specs.CodecStates.{CodecState}
+use Rattle.hda_registers.specs.Fields.{Fields, is_out_of_reset, is_running}
+use Rattle.hda_registers.specs.declared.shapes.Raise.TheVariants as event
+use Rattle.hda_registers.specs.Moves.{framed, raised}
 use Rattle.ring_entries.specs.declared.response.Response.{Response}
 use Rattle.ring_entries.specs.declared.response.TheConstants.{MOST_WAITING}
-use Rattle.ring_entries.specs.Entries.{next_command, after_responses, responses_stored}
+use Rattle.ring_entries.specs.Entries.{next_command}
 use Rattle.ring_entries.specs.Engines.{can_fetch, can_respond, batch_of, batch}
+use Rattle.stream_moves.specs.Streams.{Stream, held, due, is_usable, broke}
+use Rattle.stream_moves.specs.Output.{has_room, byte_came, fetched_one, fetch_move, moves, Frame, Stopped, Broken, Gap, Blocks, Hole, frame_of}
 use Rattle.device_steps.specs.declared.Step.{Step}
 use Rattle.device_steps.specs.declared.Step.TheVariants as step
 use Rattle.hda_world.specs.declared.step.TheConstants.{FRAMES_TO_DISCOVERY}
-use Rattle.hda_world.specs.Worlds.{World, codec_at}
-use Rattle.hda_world.specs.Steps.{address_of, is_busy, handed, handed_next, items_of, sent_first, responded, discovered, passed, frame_step, times, corb_step, answer_step, lose_step, rirb_step, after_step, after_steps}
-use Rattle.hda_world.specs.Kept.{Kept, KeptSingly, wrote_one, flagged, ticked}
+use Rattle.hda_world.specs.Worlds.{World, CarriedFrame, codec_at, output_of, with_output}
+use Rattle.hda_world.specs.Steps.{address_of, is_busy, handed_next, items_of, sent_first, responded, discovered, passed, output_framed, frame_step, fetch_step, times, answer_step, lose_step, rirb_step, after_step, after_steps}
+use Rattle.hda_world.specs.Kept.{Kept, KeptByFrames, unmoved, CanStream, MustBreak, next_is_good, next_completes}
 
 pub after_steps-append : (first second : List Step) (world : World) → after_steps (first ++ second) world ≡ after_steps second (after_steps first world)
 after_steps-append [] second world = refl
@@ -27,6 +31,46 @@ batch_none fields waiting cannot = ap (λ (can : Bool). if can then take (batch_
 
 pub batch_some : (fields : Fields) (waiting : List Response) → can_respond fields ≡ true → batch fields waiting ≡ take (batch_of fields) waiting
 batch_some fields waiting can = ap (λ (can : Bool). if can then take (batch_of fields) waiting else []) can
+
+-- a link frame at a stream that does not run, or that stops, carries nothing
+stopped_same : (world : World) → output_framed Stopped world ≡ world
+stopped_same world = ap (λ (carried : List CarriedFrame). record world { carried = carried }) (append-nil world.carried)
+
+pub broken_same : (world : World) → output_framed Broken world ≡ with_output (broke (output_of world)) world
+broken_same world =
+    ap (λ (carried : List CarriedFrame). record (with_output (broke (output_of world)) world) { carried = carried }) (append-nil world.carried)
+
+-- a link frame keeps the controller out of reset
+out-discovered : (codecs : List CodecState) (fields : Fields) → is_out_of_reset (discovered codecs fields).global ≡ is_out_of_reset fields.global
+out-discovered [] fields = refl
+out-discovered (codec ∷ codecs) fields = out-discovered codecs (raised fields (event.Codec codec.graph.address))
+
+out-frame : (now : Bool) (codecs : List CodecState) (fields : Fields) → is_out_of_reset (if now then discovered codecs fields else fields).global ≡ is_out_of_reset fields.global
+out-frame true codecs fields = out-discovered codecs fields
+out-frame false codecs fields = refl
+
+pub passed_out : (world : World) → is_out_of_reset world.registers.global ≡ true → is_out_of_reset (passed world).registers.global ≡ true
+passed_out world out = out-frame (world.frames + 1 == FRAMES_TO_DISCOVERY) world.codecs (framed world.registers) ∙ out
+
+can_after : (world : World) → CanStream world → CanStream (passed world)
+can_after world can = record { out = passed_out world can.out; runs = can.runs; usable = can.usable }
+
+must_after : (world : World) → MustBreak world → MustBreak (passed world)
+must_after world must = record { out = passed_out world must.out; runs = must.runs; unusable = must.unusable }
+
+-- what the tick and the discovery keep, and then what a frame does to the output stream, a whole frame keeps
+pub frames_after : (Holds : World → Type 0) → ((world : World) → Holds world → is_out_of_reset world.registers.global ≡ true → Holds (passed world))
+    → KeptByFrames Holds unmoved → KeptByFrames Holds passed
+frames_after Holds passes frames = record {
+  gaps = λ world holds can none. frames.gaps (passed world) (passes world holds can.out) (can_after world can) none;
+  sends = λ world holds can some enough. frames.sends (passed world) (passes world holds can.out) (can_after world can) some enough;
+  misses = λ world holds can short. frames.misses (passed world) (passes world holds can.out) (can_after world can) short;
+  stops = λ world holds must. frames.stops (passed world) (passes world holds must.out) (must_after world must);
+}
+
+cases_of : {A : Type 0} (P : A → Type 0) (test : Bool) (one other : A) → (test ≡ true → P one) → (test ≡ false → P other) → P (if test then one else other)
+cases_of P true one other then_one else_other = then_one refl
+cases_of P false one other then_one else_other = else_other refl
 
 module _ (Holds : World → Type 0) (kept : Kept Holds) where
   branch : (test : Bool) (new old : World) → (test ≡ true → Holds new) → Holds old → Holds (if test then new else old)
@@ -64,8 +108,58 @@ module _ (Holds : World → Type 0) (kept : Kept Holds) where
   rirb_by false world is holds =
       subst (λ (responses : List Response). Holds (responded responses world)) (sym (batch_none world.registers world.waiting is)) (subst Holds (sym (responded_none world)) holds)
 
+  -- one move of a fetch
+  kept_byte : (world : World) → CanStream world → has_room world.registers.shape.fifo world.output ≡ true → next_is_good world ≡ true → (ends : Bool) → next_completes world ≡ ends → Holds world
+      → Holds (with_output (byte_came world.memory (output_of world)) world)
+  kept_byte world can room good true is holds = kept.bytes.ends world holds can (search (rules, tests)) good is
+  kept_byte world can room good false is holds = kept.bytes.comes world holds can (search (rules, tests)) good is
+
+  kept_one : (world : World) → CanStream world → Holds world → Holds (with_output (fetched_one world.registers.shape.fifo world.memory (output_of world)) world)
+  kept_one world can holds =
+      cases_of (λ (stream : Stream). Holds (with_output stream world)) (has_room world.registers.shape.fifo world.output) _ (output_of world)
+      (λ room. cases_of (λ (stream : Stream). Holds (with_output stream world)) (next_is_good world) _ _
+      (λ good. kept_byte world can room good _ refl holds)
+      (λ bad. kept.bytes.breaks world holds can (search (rules, tests)) bad)) (λ full. holds)
+
+  kept_move : (world : World) → is_out_of_reset world.registers.global ≡ true → Holds world
+      → Holds (with_output (fetch_move world.registers.shape.fifo world.memory (output_of world)) world)
+  kept_move world out holds =
+      cases_of (λ (stream : Stream). Holds (with_output stream world)) (is_running world.registers.output) _ (output_of world)
+      (λ runs. cases_of (λ (stream : Stream). Holds (with_output stream world)) (is_usable world.registers.output) _ _
+      (λ usable. kept_one world (record { out = out; runs = runs; usable = usable }) holds)
+      (λ unusable. kept.bytes.refuses world holds (record { out = out; runs = runs; unusable = unusable }))) (λ still. holds)
+
+  kept_moves : (n : ℕ) (world : World) → is_out_of_reset world.registers.global ≡ true → Holds world
+      → Holds (with_output (moves n (fetch_move world.registers.shape.fifo world.memory) (output_of world)) world)
+  kept_moves zero world out holds = holds
+  kept_moves (suc n) world out holds =
+      kept_moves n (with_output (fetch_move world.registers.shape.fifo world.memory (output_of world)) world) out (kept_move world out holds)
+
+  kept_fetch : (stream most : ℕ) (world : World) → Holds world → Holds (fetch_step stream most world)
+  kept_fetch stream most world holds =
+      branch (is_out_of_reset world.registers.global && stream == 1) _ world (λ can. kept_moves most world (search (rules, tests)) holds) holds
+
+  -- a link frame, by what it finds
+  kept_running : (world : World) → CanStream world → Holds world
+      → Holds (output_framed (if due (output_of world) == 0 then Gap else (if nat_le (due (output_of world)) (held world.output) then Blocks else Hole)) (passed world))
+  kept_running world can holds =
+      cases_of (λ (found : Frame). Holds (output_framed found (passed world))) (due (output_of world) == 0) Gap _
+      (λ none. kept.frames.gaps world holds can (search (rules, tests)))
+      (λ some. cases_of (λ (found : Frame). Holds (output_framed found (passed world))) (nat_le (due (output_of world)) (held world.output)) Blocks Hole
+      (λ enough. kept.frames.sends world holds can (search (rules, tests)) (search (rules, tests)))
+      (λ short. kept.frames.misses world holds can (search (rules, tests))))
+
+  kept_found : (world : World) → is_out_of_reset world.registers.global ≡ true → Holds world
+      → Holds (output_framed (frame_of (output_of world)) (passed world))
+  kept_found world out holds =
+      cases_of (λ (found : Frame). Holds (output_framed found (passed world))) (is_running world.registers.output) _ Stopped
+      (λ runs. cases_of (λ (found : Frame). Holds (output_framed found (passed world))) (is_usable world.registers.output) _ Broken
+      (λ usable. kept_running world (record { out = out; runs = runs; usable = usable }) holds)
+      (λ unusable. subst Holds (sym (broken_same (passed world))) (kept.frames.stops world holds (record { out = out; runs = runs; unusable = unusable }))))
+      (λ still. subst Holds (sym (stopped_same (passed world))) (kept.passes world holds out still))
+
   kept_frame : (world : World) → Holds world → Holds (frame_step world)
-  kept_frame world holds = branch (is_out_of_reset world.registers.global) _ world (λ out. kept.passes world holds out) holds
+  kept_frame world holds = branch (is_out_of_reset world.registers.global) _ world (λ out. kept_found world out holds) holds
 
   kept_frames : (n : ℕ) (world : World) → Holds world → Holds (times n frame_step world)
   kept_frames zero world holds = holds
@@ -76,7 +170,7 @@ module _ (Holds : World → Type 0) (kept : Kept Holds) where
   kept_step (step.Answer codec) world holds = kept_answer codec world holds
   kept_step (step.Lose codec) world holds = kept_lose codec world holds
   kept_step step.Rirb world holds = rirb_by _ world refl holds
-  kept_step (step.Fetch stream most) world holds = holds
+  kept_step (step.Fetch stream most) world holds = kept_fetch stream most world holds
   kept_step (step.Link frames) world holds = kept_frames frames world holds
   kept_step (step.Plug codec nid) world holds = kept.codecs.plugs world codec nid true holds
   kept_step (step.Unplug codec nid) world holds = kept.codecs.plugs world codec nid false holds

@@ -1,11 +1,11 @@
 -- How far the driver has read is kept by every move of the device.
-use Rattle.std.proofs.Common.{◌≡◌, ◌<◌, ◌≤◌, ◌+◌, ◌-◌, ◌==◌, ◌&&◌, not, ℕ, Bool, true, false, List, [], ◌∷◌, ◌++◌, length, take, min, if◌then◌else◌, refl, sym, ap, subst, ◌∙◌, arith, rules, tests, lit<, length-append}
+use Rattle.std.proofs.Common.{◌≡◌, ◌<◌, ◌+◌, ◌==◌, ℕ, Bool, true, false, List, [], ◌∷◌, ◌++◌, length, min, if◌then◌else◌, refl, sym, ap, subst, ◌∙◌, arith, rules, tests, lit<, length-append}
 use Rattle.std.proofs.lemmas.List.{length-take}
 use Rattle.codec_graph.specs.CodecStates.{CodecState}
 use Rattle.hda_registers.specs.declared.shapes.RingSize.{RingSize}
 use Rattle.hda_registers.specs.declared.shapes.RingSize.TheVariants.{Two, Sixteen, Full}
 use Rattle.hda_registers.specs.declared.shapes.Raise.TheVariants as event
-use Rattle.hda_registers.specs.Fields.{Fields, entries_of, responses_of}
+use Rattle.hda_registers.specs.Fields.{Fields, entries_of, is_out_of_reset}
 use Rattle.hda_registers.specs.Moves.{framed, raised}
 use Rattle.ring_entries.specs.declared.response.Response.{Response}
 use Rattle.ring_entries.specs.Entries.{after_response, after_responses}
@@ -13,10 +13,10 @@ use Rattle.ring_entries.specs.Engines.{can_respond, batch_of, batch}
 use Rattle.device_steps.specs.declared.Step.{Step}
 use Rattle.hda_world.specs.declared.step.TheConstants.{FRAMES_TO_DISCOVERY}
 use Rattle.hda_world.specs.Worlds.{World}
-use Rattle.hda_world.specs.Steps.{discovered, after_steps}
+use Rattle.hda_world.specs.Steps.{discovered, passed, after_steps}
 use Rattle.hda_world.specs.Kept.{Kept}
 use Rattle.hda_world.specs.Unread.{IsReadTo, HasReadTo}
-use Rattle.hda_world.proofs.Stepping.{batch_some, kept_steps}
+use Rattle.hda_world.proofs.Stepping.{batch_some, kept_steps, frames_after}
 
 some_entries : (size : RingSize) → 1 < entries_of size
 some_entries Two = lit< tt
@@ -28,14 +28,13 @@ size_after : (responses : List Response) (fields : Fields) → (after_responses 
 size_after [] fields = refl
 size_after (response ∷ responses) fields = size_after responses (after_response fields)
 
-flag-discovered : (codecs : List CodecState) (fields : Fields) → ((discovered codecs fields).global.response_flag ≡ fields.global.response_flag) × ((discovered codecs fields).shape ≡ fields.shape)
-flag-discovered [] fields = (refl, refl)
+flag-discovered : (codecs : List CodecState) (fields : Fields) → (discovered codecs fields).global.response_flag ≡ fields.global.response_flag
+flag-discovered [] fields = refl
 flag-discovered (codec ∷ codecs) fields = flag-discovered codecs (raised fields (event.Codec codec.graph.address))
 
-flag-frame : (now : Bool) (codecs : List CodecState) (fields : Fields)
-    → ((if now then discovered codecs fields else fields).global.response_flag ≡ fields.global.response_flag) × ((if now then discovered codecs fields else fields).shape ≡ fields.shape)
+flag-frame : (now : Bool) (codecs : List CodecState) (fields : Fields) → (if now then discovered codecs fields else fields).global.response_flag ≡ fields.global.response_flag
 flag-frame true codecs fields = flag-discovered codecs fields
-flag-frame false codecs fields = (refl, refl)
+flag-frame false codecs fields = refl
 
 -- the engine writes only while the flag is 0
 flag_clear : (fields : Fields) → can_respond fields ≡ true → (fields.global.response_flag == 1) ≡ false
@@ -54,6 +53,11 @@ read_on read world responses holds clear small =
     let long = length-append world.written responses in
     record { all = λ set. cc; within = omega (arith, long); few = omega (arith, long) }
 
+passed_reading : (read : ℕ) (world : World) → HasReadTo read world → is_out_of_reset world.registers.global ≡ true → HasReadTo read (passed world)
+passed_reading read world holds out =
+    let same = flag-frame (world.frames + 1 == FRAMES_TO_DISCOVERY) world.codecs (framed world.registers) in
+    rw same holds
+
 pub keeps_reading : (read : ℕ) → Kept (HasReadTo read)
 keeps_reading read = record {
   codecs = record {
@@ -66,9 +70,19 @@ keeps_reading read = record {
       let size = size_after (response ∷ rest) world.registers in
       subst (λ shape. IsReadTo read (length (world.written ++ response ∷ rest)) 1 (entries_of shape.rirb)) (sym size)
       (read_on read world (response ∷ rest) holds (flag_clear world.registers can) (batch_small world.registers world.waiting (response ∷ rest) can are)));
-  passes = λ world holds out. (
-      let same = flag-frame (world.frames + 1 == FRAMES_TO_DISCOVERY) world.codecs (framed world.registers) in
-      rw (same.0, same.1) holds);
+  bytes = record {
+    comes = λ world holds can room good is. holds;
+    ends = λ world holds can room good is. holds;
+    breaks = λ world holds can room bad. holds;
+    refuses = λ world holds must. holds;
+  };
+  passes = λ world holds out still. passed_reading read world holds out;
+  frames = frames_after (HasReadTo read) (passed_reading read) (record {
+    gaps = λ world holds can none. holds;
+    sends = λ world holds can some enough. holds;
+    misses = λ world holds can short. holds;
+    stops = λ world holds must. holds;
+  });
 }
 
 pub steps_keep_reading : (read : ℕ) (steps : List Step) (world : World) → HasReadTo read world → HasReadTo read (after_steps steps world)

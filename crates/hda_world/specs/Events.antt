@@ -3,8 +3,10 @@
 use Rattle.std.specs.Prelude.{◌≡◌, ◌≤◌, ℕ, ◌+◌, Bool, true, false, List, [], ◌∷◌, length, slice_range, map}
 use Rattle.codec_graph.specs.CodecStates.{cleared}
 use Rattle.hda_registers.specs.declared.shapes.Width.{Width}
+use Rattle.hda_registers.specs.Fields.{Fields}
 use Rattle.hda_registers.specs.Access.{value_at, written, effects_of}
 use Rattle.ring_entries.specs.Memory.{stored}
+use Rattle.stream_moves.specs.Streams.{settled, settled_state}
 use Rattle.device_steps.specs.declared.Step.{Step}
 use Rattle.hda_world.specs.Worlds.{World}
 use Rattle.hda_world.specs.Steps.{after_step}
@@ -29,11 +31,23 @@ abbrev pub counted_anew_if : Bool → World → World
 counted_anew_if true world = record world { frames = 0 }
 counted_anew_if false world = world
 
+-- the registers after a write that left these: a stream whose RUN rose or fell begins anew or stops
+abbrev pub streams_settled : (old new : Fields) → Fields
+streams_settled old new = record new { input = settled old.input new.input; output = settled old.output new.output }
+
+-- the world whose registers a write left so
+abbrev pub registers_written : Fields → World → World
+registers_written new world = record world {
+  registers = streams_settled world.registers new;
+  input = settled_state world.registers.input new.input world.input;
+  output = settled_state world.registers.output new.output world.output;
+}
+
 -- the world after a write of a register (3.3)
 abbrev pub after_write : ℕ → Width → ℕ → World → World
 after_write at width value world =
     let effects = effects_of world.registers at width value in
-    counted_anew_if effects.left_reset (reset_if effects.reset (record world { registers = written world.registers at width value }))
+    counted_anew_if effects.left_reset (reset_if effects.reset (registers_written (written world.registers at width value) world))
 
 -- the world after an event. A read changes nothing
 abbrev pub happens : World → Event → World
@@ -69,3 +83,13 @@ after (event ∷ events) world = after events (happens world event)
 abbrev pub AreHonest : List Event → World → Type 0
 AreHonest [] world = Unit {0}
 AreHonest (event ∷ events) world = IsHonest world event × AreHonest events (happens world event)
+
+-- the event is no step of the device
+abbrev pub IsNoStep : Event → Type 0
+IsNoStep (Stepped step) = ⊥
+IsNoStep Begin = Unit {0}
+IsNoStep End = Unit {0}
+IsNoStep (Read at width value) = Unit {0}
+IsNoStep (Write at width value) = Unit {0}
+IsNoStep (DmaRead at bytes) = Unit {0}
+IsNoStep (DmaWrite at bytes) = Unit {0}

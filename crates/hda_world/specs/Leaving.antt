@@ -1,7 +1,7 @@
 -- What steps of the device and accesses of the driver leave alone. This project's own.
 use Rattle.std.specs.Prelude.{◌≡◌, ◌≢◌, ◌<◌, ◌≤◌, ◌⊎◌, ℕ, ◌+◌, ◌*◌, false, List, [], ◌∷◌, ◌++◌, Option, None, Some, length, map, slice_index}
 use Rattle.codec_graph.specs.declared.raw.RawCodec.{RawCodec}
-use Rattle.hda_registers.specs.Fields.{Fields, entries_of, rirb_address, is_running}
+use Rattle.hda_registers.specs.Fields.{Fields, Descriptor, entries_of, rirb_address, is_running}
 use Rattle.ring_entries.specs.declared.entries.TheConstants.{RESPONSE_BYTES}
 use Rattle.ring_entries.specs.Engines.{next_word}
 use Rattle.device_steps.specs.declared.Step.{Step}
@@ -9,12 +9,26 @@ use Rattle.device_steps.specs.declared.Step.TheVariants as step
 use Rattle.hda_world.specs.Worlds.{World}
 use Rattle.hda_world.specs.Steps.{address_of, after_step}
 
+-- a descriptor is the old one but for LPIB and the status bits, and where its list or its registers could not be used RUN; it stays
+-- while its stream does not run
+pub record DescriptorStays (old new : Descriptor) : Type 0 where
+  pub only : new ≡ record old {
+    run = new.run;
+    completion = new.completion;
+    fifo_error = new.fifo_error;
+    descriptor_error = new.descriptor_error;
+    fifo_ready = new.fifo_ready;
+    link_position = new.link_position;
+  }
+  pub run : (new.run ≡ old.run) ⊎ ((new.run ≡ 0) × (new.descriptor_error ≡ 1))
+  pub still : is_running old ≡ false → new ≡ old
+
 -- the registers are the old ones but for what the device itself moves: the wall clock, the codecs' bits of the state change
--- status, and the pointers and the flag of the rings; a descriptor stays where its stream does not run
+-- status, the pointers and the flag of the rings, and the descriptors of streams that run
 pub record RegistersStay (old new : Fields) : Type 0 where
   pub shape : new.shape ≡ old.shape
   pub input : is_running old.input ≡ false → new.input ≡ old.input
-  pub output : is_running old.output ≡ false → new.output ≡ old.output
+  pub output : DescriptorStays old.output new.output
   pub global : new.global ≡ record old.global {
     wall_clock = new.global.wall_clock;
     state_status = new.global.state_status;
@@ -46,12 +60,14 @@ pub record StepsLeave (old new : World) : Type 0 where
   pub graphs : graphs_of new ≡ graphs_of old
   pub commands : WentOn old.commands new.commands
   pub written : WentOn old.written new.written
+  pub carried : WentOn old.carried new.carried
 
 -- what an event leaves alone that is no step of the device: an access changes the registers or a piece of memory, and of the
 -- codecs nothing but what waits at them, which a reset drops
 pub record AccessLeaves (old new : World) : Type 0 where
   pub commands : new.commands ≡ old.commands
   pub written : new.written ≡ old.written
+  pub carried : new.carried ≡ old.carried
   pub graphs : graphs_of new ≡ graphs_of old
   pub settings : map (λ codec. codec.settings) new.codecs ≡ map (λ codec. codec.settings) old.codecs
   pub present : map (λ codec. codec.present) new.codecs ≡ map (λ codec. codec.present) old.codecs
@@ -77,3 +93,22 @@ NamesOthers (step.Unplug codec nid) world address = address ≢ codec
 abbrev pub NameOthers : List Step → World → ℕ → Type 0
 NameOthers [] world address = Unit {0}
 NameOthers (step ∷ steps) world address = NamesOthers step world address × NameOthers steps (after_step step world) address
+
+-- the step names no stream
+abbrev pub NamesNoStream : Step → Type 0
+NamesNoStream step.Corb = Unit {0}
+NamesNoStream (step.Answer codec) = Unit {0}
+NamesNoStream (step.Lose codec) = Unit {0}
+NamesNoStream step.Rirb = Unit {0}
+NamesNoStream (step.Fetch stream most) = ⊥
+NamesNoStream (step.Link frames) = ⊥
+NamesNoStream (step.Plug codec nid) = Unit {0}
+NamesNoStream (step.Unplug codec nid) = Unit {0}
+
+-- both streams stay: their descriptors, their states, and what link frames carried
+pub record StreamsStay (old new : World) : Type 0 where
+  pub input_registers : new.registers.input ≡ old.registers.input
+  pub output_registers : new.registers.output ≡ old.registers.output
+  pub input : new.input ≡ old.input
+  pub output : new.output ≡ old.output
+  pub carried : new.carried ≡ old.carried

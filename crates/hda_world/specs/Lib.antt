@@ -8,3 +8,4 @@ pub mod Kept
 pub mod Leaving
 pub mod Unread
 pub mod Discovery
+pub mod Streaming

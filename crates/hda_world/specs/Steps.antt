@@ -1,21 +1,22 @@
--- What a step of the device does to the world: the moves of High Definition Audio 1.0a, 4.4 (rings), 5.3 (link frames), 4.3 (codec
--- discovery) and 7.3.3.15 (presence). When a step comes is the schedule's choice. The queues' limits and that a step does nothing
+-- What a step of the device does to the world: the moves of High Definition Audio 1.0a, 4.4 (rings), 4.5 (streams), 5.3 (link
+-- frames), 4.3 (codec discovery) and 7.3.3.15 (presence). When a step comes is the schedule's choice. The queues' limits and that a step does nothing
 -- while CRST is 0, but for what is plugged in, are this project's own.
-use Rattle.std.specs.Prelude.{ℕ, zero, suc, Bool, true, false, ◌==◌, ◌&&◌, ◌+◌, ◌/◌, ◌^◌, nat_lt, List, [], ◌∷◌, ◌++◌, length, drop, fold, Option, None, Some, if◌then◌else◌}
+use Rattle.std.specs.Prelude.{ℕ, zero, suc, Bool, true, false, ◌==◌, ◌&&◌, ◌+◌, ◌/◌, ◌^◌, nat_lt, List, [], ◌∷◌, ◌++◌, length, map, drop, fold, Option, None, Some, if◌then◌else◌}
 use Rattle.codec_graph.specs.declared.waiting.Waiting.{Waiting}
 use Rattle.codec_graph.specs.declared.waiting.Waiting.TheVariants.{Answer, Unsolicited}
 use Rattle.codec_graph.specs.CodecStates.{CodecState, taken, is_full, plugged, without_first, without_answer}
-use Rattle.hda_registers.specs.Fields.{Fields, is_out_of_reset}
+use Rattle.hda_registers.specs.Fields.{Fields, is_out_of_reset, is_running}
 use Rattle.hda_registers.specs.Moves.{framed, raised}
 use Rattle.hda_registers.specs.declared.shapes.Raise.TheVariants as event
 use Rattle.ring_entries.specs.Entries.{fetched, responses_stored}
 use Rattle.ring_entries.specs.Engines.{next_word, batch, after_batch}
 use Rattle.ring_entries.specs.declared.response.Response.{Response}
 use Rattle.ring_entries.specs.declared.response.TheConstants.{MOST_WAITING}
+use Rattle.stream_moves.specs.Output.{fetch, Frame, frame_of, after_frame, Carriage, carried_by}
 use Rattle.device_steps.specs.declared.Step.{Step}
 use Rattle.device_steps.specs.declared.Step.TheVariants as step
 use Rattle.hda_world.specs.declared.step.TheConstants.{FRAMES_TO_DISCOVERY}
-use Rattle.hda_world.specs.Worlds.{World, TakenCommand, codec_at, with_codec}
+use Rattle.hda_world.specs.Worlds.{World, TakenCommand, CarriedFrame, codec_at, with_codec, output_of, with_output}
 
 -- ---- commands
 
@@ -24,16 +25,16 @@ abbrev pub address_of : ℕ → ℕ
 address_of word = word / 2 ^ 28
 
 -- what the history of commands gains by a word: nothing where no codec has its address
-abbrev pub taking : ℕ → Option CodecState → List TakenCommand
-taking word None = []
-taking word (Some codec) = record { word = word; codec = codec } ∷ []
+abbrev pub taking : ℕ → Option CodecState → Bool → ℕ → List TakenCommand
+taking word None running carried = []
+taking word (Some codec) running carried = record { word = word; codec = codec; running = running; carried = carried } ∷ []
 
 -- CORB's engine fetched this word, and the codec of its address took it
 abbrev pub handed : ℕ → World → World
 handed word world = record world {
   registers = fetched world.registers;
   codecs = with_codec (address_of word) (λ codec. taken codec word) world.codecs;
-  commands = world.commands ++ taking word (codec_at (address_of word) world.codecs);
+  commands = world.commands ++ taking word (codec_at (address_of word) world.codecs) (is_running world.registers.output) (length world.carried);
 }
 
 -- whether a codec can take no command now
@@ -109,20 +110,43 @@ discovered codecs fields = fold (λ fields codec. raised fields (event.Codec cod
 abbrev pub discovered_at : ℕ → List CodecState → Fields → Fields
 discovered_at frames codecs fields = if frames == FRAMES_TO_DISCOVERY then discovered codecs fields else fields
 
--- a link frame passed
+-- a link frame passed: the wall clock went on, and in the frame of the discovery the codecs' bits were set
 abbrev pub passed : World → World
 passed world = record world {
-  registers = discovered_at (world.frames + 1) world.codecs (framed world.registers);
+  registers = record world.registers { global = (discovered_at (world.frames + 1) world.codecs (framed world.registers)).global };
   frames = world.frames + 1;
 }
 
+-- what the history of link frames gains where one carried this
+abbrev pub frame_carried : World → Carriage → CarriedFrame
+frame_carried world carriage =
+    record { codecs = world.codecs; tag = world.registers.output.tag; format = world.registers.output.format; carriage = carriage }
+
+-- the output stream after a link frame that found this of it
+abbrev pub output_framed : Frame → World → World
+output_framed found world = record (with_output (after_frame found (output_of world)) world) {
+  carried = world.carried ++ map (frame_carried world) (carried_by found (output_of world));
+}
+
 abbrev pub frame_step : World → World
-frame_step world = if is_out_of_reset world.registers.global then passed world else world
+frame_step world =
+    if is_out_of_reset world.registers.global then output_framed (frame_of (output_of world)) (passed world) else world
 
 -- n moves in a row
 abbrev pub times : ℕ → (World → World) → World → World
 times zero move world = world
 times (suc n) move world = times n move (move world)
+
+-- ---- bytes of streams
+
+-- the output stream fetched at most so many bytes
+abbrev pub output_fetched : ℕ → World → World
+output_fetched most world = with_output (fetch most world.registers.shape.fifo world.memory (output_of world)) world
+
+-- descriptor 1 is the output stream's; the input stream of descriptor 0 does not move yet
+abbrev pub fetch_step : ℕ → ℕ → World → World
+fetch_step stream most world =
+    if is_out_of_reset world.registers.global && stream == 1 then output_fetched most world else world
 
 -- ---- presence
 
@@ -132,14 +156,13 @@ plugged_at address nid present world = record world { codecs = with_codec addres
 
 -- ---- steps
 
--- the world after a step of the device. A step that names a codec that is not there changes nothing; nothing streams yet, so
--- `Fetch` changes nothing
+-- the world after a step of the device. A step that names a codec or a stream that is not there changes nothing
 abbrev pub after_step : Step → World → World
 after_step step.Corb world = corb_step world
 after_step (step.Answer codec) world = answer_step codec world
 after_step (step.Lose codec) world = lose_step codec world
 after_step step.Rirb world = rirb_step world
-after_step (step.Fetch stream most) world = world
+after_step (step.Fetch stream most) world = fetch_step stream most world
 after_step (step.Link frames) world = times frames frame_step world
 after_step (step.Plug codec nid) world = plugged_at codec nid true world
 after_step (step.Unplug codec nid) world = plugged_at codec nid false world

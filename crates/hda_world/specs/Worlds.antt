@@ -1,17 +1,30 @@
 -- The world that driver and device act on in turn. This project's own, over the controller and the codecs of High Definition
 -- Audio 1.0a.
-use Rattle.std.specs.Prelude.{ℕ, ◌==◌, List, map, Option, if◌then◌else◌}
+use Rattle.std.specs.Prelude.{ℕ, ◌==◌, Bool, List, map, Option, if◌then◌else◌}
 use Rattle.std.specs.List.{find}
 use Rattle.codec_graph.specs.CodecStates.{CodecState}
 use Rattle.hda_registers.specs.Fields.{Fields}
 use Rattle.ring_entries.specs.declared.response.Response.{Response}
+use Rattle.stream_moves.specs.Streams.{StreamState, Stream}
+use Rattle.stream_moves.specs.Output.{Carriage}
 
--- a command that a codec took, with what later statements ask of that moment: the word, and the codec as it was then
+-- a command that a codec took, with what later statements ask of that moment: the word, the codec as it was then, whether the
+-- output stream ran, and how many of the link frames below had passed
 pub record TakenCommand : Type 0 where
   pub word : ℕ
   pub codec : CodecState
+  pub running : Bool
+  pub carried : ℕ
 
--- everything that an access or a device step may read or change. The last two are histories: device steps only append to them,
+-- a link frame of the running output stream: what it carried of the stream, and the codecs, the stream's tag and its format word at
+-- that moment
+pub record CarriedFrame : Type 0 where
+  pub codecs : List CodecState
+  pub tag : ℕ
+  pub format : ℕ
+  pub carriage : Carriage
+
+-- everything that an access or a device step may read or change. The last three are histories: device steps only append to them,
 -- and nothing ever shortens them.
 pub record World : Type 0 where
   -- the region that the controller's engines reach, as bytes
@@ -23,10 +36,25 @@ pub record World : Type 0 where
   pub waiting : List Response
   -- the link frames since CRST rose, 0 while it is 0
   pub frames : ℕ
+  -- the streams of descriptor 0 and of descriptor 1
+  pub input : StreamState
+  pub output : StreamState
   -- the commands that codecs took, oldest first
   pub commands : List TakenCommand
   -- the responses that were written to RIRB, oldest first
   pub written : List Response
+  -- the link frames that passed while the output stream ran, oldest first
+  pub carried : List CarriedFrame
+
+-- the output stream with its descriptor's registers, and the world with a change of it
+abbrev pub output_of : World → Stream
+output_of world = record { descriptor = world.registers.output; state = world.output }
+
+abbrev pub with_output : Stream → World → World
+with_output stream world = record world {
+  registers = record world.registers { output = stream.descriptor };
+  output = stream.state;
+}
 
 -- the codec with this address, if there is one
 abbrev pub codec_at : ℕ → List CodecState → Option CodecState

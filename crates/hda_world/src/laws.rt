@@ -6,7 +6,7 @@ ghost use Rattle.device_steps.specs.declared.Step.{Step};
 ghost use Rattle.device_steps.specs.declared.Step.TheVariants as step;
 ghost use Rattle.hda_world.specs.Worlds.{World, codec_at, with_codec};
 ghost use Rattle.hda_world.specs.Steps.{after_step, after_steps};
-ghost use Rattle.hda_world.specs.Events.{Event, DmaWrite, after, AreHonest, after_write, happens};
+ghost use Rattle.hda_world.specs.Events.{Event, DmaWrite, after, AreHonest, streams_settled, registers_written, after_write, happens};
 ghost use Rattle.ring_entries.specs.Memory.{PieceStored};
 ghost use Rattle.hda_registers.specs.Access.{written, effects_of};
 ghost use Rattle.hda_registers.specs.Fields.{is_out_of_reset};
@@ -78,32 +78,32 @@ pub fn accesses_compose()
 {}
 
 /// A write of a register changes no memory and no codec's graph, settings or presence, and appends to no history. Where CRST was
-/// neither written 0 nor rises it changes the registers alone; where CRST rises the link frames are counted from 0 too. Where it is
-/// written 0 all that waits at the codecs and in the controller is dropped (HDA 1.0a, 5.5.1).
+/// neither written 0 nor rises it changes the registers and the streams whose RUN rose or fell alone; where CRST rises the link frames
+/// are counted from 0 too. Where it is written 0 all that waits at the codecs and in the controller is dropped (HDA 1.0a, 5.5.1).
 pub fn register_write_leaves()
     ensures memory { (world : World) (at value : ℕ) (width : Width) → (after_write at width value world).memory ≡ world.memory }
     ensures codecs { (world : World) (at value : ℕ) (width : Width) → AccessLeaves world (after_write at width value world) }
     ensures registers { (world : World) (at value : ℕ) (width : Width)
-        → (after_write at width value world).registers ≡ written world.registers at width value }
+        → (after_write at width value world).registers ≡ streams_settled world.registers (written world.registers at width value) }
     ensures resetting { (world : World) (at value : ℕ) (width : Width) → (effects_of world.registers at width value).reset ≡ true
-        → after_write at width value world ≡ record world {
-          registers = written world.registers at width value;
+        → after_write at width value world ≡ record (registers_written (written world.registers at width value) world) {
           codecs = map cleared world.codecs;
           waiting = [];
           frames = 0;
         } }
     ensures plain { (world : World) (at value : ℕ) (width : Width) → (effects_of world.registers at width value).reset ≡ false
         → (effects_of world.registers at width value).left_reset ≡ false
-        → after_write at width value world ≡ record world { registers = written world.registers at width value } }
+        → after_write at width value world ≡ registers_written (written world.registers at width value) world }
     ensures rising { (world : World) (at value : ℕ) (width : Width) → (effects_of world.registers at width value).reset ≡ false
         → (effects_of world.registers at width value).left_reset ≡ true
-        → after_write at width value world ≡ record world { registers = written world.registers at width value; frames = 0 } }
+        → after_write at width value world ≡ record (registers_written (written world.registers at width value) world) { frames = 0 } }
 {}
 
-/// A write that is neither at GCTL nor at a register of CORB or RIRB changes the registers alone, and none of these.
+/// A write that is neither at GCTL nor at a register of CORB or RIRB changes the registers, but none of these, and the streams whose
+/// RUN rose or fell alone.
 pub fn write_beside_rings_leaves()
     ensures world { (world : World) (at value : ℕ) (width : Width) → IsBesideRings at
-        → after_write at width value world ≡ record world { registers = written world.registers at width value } }
+        → after_write at width value world ≡ registers_written (written world.registers at width value) world }
     ensures rings { (world : World) (at value : ℕ) (width : Width) → IsBesideRings at
         → LeavesRings world.registers.global (after_write at width value world).registers.global }
 {}

@@ -5,6 +5,7 @@ mod entry;
 mod journal;
 mod laws;
 mod step;
+mod stream_laws;
 mod world;
 
 pub use entry::Entry;
@@ -16,4 +17,8 @@ pub use laws::{
     write_beside_rings_leaves,
 };
 pub use step::{FRAMES_TO_DISCOVERY, Step};
+pub use stream_laws::{
+    accesses_keep_fifo, steps_keep_fifo, steps_keep_order, steps_keep_position, steps_keep_ready,
+    steps_leave_stopped_streams, steps_leave_streams, write_beside_streams_leaves,
+};
 pub use world::REGION_BYTES;

@@ -35,9 +35,12 @@ container_bytes B16 = 2
 container_bytes B24 = 4
 container_bytes B32 = 4
 
--- the bytes of a block
+-- the bytes of a block of so many channels
+abbrev pub bytes_of_block : ℕ → Bits → ℕ
+bytes_of_block channels bits = channels * container_bytes bits
+
 abbrev pub block_bytes : Format → ℕ
-block_bytes format = format.channels * container_bytes format.bits
+block_bytes format = bytes_of_block format.channels format.bits
 
 -- the most blocks of a frame
 abbrev pub most_blocks : Rate → ℕ

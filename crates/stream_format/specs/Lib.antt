@@ -1,4 +1,5 @@
 pub mod Words
 pub mod Cadence
 pub mod Samples
+pub mod Layouts
 pub mod Laws

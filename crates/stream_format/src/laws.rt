@@ -1,9 +1,14 @@
 //! Laws of formats, each the contract of a function that does nothing.
-ghost use Rattle.stream_format.specs.Laws.{HaveOneFormat, IsBoundedByMost, Has147In160};
+ghost use Rattle.stream_format.specs.Laws.{HaveOneFormat, AreReadBack, IsBoundedByMost, Has147In160};
 
 /// A word is that of one format at most.
 pub fn one_format_for_a_word()
     ensures { HaveOneFormat }
+{}
+
+/// The word of a format is read as that format.
+pub fn words_are_read_back()
+    ensures { AreReadBack }
 {}
 
 /// No link frame has more bytes than the format's most.

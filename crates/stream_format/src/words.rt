@@ -1,9 +1,9 @@
 //! The format word.
-ghost use Rattle.std.specs.Prelude.{◌≡◌, ◌*◌, IfSome, IsNone, MatchOption};
+ghost use Rattle.std.specs.Prelude.{◌≡◌, ◌*◌, MatchOption, option_map};
 ghost use Rattle.stream_format.specs.Words.{format_word, HasNoFormat};
 ghost use Rattle.stream_format.specs.Words as spec;
-ghost use Rattle.stream_format.specs.declared.format.Rate.{Rate};
-ghost use Rattle.stream_format.specs.declared.format.Bits.{Bits};
+ghost use Rattle.stream_format.specs.Layouts.{layout, layout_of};
+ghost use Rattle.stream_format.specs.Layouts as layouts;
 
 use crate::format::{Bits, Format, Rate};
 
@@ -34,8 +34,7 @@ fn size_code(bits: Bits) -> u16
 
 /// The rate with these bits 15:8 of the format word.
 fn rate_with(bits: u16) -> Option<Rate>
-    ensures some { IfSome result (λ rate. spec.rate_bits (spec.rate_code rate) ≡ bits * 256) }
-    ensures none { IsNone result → (rate : Rate) → spec.rate_bits (spec.rate_code rate) ≡ bits * 256 → ⊥ }
+    ensures { result ≡ layouts.rate_named bits }
 {
     match bits {
         0x05 => Some(Rate::R8),
@@ -50,8 +49,7 @@ fn rate_with(bits: u16) -> Option<Rate>
 
 /// The sample size with this code.
 fn size_with(code: u16) -> Option<Bits>
-    ensures some { IfSome result (λ bits. spec.size_code bits ≡ code) }
-    ensures none { IsNone result → (bits : Bits) → spec.size_code bits ≡ code → ⊥ }
+    ensures { result ≡ layouts.size_named code }
 {
     match code {
         1 => Some(Bits::B16),
@@ -71,8 +69,10 @@ impl Format {
     }
 
     /// The format with this word. `None` where no format has it (HDA 1.0a, 3.7.1).
+    #[tactic(auto, unfolding(crate::specs::Layouts::layout_of))]
     pub fn from_word(word: u16) -> Option<Format>
-        ensures { MatchOption result (HasNoFormat word) (λ format. format_word format ≡ word) }
+        ensures inverse { MatchOption result (HasNoFormat word) (λ format. format_word format ≡ word) }
+        ensures reading { option_map layout result ≡ layout_of word }
     {
         let rate = rate_with(word / 256)?;
         let bits = size_with(word / 16 % 16)?;

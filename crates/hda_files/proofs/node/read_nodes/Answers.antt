@@ -3,10 +3,10 @@ use Rattle.std.proofs.lemmas.List.{length_push}
 use Rattle.std.proofs.lemmas.List.Elements.{All-push}
 use Rattle.std.specs.List.{cons_option}
 use Rattle.toml.specs.View.{table_view}
-use Rattle.hda_files.specs.Nodes.{nodes_after}
+use Rattle.hda_files.specs.Nodes.{node_of, nodes_after}
 use Rattle.hda_files.specs.Readers.{IsReadNode}
 use Rattle.hda_files.proofs.ArrayLemmas.{tables_of_list, tables_of_list-drop}
-use Rattle.hda_files.proofs.NodeLemmas.{nodes_after-good}
+use Rattle.hda_files.proofs.NodeLemmas.{each_after-good}
 use Rattle.hda_files.proofs.node.read_nodes.Goals as goal
 use Rattle.hda_files.proofs.node.read_nodes.Goals.{in-Some+in_ok-node+in_ok-push, in_default}
 
@@ -24,7 +24,7 @@ loop-value-preserved c =
           rw (w.nodes-is, w.in_ok-push.ensures.items) (record {
             few = omega (arith, length_push nodes node, c.loop-value.invariant.few);
             read = All-push IsReadNode nodes node c.loop-value.invariant.read w.in_ok-node.ensures.read;
-            rest = so_far ∙ ap (λ o. nodes_after c.args.codec nodes (cons_option o left)) (sym w.in-Some.ensures) ∙ nodes_after-good c.args.codec nodes (table_view w.in-Some.table.now) left node meant;
+            rest = so_far ∙ ap (λ o. nodes_after c.args.codec nodes (cons_option o left)) (sym w.in-Some.ensures) ∙ each_after-good (node_of c.args.codec) nodes (table_view w.in-Some.table.now) left node meant;
           })
       | in_default w ↦
           rw w.nodes-is (record {

@@ -1,0 +1,71 @@
+-- What writes of registers do to the streams.
+use Rattle.std.proofs.Common.{◌≡◌, ◌≢◌, ◌/◌, ◌&&◌, not, ℕ, Bool, true, false, length, if◌then◌else◌, refl, sym, ap, subst, ◌∙◌, arith}
+use Rattle.hda_registers.specs.declared.shapes.Width.{Width}
+use Rattle.hda_registers.specs.declared.shapes.Shape.{Shape}
+use Rattle.hda_registers.specs.Fields.{Descriptor, Fields, is_running}
+use Rattle.hda_registers.specs.Access.{written, effects_of, rose}
+use Rattle.hda_registers.specs.Laws.{IsBesideStreams}
+use Rattle.hda_registers.proofs.Callers.{leaves-streams, keeps-shape}
+use Rattle.stream_moves.specs.Streams.{StreamState, begun, settled, settled_state}
+use Rattle.hda_world.specs.Worlds.{World}
+use Rattle.hda_world.specs.Events.{reset_if, counted_anew_if, registers_written, after_write}
+use Rattle.hda_world.specs.Leaving.{StreamsStay}
+use Rattle.hda_world.specs.Streaming.{IsWithinFifo, HoldsFifo}
+use Rattle.hda_world.proofs.Leaving.{write_registers}
+
+-- a reset and a fresh count leave the streams
+parts : (reset left : Bool) (world : World) →
+    ((counted_anew_if left (reset_if reset world)).input ≡ world.input) × ((counted_anew_if left (reset_if reset world)).output ≡ world.output)
+    × ((counted_anew_if left (reset_if reset world)).carried ≡ world.carried)
+parts true true world = (refl, refl, refl)
+parts true false world = (refl, refl, refl)
+parts false true world = (refl, refl, refl)
+parts false false world = (refl, refl, refl)
+
+-- RUN that stays neither rises nor falls
+no_rise : (runs : Bool) → (not runs && runs) ≡ false
+no_rise true = refl
+no_rise false = refl
+
+no_fall : (runs : Bool) → (runs && not runs) ≡ false
+no_fall true = refl
+no_fall false = refl
+
+settled_same : (d : Descriptor) → settled d d ≡ d
+settled_same d = rw (no_rise (is_running d), no_fall (is_running d)) refl
+
+state_same : (d : Descriptor) (state : StreamState) → settled_state d d state ≡ state
+state_same d state = rw (no_rise (is_running d)) refl
+
+pub beside_streams : (world : World) (at value : ℕ) (width : Width) → at / 4 ≢ 2 → IsBesideStreams at → StreamsStay world (after_write at width value world)
+beside_streams world at value width apart beside =
+    let left = leaves-streams world.registers at width value apart beside in
+    let fields = write_registers world at value width in
+    let rest = parts (effects_of world.registers at width value).reset (effects_of world.registers at width value).left_reset (registers_written (written world.registers at width value) world) in
+    record {
+      input_registers = ap (λ (f : Fields). f.input) fields ∙ (ap (settled world.registers.input) left.input ∙ settled_same world.registers.input);
+      output_registers = ap (λ (f : Fields). f.output) fields ∙ (ap (settled world.registers.output) left.output ∙ settled_same world.registers.output);
+      input = rest.0 ∙ (ap (λ (d : Descriptor). settled_state world.registers.input d world.input) left.input ∙ state_same world.registers.input world.input);
+      output = rest.1 ∙ (ap (λ (d : Descriptor). settled_state world.registers.output d world.output) left.output ∙ state_same world.registers.output world.output);
+      carried = rest.2;
+    }
+
+-- ---- the FIFO
+
+fresh : (fifo : ℕ) → IsWithinFifo 0 0 fifo
+fresh fifo = record { behind = omega arith; ahead = omega arith }
+
+settled_fifo : (rises : Bool) (state : StreamState) (fifo : ℕ) → IsWithinFifo state.left (length state.entered) fifo
+    → let after : StreamState = if rises then begun else state in IsWithinFifo after.left (length after.entered) fifo
+settled_fifo true state fifo holds = fresh fifo
+settled_fifo false state fifo holds = holds
+
+pub write_keeps_fifo : (world : World) (at value : ℕ) (width : Width) → HoldsFifo world → HoldsFifo (after_write at width value world)
+write_keeps_fifo world at value width holds =
+    let new = written world.registers at width value in
+    let shape : (after_write at width value world).registers.shape ≡ world.registers.shape =
+    ap (λ (f : Fields). f.shape) (write_registers world at value width) ∙ keeps-shape world.registers at width value in
+    let rest = parts (effects_of world.registers at width value).reset (effects_of world.registers at width value).left_reset (registers_written new world) in
+    let settled_holds = settled_fifo (rose world.registers.output new.output) world.output world.registers.shape.fifo holds in
+    subst (λ (s : Shape). IsWithinFifo (after_write at width value world).output.left (length (after_write at width value world).output.entered) s.fifo) (sym shape)
+    (subst (λ (state : StreamState). IsWithinFifo state.left (length state.entered) world.registers.shape.fifo) (sym rest.1) settled_holds)

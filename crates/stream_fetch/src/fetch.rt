@@ -1,0 +1,193 @@
+//! A FIFO that is filled from a list of buffers.
+ghost use Rattle.std.specs.Prelude.{◌≡◌, ◌≤◌, ◌<◌, ◌+◌, ◌-◌, [], ◌∷◌, ◌++◌, true, false, IsTrue, IfOk, length, nat_le, drop, take};
+ghost use Rattle.stream_moves.specs.Streams.{StreamState, begun, held, held_bytes};
+ghost use Rattle.stream_moves.specs.Output as output;
+ghost use Rattle.stream_moves.specs.Lists.{is_good};
+ghost use Rattle.stream_fetch.specs.Fetching.{StandsFor};
+ghost use Rattle.stream_fetch.specs.Bytes.{IsByte, count_of};
+ghost use Rattle.circular_buffer.specs.Buffer.{buffer};
+
+use crate::entries::{after_byte, buffer_at, is_good};
+use circular_buffer::HeapCircularBuffer;
+use std::alloc::{AllocError, Global};
+use std::marker::Model;
+use stream_moves::{Buffer, ListPlace};
+
+/// Before the first byte of a list.
+const LIST_START: ListPlace = ListPlace {
+    index: 0,
+    buffer: None,
+    fetched: 0,
+};
+
+/// Where a list of buffers stands (HDA 1.0a, 3.6.2).
+#[derive(Clone, Copy, Debug, PartialEq, Eq)]
+pub struct ListAt {
+    /// The address of its first entry.
+    pub address: u32,
+    /// The index of its last entry: LVI.
+    pub last: u8,
+}
+
+/// What a fetch came to.
+#[derive(Clone, Copy, Debug, PartialEq, Eq)]
+pub struct Fetched {
+    /// How many bytes were fetched.
+    pub bytes: u32,
+    /// The last byte of a buffer with IOC was among them.
+    pub done: bool,
+    /// It came to an entry of the list that can't be used.
+    pub broken: bool,
+}
+
+/// What the fetch of one byte came to.
+#[derive(Clone, Copy, Debug, PartialEq, Eq)]
+pub(crate) enum Byte {
+    /// The FIFO is full.
+    Full,
+    /// The entry of the list can't be used.
+    Broken,
+    /// A byte came; whether it was the last of a buffer with IOC.
+    Came(bool),
+}
+
+/// The FIFO of a stream, with its place in the list of buffers. Contracts see how much it can hold, its bytes and the place.
+#[derive(Drop)]
+pub struct Fetch {
+    fifo: HeapCircularBuffer<u8>,
+    list: ListPlace,
+}
+
+impl Model for Fetch {
+    ghost use Rattle.stream_fetch.specs.Fetching.{Fetching};
+    ghost use Rattle.stream_fetch.specs.InUse.{IsKept};
+
+    ghost Value = { Fetching };
+
+    ghost view = { λ fetch. record { capacity = fetch.fifo.capacity; bytes = fetch.fifo.items; list = fetch.list } };
+
+    ghost invariant = { λ fetch. IsKept fetch.fifo fetch.list };
+}
+
+impl Fetch {
+    /// An empty FIFO of so many bytes, before the first entry of a list.
+    ///
+    /// # Errors
+    /// Want of memory.
+    pub fn new(alloc: Global, fifo: u16) -> Result<Fetch, AllocError>
+        ensures stands { IfOk result (λ fetch. StandsFor fetch begun) }
+        ensures capacity { IfOk result (λ fetch. fetch.capacity ≡ fifo) }
+    {
+        Ok(Fetch {
+            fifo: HeapCircularBuffer::with_capacity(alloc, usize::from(fifo))?,
+            list: LIST_START,
+        })
+    }
+
+    /// Empties the FIFO and begins before the first entry of the list again.
+    pub fn start(&mut self)
+        ensures stands { StandsFor self.new begun }
+        ensures capacity { self.new.capacity ≡ self.old.capacity }
+    {
+        self.fifo.clear();
+        self.list = LIST_START;
+    }
+
+    /// How many bytes the FIFO holds.
+    pub fn held(&self) -> u32
+        ensures bytes { result ≡ length self.now.bytes }
+        ensures held { (state : StreamState) → StandsFor self.now state → result ≡ held state }
+    {
+        self.fifo.len() as u32
+    }
+
+    /// The buffer that the next byte comes from.
+    fn next_buffer(&self, memory: &[u8], base: u32) -> Buffer
+        ensures next { (state : StreamState) → StandsFor self.now state → result ≡ output.next_of memory.now base state }
+        ensures more { is_good memory.now result ≡ true → self.now.list.fetched < result.bytes }
+    {
+        match self.list.buffer {
+            Some(buffer) => buffer,
+            None => buffer_at(memory, base, self.list.index),
+        }
+    }
+
+    /// Fetches the next byte where there is room and its buffer can be used.
+    fn fetch_byte(&mut self, list: ListAt, memory: &[u8]) -> Byte
+        ensures stands { (state : StreamState) → StandsFor self.old state
+            → StandsFor self.new (output.next_byte self.old.capacity memory.now list.address list.last state) }
+        ensures found { (state : StreamState) → StandsFor self.old state → IsByte self.old.capacity memory.now list.address state result }
+        ensures count { length self.new.bytes ≡ length self.old.bytes + count_of result }
+        ensures capacity { self.new.capacity ≡ self.old.capacity }
+    {
+        if self.fifo.is_full() {
+            return Byte::Full;
+        }
+        let buffer = self.next_buffer(memory, list.address);
+        if !is_good(memory, buffer) {
+            return Byte::Broken;
+        }
+        let place = buffer.address as usize + self.list.fetched as usize;
+        put(&mut self.fifo, memory[place]);
+        let ends = self.list.fetched + 1 == buffer.bytes;
+        self.list = after_byte(list.last, buffer, self.list);
+        Byte::Came(ends && buffer.interrupts)
+    }
+
+    /// Fetches at most so many bytes of the list's buffers, in the list's order and round again, as far as there is room.
+    pub fn fetch(&mut self, list: ListAt, memory: &[u8], most: u32) -> Fetched
+        ensures stands { (state : StreamState) → StandsFor self.old state
+            → StandsFor self.new (output.bytes_came most self.old.capacity memory.now list.address list.last state) }
+        ensures bytes { length self.old.bytes + result.bytes ≡ length self.new.bytes }
+        ensures done { (state : StreamState) → StandsFor self.old state
+            → result.done ≡ output.some_completes most self.old.capacity memory.now list.address list.last state }
+        ensures broken { (state : StreamState) → StandsFor self.old state
+            → result.broken ≡ output.some_breaks most self.old.capacity memory.now list.address list.last state }
+        ensures capacity { self.new.capacity ≡ self.old.capacity }
+    {
+        let mut fetched = Fetched {
+            bytes: 0,
+            done: false,
+            broken: false,
+        };
+        for _ in 0..most {
+            match self.fetch_byte(list, memory) {
+                Byte::Full => return fetched,
+                Byte::Broken => {
+                    fetched.broken = true;
+                    return fetched;
+                }
+                Byte::Came(ends) => {
+                    fetched.bytes += 1;
+                    fetched.done |= ends;
+                }
+            }
+        }
+        fetched
+    }
+
+    /// Moves the oldest bytes out of the FIFO. False exactly where it holds fewer than asked for, and then nothing changes.
+    pub fn send(&mut self, into: &mut [u8]) -> bool
+        ensures enough { result ≡ nat_le (length into.old) (length self.old.bytes) }
+        ensures sent { IsTrue result → into.new ≡ take (length into.old) self.old.bytes }
+        ensures stands { IsTrue result → (state : StreamState) → StandsFor self.old state
+            → StandsFor self.new (record state { left = state.left + length into.old }) }
+        ensures unsent { result ≡ false → into.new ≡ into.old }
+        ensures kept { result ≡ false → self.new ≡ self.old }
+        ensures capacity { self.new.capacity ≡ self.old.capacity }
+    {
+        if self.fifo.len() < into.len() {
+            return false;
+        }
+        self.fifo.read_into(into);
+        true
+    }
+}
+
+/// Puts a byte last, for which there is room.
+fn put(fifo: &mut HeapCircularBuffer<u8>, byte: u8)
+    requires { length fifo.old.items < fifo.old.capacity }
+    ensures { fifo.new ≡ buffer (fifo.old.items ++ byte ∷ []) fifo.old.capacity }
+{
+    fifo.push_back(byte);
+}
