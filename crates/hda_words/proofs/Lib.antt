@@ -8,3 +8,4 @@ mod RowLemmas
 mod NumberLemmas
 mod NumberRows
 mod LineLemmas
+pub mod Callers
