@@ -1,0 +1,118 @@
+//! The words of the command line, and what they ask for. A row has its words between spaces, so two spaces make an empty word.
+use hda_words::{Request, WordsFault, read_words};
+use std::alloc::{AllocError, Global};
+use std::test::Fail;
+use stream_format::{Bits, Rate};
+
+/// The words of a row.
+fn words_of(alloc: Global, row: &str) -> Result<Vec<String>, AllocError> {
+    let mut words = Vec::new(alloc);
+    for word in row.split(" ") {
+        words.push(String::from_str(alloc, word)?)?;
+    }
+    Ok(words)
+}
+
+const GOOD: [(&str, &str, Rate, u8); 20] = [
+    ("route A.toml", "A.toml", Rate::R48, 2),
+    ("route A --rate 8000", "A", Rate::R8, 2),
+    ("route A --rate=16000", "A", Rate::R16, 2),
+    ("route --rate 44100 A", "A", Rate::R44, 2),
+    ("route --rate=48000 A", "A", Rate::R48, 2),
+    ("route A --rate 96000 --channels 8", "A", Rate::R96, 8),
+    ("route --channels=6 A --rate 192000", "A", Rate::R192, 6),
+    ("route --channels 4 --rate=96000 A", "A", Rate::R96, 4),
+    ("route A --channels 2", "A", Rate::R48, 2),
+    ("route A --channels 0000000008", "A", Rate::R48, 8),
+    ("route A --rate=00048000", "A", Rate::R48, 2),
+    ("route -- A", "A", Rate::R48, 2),
+    ("route A --", "A", Rate::R48, 2),
+    ("route --rate 8000 -- -A", "-A", Rate::R8, 2),
+    ("route -- --rate=8000", "--rate=8000", Rate::R48, 2),
+    ("route -- --", "--", Rate::R48, 2),
+    ("route -- -", "-", Rate::R48, 2),
+    ("route ", "", Rate::R48, 2),
+    ("route route", "route", Rate::R48, 2),
+    ("route A=--rate", "A=--rate", Rate::R48, 2),
+];
+
+const BAD: [&str; 56] = [
+    "",
+    "route",
+    "help",
+    "-h",
+    "--help",
+    "--version",
+    "-- route A",
+    "--rate 48000 route A",
+    "Route A",
+    "rout A",
+    "routes A",
+    "route A B",
+    "route A ",
+    "route A -- B",
+    "route --",
+    "route help A",
+    "route --help",
+    "route A --help",
+    "route -h",
+    "route A -h",
+    "route A --version",
+    "route A -V",
+    "route -",
+    "route A -",
+    "route - -- A",
+    "route -A",
+    "route A -r 48000",
+    "route A -rate 48000",
+    "route A --rate 48000 --rate 48000",
+    "route A --rate=48000 --rate 96000",
+    "route --channels 2 A --channels=2",
+    "route A --rate",
+    "route --rate A",
+    "route A --rate --",
+    "route A --rate -- 48000",
+    "route A --rate --channels 2",
+    "route A --rate -",
+    "route A --rate -48000",
+    "route A --rate ",
+    "route A --rate=",
+    "route A --rate= 48000",
+    "route A --rate==48000",
+    "route A --rate 11025",
+    "route A --rate 0",
+    "route A --rate 48000.0",
+    "route A --rate +48000",
+    "route A --rate=48k",
+    "route A --rate 00000048000",
+    "route A --rate=99999999999",
+    "route A --channels 3",
+    "route A --channels 0",
+    "route A --channels=10",
+    "route A --channels 00000000002",
+    "route A --rates 48000",
+    "route A --FILE=B",
+    "route A --=48000",
+];
+
+#[test]
+fn takes_good_words(rt: HostRuntime) -> Result<(), Fail> {
+    for (row, name, rate, channels) in GOOD {
+        let words = words_of(rt.alloc(), row)?;
+        let Request::Route { codec, format } = read_words(rt.alloc(), words.as_slice())?;
+        assert!(rt; codec == name, "{row}");
+        assert!(rt; format.rate == rate && format.bits == Bits::B16 && format.channels == channels, "{row}");
+    }
+    Ok(())
+}
+
+#[test]
+fn refuses_bad_words(rt: HostRuntime) -> Result<(), Fail> {
+    for row in BAD {
+        let words = words_of(rt.alloc(), row)?;
+        assert!(rt; read_words(rt.alloc(), words.as_slice()).is_err_and(|fault| fault == WordsFault::NoCommand), "{row}");
+    }
+    let none = Vec::new(rt.alloc());
+    assert!(rt; read_words(rt.alloc(), none.as_slice()).is_err_and(|fault| fault == WordsFault::NoCommand));
+    Ok(())
+}

@@ -1,0 +1,11 @@
+mod WordViews
+mod ClapRules
+mod ClapWalk
+mod ClapParts
+mod ClapRows
+mod ClapAnswer
+mod RowLemmas
+mod NumberLemmas
+mod NumberRows
+mod LineLemmas
+pub mod Callers

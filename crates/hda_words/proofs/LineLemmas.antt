@@ -1,0 +1,158 @@
+-- What the parts of the words make of a line.
+use Rattle.std.proofs.Common.{◌≡◌, ◌∙◌, ℕ, Bool, true, false, List, [], ◌∷◌, map, length, Option, Some, None, refl, sym, ap, ap₂, subst, true≢false, eqb-true, take, drop, ◌-◌, arith, length-drop}
+use Rattle.std.proofs.lemmas.List.{drop-map, take_all}
+use Rattle.std.specs.Prelude.{⊤, ◌==◌, ◌||◌, if◌then◌else◌, option_map, option_and_then}
+use Rattle.std.specs.Str.{bytes_eq}
+use Rattle.std.proofs.lemmas.Slice.Eq.{bytes_eq-Decides}
+use Rattle.clap.specs.declared.parser.matches.ArgMatches.{ArgMatches}
+use Rattle.hda_words.specs.Numbers.{Numbers, if_taken, is_taken, number_written}
+use Rattle.hda_words.specs.Commands.{CommandGrammar, OptionGrammar, option_names, route_grammar}
+use Rattle.hda_words.specs.Words.{Part, Word, has_single, is_among, operands_of, part_met, parts_from, parts_of, single_at, values_of, with_part, word_of}
+use Rattle.hda_words.specs.Words as words
+use Rattle.hda_words.specs.Asked.{grammar_named}
+use Rattle.hda_words.specs.Lines.{AllTaken, CommandLine, IsLineOf, line_of, line_of_parts, line_with, number_of, number_once, numbers_of, with_number}
+use Rattle.hda_words.specs.ClapCommand.{FindsParts, HoldsParts, numbers_found, operands_id, values_found}
+
+-- ---- a single hyphen is refused
+
+neither : {X : Type 0} (b : Bool) → (let none : Option X = None in if b then none else none) ≡ None
+neither true = refl
+neither false = refl
+
+single_met : (names : List (List ℕ)) (waiting : Option (List ℕ)) (k : Word) (word : List ℕ) (rest : List (List ℕ)) (next : Option (List ℕ) → Option (List Part))
+    → single_at k (has_single rest) ≡ true → (has_single rest ≡ true → (w : Option (List ℕ)) → next w ≡ None) → part_met names waiting k word rest next ≡ None
+single_met names (Some name) words.plain word rest next e later = ap (with_part (words.given name word)) (later e None)
+single_met names (Some name) words.single word rest next e later = refl
+single_met names (Some name) words.ending word rest next e later = refl
+single_met names (Some name) (words.option x v) word rest next e later = refl
+single_met names None words.plain word rest next e later = ap (with_part (words.operand word)) (later e None)
+single_met names None words.single word rest next e later = refl
+single_met names None words.ending word rest next e later = absurd (true≢false (sym e))
+single_met names None (words.option x (Some v)) word rest next e later =
+    ap (λ (o : Option (List Part)). if is_among names x then with_part (words.given x v) o else None) (later e None) ∙ neither (is_among names x)
+single_met names None (words.option x None) word rest next e later =
+    ap (λ (o : Option (List Part)). if is_among names x then o else None) (later e (Some x)) ∙ neither (is_among names x)
+
+single_refused : (names ws : List (List ℕ)) → has_single ws ≡ true → (waiting : Option (List ℕ)) → parts_from names ws waiting ≡ None
+single_refused names [] e waiting = absurd (true≢false (sym e))
+single_refused names (word ∷ rest) e waiting = single_met names waiting (word_of word) word rest (parts_from names rest) e (λ single w. single_refused names rest single w)
+
+pub single_no_line : (grammar : CommandGrammar) (ws : List (List ℕ)) → has_single ws ≡ true → line_of grammar ws ≡ None
+single_no_line grammar ws e = ap (λ (o : Option (List Part)). option_and_then (line_of_parts grammar) o) (single_refused (option_names grammar) ws e None)
+
+-- ---- the numbers
+
+or_true : (b : Bool) → (b || true) ≡ true
+or_true true = refl
+or_true false = refl
+
+abbrev AllAmong : List (List ℕ) → List OptionGrammar → Type 0
+AllAmong names [] = ⊤
+AllAmong names (option ∷ rest) = (is_among names option.name ≡ true) × AllAmong names rest
+
+more_among : (name : List ℕ) (names : List (List ℕ)) (options : List OptionGrammar) → AllAmong names options → AllAmong (name ∷ names) options
+more_among name names [] all = tt
+more_among name names (option ∷ rest) all =
+    (ap (λ (b : Bool). bytes_eq name option.name || b) all.0 ∙ or_true (bytes_eq name option.name), more_among name names rest all.1)
+
+all_among : (options : List OptionGrammar) → AllAmong (map (λ (o : OptionGrammar). o.name) options) options
+all_among [] = tt
+all_among (option ∷ rest) = (
+  ap (λ (b : Bool). b || is_among (map (λ (o : OptionGrammar). o.name) rest) option.name) ((bytes_eq-Decides option.name option.name).1 refl),
+  more_among option.name (map (λ (o : OptionGrammar). o.name) rest) rest (all_among rest),
+)
+
+numbers_held : (names : List (List ℕ)) (options : List OptionGrammar) (parts : List Part) (m : ArgMatches) → AllAmong names options → HoldsParts names parts m
+    → numbers_found options m ≡ numbers_of options parts
+numbers_held names [] parts m all holds = refl
+numbers_held names (option ∷ rest) parts m all holds =
+    ap₂ with_number (ap (number_once option) (holds.options option.name all.0)) (numbers_held names rest parts m all.1 holds)
+
+-- the line of words whose parts were found
+line_found : (grammar : CommandGrammar) (o : Option (List Part)) (m : ArgMatches) → FindsParts (option_names grammar) o m
+    → option_and_then (line_of_parts grammar) o ≡ line_with grammar (values_found m operands_id) (numbers_found grammar.options m)
+line_found grammar None m found = absurd found
+line_found grammar (Some parts) m found =
+    ap₂ (line_with grammar) (sym found.operands) (sym (numbers_held (option_names grammar) grammar.options parts m (all_among grammar.options) found))
+
+pub no_numbers : (grammar : CommandGrammar) (ws : List (List ℕ)) (m : ArgMatches) → FindsParts (option_names grammar) (parts_of (option_names grammar) ws) m
+    → numbers_found grammar.options m ≡ None → line_of grammar ws ≡ None
+no_numbers grammar ws m found none =
+    line_found grammar (parts_of (option_names grammar) ws) m found
+    ∙ (ap (line_with grammar (values_found m operands_id)) none ∙ neither (length (values_found m operands_id) == grammar.operands))
+
+pub line_is : (grammar : CommandGrammar) (ws : List (List ℕ)) (m : ArgMatches) (numbers : List ℕ) → FindsParts (option_names grammar) (parts_of (option_names grammar) ws) m
+    → (length (values_found m operands_id) == grammar.operands) ≡ true → numbers_found grammar.options m ≡ Some numbers
+    → line_of grammar ws ≡ Some (record { operands = values_found m operands_id; numbers = numbers })
+line_is grammar ws m numbers found equal is =
+    line_found grammar (parts_of (option_names grammar) ws) m found
+    ∙ (λ i. if equal i then option_map (λ ns. let l : CommandLine = record { operands = values_found m operands_id; numbers = ns } in l) (is i) else None)
+
+-- ---- a line that was read is one of the command
+
+-- each option takes what stands for it where it isn't given
+abbrev HasDefaults : List OptionGrammar → Type 0
+HasDefaults [] = ⊤
+HasDefaults (option ∷ rest) = (is_taken option.numbers option.default ≡ true) × HasDefaults rest
+
+taken_if : (numbers : Numbers) (n m : ℕ) (b : Bool) → is_taken numbers n ≡ b → (if b then Some n else None) ≡ Some m → is_taken numbers m ≡ true
+taken_if numbers n m true e is = let same : n ≡ m = cc in subst (λ (k : ℕ). is_taken numbers k ≡ true) same e
+taken_if numbers n m false e is = let bad : None ≡ Some m = is in cc
+
+taken_of : (numbers : Numbers) (o : Option ℕ) (m : ℕ) → option_and_then (if_taken numbers) o ≡ Some m → is_taken numbers m ≡ true
+taken_of numbers None m is = let bad : None ≡ Some m = is in cc
+taken_of numbers (Some n) m is = taken_if numbers n m (is_taken numbers n) refl is
+
+taken_once : (option : OptionGrammar) (values : List (List ℕ)) (n : ℕ) → is_taken option.numbers option.default ≡ true → number_once option values ≡ Some n
+    → is_taken option.numbers n ≡ true
+taken_once option [] n default is = let same : option.default ≡ n = cc in subst (λ (k : ℕ). is_taken option.numbers k ≡ true) same default
+taken_once option (value ∷ []) n default is = taken_of option.numbers (number_written value) n is
+taken_once option (value ∷ other ∷ rest) n default is = let bad : None ≡ Some n = is in cc
+
+taken_with : (option : OptionGrammar) (options : List OptionGrammar) (number : Option ℕ) (rest : Option (List ℕ)) (ns : List ℕ)
+    → ((n : ℕ) → number ≡ Some n → is_taken option.numbers n ≡ true) → ((ms : List ℕ) → rest ≡ Some ms → AllTaken options ms)
+    → with_number number rest ≡ Some ns → AllTaken (option ∷ options) ns
+taken_with option options None rest ns one more is = let bad : None ≡ Some ns = is in cc
+taken_with option options (Some n) None ns one more is = let bad : None ≡ Some ns = is in cc
+taken_with option options (Some n) (Some ms) ns one more is =
+    let same : (n ∷ ms) ≡ ns = cc in subst (λ (k : List ℕ). AllTaken (option ∷ options) k) same (one n refl, more ms refl)
+
+taken_all : (options : List OptionGrammar) (parts : List Part) (ns : List ℕ) → HasDefaults options → numbers_of options parts ≡ Some ns → AllTaken options ns
+taken_all [] parts [] defaults is = tt
+taken_all [] parts (n ∷ ns) defaults is = let bad : [] ≡ n ∷ ns = cc in cc
+taken_all (option ∷ rest) parts ns defaults is =
+    taken_with option rest (number_of option parts) (numbers_of rest parts) ns
+    (λ n e. taken_once option (values_of option.name parts) n defaults.0 e) (λ ms e. taken_all rest parts ms defaults.1 e) is
+
+fits_with : (grammar : CommandGrammar) (operands : List (List ℕ)) (numbers : Option (List ℕ)) (line : CommandLine) (b : Bool) → (length operands == grammar.operands) ≡ b
+    → ((ns : List ℕ) → numbers ≡ Some ns → AllTaken grammar.options ns)
+    → (if b then option_map (λ ns. let l : CommandLine = record { operands = operands; numbers = ns } in l) numbers else None) ≡ Some line → IsLineOf grammar line
+fits_with grammar operands numbers line false e taken is = let bad : None ≡ Some line = is in cc
+fits_with grammar operands None line true e taken is = let bad : None ≡ Some line = is in cc
+fits_with grammar operands (Some ns) line true e taken is =
+    let l : CommandLine = record { operands = operands; numbers = ns } in
+    let same : l ≡ line = cc in
+    subst (λ (k : CommandLine). IsLineOf grammar k) same (record { operands = eqb-true (length operands) grammar.operands e; numbers = taken ns refl })
+
+fits_of : (grammar : CommandGrammar) (o : Option (List Part)) (line : CommandLine) → HasDefaults grammar.options → option_and_then (line_of_parts grammar) o ≡ Some line → IsLineOf grammar line
+fits_of grammar None line defaults is = let bad : None ≡ Some line = is in cc
+fits_of grammar (Some parts) line defaults is =
+    fits_with grammar (operands_of parts) (numbers_of grammar.options parts) line (length (operands_of parts) == grammar.operands) refl
+    (λ ns e. taken_all grammar.options parts ns defaults e) is
+
+pub route_line : (ws : List (List ℕ)) (line : CommandLine) → line_of route_grammar ws ≡ Some line → IsLineOf route_grammar line
+route_line ws line is = fits_of route_grammar (parts_of (option_names route_grammar) ws) line (refl, (refl, tt)) is
+
+-- the words after the first
+pub words_after : {X Y : Type 0} (f : X → Y) (xs : List X) → map f (take (length xs - 1) (drop 1 xs)) ≡ drop 1 (map f xs)
+words_after f xs = ap (map f) (take_all (length xs - 1) (drop 1 xs) (simp length-drop (omega arith))) ∙ sym (drop-map f 1 xs)
+
+-- ---- the commands
+
+named_route : (b : Bool) (grammar : CommandGrammar) → (if b then Some route_grammar else None) ≡ Some grammar → grammar ≡ route_grammar
+named_route true grammar is = let same : route_grammar ≡ grammar = cc in sym same
+named_route false grammar is = let bad : None ≡ Some grammar = is in cc
+
+-- a command that has a name is `route`
+pub named_is_route : (name : List ℕ) (grammar : CommandGrammar) → grammar_named name ≡ Some grammar → grammar ≡ route_grammar
+named_is_route name grammar is = named_route (bytes_eq route_grammar.name name) grammar is

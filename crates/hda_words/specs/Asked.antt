@@ -1,0 +1,52 @@
+-- What the words ask of the program: this project's own.
+use Rattle.std.specs.Prelude.{ℕ, List, [], ◌∷◌, Option, None, find, option_map, option_and_then, slice_index, slice_get, unwrap_or}
+use Rattle.std.specs.Str.{bytes_eq}
+use Rattle.stream_format.specs.declared.format.Rate.{Rate}
+use Rattle.stream_format.specs.declared.format.Rate.TheVariants.{R8, R16, R44, R48, R96, R192}
+use Rattle.stream_format.specs.declared.format.Bits.{Bits}
+use Rattle.stream_format.specs.declared.format.Bits.TheVariants.{B16, B24, B32}
+use Rattle.hda_words.specs.Commands.{CommandGrammar, commands}
+use Rattle.hda_words.specs.Lines.{CommandLine, line_of}
+use Rattle.hda_words.specs.declared.table.CommandName.{CommandName}
+use Rattle.hda_words.specs.declared.table.CommandName.TheVariants.{Route}
+use Rattle.hda_words.specs.declared.request.Request.{Request}
+use Rattle.hda_words.specs.declared.request.Request.TheVariants as request
+
+-- a command with what its words say
+pub data Asked : Type 0 where
+  -- `route`: the name of the codec file, the blocks of a second, the bits of a sample, and the channels
+  route : List ℕ → ℕ → ℕ → ℕ → Asked
+
+-- the blocks of a second
+abbrev pub hertz : Rate → ℕ
+hertz R8 = 8000
+hertz R16 = 16000
+hertz R44 = 44100
+hertz R48 = 48000
+hertz R96 = 96000
+hertz R192 = 192000
+
+-- the bits of a sample
+abbrev pub bits_of : Bits → ℕ
+bits_of B16 = 16
+bits_of B24 = 24
+bits_of B32 = 32
+
+-- what a request of the program asks
+abbrev pub asked_by : Request → Asked
+asked_by (request.Route codec format) = route codec.now (hertz format.rate) (bits_of format.bits) format.channels
+
+-- what a command with this line asks: `route` takes 16 bits always
+abbrev pub asked_of : CommandName → CommandLine → Asked
+asked_of Route line = route (unwrap_or (slice_get line.operands 0) []) (slice_index line.numbers 0) 16 (slice_index line.numbers 1)
+
+abbrev pub grammar_named : List ℕ → Option CommandGrammar
+grammar_named name = find (λ grammar. bytes_eq grammar.name name) commands
+
+abbrev pub asked_with : List (List ℕ) → CommandGrammar → Option Asked
+asked_with rest grammar = option_map (asked_of grammar.command) (line_of grammar rest)
+
+-- what the words after the program's name ask: the first is the name of a command, and those after it are a line of that command
+abbrev pub request_of : List (List ℕ) → Option Asked
+request_of [] = None
+request_of (name ∷ rest) = option_and_then (asked_with rest) (grammar_named name)

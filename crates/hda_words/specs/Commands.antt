@@ -1,0 +1,48 @@
+-- The program's commands, with their operands and options: this project's own.
+use Rattle.std.specs.Prelude.{ℕ, List, [], ◌∷◌, codes, map}
+use Rattle.hda_words.specs.Numbers.{Numbers, listed}
+use Rattle.hda_words.specs.declared.table.CommandName.{CommandName}
+use Rattle.hda_words.specs.declared.table.CommandName.TheVariants.{Route}
+
+-- an option `--name`, the numbers that it takes, and that which stands for it where it isn't given
+pub record OptionGrammar : Type 0 where
+  pub name : List ℕ
+  pub numbers : Numbers
+  pub default : ℕ
+
+-- a command, its first word, how many operands it has, and its options
+pub record CommandGrammar : Type 0 where
+  pub command : CommandName
+  pub name : List ℕ
+  pub operands : ℕ
+  pub options : List OptionGrammar
+
+abbrev pub option_names : CommandGrammar → List (List ℕ)
+option_names grammar = map (λ option. option.name) grammar.options
+
+abbrev pub rate_option : OptionGrammar
+rate_option = record {
+  name = codes "rate";
+  numbers = listed (8000 ∷ 16000 ∷ 44100 ∷ 48000 ∷ 96000 ∷ 192000 ∷ []);
+  default = 48000;
+}
+
+abbrev pub channels_option : OptionGrammar
+channels_option = record {
+  name = codes "channels";
+  numbers = listed (2 ∷ 4 ∷ 6 ∷ 8 ∷ []);
+  default = 2;
+}
+
+-- `route CODEC [--rate R] [--channels C]`
+abbrev pub route_grammar : CommandGrammar
+route_grammar = record {
+  command = Route;
+  name = codes "route";
+  operands = 1;
+  options = rate_option ∷ channels_option ∷ [];
+}
+
+-- all commands of the program
+abbrev pub commands : List CommandGrammar
+commands = route_grammar ∷ []

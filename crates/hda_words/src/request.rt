@@ -1,0 +1,98 @@
+//! What the words ask the program to do.
+ghost use Rattle.std.specs.Prelude.{◌≡◌, IfOk, Some, None, Err, map, string_bytes, true};
+ghost use Rattle.hda_words.specs.Asked.{asked_by, asked_of, hertz, request_of};
+ghost use Rattle.hda_words.specs.Commands.{rate_option, route_grammar};
+ghost use Rattle.hda_words.specs.Lines.{IsLineOf};
+ghost use Rattle.hda_words.specs.Numbers.{is_taken};
+ghost use Rattle.hda_words.specs.Seen.{line_seen};
+ghost use Rattle.hda_words.specs.declared.request.WordsFault.TheVariants.{OutOfMemory};
+
+use crate::line::{Line, read_line};
+use crate::table::{CommandName, command_named};
+use std::alloc::{AllocError, AllocFailed, Global};
+use stream_format::{Bits, Format, Rate};
+
+/// What the words ask the program to do.
+#[derive(Clone, Copy)]
+pub enum Request<'a> {
+    /// Plans the routes of a codec file for a format.
+    Route {
+        /// The name of the codec file.
+        codec: &'a str,
+        /// The format of the routes: 16 bits always.
+        format: Format,
+    },
+}
+
+/// Why the words ask for nothing.
+#[derive(Clone, Copy, Debug, PartialEq, Eq)]
+pub enum WordsFault {
+    /// They are those of no command.
+    NoCommand,
+    /// Want of memory.
+    OutOfMemory,
+}
+
+impl From<AllocError> for WordsFault {
+    ghost from_gives = { λ _ fault. fault ≡ OutOfMemory };
+
+    fn from(_: AllocError) -> Self {
+        WordsFault::OutOfMemory
+    }
+}
+
+impl<T: Drop> From<AllocFailed<T>> for WordsFault {
+    ghost from_gives = { λ _ fault. fault ≡ OutOfMemory };
+
+    fn from(_: AllocFailed<T>) -> Self {
+        WordsFault::OutOfMemory
+    }
+}
+
+/// The rate of so many blocks in a second.
+fn rate_of(number: u64) -> Rate
+    requires { is_taken rate_option.numbers number ≡ true }
+    ensures { hertz result ≡ number }
+{
+    match number {
+        8000 => Rate::R8,
+        16000 => Rate::R16,
+        44100 => Rate::R44,
+        48000 => Rate::R48,
+        96000 => Rate::R96,
+        _ => Rate::R192,
+    }
+}
+
+/// What a line of `route` asks.
+fn route_of<'a>(line: &Line<'a>) -> Request<'a>
+    requires { IsLineOf route_grammar (line_seen line.now) }
+    ensures { asked_by result ≡ asked_of CommandName.Route (line_seen line.now) }
+{
+    let rate = rate_of(line.numbers[0]);
+    let channels = line.numbers[1] as u8;
+    Request::Route {
+        codec: line.operands[0],
+        format: Format {
+            rate,
+            bits: Bits::B16,
+            channels,
+        },
+    }
+}
+
+/// Reads the words that stand after the program's name.
+///
+/// The first is the name of a command, and those after it are its operands and options. Without `--rate` and `--channels` a route is
+/// for 48,000 blocks in a second and 2 channels, and always for 16 bits.
+pub fn read_words<'a>(alloc: Global, words: &'a [String]) -> Result<Request<'a>, WordsFault>
+    ensures asked { IfOk result (λ request. request_of (map string_bytes words.now) ≡ Some (asked_by request)) }
+    ensures no_command { result ≡ Err WordsFault.NoCommand → request_of (map string_bytes words.now) ≡ None }
+{
+    let name = words.first().ok_or(WordsFault::NoCommand)?;
+    let row = command_named(name.as_str()).ok_or(WordsFault::NoCommand)?;
+    let line = read_line(alloc, &row, words)?;
+    match row.command {
+        CommandName::Route => Ok(route_of(&line)),
+    }
+}
