@@ -1,5 +1,5 @@
 -- What the code of an output stream is seen as, and the stream that it stands for. High Definition Audio 1.0a, 3.3.35 to 3.3.42.
-use Rattle.std.specs.Prelude.{◌≡◌, ℕ, ◌==◌, ◌%◌, Bool, true, false, List, [], Some, if◌then◌else◌}
+use Rattle.std.specs.Prelude.{◌≡◌, ℕ, ◌%◌, true, false, List, [], Some, if◌then◌else◌}
 use Rattle.hda_registers.specs.Fields.{Descriptor, Fields, is_out_of_reset, is_running, stream_of}
 use Rattle.hda_registers.specs.Moves.{at_stream}
 use Rattle.hda_registers.specs.Status.{worth}
