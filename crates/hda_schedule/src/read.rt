@@ -1,0 +1,46 @@
+//! Reads a whole schedule.
+ghost use Rattle.std.specs.Prelude.{◌≤◌, length, IfOk};
+ghost use Rattle.hda_schedule.specs.Schedules.{IsReadingOf};
+ghost use Rattle.hda_schedule.specs.Schedules as schedules;
+ghost use Rattle.hda_schedule.specs.Ranges.{IsInRange};
+
+use crate::counts::{frames_of, steps_of};
+use crate::fault::SchedFault;
+use crate::parts::{MOST_SCHEDULE_BYTES, check_lines, parts_of};
+use crate::schedule::Schedule;
+use std::alloc::Global;
+
+/// The most steps of a schedule, with repeats written out.
+const MOST_STEPS: u64 = 1_000_000;
+
+/// The most link frames of a schedule, with repeats written out.
+const MOST_FRAMES: u64 = 2_000_000;
+
+/// Whether a schedule has too many steps or too many link frames.
+fn limited(schedule: Schedule) -> Result<Schedule, SchedFault>
+    ensures { result ≡ schedules.limited schedule }
+{
+    if steps_of(&schedule) > MOST_STEPS {
+        return Err(SchedFault::TooManySteps);
+    }
+    if frames_of(&schedule) > MOST_FRAMES {
+        return Err(SchedFault::TooManyFrames);
+    }
+    Ok(schedule)
+}
+
+/// Reads a schedule: its bytes, at most [`MOST_SCHEDULE_BYTES`].
+///
+/// # Errors
+/// The fault of the first faulty line, [`SchedFault::Line`] or [`SchedFault::Nested`] with its number from 1. Where no line is
+/// faulty, [`SchedFault::Unclosed`], then [`SchedFault::TooManySteps`] and last [`SchedFault::TooManyFrames`].
+/// [`SchedFault::OutOfMemory`] says nothing of the schedule.
+pub fn read_schedule(alloc: Global, bytes: &[u8]) -> Result<Schedule, SchedFault>
+    requires { length bytes.now ≤ MOST_SCHEDULE_BYTES }
+    ensures reading { IsReadingOf bytes.now result }
+    ensures ranges { IfOk result IsInRange }
+{
+    check_lines(alloc, bytes)?;
+    let parts = parts_of(alloc, bytes)?;
+    limited(Schedule { parts })
+}
