@@ -1,7 +1,8 @@
 -- Numbers and node identifiers of a schedule. This project's own format.
 use Rattle.std.specs.Prelude.{ℕ, ◌+◌, ◌-◌, ◌*◌, Bool, ◌&&◌, List, [], ◌∷◌, length, nat_le, Option, Some, None, if◌then◌else◌, option_and_then}
 use Rattle.std.specs.List.{list_all}
-use Rattle.std.specs.Char.{is_ascii_digit, is_in_range}
+use Rattle.std.specs.Char.{is_ascii_digit}
+use Rattle.std.specs.Int.{is_in_range}
 use Rattle.std.specs.Str.Parse.{digits_value}
 
 infixl 10 ◌>>=◌

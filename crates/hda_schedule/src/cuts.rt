@@ -1,9 +1,26 @@
 //! Cuts a text into lines, pieces and words.
-ghost use Rattle.std.specs.Prelude.{◌≡◌, ◌≤◌, length};
+ghost use Rattle.std.specs.Prelude.{◌≡◌, ◌==◌, [], ◌∷◌, position, MatchOption};
 ghost use Rattle.std.specs.Iterator.{YieldsFirstRef, item_count};
 ghost use Rattle.std.specs.Str.Lines.{lines, strip_carriage_return};
 ghost use Rattle.hda_schedule.specs.Cuts as cuts;
 ghost use Rattle.hda_schedule.specs.Left.{lines_left, pieces_left, words_left};
+
+/// The text before the first separator and the text behind it, if there is one.
+fn cut(text: &[u8], separator: u8) -> Option<(&[u8], &[u8])>
+    ensures { MatchOption result
+        (cuts.pieces separator text.now ≡ text.now ∷ [])
+        (λ both. cuts.pieces separator text.now ≡ both.0.now ∷ cuts.pieces separator both.1.now) }
+{
+    let end = place_of(text, separator)?;
+    Some((&text[..end], &text[end + 1..]))
+}
+
+/// The place of the first separator.
+fn place_of(text: &[u8], separator: u8) -> Option<usize>
+    ensures { result ≡ position (λ b. b == separator) text.now }
+{
+    text.iter().position(|b| *b == separator)
+}
 
 /// The lines of a text that are left. A line ends at a line feed or at the text's end; one carriage return directly before a line
 /// feed is dropped.
@@ -29,18 +46,18 @@ impl<'a> Iterator for Lines<'a> {
     ghost remaining = { item_count lines_left };
 
     fn next(&mut self) -> Option<&'a [u8]> {
-        let rest = self.rest;
-        if rest.is_empty() {
+        let text = self.rest;
+        if text.is_empty() {
             return None;
         }
-        match rest.iter().position(|b| *b == b'\n') {
-            Some(end) => {
-                self.rest = &rest[end + 1..];
-                Some(without_return(&rest[..end]))
+        match cut(text, b'\n') {
+            Some((line, rest)) => {
+                self.rest = rest;
+                Some(without_return(line))
             }
             None => {
-                self.rest = &rest[rest.len()..];
-                Some(rest)
+                self.rest = &[];
+                Some(text)
             }
         }
     }
@@ -94,16 +111,15 @@ impl<'a> Iterator for Pieces<'a> {
     ghost remaining = { item_count pieces_left };
 
     fn next(&mut self) -> Option<&'a [u8]> {
-        let rest = self.rest?;
-        let separator = self.separator;
-        match rest.iter().position(|b| *b == separator) {
-            Some(end) => {
-                self.rest = Some(&rest[end + 1..]);
-                Some(&rest[..end])
+        let text = self.rest?;
+        match cut(text, self.separator) {
+            Some((piece, rest)) => {
+                self.rest = Some(rest);
+                Some(piece)
             }
             None => {
                 self.rest = None;
-                Some(rest)
+                Some(text)
             }
         }
     }

@@ -25,7 +25,7 @@ pub(crate) enum Head {
 
 /// A budget, alone.
 fn only_budget(operands: Words) -> Option<u32>
-    ensures { result ≡ heads.only_budget (words_left operands) }
+    ensures { result ≡ heads.only_budget (words_left operands.entry) }
 {
     let word = one(operands)?;
     number(word, 0, u32::MAX)
@@ -33,7 +33,7 @@ fn only_budget(operands: Words) -> Option<u32>
 
 /// How often a repeat is passed, alone.
 fn only_times(operands: Words) -> Option<u32>
-    ensures { result ≡ heads.only_times (words_left operands) }
+    ensures { result ≡ heads.only_times (words_left operands.entry) }
 {
     let word = one(operands)?;
     number(word, 1, 1_000_000)
@@ -41,7 +41,7 @@ fn only_times(operands: Words) -> Option<u32>
 
 /// The head that begins with this keyword and goes on with these words.
 fn head_with(keyword: Keyword, operands: Words) -> Option<Head>
-    ensures { result ≡ heads.head_with keyword (words_left operands) }
+    ensures { result ≡ heads.head_with keyword (words_left operands.entry) }
 {
     match keyword {
         Keyword::Run => {

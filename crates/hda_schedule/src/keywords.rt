@@ -35,19 +35,31 @@ pub(crate) enum Keyword {
 pub(crate) fn keyword_of(word: &[u8]) -> Option<Keyword>
     ensures { result ≡ keywords.keyword_of word.now }
 {
-    match word {
-        b"corb" => Some(Keyword::Corb),
-        b"answer" => Some(Keyword::Answer),
-        b"lose" => Some(Keyword::Lose),
-        b"rirb" => Some(Keyword::Rirb),
-        b"fetch" => Some(Keyword::Fetch),
-        b"link" => Some(Keyword::Link),
-        b"plug" => Some(Keyword::Plug),
-        b"unplug" => Some(Keyword::Unplug),
-        b"run" => Some(Keyword::Run),
-        b"irq" => Some(Keyword::Irq),
-        b"repeat" => Some(Keyword::Repeat),
-        b"end" => Some(Keyword::End),
-        _ => None,
+    if word == b"corb".as_slice() {
+        Some(Keyword::Corb)
+    } else if word == b"answer".as_slice() {
+        Some(Keyword::Answer)
+    } else if word == b"lose".as_slice() {
+        Some(Keyword::Lose)
+    } else if word == b"rirb".as_slice() {
+        Some(Keyword::Rirb)
+    } else if word == b"fetch".as_slice() {
+        Some(Keyword::Fetch)
+    } else if word == b"link".as_slice() {
+        Some(Keyword::Link)
+    } else if word == b"plug".as_slice() {
+        Some(Keyword::Plug)
+    } else if word == b"unplug".as_slice() {
+        Some(Keyword::Unplug)
+    } else if word == b"run".as_slice() {
+        Some(Keyword::Run)
+    } else if word == b"irq".as_slice() {
+        Some(Keyword::Irq)
+    } else if word == b"repeat".as_slice() {
+        Some(Keyword::Repeat)
+    } else if word == b"end".as_slice() {
+        Some(Keyword::End)
+    } else {
+        None
     }
 }

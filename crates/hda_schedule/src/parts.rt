@@ -16,26 +16,26 @@ use std::alloc::{AllocError, Global};
 /// The greatest length of a schedule, in bytes.
 pub const MOST_SCHEDULE_BYTES: usize = 4_194_304;
 
-/// Whether a repeat is open behind the line of this number, where `open` says whether one is open before it.
+/// Whether the lines behind the one of this number stand inside a repeat, where `inside` says whether that one does.
 ///
 /// # Errors
 /// The line's fault.
-fn open_after(number: u32, open: bool, row: &Option<Row>) -> Result<bool, SchedFault>
-    ensures { result ≡ faults.open_after number open row.now }
+fn inside_after(number: u32, inside: bool, row: &Option<Row>) -> Result<bool, SchedFault>
+    ensures { result ≡ faults.inside_after number inside row.now }
 {
     match row {
         None => Err(SchedFault::Line(number)),
-        Some(Row::Skipped) => Ok(open),
-        Some(Row::Item(_)) => Ok(open),
+        Some(Row::Skipped) => Ok(inside),
+        Some(Row::Item(_)) => Ok(inside),
         Some(Row::Repeat(_)) => {
-            if open {
+            if inside {
                 Err(SchedFault::Nested(number))
             } else {
                 Ok(true)
             }
         }
         Some(Row::End) => {
-            if open {
+            if inside {
                 Ok(false)
             } else {
                 Err(SchedFault::Line(number))
@@ -50,13 +50,13 @@ pub(crate) fn check_lines(alloc: Global, bytes: &[u8]) -> Result<(), SchedFault>
     ensures { IsCheckFor (faults.first_fault (rows bytes.now)) result }
 {
     let mut number = 1;
-    let mut open = false;
+    let mut inside = false;
     for line in Lines::new(bytes) {
         let row = row_on(alloc, line)?;
-        open = open_after(number, open, &row)?;
+        inside = inside_after(number, inside, &row)?;
         number += 1;
     }
-    if open {
+    if inside {
         return Err(SchedFault::Unclosed);
     }
     Ok(())

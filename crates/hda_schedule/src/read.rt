@@ -1,5 +1,5 @@
 //! Reads a whole schedule.
-ghost use Rattle.std.specs.Prelude.{◌≤◌, length, IfOk};
+ghost use Rattle.std.specs.Prelude.{◌≡◌, ◌≤◌, length, IfOk};
 ghost use Rattle.hda_schedule.specs.Schedules.{IsReadingOf};
 ghost use Rattle.hda_schedule.specs.Schedules as schedules;
 ghost use Rattle.hda_schedule.specs.Ranges.{IsInRange};

@@ -36,7 +36,7 @@ fn is_dash(text: &[u8]) -> bool
 
 /// The steps that the pieces write, if all have a reading.
 fn steps_on(alloc: Global, pieces: Pieces) -> Result<Option<Items<Step>>, AllocError>
-    ensures { IfOk result (λ steps. steps ≡ rows.all_of rows.step_in (pieces_left pieces)) }
+    ensures { IfOk result (λ steps. steps ≡ rows.all_of rows.step_in (pieces_left pieces.entry)) }
 {
     let mut steps = Vec::with_capacity(alloc, pieces.room())?;
     for piece in pieces {
@@ -65,7 +65,7 @@ fn group_in(alloc: Global, text: &[u8]) -> Result<Option<Group>, AllocError>
 
 /// The groups that the pieces write, if all have a reading.
 fn groups_on(alloc: Global, pieces: Pieces) -> Result<Option<Items<Group>>, AllocError>
-    ensures { IfOk result (λ groups. groups ≡ rows.all_of rows.group_in (pieces_left pieces)) }
+    ensures { IfOk result (λ groups. groups ≡ rows.all_of rows.group_in (pieces_left pieces.entry)) }
 {
     let mut groups = Vec::with_capacity(alloc, pieces.room())?;
     for piece in pieces {
@@ -79,7 +79,7 @@ fn groups_on(alloc: Global, pieces: Pieces) -> Result<Option<Items<Group>>, Allo
 
 /// What a line says with this head and with these pieces behind its bars.
 fn row_with(alloc: Global, head: Head, mut pieces: Pieces) -> Result<Option<Row>, AllocError>
-    ensures { IfOk result (λ row. row ≡ rows.row_with head (pieces_left pieces)) }
+    ensures { IfOk result (λ row. row ≡ rows.row_with head (pieces_left pieces.entry)) }
 {
     match head {
         Head::Drive(irq, budget) => match groups_on(alloc, pieces)? {

@@ -11,14 +11,14 @@ use device_steps::Step;
 
 /// Whether no word is left.
 pub(crate) fn is_done(mut words: Words) -> bool
-    ensures { result ≡ (length (words_left words) == 0) }
+    ensures { result ≡ (length (words_left words.entry) == 0) }
 {
     words.next().is_none()
 }
 
 /// The one word that is left, if there is one and no other.
 pub(crate) fn one(mut words: Words<'_>) -> Option<&[u8]>
-    ensures { option_map (λ word. word.now) result ≡ cuts.one (words_left words) }
+    ensures { option_map (λ word. word.now) result ≡ cuts.one (words_left words.entry) }
 {
     let word = words.next()?;
     if is_done(words) { Some(word) } else { None }
@@ -26,7 +26,7 @@ pub(crate) fn one(mut words: Words<'_>) -> Option<&[u8]>
 
 /// The two words that are left, if there are just two.
 fn two(mut words: Words<'_>) -> Option<(&[u8], &[u8])>
-    ensures { option_map texts_at result ≡ cuts.two (words_left words) }
+    ensures { option_map texts_at result ≡ cuts.two (words_left words.entry) }
 {
     let first = words.next()?;
     let second = words.next()?;
@@ -43,7 +43,7 @@ fn codec(word: &[u8]) -> Option<u8>
 
 /// A codec's address, alone.
 fn only_codec(operands: Words) -> Option<u8>
-    ensures { result ≡ steps.only_codec (words_left operands) }
+    ensures { result ≡ steps.only_codec (words_left operands.entry) }
 {
     let word = one(operands)?;
     codec(word)
@@ -51,7 +51,7 @@ fn only_codec(operands: Words) -> Option<u8>
 
 /// A codec's address and a pin's node identifier.
 fn codec_and_nid(operands: Words) -> Option<(u8, u8)>
-    ensures { result ≡ steps.codec_and_nid (words_left operands) }
+    ensures { result ≡ steps.codec_and_nid (words_left operands.entry) }
 {
     let (first, second) = two(operands)?;
     let address = codec(first)?;
@@ -61,7 +61,7 @@ fn codec_and_nid(operands: Words) -> Option<(u8, u8)>
 
 /// A stream's descriptor and a number of bytes.
 fn stream_and_bytes(operands: Words) -> Option<(u8, u16)>
-    ensures { result ≡ steps.stream_and_bytes (words_left operands) }
+    ensures { result ≡ steps.stream_and_bytes (words_left operands.entry) }
 {
     let (first, second) = two(operands)?;
     let stream = number(first, 0, 1)?;
@@ -71,7 +71,7 @@ fn stream_and_bytes(operands: Words) -> Option<(u8, u16)>
 
 /// The number of link frames, alone.
 fn only_frames(operands: Words) -> Option<u32>
-    ensures { result ≡ steps.only_frames (words_left operands) }
+    ensures { result ≡ steps.only_frames (words_left operands.entry) }
 {
     let word = one(operands)?;
     number(word, 1, 1_000_000)
@@ -79,7 +79,7 @@ fn only_frames(operands: Words) -> Option<u32>
 
 /// The step that begins with this keyword and goes on with these words.
 pub(crate) fn step_with(keyword: Keyword, operands: Words) -> Option<Step>
-    ensures { result ≡ steps.step_with keyword (words_left operands) }
+    ensures { result ≡ steps.step_with keyword (words_left operands.entry) }
 {
     match keyword {
         Keyword::Corb => is_done(operands).then_some(Step::Corb),
