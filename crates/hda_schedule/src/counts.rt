@@ -1,129 +1,155 @@
-//! Counts steps and link frames with repeats written out. Each count is held at the greatest number of 64 bits.
-ghost use Rattle.std.specs.Prelude.{◌≡◌, ◌*◌, sum_by};
+//! Counts steps and link frames with repeats written out.
+ghost use Rattle.std.specs.Prelude.{◌≡◌, ◌+◌, ◌*◌, sum_by};
 ghost use Rattle.hda_schedule.specs.Counts as counts;
 ghost use Rattle.hda_schedule.specs.Left.{held};
 
 use crate::schedule::{Group, Item, Part, Schedule};
 use device_steps::Step;
 
-/// What the groups count.
-fn steps_in_groups(groups: &[Group]) -> u64
-    ensures { result ≡ held (sum_by counts.group_steps groups.now) }
-{
-    let mut steps = 0u64;
-    for group in groups {
-        let own = (group.steps.len() as u64).saturating_add(1);
-        steps = steps.saturating_add(own);
-    }
-    steps
+/// How many steps and how many link frames. Each is held at the greatest number of 64 bits.
+#[derive(Clone, Copy)]
+pub(crate) struct Tally {
+    pub steps: u64,
+    pub frames: u64,
 }
 
-/// What an item counts.
-fn item_steps(item: &Item) -> u64
-    ensures { result ≡ held (counts.item_steps item.now) }
-{
-    match item {
-        Item::Device(_) => 1,
-        Item::Drive(line) => steps_in_groups(line.groups.as_slice()).saturating_add(1),
-    }
-}
+impl Tally {
+    /// Nothing.
+    const ZERO: Tally = Tally {
+        steps: 0,
+        frames: 0,
+    };
 
-/// What the items count, once.
-fn steps_in_items(items: &[Item]) -> u64
-    ensures { result ≡ held (sum_by counts.item_steps items.now) }
-{
-    let mut steps = 0u64;
-    for item in items {
-        steps = steps.saturating_add(item_steps(item));
+    /// Both together.
+    #[tactic(auto, unfolding(crate::specs::Left::held))]
+    fn plus(self, other: Tally) -> Tally
+        ensures steps { result.steps ≡ held (self.steps + other.steps) }
+        ensures frames { result.frames ≡ held (self.frames + other.frames) }
+    {
+        Tally {
+            steps: self.steps.saturating_add(other.steps),
+            frames: self.frames.saturating_add(other.frames),
+        }
     }
-    steps
-}
 
-/// What a part counts.
-fn part_steps(part: &Part) -> u64
-    ensures { result ≡ held (part.now.times * sum_by counts.item_steps part.now.items) }
-{
-    u64::from(part.times).saturating_mul(steps_in_items(part.items.as_slice()))
-}
-
-/// How many steps a schedule has.
-pub(crate) fn steps_of(schedule: &Schedule) -> u64
-    ensures { result ≡ held (counts.steps_of schedule.now) }
-{
-    let mut steps = 0u64;
-    for part in schedule.parts.as_slice() {
-        steps = steps.saturating_add(part_steps(part));
+    /// So often the same.
+    #[tactic(auto, unfolding(crate::specs::Left::held))]
+    fn times(self, times: u32) -> Tally
+        ensures steps { result.steps ≡ held (times * self.steps) }
+        ensures frames { result.frames ≡ held (times * self.frames) }
+    {
+        Tally {
+            steps: u64::from(times).saturating_mul(self.steps),
+            frames: u64::from(times).saturating_mul(self.frames),
+        }
     }
-    steps
 }
 
 /// The link frames of a step.
-fn step_frames(step: Step) -> u32
-    ensures { result ≡ counts.step_frames step }
+#[tactic(auto, unfolding(crate::specs::Left::held))]
+fn step_frames(step: Step) -> u64
+    ensures { result ≡ held (counts.step_frames step) }
 {
     match step {
-        Step::Link(frames) => frames,
+        Step::Link(frames) => u64::from(frames),
         _ => 0,
     }
 }
 
-/// The link frames of a group.
-fn group_frames(group: &Group) -> u64
-    ensures { result ≡ held (counts.group_frames group.now) }
+/// The link frames of the steps.
+fn frames_in(steps: &[Step]) -> u64
+    ensures { result ≡ held (sum_by counts.step_frames steps.now) }
 {
     let mut frames = 0u64;
-    for step in group.steps.as_slice() {
-        frames = frames.saturating_add(u64::from(step_frames(*step)));
+    for step in steps {
+        frames = frames.saturating_add(step_frames(*step));
     }
     frames
 }
 
-/// The link frames of the groups.
-fn frames_in_groups(groups: &[Group]) -> u64
-    ensures { result ≡ held (sum_by counts.group_frames groups.now) }
+/// What a group comes to.
+#[tactic(auto, unfolding(crate::specs::Left::held))]
+fn tally_of_group(group: &Group) -> Tally
+    ensures steps { result.steps ≡ held (counts.group_steps group.now) }
+    ensures frames { result.frames ≡ held (counts.group_frames group.now) }
 {
-    let mut frames = 0u64;
+    let steps = group.steps.as_slice();
+    Tally {
+        steps: (steps.len() as u64).saturating_add(1),
+        frames: frames_in(steps),
+    }
+}
+
+/// What the groups come to.
+fn tally_of_groups(groups: &[Group]) -> Tally
+    ensures steps { result.steps ≡ held (sum_by counts.group_steps groups.now) }
+    ensures frames { result.frames ≡ held (sum_by counts.group_frames groups.now) }
+{
+    let mut tally = Tally::ZERO;
     for group in groups {
-        frames = frames.saturating_add(group_frames(group));
+        tally = tally.plus(tally_of_group(group));
     }
-    frames
+    tally
 }
 
-/// The link frames of an item.
-fn item_frames(item: &Item) -> u64
-    ensures { result ≡ held (counts.item_frames item.now) }
+/// What an item comes to.
+#[tactic(auto, unfolding(crate::specs::Left::held))]
+fn tally_of_item(item: &Item) -> Tally
+    ensures steps { result.steps ≡ held (counts.item_steps item.now) }
+    ensures frames { result.frames ≡ held (counts.item_frames item.now) }
 {
     match item {
-        Item::Device(step) => u64::from(step_frames(*step)),
-        Item::Drive(line) => frames_in_groups(line.groups.as_slice()),
+        Item::Device(step) => Tally {
+            steps: 1,
+            frames: step_frames(*step),
+        },
+        Item::Drive(line) => {
+            let groups = tally_of_groups(line.groups.as_slice());
+            Tally {
+                steps: groups.steps.saturating_add(1),
+                frames: groups.frames,
+            }
+        }
     }
 }
 
-/// The link frames of the items, once.
-fn frames_in_items(items: &[Item]) -> u64
-    ensures { result ≡ held (sum_by counts.item_frames items.now) }
+/// What the items come to, once.
+fn tally_of_items(items: &[Item]) -> Tally
+    ensures steps { result.steps ≡ held (sum_by counts.item_steps items.now) }
+    ensures frames { result.frames ≡ held (sum_by counts.item_frames items.now) }
 {
-    let mut frames = 0u64;
+    let mut tally = Tally::ZERO;
     for item in items {
-        frames = frames.saturating_add(item_frames(item));
+        tally = tally.plus(tally_of_item(item));
     }
-    frames
+    tally
 }
 
-/// The link frames of a part.
-fn part_frames(part: &Part) -> u64
-    ensures { result ≡ held (part.now.times * sum_by counts.item_frames part.now.items) }
+/// What a part comes to.
+fn tally_of_part(part: &Part) -> Tally
+    ensures steps { result.steps ≡ held (sum_by counts.item_steps (counts.items_in part.now)) }
+    ensures frames { result.frames ≡ held (sum_by counts.item_frames (counts.items_in part.now)) }
 {
-    u64::from(part.times).saturating_mul(frames_in_items(part.items.as_slice()))
+    let once = tally_of_items(part.items.as_slice());
+    once.times(part.times)
 }
 
-/// How many link frames a schedule has.
-pub(crate) fn frames_of(schedule: &Schedule) -> u64
-    ensures { result ≡ held (counts.frames_of schedule.now) }
+/// What the parts come to.
+fn tally_of_parts(parts: &[Part]) -> Tally
+    ensures steps { result.steps ≡ held (sum_by (λ part. sum_by counts.item_steps (counts.items_in part)) parts.now) }
+    ensures frames { result.frames ≡ held (sum_by (λ part. sum_by counts.item_frames (counts.items_in part)) parts.now) }
 {
-    let mut frames = 0u64;
-    for part in schedule.parts.as_slice() {
-        frames = frames.saturating_add(part_frames(part));
+    let mut tally = Tally::ZERO;
+    for part in parts {
+        tally = tally.plus(tally_of_part(part));
     }
-    frames
+    tally
+}
+
+/// How many steps and link frames a schedule has.
+pub(crate) fn tally_of(schedule: &Schedule) -> Tally
+    ensures steps { result.steps ≡ held (counts.steps_of schedule.now) }
+    ensures frames { result.frames ≡ held (counts.frames_of schedule.now) }
+{
+    tally_of_parts(schedule.parts.as_slice())
 }

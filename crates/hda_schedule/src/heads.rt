@@ -65,6 +65,7 @@ fn head_with(keyword: Keyword, operands: Words) -> Option<Head>
 }
 
 /// The head that a text writes.
+#[tactic(auto, unfolding(crate::specs::Heads::head_of))]
 pub(crate) fn head_in(text: &[u8]) -> Option<Head>
     ensures { result ≡ heads.head_of (cuts.words text.now) }
 {

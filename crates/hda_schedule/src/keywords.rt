@@ -32,6 +32,7 @@ pub(crate) enum Keyword {
 }
 
 /// Which keyword a word is.
+#[tactic(auto, unfolding(crate::specs::Keywords::keyword_of))]
 pub(crate) fn keyword_of(word: &[u8]) -> Option<Keyword>
     ensures { result ≡ keywords.keyword_of word.now }
 {

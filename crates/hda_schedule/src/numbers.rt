@@ -1,29 +1,51 @@
 //! Numbers and node identifiers.
-ghost use Rattle.std.specs.Prelude.{◌≡◌, ◌≤◌, ◌<◌, IfSome};
+ghost use Rattle.std.specs.Prelude.{◌≡◌, ◌≤◌, ◌<◌, true, length, IfSome};
+ghost use Rattle.std.specs.List.{list_all};
+ghost use Rattle.std.specs.Char.{is_ascii_digit};
+ghost use Rattle.std.specs.Str.Parse.{digits_value};
 ghost use Rattle.hda_schedule.specs.Numbers as numbers;
 
 /// The most decimal digits of a number.
 const MOST_DIGITS: usize = 10;
 
+/// Whether every byte is a decimal digit.
+fn are_digits(word: &[u8]) -> bool
+    ensures { result ≡ list_all is_ascii_digit word.now }
+{
+    word.iter().all(|b| b.is_ascii_digit())
+}
+
 /// Whether a word is one to ten decimal digits.
+#[tactic(auto, unfolding(crate::specs::Numbers::is_decimal))]
 fn is_decimal(word: &[u8]) -> bool
     ensures { result ≡ numbers.is_decimal word.now }
 {
-    1 <= word.len() && word.len() <= MOST_DIGITS && word.iter().all(|b| b.is_ascii_digit())
+    1 <= word.len() && word.len() <= MOST_DIGITS && are_digits(word)
+}
+
+/// The number that decimal digits write.
+fn value_of(digits: &[u8]) -> u64
+    requires digits { list_all is_ascii_digit digits.now ≡ true }
+    requires few { length digits.now ≤ MOST_DIGITS }
+    ensures { result ≡ digits_value 10 digits.now }
+{
+    let mut value = 0u64;
+    for digit in digits {
+        value = value * 10 + u64::from(*digit - b'0');
+    }
+    value
 }
 
 /// The number that a word of one to ten decimal digits writes.
+#[tactic(auto, unfolding(crate::specs::Numbers::decimal, crate::specs::Numbers::is_decimal))]
 fn decimal(word: &[u8]) -> Option<u64>
     ensures { result ≡ numbers.decimal word.now }
 {
-    if !is_decimal(word) {
-        return None;
+    if is_decimal(word) {
+        Some(value_of(word))
+    } else {
+        None
     }
-    let mut number = 0u64;
-    for digit in word {
-        number = number * 10 + u64::from(*digit - b'0');
-    }
-    Some(number)
 }
 
 /// The number from `least` to `most` that a word writes.
@@ -53,6 +75,7 @@ fn hex_digit(digit: u8) -> Option<u8>
 }
 
 /// The node identifier from 01h to 7Fh that a word of two hexadecimal digits writes.
+#[tactic(auto, unfolding(crate::specs::Numbers::nid_of))]
 pub(crate) fn nid_of(word: &[u8]) -> Option<u8>
     ensures { result ≡ numbers.nid_of word.now }
 {

@@ -4,7 +4,7 @@ ghost use Rattle.hda_schedule.specs.Schedules.{IsReadingOf};
 ghost use Rattle.hda_schedule.specs.Schedules as schedules;
 ghost use Rattle.hda_schedule.specs.Ranges.{IsInRange};
 
-use crate::counts::{frames_of, steps_of};
+use crate::counts::tally_of;
 use crate::fault::SchedFault;
 use crate::parts::{MOST_SCHEDULE_BYTES, check_lines, parts_of};
 use crate::schedule::Schedule;
@@ -16,14 +16,16 @@ const MOST_STEPS: u64 = 1_000_000;
 /// The most link frames of a schedule, with repeats written out.
 const MOST_FRAMES: u64 = 2_000_000;
 
-/// Whether a schedule has too many steps or too many link frames.
+/// The schedule, where it has neither too many steps nor too many link frames.
+#[tactic(auto, unfolding(crate::specs::Schedules::limited, crate::specs::Left::held))]
 fn limited(schedule: Schedule) -> Result<Schedule, SchedFault>
     ensures { result ≡ schedules.limited schedule }
 {
-    if steps_of(&schedule) > MOST_STEPS {
+    let tally = tally_of(&schedule);
+    if tally.steps > MOST_STEPS {
         return Err(SchedFault::TooManySteps);
     }
-    if frames_of(&schedule) > MOST_FRAMES {
+    if tally.frames > MOST_FRAMES {
         return Err(SchedFault::TooManyFrames);
     }
     Ok(schedule)

@@ -49,6 +49,7 @@ fn steps_on(alloc: Global, pieces: Pieces) -> Result<Option<Items<Step>>, AllocE
 }
 
 /// The group that a text writes, if it has a reading.
+#[tactic(auto, unfolding(crate::specs::Rows::group_in, crate::specs::Rows::steps_in))]
 fn group_in(alloc: Global, text: &[u8]) -> Result<Option<Group>, AllocError>
     ensures { IfOk result (λ group. group ≡ rows.group_in text.now) }
 {
@@ -108,6 +109,7 @@ fn is_skipped(line: &[u8]) -> bool
 }
 
 /// What a line says, if it has a reading.
+#[tactic(auto, unfolding(crate::specs::Rows::row_on))]
 pub(crate) fn row_on(alloc: Global, line: &[u8]) -> Result<Option<Row>, AllocError>
     ensures { IfOk result (λ row. row ≡ rows.row_on line.now) }
 {

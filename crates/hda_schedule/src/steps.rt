@@ -113,6 +113,7 @@ pub(crate) fn step_with(keyword: Keyword, operands: Words) -> Option<Step>
 }
 
 /// The step that a text writes.
+#[tactic(auto, unfolding(crate::specs::Steps::step_of))]
 pub(crate) fn step_in(text: &[u8]) -> Option<Step>
     ensures { result ≡ steps.step_of (cuts.words text.now) }
 {
