@@ -1,10 +1,10 @@
 -- What the cursors over a text take off, and what they leave.
-use Rattle.std.proofs.Common.{◌≡◌, ℕ, ◌+◌, ◌<◌, ◌≤◌, Bool, true, false, cond, eqb, ltb, List, [], ◌∷◌, ◌++◌, length, take, drop, get_or, Option, Some, None, sym, refl, ap, ◌∙◌, subst, arith, rules, tests}
+use Rattle.std.proofs.Common.{◌≡◌, ℕ, ◌+◌, ◌<◌, ◌≤◌, Bool, true, false, cond, eqb, ltb, List, [], ◌∷◌, ◌++◌, length, take, drop, get_or, Option, Some, None, sym, refl, ap, ◌∙◌, lit≤, arith}
 use Rattle.std.specs.Prelude.{position}
 use Rattle.std.specs.List.{slice_split, position_or_len, before_first, after_first}
 use Rattle.std.specs.Str.Lines.{lines, lines_of_parts, strip_carriage_return}
 use Rattle.std.proofs.lemmas.List.Splits.{slice_split_first, slice_split_none, length-slice_split}
-use Rattle.std.proofs.lemmas.List.Sums.{position_or_len_is, fails_before_first}
+use Rattle.std.proofs.lemmas.List.Sums.{position_or_len_is, fails_before_first, count_by-le-length}
 use Rattle.std.proofs.lemmas.List.Quantifiers.{position-Some}
 use Rattle.std.proofs.lemmas.Bool.{cond-false}
 use Rattle.std.proofs.lemmas.Bool.Decides.{nat_tests}
@@ -44,3 +44,18 @@ lines_first text line rest e = ap lines_of_parts e ∙ lines_of_parts-first line
 -- the last line, which no line feed ends
 pub lines_last : (text : List ℕ) → pieces 10 text ≡ text ∷ [] → 0 < length text → lines text ≡ text ∷ []
 lines_last text e some = ap lines_of_parts e ∙ cond-false _ _ _ (pos-eqb (length text) some)
+
+length-lines_of_parts : (parts : List (List ℕ)) → length (lines_of_parts parts) ≤ length parts
+length-lines_of_parts [] = lit≤ tt
+length-lines_of_parts (part ∷ []) = by_test (eqb (length part) 0)
+  where
+    by_test : (b : Bool) → length (cond b [] (part ∷ [])) ≤ 1
+    by_test true = lit≤ tt
+    by_test false = lit≤ tt
+length-lines_of_parts (part ∷ next ∷ parts) = let shorter : length (lines_of_parts (next ∷ parts)) ≤ length (next ∷ parts) = length-lines_of_parts (next ∷ parts) in omega arith
+
+-- a text has at most one line more than bytes
+pub length-lines : (text : List ℕ) → length (lines text) ≤ length text + 1
+length-lines text =
+    let p : ℕ → Bool = λ b. eqb b 10 in
+    omega (arith, length-lines_of_parts (slice_split p text), length-slice_split p text, count_by-le-length p text)

@@ -4,7 +4,7 @@ ghost use Rattle.std.specs.Str.Lines.{lines};
 ghost use Rattle.hda_schedule.specs.Faults as faults;
 ghost use Rattle.hda_schedule.specs.Parts as parts;
 ghost use Rattle.hda_schedule.specs.Schedules.{rows};
-ghost use Rattle.hda_schedule.specs.Left.{rows_left, IsCheckFor};
+ghost use Rattle.hda_schedule.specs.Left.{lines_left, rows_left, IsCheckFor};
 
 use crate::cuts::{Lines, Words};
 use crate::fault::SchedFault;
@@ -129,22 +129,22 @@ fn items_ahead(
 ) -> Result<Items<Item>, AllocError>
     ensures items { IfOk result (λ all. all ≡ items.items ++ parts.items_ahead (rows_left lines.old)) }
     ensures rest { OnOk result (parts.parts_of false (rows_left lines.new) ≡ parts.parts_of true (rows_left lines.old)) }
+    ensures shorter { OnOk result (length (lines_left lines.new) ≤ length (lines_left lines.old)) }
 {
     loop {
         let here = *lines;
         let Some(line) = lines.next() else {
-            break;
+            return Ok(Items::from_vec(items));
         };
         match row_on(alloc, line)? {
             Some(Row::Item(item)) => items.push(item)?,
             Some(Row::Repeat(_)) | Some(Row::End) => {
                 *lines = here;
-                break;
+                return Ok(Items::from_vec(items));
             }
             Some(Row::Skipped) | None => {}
         }
     }
-    Ok(Items::from_vec(items))
 }
 
 /// Reads the parts that the lines make. Lines without reading are passed over.
