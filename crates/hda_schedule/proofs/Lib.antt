@@ -2,3 +2,5 @@ pub mod CutLemmas
 pub mod DigitLemmas
 pub mod CountLemmas
 pub mod RowLemmas
+pub mod RangeLemmas
+pub mod ReadLemmas

@@ -1,7 +1,6 @@
 -- What is read one after another.
 use Rattle.std.proofs.Common.{◌≡◌, ℕ, List, [], ◌∷◌, ◌++◌, Option, Some, None, refl, sym, ap, ◌∙◌, append_assoc, append-nil}
 use Rattle.std.specs.Prelude.{option_and_then}
-use Rattle.hda_schedule.specs.Numbers.{◌>>=◌}
 use Rattle.hda_schedule.specs.Rows.{all_of}
 
 -- what is read, behind what was read before

@@ -1,5 +1,5 @@
 -- What a schedule comes to with its repeats written out. This project's own.
-use Rattle.std.specs.Prelude.{ℕ, ◌+◌, List, [], ◌∷◌, length, sum_by, replicate, flat_map, Option, Some, None}
+use Rattle.std.specs.Prelude.{ℕ, ◌+◌, List, length, sum_by, replicate, flat_map, Option, Some, None}
 use Rattle.std.specs.List.{filter_map}
 use Rattle.device_steps.specs.declared.Step.{Step}
 use Rattle.device_steps.specs.declared.Step.TheVariants.{Link}

@@ -1,5 +1,5 @@
 -- What stands on a line before its first bar. This project's own format.
-use Rattle.std.specs.Prelude.{ℕ, List, [], ◌∷◌, Bool, true, false, Option, Some, None}
+use Rattle.std.specs.Prelude.{ℕ, List, [], ◌∷◌, true, false, Option, Some, None}
 use Rattle.hda_schedule.specs.declared.keywords.Keyword.{Keyword}
 use Rattle.hda_schedule.specs.declared.keywords.Keyword.TheVariants.{Run, Irq, Repeat, End}
 use Rattle.hda_schedule.specs.declared.heads.Head.{Head}

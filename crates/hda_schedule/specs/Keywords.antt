@@ -1,5 +1,5 @@
 -- The words with which lines and steps begin. This project's own format.
-use Rattle.std.specs.Prelude.{ℕ, List, [], ◌∷◌, Option, Some, None, if◌then◌else◌, bytes_eq, codes}
+use Rattle.std.specs.Prelude.{ℕ, List, Option, Some, None, if◌then◌else◌, bytes_eq, codes}
 use Rattle.hda_schedule.specs.declared.keywords.Keyword.{Keyword}
 use Rattle.hda_schedule.specs.declared.keywords.Keyword.TheVariants.{Corb, Answer, Lose, Rirb, Fetch, Link, Plug, Unplug, Run, Irq, Repeat, End}
 

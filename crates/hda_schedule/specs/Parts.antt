@@ -1,9 +1,9 @@
 -- The parts that lines without fault make. This project's own.
-use Rattle.std.specs.Prelude.{List, [], ◌∷◌, Bool, true, false, Option, Some, None}
+use Rattle.std.specs.Prelude.{List, [], ◌∷◌, Bool, true, false, Option, Some, if◌then◌else◌}
 use Rattle.hda_schedule.specs.declared.schedule.Part.{Part}
 use Rattle.hda_schedule.specs.declared.schedule.Item.{Item as ScheduleItem}
 use Rattle.hda_schedule.specs.declared.rows.Row.{Row}
-use Rattle.hda_schedule.specs.declared.rows.Row.TheVariants.{Skipped, Item, Repeat, End}
+use Rattle.hda_schedule.specs.declared.rows.Row.TheVariants.{Item, Repeat, End}
 
 -- the items of the lines up to the next `repeat` or `end`
 abbrev pub items_ahead : List (Option Row) → List ScheduleItem
@@ -17,8 +17,7 @@ items_ahead (_ ∷ rows) = items_ahead rows
 -- items up to the next `repeat` or `end`. `begun` says whether a part has begun already to which the items belong that come first.
 abbrev pub parts_of : Bool → List (Option Row) → List Part
 parts_of begun [] = []
-parts_of false (Some (Item item) ∷ rows) = record { times = 1; items = item ∷ items_ahead rows } ∷ parts_of true rows
-parts_of true (Some (Item _) ∷ rows) = parts_of true rows
+parts_of begun (Some (Item item) ∷ rows) = if begun then parts_of true rows else record { times = 1; items = item ∷ items_ahead rows } ∷ parts_of true rows
 parts_of begun (Some (Repeat times) ∷ rows) = record { times = times; items = items_ahead rows } ∷ parts_of true rows
 parts_of begun (Some End ∷ rows) = parts_of false rows
 parts_of begun (_ ∷ rows) = parts_of begun rows

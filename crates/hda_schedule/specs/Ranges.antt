@@ -1,5 +1,5 @@
 -- The ranges that the grammar keeps. This project's own format.
-use Rattle.std.specs.Prelude.{ℕ, ◌≤◌, All}
+use Rattle.std.specs.Prelude.{◌≤◌, All}
 use Rattle.device_steps.specs.declared.Step.{Step}
 use Rattle.device_steps.specs.declared.Step.TheVariants.{Corb, Answer, Lose, Rirb, Fetch, Link, Plug, Unplug}
 use Rattle.hda_schedule.specs.declared.schedule.Schedule.{Schedule}

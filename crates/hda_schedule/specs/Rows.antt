@@ -4,7 +4,6 @@
 -- Spaces stand between words, and are free at both ends and round '|' and ','.
 use Rattle.std.specs.Prelude.{ℕ, List, [], ◌∷◌, ◌==◌, Bool, true, false, Option, Some, None, if◌then◌else◌, bytes_eq, codes}
 use Rattle.device_steps.specs.declared.Step.{Step}
-use Rattle.hda_schedule.specs.declared.schedule.Item.{Item}
 use Rattle.hda_schedule.specs.declared.schedule.Item.TheVariants as item
 use Rattle.hda_schedule.specs.declared.schedule.Group.{Group}
 use Rattle.hda_schedule.specs.declared.heads.Head.{Head}

@@ -1,5 +1,5 @@
 -- What the bytes of a schedule mean: the schedule, or its first fault. This project's own format.
-use Rattle.std.specs.Prelude.{◌≡◌, ◌⊎◌, ℕ, List, map, nat_lt, Option, Some, None, Result, Ok, Err, if◌then◌else◌}
+use Rattle.std.specs.Prelude.{◌≡◌, ◌≤◌, ◌⊎◌, ℕ, List, map, nat_lt, Option, Some, None, Result, Ok, Err, if◌then◌else◌}
 use Rattle.std.specs.Str.Lines.{lines}
 use Rattle.hda_schedule.specs.declared.schedule.Schedule.{Schedule}
 use Rattle.hda_schedule.specs.declared.rows.Row.{Row}
@@ -20,6 +20,11 @@ most_steps = 1000000
 
 abbrev pub most_frames : ℕ
 most_frames = 2000000
+
+-- a schedule that is no longer than that
+pub record IsLimited (schedule : Schedule) : Type 0 where
+  pub steps : steps_of schedule ≤ most_steps
+  pub frames : frames_of schedule ≤ most_frames
 
 -- the schedule, where it is no longer than that
 unfoldable pub limited : Schedule → Result Schedule SchedFault

@@ -84,7 +84,11 @@ pub(crate) fn nid_of(word: &[u8]) -> Option<u8>
             let sixteens = hex_digit(*high)?;
             let ones = hex_digit(*low)?;
             let nid = 16 * sixteens + ones;
-            if 1 <= nid && nid <= 127 { Some(nid) } else { None }
+            if 1 <= nid && nid <= 127 {
+                Some(nid)
+            } else {
+                None
+            }
         }
         _ => None,
     }

@@ -1,6 +1,6 @@
 //! Reads a whole schedule.
 ghost use Rattle.std.specs.Prelude.{◌≡◌, ◌≤◌, length, IfOk};
-ghost use Rattle.hda_schedule.specs.Schedules.{IsReadingOf};
+ghost use Rattle.hda_schedule.specs.Schedules.{IsReadingOf, IsLimited};
 ghost use Rattle.hda_schedule.specs.Schedules as schedules;
 ghost use Rattle.hda_schedule.specs.Ranges.{IsInRange};
 
@@ -19,7 +19,8 @@ const MOST_FRAMES: u64 = 2_000_000;
 /// The schedule, where it has neither too many steps nor too many link frames.
 #[tactic(auto, unfolding(crate::specs::Schedules::limited, crate::specs::Left::held))]
 fn limited(schedule: Schedule) -> Result<Schedule, SchedFault>
-    ensures { result ≡ schedules.limited schedule }
+    ensures value { result ≡ schedules.limited schedule }
+    ensures limits { IfOk result IsLimited }
 {
     let tally = tally_of(&schedule);
     if tally.steps > MOST_STEPS {
@@ -41,6 +42,7 @@ pub fn read_schedule(alloc: Global, bytes: &[u8]) -> Result<Schedule, SchedFault
     requires { length bytes.now ≤ MOST_SCHEDULE_BYTES }
     ensures reading { IsReadingOf bytes.now result }
     ensures ranges { IfOk result IsInRange }
+    ensures limits { IfOk result IsLimited }
 {
     check_lines(alloc, bytes)?;
     let parts = parts_of(alloc, bytes)?;

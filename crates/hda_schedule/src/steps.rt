@@ -30,7 +30,11 @@ fn two(mut words: Words<'_>) -> Option<(&[u8], &[u8])>
 {
     let first = words.next()?;
     let second = words.next()?;
-    if is_done(words) { Some((first, second)) } else { None }
+    if is_done(words) {
+        Some((first, second))
+    } else {
+        None
+    }
 }
 
 /// The address of a codec.

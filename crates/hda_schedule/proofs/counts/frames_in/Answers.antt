@@ -1,4 +1,4 @@
-use Rattle.std.proofs.Common.{sym, ap, ◌∙◌, lit<, rules}
+use Rattle.std.proofs.Common.{sym, ◌∙◌, lit<}
 use Rattle.hda_schedule.specs.Counts.{step_frames}
 use Rattle.hda_schedule.specs.Left.{held}
 use Rattle.hda_schedule.proofs.CountLemmas.{held_more, held-small}

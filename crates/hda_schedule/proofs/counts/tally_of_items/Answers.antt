@@ -1,4 +1,4 @@
-use Rattle.std.proofs.Common.{refl, sym, ap, ◌∙◌, lit<}
+use Rattle.std.proofs.Common.{sym, ap, ◌∙◌, lit<}
 use Rattle.hda_schedule.specs.Counts.{item_steps, item_frames}
 use Rattle.hda_schedule.specs.Left.{held}
 use Rattle.hda_schedule.proofs.CountLemmas.{held_more, held-small}

@@ -1,6 +1,5 @@
-use Rattle.std.proofs.Common.{◌+◌, ◌∷◌, length, take, drop, sym, ap, ◌∙◌, rules}
+use Rattle.std.proofs.Common.{◌+◌, sym, ◌∙◌}
 use Rattle.std.proofs.lemmas.List.{take_rest}
-use Rattle.hda_schedule.specs.Cuts.{pieces}
 use Rattle.hda_schedule.proofs.CutLemmas.{pieces_at, pieces_whole}
 use Rattle.hda_schedule.proofs.cuts.cut.Goals as goal
 

@@ -1,4 +1,4 @@
-use Rattle.std.proofs.Common.{◌≡◌, ◌+◌, ◌-◌, ◌*◌, ◌^◌, get_or, ap, sym, ◌∙◌, arith}
+use Rattle.std.proofs.Common.{◌≡◌, ◌-◌, get_or, arith}
 use Rattle.std.proofs.lemmas.Grind.{pow_more}
 use Rattle.hda_schedule.proofs.DigitLemmas.{digit_at, value_more}
 use Rattle.hda_schedule.proofs.numbers.value_of.Goals as goal
