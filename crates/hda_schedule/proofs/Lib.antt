@@ -4,3 +4,4 @@ pub mod CountLemmas
 pub mod RowLemmas
 pub mod RangeLemmas
 pub mod ReadLemmas
+pub mod HeadLemmas

@@ -16,8 +16,11 @@ use Rattle.hda_schedule.specs.declared.schedule.Schedule.{Schedule}
 use Rattle.hda_schedule.specs.Cuts.{pieces, words, one, two}
 use Rattle.hda_schedule.specs.Numbers.{◌>>=◌, within, decimal, number, hex_digit, nid_of}
 use Rattle.hda_schedule.specs.Keywords.{keyword_of}
-use Rattle.hda_schedule.specs.Steps.{codec, alone, only_codec, only_frames, codec_and_nid, stream_and_bytes, step_with, step_of}
-use Rattle.hda_schedule.specs.Heads.{only_budget, only_times, head_with, head_of}
+use Rattle.hda_schedule.specs.Readers.{codec, alone, only_codec, only_frames, codec_and_nid, stream_and_bytes, step_with}
+use Rattle.hda_schedule.specs.Readers as readers
+use Rattle.hda_schedule.specs.Readers.{only_budget, only_times, head_with}
+use Rattle.hda_schedule.specs.Heads.{head_of, step_of}
+use Rattle.hda_schedule.proofs.HeadLemmas.{head_of-reads, step_of-reads}
 use Rattle.hda_schedule.specs.Rows.{bar, comma, all_of, step_in, is_dash, steps_in, group_in, row_with, row_of, is_skipped, row_on}
 use Rattle.hda_schedule.specs.Parts.{items_ahead, parts_of, parts}
 use Rattle.hda_schedule.specs.Counts.{steps_of, frames_of}
@@ -107,10 +110,13 @@ step_with-range Irq operands = tt
 step_with-range Repeat operands = tt
 step_with-range End operands = tt
 
+read_step-range : (texts : List (List ℕ)) → IfSome (readers.step_of texts) IsStepInRange
+unfolding readers.step_of
+read_step-range [] = tt
+read_step-range (word ∷ operands) = any_then IsStepInRange (keyword_of word) _ (λ first. step_with-range first operands)
+
 step_of-range : (texts : List (List ℕ)) → IfSome (step_of texts) IsStepInRange
-unfolding step_of
-step_of-range [] = tt
-step_of-range (word ∷ operands) = any_then IsStepInRange (keyword_of word) _ (λ first. step_with-range first operands)
+step_of-range texts = subst (λ found. IfSome found IsStepInRange) (sym (step_of-reads texts)) (read_step-range texts)
 
 all_of-range : {A : Type 0} (P : A → Type 0) (read : List ℕ → Option A) → ((text : List ℕ) → IfSome (read text) P) → (texts : List (List ℕ)) → IfSome (all_of read texts) (All P)
 all_of-range P read h [] = All-nil P
@@ -154,10 +160,13 @@ head_with-range Link operands = device-range Link operands
 head_with-range Plug operands = device-range Plug operands
 head_with-range Unplug operands = device-range Unplug operands
 
+read_head-range : (texts : List (List ℕ)) → IfSome (readers.head_of texts) IsHeadInRange
+unfolding readers.head_of
+read_head-range [] = tt
+read_head-range (word ∷ operands) = any_then IsHeadInRange (keyword_of word) _ (λ first. head_with-range first operands)
+
 head_of-range : (texts : List (List ℕ)) → IfSome (head_of texts) IsHeadInRange
-unfolding head_of
-head_of-range [] = tt
-head_of-range (word ∷ operands) = any_then IsHeadInRange (keyword_of word) _ (λ first. head_with-range first operands)
+head_of-range texts = subst (λ found. IfSome found IsHeadInRange) (sym (head_of-reads texts)) (read_head-range texts)
 
 -- what a line says
 abbrev IsRowInRange : Row → Type 0

@@ -1,7 +1,7 @@
 pub mod Cuts
 pub mod Numbers
 pub mod Keywords
-pub mod Steps
+pub mod Operands
 pub mod Heads
 pub mod Rows
 pub mod Faults
@@ -11,3 +11,4 @@ pub mod Ranges
 pub mod Schedules
 -- what private functions promise one another
 pub mod Left
+pub mod Readers

@@ -12,8 +12,7 @@ use Rattle.hda_schedule.specs.declared.rows.Row.{Row}
 use Rattle.hda_schedule.specs.declared.rows.Row.TheVariants as row
 use Rattle.hda_schedule.specs.Cuts.{pieces, words, one}
 use Rattle.hda_schedule.specs.Numbers.{◌>>=◌}
-use Rattle.hda_schedule.specs.Steps.{step_of}
-use Rattle.hda_schedule.specs.Heads.{head_of}
+use Rattle.hda_schedule.specs.Heads.{head_of, step_of}
 
 -- the bytes `|` and `,`
 abbrev pub bar : ℕ

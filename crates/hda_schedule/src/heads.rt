@@ -1,7 +1,8 @@
 //! Reads what stands on a line before its first bar.
 ghost use Rattle.std.specs.Prelude.{◌≡◌};
 ghost use Rattle.hda_schedule.specs.Cuts as cuts;
-ghost use Rattle.hda_schedule.specs.Heads as heads;
+ghost use Rattle.hda_schedule.specs.Heads.{head_of};
+ghost use Rattle.hda_schedule.specs.Readers as readers;
 ghost use Rattle.hda_schedule.specs.Left.{words_left};
 
 use crate::cuts::Words;
@@ -25,7 +26,7 @@ pub(crate) enum Head {
 
 /// A budget, alone.
 fn only_budget(operands: Words) -> Option<u32>
-    ensures { result ≡ heads.only_budget (words_left operands.entry) }
+    ensures { result ≡ readers.only_budget (words_left operands.entry) }
 {
     let word = one(operands)?;
     number(word, 0, u32::MAX)
@@ -33,7 +34,7 @@ fn only_budget(operands: Words) -> Option<u32>
 
 /// How often a repeat is passed, alone.
 fn only_times(operands: Words) -> Option<u32>
-    ensures { result ≡ heads.only_times (words_left operands.entry) }
+    ensures { result ≡ readers.only_times (words_left operands.entry) }
 {
     let word = one(operands)?;
     number(word, 1, 1_000_000)
@@ -41,7 +42,7 @@ fn only_times(operands: Words) -> Option<u32>
 
 /// The head that begins with this keyword and goes on with these words.
 fn head_with(keyword: Keyword, operands: Words) -> Option<Head>
-    ensures { result ≡ heads.head_with keyword (words_left operands.entry) }
+    ensures { result ≡ readers.head_with keyword (words_left operands.entry) }
 {
     match keyword {
         Keyword::Run => {
@@ -64,13 +65,19 @@ fn head_with(keyword: Keyword, operands: Words) -> Option<Head>
     }
 }
 
-/// The head that a text writes.
-#[tactic(auto, unfolding(crate::specs::Heads::head_of))]
-pub(crate) fn head_in(text: &[u8]) -> Option<Head>
-    ensures { result ≡ heads.head_of (cuts.words text.now) }
+/// The head that the words that are left say.
+#[tactic(auto, unfolding(crate::specs::Readers::head_of))]
+fn read_head(mut words: Words) -> Option<Head>
+    ensures { result ≡ readers.head_of (words_left words.entry) }
 {
-    let mut words = Words::new(text);
     let word = words.next()?;
     let first = keyword_of(word)?;
     head_with(first, words)
+}
+
+/// The head that a text says.
+pub(crate) fn head_in(text: &[u8]) -> Option<Head>
+    ensures { result ≡ head_of (cuts.words text.now) }
+{
+    read_head(Words::new(text))
 }

@@ -1,7 +1,8 @@
 //! Reads the steps of the device.
 ghost use Rattle.std.specs.Prelude.{◌≡◌, ◌==◌, ℕ, ◌≤◌, length, IfSome, Option, option_map};
 ghost use Rattle.hda_schedule.specs.Cuts as cuts;
-ghost use Rattle.hda_schedule.specs.Steps as steps;
+ghost use Rattle.hda_schedule.specs.Heads.{step_of};
+ghost use Rattle.hda_schedule.specs.Readers as readers;
 ghost use Rattle.hda_schedule.specs.Left.{words_left, texts_at};
 
 use crate::cuts::Words;
@@ -39,7 +40,7 @@ fn two(mut words: Words<'_>) -> Option<(&[u8], &[u8])>
 
 /// The address of a codec.
 fn codec(word: &[u8]) -> Option<u8>
-    ensures { result ≡ steps.codec word.now }
+    ensures { result ≡ readers.codec word.now }
 {
     let address = number(word, 0, 14)?;
     Some(address as u8)
@@ -47,7 +48,7 @@ fn codec(word: &[u8]) -> Option<u8>
 
 /// A codec's address, alone.
 fn only_codec(operands: Words) -> Option<u8>
-    ensures { result ≡ steps.only_codec (words_left operands.entry) }
+    ensures { result ≡ readers.only_codec (words_left operands.entry) }
 {
     let word = one(operands)?;
     codec(word)
@@ -55,7 +56,7 @@ fn only_codec(operands: Words) -> Option<u8>
 
 /// A codec's address and a pin's node identifier.
 fn codec_and_nid(operands: Words) -> Option<(u8, u8)>
-    ensures { result ≡ steps.codec_and_nid (words_left operands.entry) }
+    ensures { result ≡ readers.codec_and_nid (words_left operands.entry) }
 {
     let (first, second) = two(operands)?;
     let address = codec(first)?;
@@ -65,7 +66,7 @@ fn codec_and_nid(operands: Words) -> Option<(u8, u8)>
 
 /// A stream's descriptor and a number of bytes.
 fn stream_and_bytes(operands: Words) -> Option<(u8, u16)>
-    ensures { result ≡ steps.stream_and_bytes (words_left operands.entry) }
+    ensures { result ≡ readers.stream_and_bytes (words_left operands.entry) }
 {
     let (first, second) = two(operands)?;
     let stream = number(first, 0, 1)?;
@@ -75,7 +76,7 @@ fn stream_and_bytes(operands: Words) -> Option<(u8, u16)>
 
 /// The number of link frames, alone.
 fn only_frames(operands: Words) -> Option<u32>
-    ensures { result ≡ steps.only_frames (words_left operands.entry) }
+    ensures { result ≡ readers.only_frames (words_left operands.entry) }
 {
     let word = one(operands)?;
     number(word, 1, 1_000_000)
@@ -83,7 +84,7 @@ fn only_frames(operands: Words) -> Option<u32>
 
 /// The step that begins with this keyword and goes on with these words.
 pub(crate) fn step_with(keyword: Keyword, operands: Words) -> Option<Step>
-    ensures { result ≡ steps.step_with keyword (words_left operands.entry) }
+    ensures { result ≡ readers.step_with keyword (words_left operands.entry) }
 {
     match keyword {
         Keyword::Corb => is_done(operands).then_some(Step::Corb),
@@ -116,13 +117,19 @@ pub(crate) fn step_with(keyword: Keyword, operands: Words) -> Option<Step>
     }
 }
 
-/// The step that a text writes.
-#[tactic(auto, unfolding(crate::specs::Steps::step_of))]
-pub(crate) fn step_in(text: &[u8]) -> Option<Step>
-    ensures { result ≡ steps.step_of (cuts.words text.now) }
+/// The step that the words that are left say.
+#[tactic(auto, unfolding(crate::specs::Readers::step_of))]
+fn read_step(mut words: Words) -> Option<Step>
+    ensures { result ≡ readers.step_of (words_left words.entry) }
 {
-    let mut words = Words::new(text);
     let word = words.next()?;
     let first = keyword_of(word)?;
     step_with(first, words)
+}
+
+/// The step that a text says.
+pub(crate) fn step_in(text: &[u8]) -> Option<Step>
+    ensures { result ≡ step_of (cuts.words text.now) }
+{
+    read_step(Words::new(text))
 }

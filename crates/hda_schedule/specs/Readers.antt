@@ -1,12 +1,15 @@
--- The steps of the device, as a schedule writes them. This project's own format.
-use Rattle.std.specs.Prelude.{ℕ, List, [], ◌∷◌, ◌==◌, length, Option, Some, None, if◌then◌else◌}
+-- What private functions promise one another of the words of a line: the same as the table of operands, keyword by keyword.
+use Rattle.std.specs.Prelude.{ℕ, List, [], ◌∷◌, ◌==◌, length, true, false, Option, Some, None, if◌then◌else◌}
 use Rattle.device_steps.specs.declared.Step.{Step}
 use Rattle.device_steps.specs.declared.Step.TheVariants as step
 use Rattle.hda_schedule.specs.declared.keywords.Keyword.{Keyword}
-use Rattle.hda_schedule.specs.declared.keywords.Keyword.TheVariants.{Corb, Answer, Lose, Rirb, Fetch, Link, Plug, Unplug}
+use Rattle.hda_schedule.specs.declared.keywords.Keyword.TheVariants.{Corb, Answer, Lose, Rirb, Fetch, Link, Plug, Unplug, Run, Irq, Repeat, End}
+use Rattle.hda_schedule.specs.declared.heads.Head.{Head}
+use Rattle.hda_schedule.specs.declared.heads.Head.TheVariants as head
 use Rattle.hda_schedule.specs.Cuts.{one, two}
 use Rattle.hda_schedule.specs.Numbers.{◌>>=◌, number, nid_of}
 use Rattle.hda_schedule.specs.Keywords.{keyword_of}
+use Rattle.hda_schedule.specs.Operands.{most_budget}
 
 -- the address of a codec, 0 to 14
 abbrev pub codec : List ℕ → Option ℕ
@@ -75,3 +78,39 @@ step_of [] = None
 step_of (word ∷ operands) = do
   first ← keyword_of word
   step_with first operands
+
+-- a budget, alone
+abbrev pub only_budget : List (List ℕ) → Option ℕ
+only_budget operands = do
+  only ← one operands
+  number 0 most_budget only
+
+-- how often a repeat is passed, alone
+abbrev pub only_times : List (List ℕ) → Option ℕ
+only_times operands = do
+  only ← one operands
+  number 1 1000000 only
+
+-- the head that begins with this word and goes on with these
+--   run N | irq N | repeat K | end | a step
+abbrev pub head_with : Keyword → List (List ℕ) → Option Head
+head_with Run operands = do
+  budget ← only_budget operands
+  Some (head.Drive false budget)
+head_with Irq operands = do
+  budget ← only_budget operands
+  Some (head.Drive true budget)
+head_with Repeat operands = do
+  times ← only_times operands
+  Some (head.Repeat times)
+head_with End operands = alone head.End operands
+head_with first operands = do
+  step ← step_with first operands
+  Some (head.Device step)
+
+-- the head that these words write
+unfoldable pub head_of : List (List ℕ) → Option Head
+head_of [] = None
+head_of (word ∷ operands) = do
+  first ← keyword_of word
+  head_with first operands
