@@ -180,7 +180,7 @@ fn refuses_files_by_their_first_fault(rt: HostRuntime) -> Result<(), Fail> {
 }
 
 /// Files without fault, each with how many parts it has.
-const GOOD_FILES: [(&str, usize); 33] = [
+const GOOD_FILES: [(&str, usize); 34] = [
     ("", 0),
     ("\n", 0),
     ("   ", 0),
@@ -214,6 +214,10 @@ const GOOD_FILES: [(&str, usize); 33] = [
     ("repeat 1000000\nlink 2\nend", 1),
     ("repeat 500000\nrun 0|-\nend", 1),
     ("repeat 2\nlink 1000000\nend", 1),
+    (
+        "# The driver takes the controller out of reset.\nrun 0 | - | - | - | - | link 1\nlink 25\n\n# Forty times\nrepeat 40\nrun 0\ncorb\nanswer 0\nrirb\nend\n",
+        2,
+    ),
 ];
 
 #[test]
