@@ -26,6 +26,8 @@ mod registers;
 #[cfg(test)]
 mod rings;
 #[cfg(test)]
+mod schedules;
+#[cfg(test)]
 mod verbs;
 #[cfg(test)]
 mod words;
