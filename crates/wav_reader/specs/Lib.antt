@@ -1,0 +1,5 @@
+pub mod Memory
+pub mod Chunks
+pub mod Formats
+pub mod Heads
+pub mod Wavs

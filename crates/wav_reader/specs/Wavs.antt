@@ -1,0 +1,55 @@
+-- What a WAV file means: its format and its sound in ring bytes, or its first fault. A block of the ring holds a container for each channel,
+-- lowest byte first: High Definition Audio 1.0a, 4.5.1.
+use Rattle.std.specs.Prelude.{◌≡◌, ℕ, ◌+◌, ◌*◌, List, ◌++◌, length, map, take, drop, Bool, Result, Ok, Err, if◌then◌else◌}
+use Rattle.std.specs.List.{range_with_len, flat_map}
+use Rattle.stream_format.specs.Layouts.{Layout, layout}
+use Rattle.wav_reader.specs.declared.fault.WavFault.{WavFault}
+use Rattle.wav_reader.specs.declared.wav.Wav.{Wav}
+use Rattle.wav_reader.specs.Memory.{OrMemory}
+use Rattle.wav_reader.specs.Formats.{◌>>=◌}
+use Rattle.wav_reader.specs.Heads.{Head, head_of, frame_length}
+
+-- the bytes of a frame in the file
+abbrev pub frame_at : List ℕ → Head → ℕ → List ℕ
+frame_at bytes head frame =
+    take (frame_length head.mono head.format) (drop (head.from + frame * frame_length head.mono head.format) bytes)
+
+-- all frames of the file, in order
+abbrev pub frames_of : List ℕ → Head → List (List ℕ)
+frames_of bytes head = map (frame_at bytes head) (range_with_len 0 head.frames)
+
+-- the block that the ring gets for a frame: the one sample of a mono frame stands left and right
+abbrev pub ring_block : Bool → List ℕ → List ℕ
+ring_block mono frame = if mono then frame ++ frame else frame
+
+-- the blocks that the ring gets, one after the other
+unfoldable pub ring_bytes : List ℕ → Head → List ℕ
+ring_bytes bytes head = flat_map (ring_block head.mono) (frames_of bytes head)
+
+-- what a file means
+pub record Meaning : Type 0 where
+  pub format : Layout
+  pub mono : Bool
+  pub frames : ℕ
+  pub pcm : List ℕ
+
+abbrev pub meaning_by : List ℕ → Head → Meaning
+meaning_by bytes head = record { format = head.format; mono = head.mono; frames = head.frames; pcm = ring_bytes bytes head }
+
+-- what the bytes of a file mean, or their first fault
+abbrev pub wav_of : List ℕ → Result Meaning WavFault
+wav_of bytes = do
+  head ← head_of bytes
+  Ok (meaning_by bytes head)
+
+-- what was read says this
+abbrev pub meaning : Wav → Meaning
+meaning wav = record { format = layout wav.format; mono = wav.mono; frames = wav.frames; pcm = wav.pcm }
+
+abbrev pub seen : Result Wav WavFault → Result Meaning WavFault
+seen (Ok wav) = Ok (meaning wav)
+seen (Err fault) = Err fault
+
+-- the result is what the bytes mean, or memory was wanting
+abbrev pub Reads : List ℕ → Result Wav WavFault → Type 0
+Reads bytes result = OrMemory result (seen result ≡ wav_of bytes)

@@ -1,0 +1,71 @@
+//! Reads a whole WAV file.
+ghost use Rattle.std.specs.Prelude.{◌≡◌, ◌*◌, ◌/◌, length, map, take, drop, IfOk};
+ghost use Rattle.std.specs.List.{range_with_len, flat_map};
+ghost use Rattle.stream_format.specs.Cadence.{block_bytes};
+ghost use Rattle.wav_reader.specs.Heads.{head_seen, EndsWithin};
+ghost use Rattle.wav_reader.specs.Wavs as spec;
+
+use crate::fault::WavFault;
+use crate::heads::{Head, read_head};
+use hda_items::Items;
+use std::alloc::{AllocError, Global};
+use stream_format::Format;
+
+/// The sound of a WAV file.
+#[derive(Debug, Drop)]
+pub struct Wav {
+    /// The format of its ring bytes, of 16 bits and 2 channels.
+    pub format: Format,
+    /// Whether the file has one channel, whose samples were doubled to left and right.
+    pub mono: bool,
+    /// How many frames there are.
+    pub frames: u64,
+    /// Its ring bytes: for each frame a block of the format (HDA 1.0a, 4.5.1).
+    pub pcm: Items<u8>,
+}
+
+/// Samples of two bytes, each twice.
+fn doubled(alloc: Global, samples: &[u8], count: usize) -> Result<Vec<u8>, AllocError>
+    requires { count * 2 ≤ length samples.now }
+    ensures { IfOk result (λ ring. ring.items ≡ flat_map (spec.ring_block true) (map (spec.piece_at 2 samples.now) (range_with_len 0 count))) }
+{
+    let mut ring = Vec::with_capacity(alloc, 4 * count)?;
+    for index in 0..count {
+        let at = 2 * index;
+        let low = samples[at];
+        let high = samples[at + 1];
+        ring.extend_from_slice(&[low, high, low, high])?;
+    }
+    Ok(ring)
+}
+
+/// The ring bytes of the frames of a file.
+fn ring_bytes(alloc: Global, bytes: &[u8], head: &Head) -> Result<Vec<u8>, AllocError>
+    requires { EndsWithin bytes.now (head_seen head.now) }
+    ensures { IfOk result (λ ring. ring.items ≡ spec.ring_bytes bytes.now (head_seen head.now)) }
+{
+    let sound = &bytes[head.from..];
+    if head.mono {
+        doubled(alloc, sound, head.frames)
+    } else {
+        Vec::from_slice(alloc, &sound[..4 * head.frames])
+    }
+}
+
+/// Reads a WAV file: its bytes.
+///
+/// # Errors
+/// The file's first fault, in the order of the crate's table. [`WavFault::OutOfMemory`] says nothing of the file.
+pub fn read_wav(alloc: Global, bytes: &[u8]) -> Result<Wav, WavFault>
+    ensures meaning { spec.Reads bytes.now result }
+    ensures whole { IfOk result (λ wav. length wav.pcm ≡ wav.frames * block_bytes wav.format) }
+{
+    let head = read_head(bytes)?;
+    let pcm = ring_bytes(alloc, bytes, &head)?;
+    Ok(Wav {
+        format: head.format,
+        mono: head.mono,
+        frames: head.frames as u64,
+        pcm: Items::from_vec(pcm),
+    })
+}
