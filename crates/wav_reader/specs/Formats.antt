@@ -1,5 +1,5 @@
 -- What the chunk `fmt ` says of the sound. Which of its fields are checked, in which order, and for what is this project's own.
-use Rattle.std.specs.Prelude.{ℕ, ◌*◌, ◌==◌, nat_le, Bool, true, false, ◌||◌, List, [], ◌∷◌, length, drop, Result, Ok, Err, Option, Some, None, if◌then◌else◌}
+use Rattle.std.specs.Prelude.{ℕ, ◌*◌, ◌==◌, nat_le, Bool, true, false, List, [], ◌∷◌, length, drop, Result, Ok, Err, Option, Some, None, if◌then◌else◌}
 use Rattle.std.specs.Option.{ok_or}
 use Rattle.std.specs.List.{find}
 use Rattle.byteorder.specs.Endian.{little_number}
@@ -8,6 +8,7 @@ use Rattle.stream_format.specs.declared.format.Rate.TheVariants.{R8, R16, R44, R
 use Rattle.wav_reader.specs.declared.fault.WavFault.{WavFault}
 use Rattle.wav_reader.specs.declared.fault.WavFault.TheVariants.{NoFormat, Tag, Channels, Rate as OtherRate, Bits, BlockAlign}
 use Rattle.wav_reader.specs.declared.formats.Sound.{Sound}
+use Rattle.wav_reader.specs.declared.formats.Fields.{Fields}
 
 infixl 10 ◌>>=◌
 -- one step after another: the first fault counts
@@ -33,29 +34,32 @@ hertz R192 = 192000
 abbrev pub rate_with : ℕ → Option Rate
 rate_with frames = find (λ rate. hertz rate == frames) (R8 ∷ R16 ∷ R44 ∷ R48 ∷ R96 ∷ R192 ∷ [])
 
--- the fields of a body
-abbrev pub tag_in : List ℕ → ℕ
-tag_in body = little_number 2 body
+-- whether so many channels are one, where they are one or two
+abbrev pub mono_with : ℕ → Option Bool
+mono_with channels = if channels == 1 then Some true else (if channels == 2 then Some false else None)
 
-abbrev pub channels_in : List ℕ → ℕ
-channels_in body = little_number 2 (drop 2 body)
+-- the fields of a body: their places in it. The bytes a second, at place 8, are not looked at
+abbrev pub fields_of : List ℕ → Fields
+fields_of body = record {
+  tag = little_number 2 body;
+  channels = little_number 2 (drop 2 body);
+  hertz = little_number 4 (drop 4 body);
+  block = little_number 2 (drop 12 body);
+  bits = little_number 2 (drop 14 body);
+}
 
-abbrev pub hertz_in : List ℕ → ℕ
-hertz_in body = little_number 4 (drop 4 body)
-
-abbrev pub block_in : List ℕ → ℕ
-block_in body = little_number 2 (drop 12 body)
-
-abbrev pub bits_in : List ℕ → ℕ
-bits_in body = little_number 2 (drop 14 body)
+-- the sound that the fields describe, or their first fault
+abbrev pub sound_with : Fields → Result Sound WavFault
+sound_with fields = do
+  _ ← checked (fields.tag == 1) (Tag fields.tag)
+  mono ← ok_or (mono_with fields.channels) (Channels fields.channels)
+  rate ← ok_or (rate_with fields.hertz) (OtherRate fields.hertz)
+  _ ← checked (fields.bits == 16) (Bits fields.bits)
+  _ ← checked (fields.block == 2 * fields.channels) BlockAlign
+  Ok (record { rate = rate; mono = mono })
 
 -- what a body says, or its first fault
 unfoldable pub sound_of : List ℕ → Result Sound WavFault
 sound_of body = do
   _ ← checked (nat_le 16 (length body)) NoFormat
-  _ ← checked (tag_in body == 1) (Tag (tag_in body))
-  _ ← checked (channels_in body == 1 || channels_in body == 2) (Channels (channels_in body))
-  rate ← ok_or (rate_with (hertz_in body)) (OtherRate (hertz_in body))
-  _ ← checked (bits_in body == 16) (Bits (bits_in body))
-  _ ← checked (block_in body == 2 * channels_in body) BlockAlign
-  Ok (record { rate = rate; mono = channels_in body == 1 })
+  sound_with (fields_of body)

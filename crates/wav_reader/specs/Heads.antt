@@ -96,3 +96,8 @@ seen (Err fault) = Err fault
 -- the frames end in the file
 abbrev pub EndsWithin : List ℕ → Head → Type 0
 EndsWithin bytes head = head.from + head.frames * frame_length head.mono head.format ≤ length bytes
+
+-- a block of the ring holds two samples of 16 bits
+pub record IsRingFormat (format : Layout) : Type 0 where
+  pub bits : format.bits ≡ B16
+  pub channels : format.channels ≡ 2

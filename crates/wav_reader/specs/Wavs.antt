@@ -9,14 +9,17 @@ use Rattle.wav_reader.specs.Memory.{OrMemory}
 use Rattle.wav_reader.specs.Formats.{◌>>=◌}
 use Rattle.wav_reader.specs.Heads.{Head, head_of, frame_length}
 
--- the bytes of a frame in the file
-abbrev pub frame_at : List ℕ → Head → ℕ → List ℕ
-frame_at bytes head frame =
-    take (frame_length head.mono head.format) (drop (head.from + frame * frame_length head.mono head.format) bytes)
+-- a list cut into pieces of one length: the piece with this number, counted from 0
+abbrev pub piece_at : ℕ → List ℕ → ℕ → List ℕ
+piece_at size bytes number = take size (drop (size * number) bytes)
+
+-- the first so many of them
+abbrev pub pieces_of : ℕ → List ℕ → ℕ → List (List ℕ)
+pieces_of size bytes count = map (piece_at size bytes) (range_with_len 0 count)
 
 -- all frames of the file, in order
 abbrev pub frames_of : List ℕ → Head → List (List ℕ)
-frames_of bytes head = map (frame_at bytes head) (range_with_len 0 head.frames)
+frames_of bytes head = pieces_of (frame_length head.mono head.format) (drop head.from bytes) head.frames
 
 -- the block that the ring gets for a frame: the one sample of a mono frame stands left and right
 abbrev pub ring_block : Bool → List ℕ → List ℕ

@@ -1,5 +1,5 @@
 //! The chunks of a file.
-ghost use Rattle.std.specs.Prelude.{◌≡◌, ◌≤◌, ◌<◌, ◌+◌, length, IfSome};
+ghost use Rattle.std.specs.Prelude.{◌≡◌, ◌≤◌, ◌<◌, ◌+◌, ◌^◌, length, IfSome};
 ghost use Rattle.wav_reader.specs.Chunks as spec;
 ghost use Rattle.wav_reader.specs.Chunks.{IsInside};
 
@@ -13,7 +13,7 @@ pub const CHUNK_HEAD: usize = 8;
 pub const TO_THE_END: u32 = 0xFFFF_FFFF;
 
 /// What a chunk is by its name.
-#[derive(Clone, Copy, Debug, PartialEq, Eq)]
+#[derive(Clone, Copy, Debug)]
 pub enum Kind {
     /// `fmt `, the format of the sound.
     Format,
@@ -67,6 +67,7 @@ fn body_len(kind: Kind, size: u32, left: usize) -> usize
 }
 
 /// The chunk at a place of the file. `None` where its head or its body goes past the file's end.
+#[tactic(auto, unfolding(crate::specs::Chunks::chunk_at))]
 pub fn chunk_at(bytes: &[u8], at: usize) -> Option<Chunk>
     requires { at < length bytes.now }
     ensures chunk { result ≡ spec.chunk_at bytes.now at }

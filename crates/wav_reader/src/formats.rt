@@ -1,5 +1,5 @@
 //! The format of a file's sound.
-ghost use Rattle.std.specs.Prelude.{◌≡◌};
+ghost use Rattle.std.specs.Prelude.{◌≡◌, ◌≤◌, length};
 ghost use Rattle.wav_reader.specs.Formats as spec;
 
 use crate::fault::WavFault;
@@ -20,6 +20,21 @@ pub struct Sound {
     pub mono: bool,
 }
 
+/// The fields of a body that are looked at.
+#[derive(Clone, Copy, Debug)]
+pub struct Fields {
+    /// The form of the samples.
+    pub tag: u16,
+    /// How many channels there are.
+    pub channels: u16,
+    /// The frames a second.
+    pub hertz: u32,
+    /// The bytes of a frame.
+    pub block: u16,
+    /// The bits of a sample.
+    pub bits: u16,
+}
+
 /// The rate with so many frames a second.
 fn rate_with(hertz: u32) -> Option<Rate>
     ensures { result ≡ spec.rate_with hertz }
@@ -35,35 +50,60 @@ fn rate_with(hertz: u32) -> Option<Rate>
     }
 }
 
+/// Whether so many channels are one, where they are one or two.
+fn mono_with(channels: u16) -> Option<bool>
+    ensures { result ≡ spec.mono_with channels }
+{
+    match channels {
+        1 => Some(true),
+        2 => Some(false),
+        _ => None,
+    }
+}
+
+/// The fields of a body.
+fn fields_of(body: &[u8]) -> Fields
+    requires { 16 ≤ length body.now }
+    ensures { result ≡ spec.fields_of body.now }
+{
+    Fields {
+        tag: LittleEndian::read_u16(body),
+        channels: LittleEndian::read_u16(&body[2..]),
+        hertz: LittleEndian::read_u32(&body[4..]),
+        block: LittleEndian::read_u16(&body[12..]),
+        bits: LittleEndian::read_u16(&body[14..]),
+    }
+}
+
+/// The sound that the fields describe.
+fn sound_with(fields: Fields) -> Result<Sound, WavFault>
+    ensures { result ≡ spec.sound_with fields }
+{
+    if fields.tag != PCM {
+        return Err(WavFault::Tag(fields.tag));
+    }
+    let Some(mono) = mono_with(fields.channels) else {
+        return Err(WavFault::Channels(fields.channels));
+    };
+    let Some(rate) = rate_with(fields.hertz) else {
+        return Err(WavFault::Rate(fields.hertz));
+    };
+    if fields.bits != 16 {
+        return Err(WavFault::Bits(fields.bits));
+    }
+    if u32::from(fields.block) != 2 * u32::from(fields.channels) {
+        return Err(WavFault::BlockAlign);
+    }
+    Ok(Sound { rate, mono })
+}
+
 /// Reads the body of a chunk `fmt `.
+#[tactic(auto, unfolding(crate::specs::Formats::sound_of))]
 pub fn sound_of(body: &[u8]) -> Result<Sound, WavFault>
     ensures { result ≡ spec.sound_of body.now }
 {
     if body.len() < FORMAT_BYTES {
         return Err(WavFault::NoFormat);
     }
-    let tag = LittleEndian::read_u16(body);
-    let channels = LittleEndian::read_u16(&body[2..]);
-    let hertz = LittleEndian::read_u32(&body[4..]);
-    let block = LittleEndian::read_u16(&body[12..]);
-    let bits = LittleEndian::read_u16(&body[14..]);
-    if tag != PCM {
-        return Err(WavFault::Tag(tag));
-    }
-    if channels != 1 && channels != 2 {
-        return Err(WavFault::Channels(channels));
-    }
-    let Some(rate) = rate_with(hertz) else {
-        return Err(WavFault::Rate(hertz));
-    };
-    if bits != 16 {
-        return Err(WavFault::Bits(bits));
-    }
-    if block != 2 * channels {
-        return Err(WavFault::BlockAlign);
-    }
-    Ok(Sound {
-        rate,
-        mono: channels == 1,
-    })
+    sound_with(fields_of(body))
 }

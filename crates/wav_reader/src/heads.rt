@@ -1,7 +1,7 @@
 //! What stands before a file's sound.
-ghost use Rattle.std.specs.Prelude.{◌≡◌, ◌≤◌, ◌+◌, length, IfOk};
+ghost use Rattle.std.specs.Prelude.{◌≡◌, ◌≤◌, ℕ, ◌+◌, List, length, IfOk};
 ghost use Rattle.wav_reader.specs.Heads as spec;
-ghost use Rattle.wav_reader.specs.Heads.{seen, head_seen, EndsWithin};
+ghost use Rattle.wav_reader.specs.Heads.{seen, head_seen, EndsWithin, IsRingFormat};
 
 use crate::chunks::{Chunk, FIRST_CHUNK, Kind, chunk_at, is_riff};
 use crate::fault::WavFault;
@@ -48,9 +48,21 @@ fn sound_after(
     }
 }
 
+/// Whether a chunk has the sound.
+fn is_data(kind: Kind) -> bool
+    ensures { result ≡ spec.is_data kind }
+{
+    match kind {
+        Kind::Data => true,
+        Kind::Format | Kind::Other => false,
+    }
+}
+
 /// The sound in the body of a chunk `data`.
 fn sound_in(found: Option<Sound>, chunk: Chunk) -> Result<Head, WavFault>
-    ensures { seen result ≡ spec.sound_in found chunk }
+    ensures head { seen result ≡ spec.sound_in found chunk }
+    ensures within { (bytes : List ℕ) → chunk.from + chunk.len ≤ length bytes → IfOk result (λ head. EndsWithin bytes (head_seen head)) }
+    ensures format { IfOk result (λ head. IsRingFormat (head_seen head).format) }
 {
     let Some(sound) = found else {
         return Err(WavFault::NoFormat);
@@ -71,6 +83,7 @@ fn sound_in(found: Option<Sound>, chunk: Chunk) -> Result<Head, WavFault>
 fn find_sound(bytes: &[u8]) -> Result<Head, WavFault>
     ensures head { seen result ≡ spec.head_in bytes.now }
     ensures within { IfOk result (λ head. EndsWithin bytes.now (head_seen head)) }
+    ensures format { IfOk result (λ head. IsRingFormat (head_seen head).format) }
 {
     let mut found = None;
     let mut at = FIRST_CHUNK;
@@ -78,7 +91,7 @@ fn find_sound(bytes: &[u8]) -> Result<Head, WavFault>
         let Some(chunk) = chunk_at(bytes, at) else {
             return Err(WavFault::Truncated(bytes.len() as u64));
         };
-        if chunk.kind == Kind::Data {
+        if is_data(chunk.kind) {
             return sound_in(found, chunk);
         }
         found = sound_after(bytes, found, chunk)?;
@@ -91,6 +104,7 @@ fn find_sound(bytes: &[u8]) -> Result<Head, WavFault>
 pub fn read_head(bytes: &[u8]) -> Result<Head, WavFault>
     ensures head { seen result ≡ spec.head_of bytes.now }
     ensures within { IfOk result (λ head. EndsWithin bytes.now (head_seen head)) }
+    ensures format { IfOk result (λ head. IsRingFormat (head_seen head).format) }
 {
     if !is_riff(bytes) {
         return Err(WavFault::NotRiff);

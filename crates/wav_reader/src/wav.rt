@@ -1,8 +1,8 @@
 //! Reads a whole WAV file.
-ghost use Rattle.std.specs.Prelude.{◌≡◌, ◌*◌, ◌/◌, length, map, take, drop, IfOk};
-ghost use Rattle.std.specs.List.{range_with_len, flat_map};
+ghost use Rattle.std.specs.Prelude.{◌≡◌, ◌≤◌, ◌*◌, length, true, IfOk};
+ghost use Rattle.std.specs.List.{flat_map};
 ghost use Rattle.stream_format.specs.Cadence.{block_bytes};
-ghost use Rattle.wav_reader.specs.Heads.{head_seen, EndsWithin};
+ghost use Rattle.wav_reader.specs.Heads.{head_seen, EndsWithin, IsRingFormat};
 ghost use Rattle.wav_reader.specs.Wavs as spec;
 
 use crate::fault::WavFault;
@@ -26,8 +26,9 @@ pub struct Wav {
 
 /// Samples of two bytes, each twice.
 fn doubled(alloc: Global, samples: &[u8], count: usize) -> Result<Vec<u8>, AllocError>
-    requires { count * 2 ≤ length samples.now }
-    ensures { IfOk result (λ ring. ring.items ≡ flat_map (spec.ring_block true) (map (spec.piece_at 2 samples.now) (range_with_len 0 count))) }
+    requires { 2 * count ≤ length samples.now }
+    ensures bytes { IfOk result (λ ring. ring.items ≡ flat_map (spec.ring_block true) (spec.pieces_of 2 samples.now count)) }
+    ensures len { IfOk result (λ ring. length ring.items ≡ 4 * count) }
 {
     let mut ring = Vec::with_capacity(alloc, 4 * count)?;
     for index in 0..count {
@@ -41,8 +42,10 @@ fn doubled(alloc: Global, samples: &[u8], count: usize) -> Result<Vec<u8>, Alloc
 
 /// The ring bytes of the frames of a file.
 fn ring_bytes(alloc: Global, bytes: &[u8], head: &Head) -> Result<Vec<u8>, AllocError>
-    requires { EndsWithin bytes.now (head_seen head.now) }
-    ensures { IfOk result (λ ring. ring.items ≡ spec.ring_bytes bytes.now (head_seen head.now)) }
+    requires within { EndsWithin bytes.now (head_seen head.now) }
+    requires format { IsRingFormat (head_seen head.now).format }
+    ensures bytes { IfOk result (λ ring. ring.items ≡ spec.ring_bytes bytes.now (head_seen head.now)) }
+    ensures len { IfOk result (λ ring. length ring.items ≡ 4 * head.now.frames) }
 {
     let sound = &bytes[head.from..];
     if head.mono {
