@@ -1,6 +1,6 @@
 -- The bytes that the ring gets, piece by piece.
-use Rattle.std.proofs.Common.{◌≡◌, ◌≤◌, ◌<◌, ℕ, zero, suc, ◌+◌, ◌*◌, true, false, List, [], ◌∷◌, ◌++◌, length, map, take, drop, get_or, refl, sym, ap, ◌∙◌, append_assoc, add-one, drop-cons, arith}
-use Rattle.std.specs.List.{flat_map, range_with_len}
+use Rattle.std.proofs.Common.{◌≡◌, ◌<◌, ℕ, zero, suc, ◌+◌, ◌*◌, true, false, List, [], ◌∷◌, ◌++◌, length, take, drop, get_or, refl, sym, ap, ◌∙◌, drop-cons, arith}
+use Rattle.std.specs.List.{flat_map}
 use Rattle.std.proofs.lemmas.List.Concat.{flat_map-append}
 use Rattle.std.proofs.lemmas.List.FromFn.{map-range_with_len_more}
 use Rattle.std.proofs.Math.Seq.{take-add}
@@ -17,7 +17,7 @@ pub pieces-more : (f : List ℕ → List ℕ) (size : ℕ) (bytes : List ℕ) (c
 pieces-more f size bytes count =
     ap (flat_map f) (map-range_with_len_more (piece_at size bytes) 0 count count (omega arith))
     ∙ (flat_map-append f (pieces_of size bytes count) (piece_at size bytes count ∷ [])
-      ∙ ap (λ last. flat_map f (pieces_of size bytes count) ++ last) (append-nil (f (piece_at size bytes count))))
+    ∙ ap (λ last. flat_map f (pieces_of size bytes count) ++ last) (append-nil (f (piece_at size bytes count))))
 
 -- two bytes from a place on
 pub pair_at : (bytes : List ℕ) (at : ℕ) → at + 1 < length bytes
@@ -31,10 +31,10 @@ pair_at bytes at inside =
 -- a sample of two bytes, twice
 pub doubled_pair : (bytes : List ℕ) (at number : ℕ) → at ≡ 2 * number → at + 1 < length bytes
     → ring_block true (piece_at 2 bytes number)
-      ≡ get_or bytes at 0 ∷ get_or bytes (at + 1) 0 ∷ get_or bytes at 0 ∷ get_or bytes (at + 1) 0 ∷ []
+    ≡ get_or bytes at 0 ∷ get_or bytes (at + 1) 0 ∷ get_or bytes at 0 ∷ get_or bytes (at + 1) 0 ∷ []
 doubled_pair bytes at number e inside =
     let pair : take 2 (drop (2 * number) bytes) ≡ get_or bytes at 0 ∷ get_or bytes (at + 1) 0 ∷ [] =
-      ap (λ place. take 2 (drop place bytes)) (sym e) ∙ pair_at bytes at inside in
+    ap (λ place. take 2 (drop place bytes)) (sym e) ∙ pair_at bytes at inside in
     ap (λ sample. sample ++ sample) pair
 
 -- pieces that stay as they are

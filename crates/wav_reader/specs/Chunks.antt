@@ -49,24 +49,36 @@ chunk_at bytes at = if is_whole bytes at then Some (chunk_from bytes at) else No
 abbrev pub end_of : Chunk → ℕ
 end_of chunk = chunk.from + chunk.len + chunk.len % 2
 
--- what stands after a place's chunk: after one that is not whole, nothing
-abbrev pub next_place : List ℕ → Option Chunk → ℕ
-next_place bytes None = length bytes
-next_place bytes (Some chunk) = end_of chunk
+-- the chunk at a place, and those after it
+abbrev pub followed_by : (Chunk → List Chunk) → Option Chunk → List Chunk
+followed_by rest None = []
+followed_by rest (Some chunk) = chunk ∷ rest chunk
 
--- the chunks from a place to the file's end, at most so many; `None` is a last one that is not whole
-unfoldable pub chunks_from : ℕ → List ℕ → ℕ → List (Option Chunk)
+-- the whole chunks from a place on, in order, up to one that is not whole, at most so many
+unfoldable pub chunks_from : ℕ → List ℕ → ℕ → List Chunk
 chunks_from zero bytes at = []
-chunks_from (suc most) bytes at =
-    if nat_lt at (length bytes) then (chunk_at bytes at ∷ chunks_from most bytes (next_place bytes (chunk_at bytes at))) else []
+chunks_from (suc most) bytes at = followed_by (λ chunk. chunks_from most bytes (end_of chunk)) (chunk_at bytes at)
 
--- the chunks from a place to the file's end: there are no more than bytes
-abbrev pub chunks_after : List ℕ → ℕ → List (Option Chunk)
+-- all of them: there are no more than the file has bytes
+abbrev pub chunks_after : List ℕ → ℕ → List Chunk
 chunks_after bytes at = chunks_from (length bytes) bytes at
 
--- the chunks of a file
-abbrev pub chunks_of : List ℕ → List (Option Chunk)
+-- the whole chunks of a file, in order, up to one that is not whole
+abbrev pub chunks_of : List ℕ → List Chunk
 chunks_of bytes = chunks_after bytes 12
+
+-- where the next chunk would begin, after some from a place on
+abbrev pub place_after : ℕ → List Chunk → ℕ
+place_after at [] = at
+place_after at (chunk ∷ chunks) = place_after (end_of chunk) chunks
+
+-- bytes are left after all whole chunks from a place on
+abbrev pub is_cut_after : List ℕ → ℕ → Bool
+is_cut_after bytes at = nat_lt (place_after at (chunks_after bytes at)) (length bytes)
+
+-- bytes are left after all whole chunks of the file
+abbrev pub is_cut : List ℕ → Bool
+is_cut bytes = is_cut_after bytes 12
 
 -- the bytes of a chunk's body
 abbrev pub body_of : List ℕ → Chunk → List ℕ

@@ -1,5 +1,7 @@
-pub mod Memory
 pub mod Chunks
 pub mod Formats
 pub mod Heads
+pub mod Memory
 pub mod Wavs
+-- what private functions promise one another
+pub mod Readers

@@ -1,6 +1,6 @@
 -- What a WAV file means: its format and its sound in ring bytes, or its first fault. A block of the ring holds a container for each channel,
 -- lowest byte first: High Definition Audio 1.0a, 4.5.1.
-use Rattle.std.specs.Prelude.{◌≡◌, ℕ, ◌+◌, ◌*◌, List, ◌++◌, length, map, take, drop, Bool, Result, Ok, Err, if◌then◌else◌}
+use Rattle.std.specs.Prelude.{◌≡◌, ℕ, ◌*◌, List, ◌++◌, map, take, drop, Bool, Result, Ok, Err, if◌then◌else◌}
 use Rattle.std.specs.List.{range_with_len, flat_map}
 use Rattle.stream_format.specs.Layouts.{Layout, layout}
 use Rattle.wav_reader.specs.declared.fault.WavFault.{WavFault}

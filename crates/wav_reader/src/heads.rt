@@ -1,7 +1,8 @@
 //! What stands before a file's sound.
 ghost use Rattle.std.specs.Prelude.{◌≡◌, ◌≤◌, ℕ, ◌+◌, List, length, IfOk};
 ghost use Rattle.wav_reader.specs.Heads as spec;
-ghost use Rattle.wav_reader.specs.Heads.{seen, head_seen, EndsWithin, IsRingFormat};
+ghost use Rattle.wav_reader.specs.Heads.{EndsWithin, IsRingFormat};
+ghost use Rattle.wav_reader.specs.Readers.{seen, head_seen, known_after};
 
 use crate::chunks::{Chunk, FIRST_CHUNK, Kind, chunk_at, is_riff};
 use crate::fault::WavFault;
@@ -31,13 +32,9 @@ impl Sound {
 }
 
 /// The sound that is known after a chunk: the first chunk `fmt ` says it.
-fn sound_after(
-    bytes: &[u8],
-    found: Option<Sound>,
-    chunk: Chunk,
-) -> Result<Option<Sound>, WavFault>
+fn known_after(bytes: &[u8], found: Option<Sound>, chunk: Chunk) -> Result<Option<Sound>, WavFault>
     requires { chunk.from + chunk.len ≤ length bytes.now }
-    ensures { result ≡ spec.sound_after bytes.now found chunk }
+    ensures { result ≡ known_after bytes.now found chunk }
 {
     match (chunk.kind, found) {
         (Kind::Format, None) => {
@@ -50,7 +47,7 @@ fn sound_after(
 
 /// Whether a chunk has the sound.
 fn is_data(kind: Kind) -> bool
-    ensures { result ≡ spec.is_data kind }
+    ensures { result ≡ spec.is_data_kind kind }
 {
     match kind {
         Kind::Data => true,
@@ -94,7 +91,7 @@ fn find_sound(bytes: &[u8]) -> Result<Head, WavFault>
         if is_data(chunk.kind) {
             return sound_in(found, chunk);
         }
-        found = sound_after(bytes, found, chunk)?;
+        found = known_after(bytes, found, chunk)?;
         at = chunk.end();
     }
     Err(WavFault::NoData)

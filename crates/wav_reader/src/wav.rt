@@ -2,7 +2,8 @@
 ghost use Rattle.std.specs.Prelude.{◌≡◌, ◌≤◌, ◌*◌, length, true, IfOk};
 ghost use Rattle.std.specs.List.{flat_map};
 ghost use Rattle.stream_format.specs.Cadence.{block_bytes};
-ghost use Rattle.wav_reader.specs.Heads.{head_seen, EndsWithin, IsRingFormat};
+ghost use Rattle.wav_reader.specs.Heads.{EndsWithin, IsRingFormat};
+ghost use Rattle.wav_reader.specs.Readers.{head_seen};
 ghost use Rattle.wav_reader.specs.Wavs as spec;
 
 use crate::fault::WavFault;

@@ -1,7 +1,4 @@
-use Rattle.std.proofs.Common.{◌≡◌, rules, true, false, not, Bool, Result, Ok, Err, refl, sym, ◌∙◌}
-use Rattle.wav_reader.specs.declared.fault.WavFault.TheVariants.{NotRiff}
-use Rattle.wav_reader.specs.Chunks.{is_riff}
-use Rattle.wav_reader.specs.Heads.{head_of, head_in}
+use Rattle.std.proofs.Common.{sym, ◌∙◌}
 use Rattle.wav_reader.proofs.HeadLemmas.{head_of-other, head_of-riff}
 use Rattle.wav_reader.proofs.heads.read_head.Goals as goal
 

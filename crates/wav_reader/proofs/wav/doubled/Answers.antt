@@ -1,6 +1,5 @@
-use Rattle.std.proofs.Common.{rules, ◌≡◌, ◌+◌, ◌*◌, ◌<◌, ◌∷◌, [], ◌++◌, length, get_or, true, arith, sym, ap, ◌∙◌, length-append}
-use Rattle.std.proofs.lemmas.Grind.{common_steps}
-use Rattle.wav_reader.specs.Wavs.{ring_block, pieces_of}
+use Rattle.std.proofs.Common.{◌+◌, ◌*◌, ◌<◌, length, true, arith, length-append}
+use Rattle.wav_reader.specs.Wavs.{ring_block}
 use Rattle.wav_reader.proofs.RingLemmas.{pieces-more, doubled_pair}
 use Rattle.wav_reader.proofs.wav.doubled.Goals as goal
 

@@ -1,7 +1,5 @@
-use Rattle.std.proofs.Common.{rules, ◌≡◌, ◌≤◌, ◌*◌, length, true, IfOk, arith, take, drop}
 use Rattle.std.proofs.lemmas.List.{take_rest}
-use Rattle.wav_reader.specs.Heads.{head_seen}
-use Rattle.wav_reader.specs.Wavs.{ring_bytes}
+use Rattle.wav_reader.specs.Readers.{head_seen}
 use Rattle.wav_reader.proofs.RingLemmas.{ring_bytes-mono, ring_bytes-stereo}
 use Rattle.wav_reader.proofs.wav.ring_bytes.Goals as goal
 
