@@ -27,3 +27,5 @@ mod registers;
 mod rings;
 #[cfg(test)]
 mod verbs;
+#[cfg(test)]
+mod wavs;
