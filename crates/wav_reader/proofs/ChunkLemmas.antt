@@ -1,5 +1,5 @@
 -- The chunks of a file one by one.
-use Rattle.std.proofs.Common.{◌≡◌, ◌≤◌, ◌<◌, ℕ, zero, suc, ◌+◌, Bool, true, false, if◌then◌else◌, List, [], ◌∷◌, length, Option, Some, None, refl, sym, ap, ◌∙◌, arith}
+use Rattle.std.proofs.Common.{◌≡◌, ◌≤◌, ◌<◌, ℕ, zero, suc, ◌+◌, ◌-◌, Bool, true, false, if◌then◌else◌, List, [], ◌∷◌, length, Option, Some, None, refl, sym, ap, ◌∙◌, arith}
 use Rattle.std.proofs.lemmas.Bool.Decides.{nat_tests}
 use Rattle.wav_reader.specs.declared.chunks.Chunk.{Chunk}
 use Rattle.wav_reader.specs.Chunks.{chunk_at, chunk_from, chunks_from, chunks_after, followed_by, end_of, is_whole}
@@ -64,8 +64,13 @@ pub chunks_after-none : (bytes : List ℕ) (at : ℕ) → chunk_at bytes at ≡ 
 chunks_after-none bytes at e = none_whole (length bytes) bytes at e
 
 -- as many as there are bytes are all
-pub chunks_from-all : (more : ℕ) (bytes : List ℕ) (at : ℕ) → chunks_from (length bytes + more) bytes at ≡ chunks_after bytes at
-chunks_from-all zero bytes at = let none : length bytes + 0 ≡ length bytes = omega arith in rw none refl
-chunks_from-all (suc more) bytes at =
+all_by : (more : ℕ) (bytes : List ℕ) (at : ℕ) → chunks_from (length bytes + more) bytes at ≡ chunks_after bytes at
+all_by zero bytes at = let none : length bytes + 0 ≡ length bytes = omega arith in rw none refl
+all_by (suc more) bytes at =
     let next : length bytes + suc more ≡ suc (length bytes + more) = omega arith in
-    rw next (enough (length bytes + more) bytes at (chunk_at bytes at) refl (omega arith) ∙ chunks_from-all more bytes at)
+    rw next (enough (length bytes + more) bytes at (chunk_at bytes at) refl (omega arith) ∙ all_by more bytes at)
+
+pub chunks_from-all : (most : ℕ) (bytes : List ℕ) (at : ℕ) → length bytes ≤ most → chunks_from most bytes at ≡ chunks_after bytes at
+chunks_from-all most bytes at enough =
+    let sum : length bytes + (most - length bytes) ≡ most = omega arith in
+    ap (λ count. chunks_from count bytes at) (sym sum) ∙ all_by (most - length bytes) bytes at

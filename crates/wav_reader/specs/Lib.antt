@@ -1,6 +1,7 @@
 pub mod Chunks
 pub mod Formats
 pub mod Heads
+pub mod Laws
 pub mod Memory
 pub mod Wavs
 -- what private functions promise one another

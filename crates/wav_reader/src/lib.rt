@@ -22,9 +22,11 @@ mod chunks;
 mod fault;
 mod formats;
 mod heads;
+mod laws;
 mod supply;
 mod wav;
 
 pub use fault::WavFault;
+pub use laws::all_chunks_are_found;
 pub use supply::Supply;
 pub use wav::{Wav, read_wav};
