@@ -1,3 +1,4 @@
 mod ChunkLemmas
 mod HeadLemmas
 mod RingLemmas
+mod WrittenLemmas

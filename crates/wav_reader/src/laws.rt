@@ -1,7 +1,12 @@
 //! Laws of WAV files, each the contract of a function that does nothing.
-ghost use Rattle.wav_reader.specs.Laws.{AreAllFound};
+ghost use Rattle.wav_reader.specs.Laws.{AreAllFound, AreReadBack};
 
 /// The chunks of a file are all that it has: looking for more than it has bytes finds no other.
 pub fn all_chunks_are_found()
     ensures { AreAllFound }
+{}
+
+/// A file that is written as chunk after chunk is read as these chunks, each at its place.
+pub fn written_chunks_are_read()
+    ensures { AreReadBack }
 {}
