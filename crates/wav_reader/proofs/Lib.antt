@@ -2,3 +2,4 @@ mod ChunkLemmas
 mod HeadLemmas
 mod RingLemmas
 mod WrittenLemmas
+mod StereoLemmas

@@ -6,15 +6,15 @@ ghost use Rattle.wav_reader.specs.Chunks.{IsInside};
 use byteorder::{ByteOrder, LittleEndian};
 
 /// The bytes of a file before its first chunk: `RIFF`, a size, `WAVE`.
-pub const FIRST_CHUNK: usize = 12;
+pub(crate) const FIRST_CHUNK: usize = 12;
 /// The bytes of a chunk before its body: its name and its size.
-pub const CHUNK_HEAD: usize = 8;
+const CHUNK_HEAD: usize = 8;
 /// The size of a chunk `data` whose body goes to the file's end.
-pub const TO_THE_END: u32 = 0xFFFF_FFFF;
+const TO_THE_END: u32 = 0xFFFF_FFFF;
 
 /// What a chunk is by its name.
 #[derive(Clone, Copy, Debug)]
-pub enum Kind {
+pub(crate) enum Kind {
     /// `fmt `, the format of the sound.
     Format,
     /// `data`, the sound.
@@ -25,7 +25,7 @@ pub enum Kind {
 
 /// A chunk that lies whole in the file.
 #[derive(Clone, Copy, Debug)]
-pub struct Chunk {
+pub(crate) struct Chunk {
     /// What it is.
     pub kind: Kind,
     /// The place of its body in the file.
@@ -35,7 +35,7 @@ pub struct Chunk {
 }
 
 /// Whether the file begins with `RIFF`, any size and `WAVE`.
-pub fn is_riff(bytes: &[u8]) -> bool
+pub(crate) fn is_riff(bytes: &[u8]) -> bool
     ensures { result ≡ spec.is_riff bytes.now }
 {
     bytes.starts_with(b"RIFF") && bytes.len() >= 8 && bytes[8..].starts_with(b"WAVE")
@@ -68,7 +68,7 @@ fn body_len(kind: Kind, size: u32, left: usize) -> usize
 
 /// The chunk at a place of the file. `None` where its head or its body goes past the file's end.
 #[tactic(auto, unfolding(crate::specs::Chunks::chunk_at))]
-pub fn chunk_at(bytes: &[u8], at: usize) -> Option<Chunk>
+pub(crate) fn chunk_at(bytes: &[u8], at: usize) -> Option<Chunk>
     requires { at < length bytes.now }
     ensures chunk { result ≡ spec.chunk_at bytes.now at }
     ensures inside { IfSome result (IsInside bytes.now at) }
@@ -89,7 +89,7 @@ pub fn chunk_at(bytes: &[u8], at: usize) -> Option<Chunk>
 
 impl Chunk {
     /// The place of the next chunk, after the pad byte of an odd size.
-    pub fn end(&self) -> usize
+    pub(crate) fn end(&self) -> usize
         requires { self.now.from + self.now.len < 2 ^ 63 }
         ensures { result ≡ spec.end_of self.now }
     {

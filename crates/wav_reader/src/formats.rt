@@ -7,13 +7,17 @@ use byteorder::{ByteOrder, LittleEndian};
 use stream_format::Rate;
 
 /// The bytes of a chunk `fmt ` that are read.
-pub const FORMAT_BYTES: usize = 16;
+const FORMAT_BYTES: usize = 16;
 /// The tag of samples that are whole numbers.
-pub const PCM: u16 = 1;
+const PCM: u16 = 1;
+/// The bits of a sample.
+const SAMPLE_BITS: u16 = 16;
+/// The bytes of a sample.
+const SAMPLE_BYTES: u32 = 2;
 
 /// What a chunk `fmt ` says of the sound, whose samples have 16 bits.
 #[derive(Clone, Copy, Debug)]
-pub struct Sound {
+pub(crate) struct Sound {
     /// The frames a second.
     pub rate: Rate,
     /// Whether a frame has one sample, and else two.
@@ -22,7 +26,7 @@ pub struct Sound {
 
 /// The fields of a body that are looked at.
 #[derive(Clone, Copy, Debug)]
-pub struct Fields {
+pub(crate) struct Fields {
     /// The form of the samples.
     pub tag: u16,
     /// How many channels there are.
@@ -88,10 +92,10 @@ fn sound_with(fields: Fields) -> Result<Sound, WavFault>
     let Some(rate) = rate_with(fields.hertz) else {
         return Err(WavFault::Rate(fields.hertz));
     };
-    if fields.bits != 16 {
+    if fields.bits != SAMPLE_BITS {
         return Err(WavFault::Bits(fields.bits));
     }
-    if u32::from(fields.block) != 2 * u32::from(fields.channels) {
+    if u32::from(fields.block) != SAMPLE_BYTES * u32::from(fields.channels) {
         return Err(WavFault::BlockAlign);
     }
     Ok(Sound { rate, mono })
@@ -99,7 +103,7 @@ fn sound_with(fields: Fields) -> Result<Sound, WavFault>
 
 /// Reads the body of a chunk `fmt `.
 #[tactic(auto, unfolding(crate::specs::Formats::sound_of))]
-pub fn sound_of(body: &[u8]) -> Result<Sound, WavFault>
+pub(crate) fn sound_of(body: &[u8]) -> Result<Sound, WavFault>
     ensures { result ≡ spec.sound_of body.now }
 {
     if body.len() < FORMAT_BYTES {

@@ -11,7 +11,7 @@ use stream_format::{Bits, Format};
 
 /// What a file says before its sound.
 #[derive(Clone, Copy, Debug)]
-pub struct Head {
+pub(crate) struct Head {
     /// The format in which the ring gets it.
     pub format: Format,
     /// Whether a frame of the file has one sample, which is doubled.
@@ -98,7 +98,7 @@ fn find_sound(bytes: &[u8]) -> Result<Head, WavFault>
 }
 
 /// Reads the file as far as the body of its chunk `data`.
-pub fn read_head(bytes: &[u8]) -> Result<Head, WavFault>
+pub(crate) fn read_head(bytes: &[u8]) -> Result<Head, WavFault>
     ensures head { seen result ≡ spec.head_of bytes.now }
     ensures within { IfOk result (λ head. EndsWithin bytes.now (head_seen head)) }
     ensures format { IfOk result (λ head. IsRingFormat (head_seen head).format) }

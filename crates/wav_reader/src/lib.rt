@@ -27,6 +27,6 @@ mod supply;
 mod wav;
 
 pub use fault::WavFault;
-pub use laws::{all_chunks_are_found, written_chunks_are_read};
+pub use laws::{all_chunks_are_found, written_chunks_are_read, written_sound_is_read};
 pub use supply::Supply;
 pub use wav::{Wav, read_wav};
