@@ -1,6 +1,5 @@
 //! Reads a whole WAV file.
-ghost use Rattle.std.specs.Prelude.{◌≡◌, ◌≤◌, ◌*◌, length, true, IfOk};
-ghost use Rattle.std.specs.List.{flat_map};
+ghost use Rattle.std.specs.Prelude.{◌≡◌, ◌≤◌, ◌*◌, ◌++◌, length, IfOk, OnOk};
 ghost use Rattle.stream_format.specs.Cadence.{block_bytes};
 ghost use Rattle.wav_reader.specs.Heads.{EndsWithin, IsRingFormat};
 ghost use Rattle.wav_reader.specs.Readers.{head_seen};
@@ -25,19 +24,53 @@ pub struct Wav {
     pub pcm: Items<u8>,
 }
 
-/// Samples of two bytes, each twice.
-fn doubled(alloc: Global, samples: &[u8], count: usize) -> Result<Vec<u8>, AllocError>
-    requires { 2 * count ≤ length samples.now }
-    ensures bytes { IfOk result (λ ring. ring.items ≡ flat_map (spec.ring_block true) (spec.pieces_of 2 samples.now count)) }
-    ensures len { IfOk result (λ ring. length ring.items ≡ 4 * count) }
+/// The first four samples of two bytes, each twice.
+fn four_doubled(samples: &[u8]) -> [u8; 16]
+    requires { 8 ≤ length samples.now }
+    ensures { result ≡ spec.doubled samples.now 4 }
 {
-    let mut ring = Vec::with_capacity(alloc, 4 * count)?;
+    let s = samples;
+    [
+        s[0], s[1], s[0], s[1], s[2], s[3], s[2], s[3], s[4], s[5], s[4], s[5], s[6], s[7], s[6],
+        s[7],
+    ]
+}
+
+/// Puts the first samples last, each twice, four at a time.
+fn push_fours(ring: &mut Vec<u8>, samples: &[u8], fours: usize) -> Result<(), AllocError>
+    requires { 8 * fours ≤ length samples.now }
+    ensures { OnOk result (ring.new.items ≡ ring.old.items ++ spec.doubled samples.now (4 * fours)) }
+{
+    for step in 0..fours {
+        ring.extend_from_slice(&four_doubled(&samples[8 * step..]))?;
+    }
+    Ok(())
+}
+
+/// Puts the first samples last, each twice, one at a time.
+fn push_ones(ring: &mut Vec<u8>, samples: &[u8], count: usize) -> Result<(), AllocError>
+    requires { 2 * count ≤ length samples.now }
+    ensures { OnOk result (ring.new.items ≡ ring.old.items ++ spec.doubled samples.now count) }
+{
     for index in 0..count {
         let at = 2 * index;
         let low = samples[at];
         let high = samples[at + 1];
         ring.extend_from_slice(&[low, high, low, high])?;
     }
+    Ok(())
+}
+
+/// Samples of two bytes, each twice, in memory that is taken once.
+fn doubled(alloc: Global, samples: &[u8], count: usize) -> Result<Vec<u8>, AllocError>
+    requires { 2 * count ≤ length samples.now }
+    ensures bytes { IfOk result (λ ring. ring.items ≡ spec.doubled samples.now count) }
+    ensures len { IfOk result (λ ring. length ring.items ≡ 4 * count) }
+{
+    let mut ring = Vec::with_capacity(alloc, 4 * count)?;
+    let fours = count / 4;
+    push_fours(&mut ring, samples, fours)?;
+    push_ones(&mut ring, &samples[8 * fours..], count % 4)?;
     Ok(ring)
 }
 

@@ -1,14 +1,17 @@
-use Rattle.std.proofs.Common.{◌+◌, ◌*◌, ◌<◌, length, true, arith, length-append}
-use Rattle.wav_reader.specs.Wavs.{ring_block}
-use Rattle.wav_reader.proofs.RingLemmas.{pieces-more, doubled_pair}
+use Rattle.std.proofs.Common.{◌≡◌, ◌*◌, ◌/◌, drop, refl}
+use Rattle.std.proofs.lemmas.List.{take_rest}
+use Rattle.wav_reader.specs.Wavs.{doubled}
+use Rattle.wav_reader.proofs.RingLemmas.{all_pushed, length-doubled}
 use Rattle.wav_reader.proofs.wav.doubled.Goals as goal
 
-pub loop-index-preserved : goal.loop-index-preserved
-loop-index-preserved c =
-    let inside : 2 * c.loop-index.index + 1 < length c.args.samples.now = omega (arith, c.requires) in
-    let pair = doubled_pair c.args.samples.now (2 * c.loop-index.index) c.loop-index.index (omega arith) inside in
-    let more = pieces-more (ring_block true) 2 c.args.samples.now c.loop-index.index in
-    record {
-      bytes = cc (c.in_ok-extend_from_slice.ensures.items);
-      len = rw c.in_ok-extend_from_slice.ensures.items (simp length-append (omega (arith, c.loop-index.invariant.len)));
-    }
+all : (c : goal.In_ok-push_ones) → c.push_ones.new.ring.items ≡ doubled c.args.samples.now c.args.count
+all c =
+    let fours = rw c.in_ok-ring.ensures.items at c.in_ok-push_fours.ensures in
+    all_pushed c.args.samples.now (drop (8 * (c.args.count / 4)) c.args.samples.now) c.push_fours.new.ring.items c.push_ones.new.ring.items c.args.count
+    (rw take_rest at c.in_ok-push_ones.ensures) fours refl
+
+pub returns-clause-bytes : goal.returns-clause-bytes
+returns-clause-bytes c = all c
+
+pub returns-clause-len : goal.returns-clause-len
+returns-clause-len c = rw (all c) (length-doubled c.args.samples.now c.args.count c.requires)
