@@ -6,7 +6,8 @@ use Rattle.std.proofs.lemmas.List.Concat.{flat_map-append}
 use Rattle.std.proofs.lemmas.List.FromFn.{map-range_with_len_more}
 use Rattle.std.proofs.Math.Seq.{take-add}
 use Rattle.wav_reader.specs.Heads.{Head, IsRingFormat}
-use Rattle.wav_reader.specs.Wavs.{piece_at, pieces_of, ring_block, ring_bytes, doubled}
+use Rattle.wav_reader.specs.Wavs.{piece_at, pieces_of, ring_block, ring_bytes}
+use Rattle.wav_reader.specs.Readers.{doubled}
 
 append-nil : (xs : List ℕ) → xs ++ [] ≡ xs
 append-nil [] = refl

@@ -1,5 +1,5 @@
 -- What the readers of a file promise one another.
-use Rattle.std.specs.Prelude.{List, ℕ, Option, Some, None, Result, Ok, Err}
+use Rattle.std.specs.Prelude.{List, ℕ, true, Option, Some, None, Result, Ok, Err}
 use Rattle.stream_format.specs.Layouts.{layout}
 use Rattle.wav_reader.specs.declared.fault.WavFault.{WavFault}
 use Rattle.wav_reader.specs.declared.chunks.Kind.{Kind}
@@ -7,7 +7,9 @@ use Rattle.wav_reader.specs.declared.chunks.Kind.TheVariants.{Format, Data, Othe
 use Rattle.wav_reader.specs.declared.chunks.Chunk.{Chunk}
 use Rattle.wav_reader.specs.declared.formats.Sound.{Sound}
 use Rattle.wav_reader.specs.declared.heads.Head.{Head as FoundHead}
+use Rattle.std.specs.List.{flat_map}
 use Rattle.wav_reader.specs.Heads.{Head, sound_by}
+use Rattle.wav_reader.specs.Wavs.{ring_block, pieces_of}
 
 -- the sound that is known after a chunk that is not `data`
 abbrev pub known_by_kind : Kind → List ℕ → Option Sound → Chunk → Result (Option Sound) WavFault
@@ -26,3 +28,7 @@ head_seen head = record { format = layout head.format; mono = head.mono; from = 
 abbrev pub seen : Result FoundHead WavFault → Result Head WavFault
 seen (Ok head) = Ok (head_seen head)
 seen (Err fault) = Err fault
+
+-- the first so many samples of two bytes, each twice
+unfoldable pub doubled : List ℕ → ℕ → List ℕ
+doubled samples count = flat_map (ring_block true) (pieces_of 2 samples count)

@@ -1,6 +1,6 @@
 -- What a WAV file means: its format and its sound in ring bytes, or its first fault. A block of the ring holds a container for each channel,
 -- lowest byte first: High Definition Audio 1.0a, 4.5.1.
-use Rattle.std.specs.Prelude.{◌≡◌, ℕ, ◌*◌, List, ◌++◌, map, take, drop, Bool, true, Result, Ok, Err, if◌then◌else◌}
+use Rattle.std.specs.Prelude.{◌≡◌, ℕ, ◌*◌, List, ◌++◌, map, take, drop, Bool, Result, Ok, Err, if◌then◌else◌}
 use Rattle.std.specs.List.{range_with_len, flat_map}
 use Rattle.stream_format.specs.Layouts.{Layout, layout}
 use Rattle.wav_reader.specs.declared.fault.WavFault.{WavFault}
@@ -24,10 +24,6 @@ frames_of bytes head = pieces_of (frame_length head.mono head.format) (drop head
 -- the block that the ring gets for a frame: the one sample of a mono frame stands left and right
 abbrev pub ring_block : Bool → List ℕ → List ℕ
 ring_block mono frame = if mono then frame ++ frame else frame
-
--- the first so many samples of two bytes, each twice
-unfoldable pub doubled : List ℕ → ℕ → List ℕ
-doubled samples count = flat_map (ring_block true) (pieces_of 2 samples count)
 
 -- the blocks that the ring gets, one after the other
 unfoldable pub ring_bytes : List ℕ → Head → List ℕ

@@ -2,7 +2,7 @@
 ghost use Rattle.std.specs.Prelude.{◌≡◌, ◌≤◌, ◌*◌, ◌++◌, length, IfOk, OnOk};
 ghost use Rattle.stream_format.specs.Cadence.{block_bytes};
 ghost use Rattle.wav_reader.specs.Heads.{EndsWithin, IsRingFormat};
-ghost use Rattle.wav_reader.specs.Readers.{head_seen};
+ghost use Rattle.wav_reader.specs.Readers.{head_seen, doubled};
 ghost use Rattle.wav_reader.specs.Wavs as spec;
 
 use crate::fault::WavFault;
@@ -27,7 +27,7 @@ pub struct Wav {
 /// The first four samples of two bytes, each twice.
 fn four_doubled(samples: &[u8]) -> [u8; 16]
     requires { 8 ≤ length samples.now }
-    ensures { result ≡ spec.doubled samples.now 4 }
+    ensures { result ≡ doubled samples.now 4 }
 {
     let s = samples;
     [
@@ -39,7 +39,7 @@ fn four_doubled(samples: &[u8]) -> [u8; 16]
 /// Puts the first samples last, each twice, four at a time.
 fn push_fours(ring: &mut Vec<u8>, samples: &[u8], fours: usize) -> Result<(), AllocError>
     requires { 8 * fours ≤ length samples.now }
-    ensures { OnOk result (ring.new.items ≡ ring.old.items ++ spec.doubled samples.now (4 * fours)) }
+    ensures { OnOk result (ring.new.items ≡ ring.old.items ++ doubled samples.now (4 * fours)) }
 {
     for step in 0..fours {
         ring.extend_from_slice(&four_doubled(&samples[8 * step..]))?;
@@ -50,7 +50,7 @@ fn push_fours(ring: &mut Vec<u8>, samples: &[u8], fours: usize) -> Result<(), Al
 /// Puts the first samples last, each twice, one at a time.
 fn push_ones(ring: &mut Vec<u8>, samples: &[u8], count: usize) -> Result<(), AllocError>
     requires { 2 * count ≤ length samples.now }
-    ensures { OnOk result (ring.new.items ≡ ring.old.items ++ spec.doubled samples.now count) }
+    ensures { OnOk result (ring.new.items ≡ ring.old.items ++ doubled samples.now count) }
 {
     for index in 0..count {
         let at = 2 * index;
@@ -64,7 +64,7 @@ fn push_ones(ring: &mut Vec<u8>, samples: &[u8], count: usize) -> Result<(), All
 /// Samples of two bytes, each twice, in memory that is taken once.
 fn doubled(alloc: Global, samples: &[u8], count: usize) -> Result<Vec<u8>, AllocError>
     requires { 2 * count ≤ length samples.now }
-    ensures bytes { IfOk result (λ ring. ring.items ≡ spec.doubled samples.now count) }
+    ensures bytes { IfOk result (λ ring. ring.items ≡ doubled samples.now count) }
     ensures len { IfOk result (λ ring. length ring.items ≡ 4 * count) }
 {
     let mut ring = Vec::with_capacity(alloc, 4 * count)?;

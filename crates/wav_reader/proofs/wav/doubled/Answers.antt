@@ -1,6 +1,6 @@
 use Rattle.std.proofs.Common.{◌≡◌, ◌*◌, ◌/◌, drop, refl}
 use Rattle.std.proofs.lemmas.List.{take_rest}
-use Rattle.wav_reader.specs.Wavs.{doubled}
+use Rattle.wav_reader.specs.Readers.{doubled}
 use Rattle.wav_reader.proofs.RingLemmas.{all_pushed, length-doubled}
 use Rattle.wav_reader.proofs.wav.doubled.Goals as goal
 

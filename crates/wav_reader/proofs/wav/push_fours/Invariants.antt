@@ -1,5 +1,5 @@
 use Rattle.std.proofs.Common.{◌≡◌, ◌*◌, ◌++◌}
-use Rattle.wav_reader.specs.Wavs.{doubled}
+use Rattle.wav_reader.specs.Readers.{doubled}
 use Rattle.wav_reader.proofs.wav.push_fours.Given as goal
 
 abbrev pub invariant-loop-step : goal.invariant-loop-step

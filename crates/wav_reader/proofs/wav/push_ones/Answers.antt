@@ -1,5 +1,5 @@
 use Rattle.std.proofs.Common.{◌<◌, ◌+◌, ◌*◌, ◌∷◌, [], length, get_or, append_assoc, arith}
-use Rattle.wav_reader.specs.Wavs.{doubled}
+use Rattle.wav_reader.specs.Readers.{doubled}
 use Rattle.wav_reader.proofs.RingLemmas.{append-doubled-none, doubled-more}
 use Rattle.wav_reader.proofs.wav.push_ones.Goals as goal
 
