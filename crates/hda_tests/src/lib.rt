@@ -10,6 +10,8 @@ mod codecs;
 #[cfg(test)]
 mod files;
 #[cfg(test)]
+mod formats;
+#[cfg(test)]
 mod graphs;
 #[cfg(test)]
 mod items;
@@ -28,6 +30,10 @@ mod rings;
 #[cfg(test)]
 mod schedules;
 #[cfg(test)]
+mod streams;
+#[cfg(test)]
 mod verbs;
+#[cfg(test)]
+mod wavs;
 #[cfg(test)]
 mod words;
