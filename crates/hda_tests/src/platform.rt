@@ -46,7 +46,7 @@ fn set_rings<P: Platform>(platform: &mut P, corb: u32, rirb: u32)
 #[test]
 fn registers_are_read_and_written(rt: HostRuntime) -> Result<(), Fail> {
     let alloc = rt.alloc();
-    let steps = vec![in alloc; Step::Link(1), Step::Link(0), Step::Link(1)]?;
+    let steps = vec![in alloc; Step::Link(1), Step::Link(1), Step::Link(1)]?;
     let mut platform = MemoryPlatform::new(alloc, shape(), steps, 9, 0)?;
     assert_eq!(rt; leave_reset(&mut platform), 0x101);
     assert_eq!(rt; platform.read(0x30, Width::Four), 1_000);
@@ -101,9 +101,15 @@ fn memory_is_read_and_written(rt: HostRuntime) -> Result<(), Fail> {
 fn a_stream_plays_between_accesses(rt: HostRuntime) -> Result<(), Fail> {
     let alloc = rt.alloc();
     let idle = Step::Link(0);
-    let steps = vec![
-        in alloc;
-        idle, idle, idle, idle, idle, idle, idle, idle,
+    let steps = vec![in alloc;
+        idle,
+        idle,
+        idle,
+        idle,
+        idle,
+        idle,
+        idle,
+        idle,
         Step::Fetch(1, 8),
         Step::Link(3),
     ]?;

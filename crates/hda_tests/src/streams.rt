@@ -111,15 +111,30 @@ fn buffers_are_played_in_turn(rt: HostRuntime) -> Result<(), Fail> {
 #[test]
 fn a_stream_that_can_not_fetch_stops(rt: HostRuntime) -> Result<(), Fail> {
     let cases = [
-        Setting { address: 1025, ..GOOD },
-        Setting { address: 1088, ..GOOD },
-        Setting { address: 3968, ..GOOD },
+        Setting {
+            address: 1025,
+            ..GOOD
+        },
+        Setting {
+            address: 1088,
+            ..GOOD
+        },
+        Setting {
+            address: 3968,
+            ..GOOD
+        },
         Setting { bytes: 0, ..GOOD },
-        Setting { bytes: 3073, ..GOOD },
+        Setting {
+            bytes: 3073,
+            ..GOOD
+        },
         Setting { list: 4096, ..GOOD },
         Setting { last: 0, ..GOOD },
         Setting { length: 0, ..GOOD },
-        Setting { format: 0x0001, ..GOOD },
+        Setting {
+            format: 0x0001,
+            ..GOOD
+        },
     ];
     for setting in cases {
         let memory = memory_with(setting);
@@ -139,7 +154,10 @@ fn a_link_frame_finds_what_can_not_be_used(rt: HostRuntime) -> Result<(), Fail> 
     for setting in [
         Setting { last: 0, ..GOOD },
         Setting { length: 0, ..GOOD },
-        Setting { format: 0x0001, ..GOOD },
+        Setting {
+            format: 0x0001,
+            ..GOOD
+        },
     ] {
         let (mut regs, mut stream) = started(rt.alloc(), setting)?;
         assert_eq!(rt; pass(&mut regs, &mut stream, 1), 0);

@@ -101,7 +101,10 @@ fn takes_good_words(rt: HostRuntime) -> Result<(), Fail> {
         let words = words_of(rt.alloc(), row)?;
         let Request::Route { codec, format } = read_words(rt.alloc(), words.as_slice())?;
         assert!(rt; codec == name, "{row}");
-        assert!(rt; format.rate == rate && format.bits == Bits::B16 && format.channels == channels, "{row}");
+        assert!(rt;
+            format.rate == rate && format.bits == Bits::B16 && format.channels == channels,
+            "{row}"
+        );
     }
     Ok(())
 }
@@ -110,9 +113,15 @@ fn takes_good_words(rt: HostRuntime) -> Result<(), Fail> {
 fn refuses_bad_words(rt: HostRuntime) -> Result<(), Fail> {
     for row in BAD {
         let words = words_of(rt.alloc(), row)?;
-        assert!(rt; read_words(rt.alloc(), words.as_slice()).is_err_and(|fault| fault == WordsFault::NoCommand), "{row}");
+        assert!(rt;
+            read_words(rt.alloc(), words.as_slice()).is_err_and(|fault| fault
+                == WordsFault::NoCommand),
+            "{row}"
+        );
     }
     let none = Vec::new(rt.alloc());
-    assert!(rt; read_words(rt.alloc(), none.as_slice()).is_err_and(|fault| fault == WordsFault::NoCommand));
+    assert!(rt;
+        read_words(rt.alloc(), none.as_slice()).is_err_and(|fault| fault == WordsFault::NoCommand)
+    );
     Ok(())
 }
