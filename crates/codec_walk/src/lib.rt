@@ -1,0 +1,12 @@
+//! The walk over a codec: the commands that ask for all its words, one after the other, and the graph that the answers give.
+#![tactic(auto)]
+
+mod fault;
+mod node;
+mod outcome;
+mod step;
+mod walk;
+mod words;
+
+pub use fault::{WalkError, WalkFault};
+pub use walk::Walk;
