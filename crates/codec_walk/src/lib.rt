@@ -2,6 +2,7 @@
 #![tactic(auto)]
 
 mod fault;
+mod laws;
 mod node;
 mod outcome;
 mod step;
@@ -9,4 +10,5 @@ mod walk;
 mod words;
 
 pub use fault::{WalkError, WalkFault};
+pub use laws::asks_what_is_told;
 pub use walk::Walk;
