@@ -66,7 +66,7 @@ module _ (address nid : ℕ) where
 
   one_word : (word : NodeWord) (words : List NodeWord) (caps : ℕ) (node : RawNode) (rest : RawNode → Dialogue) (Q : List Command → RawCodec → Type 0) (b : Bool) → applies node word ≡ b
       → ((answer : ℕ) → ((done : RawNode) → IsBare caps done → Ends (rest done) (λ commands codec. Q ((word_command address nid word ∷ word_commands caps words) ++ commands) codec))
-          → Ends (from_words words address nid (with_word node word answer) rest) (λ commands codec. Q (word_command address nid word ∷ commands) codec))
+      → Ends (from_words words address nid (with_word node word answer) rest) (λ commands codec. Q (word_command address nid word ∷ commands) codec))
       → (((done : RawNode) → IsBare caps done → Ends (rest done) (λ commands codec. Q (word_commands caps words ++ commands) codec)) → Ends (from_words words address nid node rest) Q)
       → ((done : RawNode) → IsBare caps done → Ends (rest done) (λ commands codec. Q (map (word_command address nid) (cond b (word ∷ filter (applies (plain_node caps)) words) (filter (applies (plain_node caps)) words)) ++ commands) codec))
       → Ends (cond (applies node word) (Ask (word_command address nid word) (λ answer. from_words words address nid (with_word node word answer) rest)) (from_words words address nid node rest)) Q
@@ -83,6 +83,7 @@ module _ (address nid : ℕ) where
       (λ answer. ends_words words caps (with_word node word answer) rest (λ commands codec. Q (word_command address nid word ∷ commands) codec) (bare_word caps node word answer bare))
       (ends_words words caps node rest Q bare)
       each
+
   -- a word of entries less
   place_more : (long : Bool) (word : ℕ) → (word + 1) * entries_per_word long ≡ word * entries_per_word long + entries_per_word long
   place_more true word = omega arith
@@ -130,12 +131,12 @@ module _ (address nid : ℕ) where
       each node (record { same = same; form = refl; many = omega arith })
   ends_entries (suc words) word left caps node rest Q are same each =
       ends_ask _ _ Q (λ answer.
-          let next : RawNode = record node { entries = node.entries ++ take left (entries_of_word node.long answer) } in
-          subst (λ (place : ℕ). Ends (from_entries words address nid place (left - entries_per_word node.long) next rest) (λ commands codec. Q (list_command address nid (word * entries_per_word node.long) ∷ commands) codec))
-          (place_more node.long word)
-          (ends_entries words (word + 1) (left - entries_per_word node.long) caps next rest (λ commands codec. Q (list_command address nid (word * entries_per_word node.long) ∷ commands) codec)
-          (more_left node.long left words are) same
-          (λ done listed. each done (record { same = listed.same; form = listed.form; many = listed.many ∙ pushed node left answer }))))
+      let next : RawNode = record node { entries = node.entries ++ take left (entries_of_word node.long answer) } in
+      subst (λ (place : ℕ). Ends (from_entries words address nid place (left - entries_per_word node.long) next rest) (λ commands codec. Q (list_command address nid (word * entries_per_word node.long) ∷ commands) codec))
+      (place_more node.long word)
+      (ends_entries words (word + 1) (left - entries_per_word node.long) caps next rest (λ commands codec. Q (list_command address nid (word * entries_per_word node.long) ∷ commands) codec)
+      (more_left node.long left words are) same
+      (λ done listed. each done (record { same = listed.same; form = listed.form; many = listed.many ∙ pushed node left answer }))))
 
   ends_length : (caps : ℕ) (node : RawNode) (rest : RawNode → Dialogue) (Q : List Command → RawCodec → Type 0) → IsBare caps node
       → ((done : RawNode) → done.caps ≡ caps → Ends (rest done) (λ commands codec. Q (connection_commands address nid done ++ commands) codec))
@@ -149,16 +150,16 @@ module _ (address nid : ℕ) where
           → Ends (cond b (Ask (parameter_command address nid parameter.ListLength) (λ answer. from_entries (words_for (is_long answer) (entries_told answer)) address nid 0 (entries_told answer) (record node { long = is_long answer }) rest)) (rest node)) Q
       by true e =
           ends_ask _ _ Q (λ answer.
-              let next : RawNode = record node { long = is_long answer } in
-              let words = words_for (is_long answer) (entries_told answer) in
-              subst (λ (place : ℕ). Ends (from_entries words address nid place (entries_told answer) next rest) (λ commands codec. Q (parameter_command address nid parameter.ListLength ∷ commands) codec))
-              (place_none (is_long answer))
-              (ends_entries words 0 (entries_told answer) caps next rest (λ commands codec. Q (parameter_command address nid parameter.ListLength ∷ commands) codec) refl bare.same
-              (λ done listed.
-                  let many : length done.entries ≡ entries_told answer = listed.many ∙ ap (λ (entries : List ℕ). length entries + entries_told answer) bare.none ∙ omega arith in
-                  let here : connection_commands address nid done ≡ parameter_command address nid parameter.ListLength ∷ places (is_long answer) 0 (words_for (is_long answer) (entries_told answer)) =
-                      rw (asks done true e (listed.same ∙ sym bare.same), many, listed.form) refl in
-                  subst (λ (front : List Command). Ends (rest done) (λ commands codec. Q (front ++ commands) codec)) here (each done listed.same))))
+          let next : RawNode = record node { long = is_long answer } in
+          let words = words_for (is_long answer) (entries_told answer) in
+          subst (λ (place : ℕ). Ends (from_entries words address nid place (entries_told answer) next rest) (λ commands codec. Q (parameter_command address nid parameter.ListLength ∷ commands) codec))
+          (place_none (is_long answer))
+          (ends_entries words 0 (entries_told answer) caps next rest (λ commands codec. Q (parameter_command address nid parameter.ListLength ∷ commands) codec) refl bare.same
+          (λ done listed.
+          let many : length done.entries ≡ entries_told answer = listed.many ∙ ap (λ (entries : List ℕ). length entries + entries_told answer) bare.none ∙ omega arith in
+          let here : connection_commands address nid done ≡ parameter_command address nid parameter.ListLength ∷ places (is_long answer) 0 (words_for (is_long answer) (entries_told answer)) =
+          rw (asks done true e (listed.same ∙ sym bare.same), many, listed.form) refl in
+          subst (λ (front : List Command). Ends (rest done) (λ commands codec. Q (front ++ commands) codec)) here (each done listed.same))))
       by false e =
           let here : connection_commands address nid node ≡ [] = rw e refl in
           subst (λ (front : List Command). Ends (rest node) (λ commands codec. Q (front ++ commands) codec)) here (each node bare.same)
@@ -182,20 +183,20 @@ module _ (address nid : ℕ) where
       → Ends (Ask (parameter_command address nid parameter.WidgetCapabilities) (λ caps. from_node address nid (plain_node caps) rest)) Q
   ends_node rest Q each =
       ends_ask _ _ Q (λ caps.
-          let first = parameter_command address nid parameter.WidgetCapabilities in
-          let words = word_commands caps node_words in
-          ends_words node_words caps (plain_node caps) _ (λ commands codec. Q (first ∷ commands) codec) (record { same = refl; short = refl; none = refl })
-          (λ bare is_bare.
-              ends_length caps bare _ (λ commands codec. Q (first ∷ (words ++ commands)) codec) is_bare
-              (λ listed same.
-                  let connections = connection_commands address nid listed in
-                  let power = power_commands address nid listed in
-                  let here : word_commands listed.caps node_words ≡ words = ap (λ caps. word_commands caps node_words) same in
-                  let joins = λ (commands : List Command) (codec : RawCodec) (h : Q (node_commands address nid listed ++ commands) codec).
-                      subst (λ (all : List Command). Q (first ∷ all) codec) (ap (λ (ws : List Command). (ws ++ (connections ++ power)) ++ commands) here ∙ regroup words connections power commands) h in
-                  ends_power listed rest (λ commands codec. Q (first ∷ (words ++ (connections ++ commands))) codec)
-                  (λ answer. ends_weaker (rest (record listed { power = answer })) (λ commands codec. Q (node_commands address nid listed ++ commands) codec) (λ commands codec. Q (first ∷ (words ++ (connections ++ (power ++ commands)))) codec) joins (each (record listed { power = answer })))
-                  (ends_weaker (rest listed) (λ commands codec. Q (node_commands address nid listed ++ commands) codec) (λ commands codec. Q (first ∷ (words ++ (connections ++ (power ++ commands)))) codec) joins (each listed)))))
+      let first = parameter_command address nid parameter.WidgetCapabilities in
+      let words = word_commands caps node_words in
+      ends_words node_words caps (plain_node caps) _ (λ commands codec. Q (first ∷ commands) codec) (record { same = refl; short = refl; none = refl })
+      (λ bare is_bare.
+      ends_length caps bare _ (λ commands codec. Q (first ∷ (words ++ commands)) codec) is_bare
+      (λ listed same.
+      let connections = connection_commands address nid listed in
+      let power = power_commands address nid listed in
+      let here : word_commands listed.caps node_words ≡ words = ap (λ caps. word_commands caps node_words) same in
+      let joins = λ (commands : List Command) (codec : RawCodec) (h : Q (node_commands address nid listed ++ commands) codec).
+      subst (λ (all : List Command). Q (first ∷ all) codec) (ap (λ (ws : List Command). (ws ++ (connections ++ power)) ++ commands) here ∙ regroup words connections power commands) h in
+      ends_power listed rest (λ commands codec. Q (first ∷ (words ++ (connections ++ commands))) codec)
+      (λ answer. ends_weaker (rest (record listed { power = answer })) (λ commands codec. Q (node_commands address nid listed ++ commands) codec) (λ commands codec. Q (first ∷ (words ++ (connections ++ (power ++ commands)))) codec) joins (each (record listed { power = answer })))
+      (ends_weaker (rest listed) (λ commands codec. Q (node_commands address nid listed ++ commands) codec) (λ commands codec. Q (first ∷ (words ++ (connections ++ (power ++ commands)))) codec) joins (each listed)))))
 
 -- the widgets
 ends_widgets : (left nid : ℕ) (codec : RawCodec) (Q : List Command → RawCodec → Type 0)
@@ -205,8 +206,8 @@ ends_widgets zero nid codec Q each =
     ends_told codec Q (subst (λ (nodes : List RawNode). Q [] (record codec { nodes = nodes })) (append-nil codec.nodes) (each []))
 ends_widgets (suc left) nid codec Q each =
     ends_node codec.address nid _ Q (λ node.
-        ends_widgets left (nid + 1) (with_node codec node) (λ commands codec'. Q (node_commands codec.address nid node ++ commands) codec')
-        (λ nodes. subst (λ (all : List RawNode). Q (node_commands codec.address nid node ++ nodes_commands codec.address (nid + 1) nodes) (record codec { nodes = all })) (sym (append_assoc codec.nodes (node ∷ []) nodes)) (each (node ∷ nodes))))
+    ends_widgets left (nid + 1) (with_node codec node) (λ commands codec'. Q (node_commands codec.address nid node ++ commands) codec')
+    (λ nodes. subst (λ (all : List RawNode). Q (node_commands codec.address nid node ++ nodes_commands codec.address (nid + 1) nodes) (record codec { nodes = all })) (sym (append_assoc codec.nodes (node ∷ []) nodes)) (each (node ∷ nodes))))
 
 ends_count : (codec : RawCodec) (Q : List Command → RawCodec → Type 0) → codec.nodes ≡ []
     → ((nodes : List RawNode) → Q (nodes_commands codec.address codec.first nodes) (record codec { nodes = nodes }))
@@ -235,17 +236,17 @@ unfolding walk from_codec walk_commands
 whole_walk address =
     next_ask _ _ _ (λ vendor. next_ask _ _ _ (λ revision. next_ask _ _ _ (λ groups. next_ask _ _ _ (λ type. next_ask _ _ _ (λ widgets.
     next_ask _ _ _ (λ pcm. next_ask _ _ _ (λ formats. next_ask _ _ _ (λ amp_in. next_ask _ _ _ (λ amp_out. next_ask _ _ _ (λ power.
-        then_count (record {
-          address = address;
-          vendor = vendor;
-          revision = revision;
-          group = bits_of groups 16 7;
-          group_type = type;
-          group_words = record { pcm = pcm; formats = formats; amp_in = amp_in; amp_out = amp_out; power = power };
-          first = bits_of widgets 16 8;
-          count = bits_of widgets 0 8;
-          nodes = [];
-        }) _ refl (λ nodes. refl)))))))))))
+    then_count (record {
+      address = address;
+      vendor = vendor;
+      revision = revision;
+      group = bits_of groups 16 7;
+      group_type = type;
+      group_words = record { pcm = pcm; formats = formats; amp_in = amp_in; amp_out = amp_out; power = power };
+      first = bits_of widgets 16 8;
+      count = bits_of widgets 0 8;
+      nodes = [];
+    }) _ refl (λ nodes. refl)))))))))))
 
 pub asks_told : (address : ℕ) → Ends (walk address) (λ commands codec. commands ≡ walk_commands codec)
 asks_told address = (whole_walk address).ends

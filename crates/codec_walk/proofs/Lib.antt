@@ -1,3 +1,9 @@
 pub mod StepLemmas
 pub mod WalkLemmas
 pub mod Endings
+pub mod Leading
+pub mod Counted
+pub mod Answering
+pub mod Following
+pub mod Whole
+pub mod Counting

@@ -53,7 +53,7 @@ module _ (address nid : ℕ) (rest : RawNode → Dialogue) where
     where
       by : (b : Bool) → from_next (word_step node (cond b (Some word) (find (applies node) words))) address nid node rest
           ≡ cond b (Ask (word_command address nid word) (λ answer. from_words words address nid (with_word node word answer) (λ node. from_length address nid node (λ node. from_power address nid node rest))))
-            (from_words words address nid node (λ node. from_length address nid node (λ node. from_power address nid node rest)))
+          (from_words words address nid node (λ node. from_length address nid node (λ node. from_power address nid node rest)))
       by true = subst (λ (ws : List NodeWord). from_step (Word word) address nid node rest ≡ Ask (word_command address nid word) (λ answer. from_words ws address nid (with_word node word answer) (λ node. from_length address nid node (λ node. from_power address nid node rest)))) (sym are) refl
       by false = goes
 

@@ -1,5 +1,5 @@
 -- The commands of a walk over a codec: a list for the root and the function group and one for each widget, joined. This project's own.
-use Rattle.std.specs.Prelude.{ℕ, ◌+◌, ◌*◌, List, [], ◌∷◌, ◌++◌, map, filter, length, count_by, sum_by, if◌then◌else◌}
+use Rattle.std.specs.Prelude.{ℕ, ◌+◌, ◌*◌, List, [], ◌∷◌, ◌++◌, map, filter, length, if◌then◌else◌}
 use Rattle.std.specs.List.{range_with_len}
 use Rattle.codec_graph.specs.declared.raw.RawNode.{RawNode}
 use Rattle.codec_graph.specs.declared.raw.RawCodec.{RawCodec}
@@ -42,5 +42,5 @@ walk_commands codec = map (codec_command codec) codec_words ++ nodes_commands co
 -- one for each of its words
 abbrev pub node_count : RawNode → ℕ
 node_count node =
-    1 + count_by (applies node) node_words
+    1 + length (filter (applies node) node_words)
     + (if has_list node then 1 + words_for node.long (length node.entries) else 0) + (if has_power_control node then 1 else 0)

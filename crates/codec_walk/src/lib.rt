@@ -10,5 +10,7 @@ mod walk;
 mod words;
 
 pub use fault::{WalkError, WalkFault};
-pub use laws::asks_what_is_told;
+pub use laws::{
+    asks_what_is_told, asks_what_the_graph_has, counts_the_commands, tells_what_the_graph_has,
+};
 pub use walk::Walk;

@@ -11,6 +11,6 @@ check-requires c =
     let old = c.args.codec in
     let new = c.expand_lists.new.self in
     let found = subst (λ (found : Option FaultyList). MatchOption found
-        ((new ≡ listed old) × ((nid : ℕ) → codec_list_fault old nid ≡ None))
-        (λ faulty. IsFirstListFault (codec_list_fault old) faulty.nid faulty.fault)) c.in_default.is c.in_ok-faulty.ensures.found in
+    ((new ≡ listed old) × ((nid : ℕ) → codec_list_fault old nid ≡ None))
+    (λ faulty. IsFirstListFault (codec_list_fault old) faulty.nid faulty.fault)) c.in_default.is c.in_ok-faulty.ensures.found in
     subst (λ (codec : RawCodec). All HasReadableList codec.nodes) (sym found.0) (readable_codec old c.requires.entries found.1)

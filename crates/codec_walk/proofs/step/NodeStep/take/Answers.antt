@@ -11,9 +11,9 @@ pub returns-in_ok-push_entries-in-Entries-clause-ok : goal.returns-in_ok-push_en
 returns-in_ok-push_entries-in-Entries-clause-ok c =
     let h = c.in_ok-push_entries-in-Entries.ensures in
     λ address nid rest.
-        rw c.in-Entries.is
-        (entries_taken address nid rest c.args.node.now c.push_entries.new.node c.in-Entries.place c.in-Entries.left c.args.answer c.per_word-read.result c.saturating_sub.result c.entries_step-in-Entries.result
-        h.ok c.per_word-read.ensures c.saturating_sub.ensures c.entries_step-in-Entries.ensures)
+    rw c.in-Entries.is
+    (entries_taken address nid rest c.args.node.now c.push_entries.new.node c.in-Entries.place c.in-Entries.left c.args.answer c.per_word-read.result c.saturating_sub.result c.entries_step-in-Entries.result
+    h.ok c.per_word-read.ensures c.saturating_sub.ensures c.entries_step-in-Entries.ensures)
 
 pub returns-in_ok-push_entries-in-Entries-clause-room : goal.returns-in_ok-push_entries-in-Entries-clause-room
 returns-in_ok-push_entries-in-Entries-clause-room c =
