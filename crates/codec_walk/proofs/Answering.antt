@@ -1,24 +1,21 @@
 -- What a well-formed graph answers to the commands of its walk.
-use Rattle.std.proofs.Common.{◌≡◌, ◌<◌, ◌≤◌, ◌+◌, ◌*◌, ◌/◌, ◌%◌, ◌^◌, ◌-◌, ◌==◌, ◌&&◌, ℕ, zero, suc, Bool, true, false, cond, List, [], ◌∷◌, ◌++◌, map, length, take, drop, get_or, Option, Some, None, refl, sym, ap, ◌∙◌, subst, arith}
-use Rattle.std.specs.Prelude.{slice_index, All}
-use Rattle.std.specs.List.{range_with_len}
+use Rattle.std.proofs.Common.{◌≡◌, ◌≤◌, ◌+◌, ◌*◌, ◌/◌, ◌%◌, ◌^◌, ◌-◌, ◌==◌, ℕ, Bool, true, false, cond, List, length, Option, refl, sym, ap, ◌∙◌, arith}
 use Rattle.std.proofs.lemmas.Bool.Decides.{nat_tests}
 use Rattle.codec_graph.specs.declared.raw.RawNode.{RawNode}
 use Rattle.codec_graph.specs.declared.raw.RawCodec.{RawCodec}
 use Rattle.codec_graph.specs.Widget.{node_at, kept_word}
-use Rattle.codec_graph.specs.Cycles.{IsWellFormed}
 use Rattle.codec_graph.specs.Settings.{Entries, setting_of}
 use Rattle.codec_graph.specs.declared.controls.Control.TheVariants as control
 use Rattle.codec_graph.specs.VerbMeaning.{root_parameter, group_parameter, widget_parameter, known_parameter, list_length, list_word, node_list_word, answer_of}
 use Rattle.verb_codes.specs.declared.verbs.Verb.TheVariants.{GetDefault}
 use Rattle.verb_codes.specs.declared.parameters.Parameter.{Parameter}
 use Rattle.verb_codes.specs.declared.parameters.Parameter.TheVariants.{Vendor, Revision, Nodes, GroupType, WidgetCapabilities, PcmSizesAndRates, StreamFormats, PinCapabilities, InputAmplifier, ListLength, PowerStates, OutputAmplifier}
-use Rattle.verb_codes.specs.Lists.{entry_width, entries_per_word, entries_of_word}
+use Rattle.verb_codes.specs.Lists.{entries_per_word}
 use Rattle.codec_walk.specs.declared.words.CodecWord.{CodecWord}
 use Rattle.codec_walk.specs.declared.words.CodecWord.TheVariants as codec_word
 use Rattle.codec_walk.specs.declared.words.NodeWord.{NodeWord}
 use Rattle.codec_walk.specs.declared.words.NodeWord.TheVariants as node_word
-use Rattle.codec_walk.specs.Words.{command_to, parameter_command, list_command, codec_command, with_codec_word, applies, word_command, with_word, entries_told, is_long, words_for}
+use Rattle.codec_walk.specs.Words.{command_to, parameter_command, list_command, codec_command, applies, word_command, entries_told, is_long}
 use Rattle.codec_walk.specs.Replies.{CanAnswer}
 use Rattle.codec_walk.proofs.Counted.{IsCounted, IsWidgetAt}
 

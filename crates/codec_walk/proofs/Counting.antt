@@ -1,5 +1,5 @@
 -- The number of the walk commands.
-use Rattle.std.proofs.Common.{◌≡◌, ◌+◌, ◌-◌, ◌*◌, ◌/◌, ℕ, zero, suc, Bool, true, false, cond, List, [], ◌∷◌, ◌++◌, map, length, refl, sym, ap, ◌∙◌, arith, length-append}
+use Rattle.std.proofs.Common.{◌≡◌, ◌+◌, ◌*◌, ℕ, zero, suc, Bool, true, false, cond, List, [], ◌∷◌, ◌++◌, map, length, refl, sym, ap, ◌∙◌, arith, length-append}
 use Rattle.std.specs.Prelude.{filter, sum_by}
 use Rattle.std.proofs.lemmas.List.Sums.{sum_by-cons}
 use Rattle.std.specs.List.{range_with_len}
@@ -9,7 +9,6 @@ use Rattle.codec_graph.specs.Widget.{has_list, has_power_control}
 use Rattle.verb_codes.specs.declared.verbs.Command.{Command}
 use Rattle.verb_codes.specs.Lists.{entries_per_word}
 use Rattle.verb_codes.specs.declared.parameters.Parameter.TheVariants.{WidgetCapabilities, ListLength, PowerStates}
-use Rattle.codec_walk.specs.declared.words.NodeWord.{NodeWord}
 use Rattle.codec_walk.specs.Words.{parameter_command, list_command, node_words, applies, word_command, words_for}
 use Rattle.codec_walk.specs.Commands.{entry_commands, connection_commands, power_commands, node_commands, nodes_commands, walk_commands, node_count}
 

@@ -1,5 +1,5 @@
 -- What was asked in a dialogue that is told to its end.
-use Rattle.std.proofs.Common.{◌≡◌, ◌+◌, ◌-◌, ◌*◌, ◌/◌, ◌<◌, ◌≤◌, ℕ, zero, suc, Bool, true, false, cond, List, [], ◌∷◌, ◌++◌, map, length, take, min, Option, Some, None, refl, sym, ap, ◌∙◌, subst, arith, append_assoc, append-nil, length-append}
+use Rattle.std.proofs.Common.{◌≡◌, ◌+◌, ◌-◌, ◌*◌, ℕ, zero, suc, Bool, true, false, cond, List, [], ◌∷◌, ◌++◌, map, length, take, Some, refl, sym, ap, ◌∙◌, subst, arith, append_assoc, append-nil, length-append}
 use Rattle.std.specs.Prelude.{filter}
 use Rattle.std.specs.List.{range_with_len}
 use Rattle.std.proofs.lemmas.List.{length-take}
@@ -12,10 +12,10 @@ use Rattle.verb_codes.specs.Words.{bits_of}
 use Rattle.verb_codes.specs.Lists.{entries_per_word, entries_of_word}
 use Rattle.codec_walk.specs.declared.words.NodeWord.{NodeWord}
 use Rattle.codec_walk.specs.declared.words.NodeWord.TheVariants.{Pcm, Formats, PinCaps, Default, AmpIn, AmpOut}
-use Rattle.codec_walk.specs.Dialogues.{Dialogue, Ask, Told, told, after, answered, asked}
+use Rattle.codec_walk.specs.Dialogues.{Dialogue, Ask, Told, told, after, asked}
 use Rattle.codec_walk.specs.Words.{parameter_command, list_command, node_words, applies, word_command, with_word, words_for, is_long, entries_told}
 use Rattle.codec_walk.specs.Walks.{from_codec, from_words, from_entries, from_length, from_power, from_node, with_node, from_widgets, from_count, has_widgets, walk}
-use Rattle.codec_walk.specs.Commands.{entry_commands, connection_commands, power_commands, node_commands, nodes_commands, walk_commands}
+use Rattle.codec_walk.specs.Commands.{connection_commands, power_commands, node_commands, nodes_commands, walk_commands}
 
 -- however it is told to its end, this holds of what was asked and told
 abbrev pub Ends : Dialogue → (List Command → RawCodec → Type 0) → Type 0

@@ -7,3 +7,4 @@ pub mod Answering
 pub mod Following
 pub mod Whole
 pub mod Counting
+pub mod Callers

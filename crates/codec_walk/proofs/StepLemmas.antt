@@ -1,5 +1,5 @@
 -- Each step of a walk goes on with the dialogue.
-use Rattle.std.proofs.Common.{◌≡◌, ◌<◌, ◌≤◌, ◌+◌, ◌-◌, ◌/◌, ◌%◌, ◌^◌, ◌==◌, ℕ, zero, suc, Bool, true, false, cond, List, [], ◌∷◌, ◌++◌, length, take, Option, Some, None, refl, sym, ap, ◌∙◌, subst, inl, inr, arith, min}
+use Rattle.std.proofs.Common.{◌≡◌, ◌<◌, ◌≤◌, ◌+◌, ◌-◌, ◌/◌, ◌%◌, ◌^◌, ◌==◌, ℕ, suc, Bool, true, false, cond, List, [], ◌∷◌, ◌++◌, length, take, Option, Some, None, refl, sym, subst, inl, inr, arith}
 use Rattle.std.specs.Prelude.{All, find, ◌⊎◌}
 use Rattle.std.proofs.lemmas.Bool.{cases_lt}
 use Rattle.std.proofs.lemmas.Bool.Decides.{nat_tests}
@@ -16,7 +16,7 @@ use Rattle.codec_walk.specs.declared.words.CodecWord.{CodecWord}
 use Rattle.codec_walk.specs.declared.words.CodecWord.TheVariants.{Vendor, Revision, Groups, GroupType, Widgets, GroupPcm, GroupFormats, GroupAmpIn, GroupAmpOut, GroupPower}
 use Rattle.codec_walk.specs.declared.step.NodeStep.{NodeStep}
 use Rattle.codec_walk.specs.declared.step.NodeStep.TheVariants.{Word, Length, Entries, Power}
-use Rattle.codec_walk.specs.Dialogues.{Dialogue, Ask, Told, answered}
+use Rattle.codec_walk.specs.Dialogues.{Dialogue, Ask, answered}
 use Rattle.codec_walk.specs.Words.{later, node_words, applies, word_command, with_word, words_for, with_codec_word}
 use Rattle.codec_walk.specs.Walks.{from_words, from_entries, from_length, from_power}
 use Rattle.codec_walk.specs.Steps.{from_step, from_next, power_step, list_step, word_step, first_step, entries_step, next_room, next_end, HasRoom}

@@ -1,11 +1,10 @@
 -- The steps of a whole walk go on with the dialogue.
-use Rattle.std.proofs.Common.{◌≡◌, ◌<◌, ◌-◌, ℕ, zero, suc, List, [], ◌∷◌, refl, sym, ap, ◌∙◌, subst, arith}
+use Rattle.std.proofs.Common.{◌≡◌, ◌<◌, ◌-◌, ℕ, zero, suc, List, [], ◌∷◌, refl, ap, arith}
 use Rattle.codec_graph.specs.declared.raw.RawNode.{RawNode}
 use Rattle.codec_graph.specs.declared.raw.RawCodec.{RawCodec}
 use Rattle.codec_walk.specs.declared.words.CodecWord.{CodecWord}
 use Rattle.codec_walk.specs.declared.words.CodecWord.TheVariants.{Vendor}
 use Rattle.codec_walk.specs.declared.step.Step.TheVariants.{Codec, Capabilities}
-use Rattle.codec_walk.specs.Dialogues.{Dialogue}
 use Rattle.codec_walk.specs.Words.{later_codec, with_codec_word}
 use Rattle.codec_walk.specs.Walks.{unknown, from_codec, from_widgets, from_count, walk}
 use Rattle.codec_walk.specs.Steps.{from_walk}

@@ -1,5 +1,5 @@
 -- The whole walk over a well-formed graph: what it asks, and that the graph is told.
-use Rattle.std.proofs.Common.{◌≡◌, ◌<◌, ◌≤◌, ◌+◌, ◌*◌, ◌/◌, ◌%◌, ◌^◌, ◌-◌, ℕ, zero, suc, Bool, true, false, cond, List, [], ◌∷◌, ◌++◌, map, length, Option, Some, None, Ok, Err, Result, refl, sym, ap, ◌∙◌, subst, arith}
+use Rattle.std.proofs.Common.{◌≡◌, ◌<◌, ◌+◌, ◌*◌, ◌/◌, ◌%◌, ◌^◌, ◌-◌, ℕ, zero, suc, Bool, true, false, cond, List, [], ◌∷◌, ◌++◌, map, Some, None, Ok, Err, Result, refl, sym, ap, ◌∙◌, subst, arith}
 use Rattle.std.specs.Prelude.{All, slice_get, nat_lt}
 use Rattle.std.specs.Option.{option_and_then}
 use Rattle.std.specs.Result.{result_err, result_unwrap_or}
@@ -8,18 +8,17 @@ use Rattle.codec_graph.specs.declared.raw.GroupWords.{GroupWords}
 use Rattle.codec_graph.specs.declared.raw.RawNode.{RawNode}
 use Rattle.codec_graph.specs.declared.raw.RawCodec.{RawCodec}
 use Rattle.codec_graph.specs.declared.fault.GraphFault.{GraphFault}
-use Rattle.codec_graph.specs.Widget.{normal_node, node_at}
-use Rattle.codec_graph.specs.Listed.{HasReadableList, list_fault, listed_node, codec_list_fault, listed, IsFirstListFault}
-use Rattle.codec_graph.specs.Faults.{first_fault, table_faults}
+use Rattle.codec_graph.specs.Widget.{normal_node}
+use Rattle.codec_graph.specs.Listed.{HasReadableList, list_fault, listed_node}
+use Rattle.codec_graph.specs.Faults.{first_fault}
 use Rattle.codec_graph.specs.Cycles.{IsWellFormed, IsFirstFault, IsFirstFaultBy, IsCycleFault}
-use Rattle.verb_codes.specs.Lists.{expansion_of}
 use Rattle.verb_codes.specs.declared.entries.ListFault.{ListFault}
 use Rattle.verb_codes.specs.declared.verbs.Command.{Command}
 use Rattle.codec_walk.specs.declared.words.CodecWord.{CodecWord}
 use Rattle.codec_walk.specs.declared.words.CodecWord.TheVariants.{Vendor, Revision, Groups, GroupType, Widgets, GroupPcm, GroupFormats, GroupAmpIn, GroupAmpOut, GroupPower}
-use Rattle.codec_walk.specs.Dialogues.{Dialogue, Ask, Told}
+use Rattle.codec_walk.specs.Dialogues.{Dialogue, Told}
 use Rattle.codec_walk.specs.Words.{later_codec, codec_words, codec_command, with_codec_word}
-use Rattle.codec_walk.specs.Walks.{unknown, from_codec, from_widgets, from_count, has_widgets, walk}
+use Rattle.codec_walk.specs.Walks.{unknown, from_codec, from_widgets, from_count, walk}
 use Rattle.codec_walk.specs.Commands.{nodes_commands, walk_commands}
 use Rattle.codec_walk.specs.Replies.{CanAnswer}
 use Rattle.codec_walk.specs.declared.fault.WalkError.{WalkError}
@@ -29,9 +28,9 @@ use Rattle.codec_graph.specs.declared.fault.GraphFault.TheVariants.{NoAudioGroup
 use Rattle.std.specs.Prelude.{◌⊎◌}
 use Rattle.std.proofs.Common.{inl, inr}
 use Rattle.std.proofs.lemmas.Option.{none-some}
-use Rattle.codec_walk.specs.Outcomes.{HasGoodLists, IsGood, IsOutcome, graph_told}
+use Rattle.codec_walk.specs.Outcomes.{HasGoodLists, IsGood, IsOutcome}
 use Rattle.codec_walk.proofs.Leading.{Leads}
-use Rattle.codec_walk.proofs.Counted.{IsCounted, counted, widgets_there, widgets_at}
+use Rattle.codec_walk.proofs.Counted.{counted, widgets_there, widgets_at}
 use Rattle.codec_walk.proofs.Answering.{codec_value, codec_answer}
 use Rattle.codec_walk.proofs.Following.{HasListWords, unlisted, leads_widgets}
 

@@ -1,6 +1,4 @@
 -- What is still to come of a walk.
-use Rattle.std.specs.Prelude.{ℕ}
-use Rattle.std.specs.Vec.{vec_len}
 use Rattle.codec_graph.specs.declared.raw.RawCodec.{RawCodec}
 use Rattle.codec_walk.specs.declared.walk.Walk.{Walk}
 use Rattle.codec_walk.specs.Dialogues.{Dialogue}

@@ -1,5 +1,5 @@
 -- The steps of a walk, as dialogues.
-use Rattle.std.specs.Prelude.{◌≡◌, ◌≤◌, ◌<◌, ◌^◌, ℕ, zero, suc, Bool, true, false, ◌+◌, ◌-◌, ◌==◌, List, [], ◌++◌, length, take, find, All, Option, Some, None, if◌then◌else◌}
+use Rattle.std.specs.Prelude.{◌≡◌, ◌≤◌, ◌<◌, ◌^◌, ℕ, Bool, true, false, ◌+◌, ◌-◌, ◌==◌, List, [], ◌++◌, length, take, find, All, Option, Some, None, if◌then◌else◌}
 use Rattle.codec_graph.specs.declared.raw.RawNode.{RawNode}
 use Rattle.codec_graph.specs.declared.raw.RawCodec.{RawCodec}
 use Rattle.codec_graph.specs.Widget.{node_identifiers, plain_node, has_list, has_power_control}

@@ -14,7 +14,13 @@ use codec_graph::{Graph, GroupWords, NODE_IDENTIFIERS, RawCodec, RawNode};
 use hda_items::Items;
 use std::alloc::{AllocError, Global};
 use std::mem;
+use std::mem::size_of;
 use verb_codes::{Command, Parameter};
+
+/// At most so many bytes a walk keeps: room for all widgets, and 127 entries of two bytes, in a memory of 256 bytes, at each.
+const KEPT_BYTES: usize = NODE_IDENTIFIERS * (size_of::<RawNode>() + 256) + size_of::<Walk>();
+
+const _: () = prove!(KEPT_BYTES <= 64 * 1024);
 
 /// A walk over a codec: it asks for all words that the codec has, one after the other, each as soon as the answers before it say
 /// that it is there, and gives the graph that was told. It keeps less than 64 KB. This project's own, over the nodes of HDA 1.0a, 7.1.2.

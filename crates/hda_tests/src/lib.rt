@@ -28,4 +28,6 @@ mod rings;
 #[cfg(test)]
 mod verbs;
 #[cfg(test)]
+mod walks;
+#[cfg(test)]
 mod words;

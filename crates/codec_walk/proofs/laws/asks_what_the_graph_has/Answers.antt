@@ -2,7 +2,7 @@ use Rattle.codec_walk.specs.Commands.{walk_commands}
 use Rattle.codec_walk.specs.Walks.{walk}
 use Rattle.codec_walk.specs.Replies.{CanAnswer}
 use Rattle.codec_walk.proofs.Leading.{next_question}
-use Rattle.codec_walk.proofs.Whole.{unlisted_codec, leads_walk, told_good}
+use Rattle.codec_walk.proofs.Whole.{unlisted_codec, leads_walk}
 use Rattle.codec_walk.proofs.laws.asks_what_the_graph_has.Goals as goal
 
 pub returns : goal.returns

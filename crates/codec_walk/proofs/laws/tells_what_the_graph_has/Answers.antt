@@ -1,6 +1,4 @@
-use Rattle.std.proofs.Common.{Result, subst}
-use Rattle.codec_graph.specs.declared.raw.RawCodec.{RawCodec}
-use Rattle.codec_walk.specs.declared.fault.WalkError.{WalkError}
+use Rattle.std.proofs.Common.{subst}
 use Rattle.codec_walk.specs.Dialogues.{Dialogue}
 use Rattle.codec_walk.specs.Commands.{walk_commands}
 use Rattle.codec_walk.specs.Walks.{walk}

@@ -1,4 +1,4 @@
-use Rattle.std.proofs.Common.{◌≡◌, ◌+◌, subst, ap}
+use Rattle.std.proofs.Common.{subst}
 use Rattle.codec_walk.specs.declared.step.NodeStep.{NodeStep}
 use Rattle.codec_walk.specs.Steps.{room_at, end_at, HasRoom}
 use Rattle.codec_walk.proofs.StepLemmas.{later_next, entries_taken, room_taken}

@@ -1,5 +1,4 @@
 use Rattle.std.proofs.Common.{◌≡◌, refl}
-use Rattle.codec_graph.specs.declared.raw.RawCodec.{RawCodec}
 use Rattle.codec_walk.specs.Walks.{unknown}
 use Rattle.codec_walk.specs.Remaining.{remaining}
 use Rattle.codec_walk.proofs.WalkLemmas.{begins}

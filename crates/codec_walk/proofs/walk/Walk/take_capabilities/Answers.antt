@@ -1,4 +1,3 @@
-use Rattle.std.proofs.Common.{◌∙◌}
 use Rattle.codec_walk.specs.Steps.{from_next_widget}
 use Rattle.codec_walk.specs.Remaining.{remaining, so_far}
 use Rattle.codec_graph.specs.Widget.{plain_node}
