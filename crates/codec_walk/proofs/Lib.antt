@@ -5,6 +5,7 @@ pub mod Leading
 pub mod Counted
 pub mod Answering
 pub mod Following
+pub mod OneOutcome
 pub mod Whole
 pub mod Counting
 pub mod Callers

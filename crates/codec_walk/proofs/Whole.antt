@@ -7,11 +7,9 @@ use Rattle.std.proofs.lemmas.List.Elements.{All-head, All-tail}
 use Rattle.codec_graph.specs.declared.raw.GroupWords.{GroupWords}
 use Rattle.codec_graph.specs.declared.raw.RawNode.{RawNode}
 use Rattle.codec_graph.specs.declared.raw.RawCodec.{RawCodec}
-use Rattle.codec_graph.specs.declared.fault.GraphFault.{GraphFault}
 use Rattle.codec_graph.specs.Widget.{normal_node}
 use Rattle.codec_graph.specs.Listed.{HasReadableList, list_fault, listed_node}
-use Rattle.codec_graph.specs.Faults.{first_fault}
-use Rattle.codec_graph.specs.Cycles.{IsWellFormed, IsFirstFault, IsFirstFaultBy, IsCycleFault}
+use Rattle.codec_graph.specs.Cycles.{IsWellFormed, IsFirstFault}
 use Rattle.verb_codes.specs.declared.entries.ListFault.{ListFault}
 use Rattle.verb_codes.specs.declared.verbs.Command.{Command}
 use Rattle.codec_walk.specs.declared.words.CodecWord.{CodecWord}
@@ -24,11 +22,11 @@ use Rattle.codec_walk.specs.Replies.{CanAnswer}
 use Rattle.codec_walk.specs.declared.fault.WalkError.{WalkError}
 use Rattle.codec_walk.specs.declared.fault.WalkError.TheVariants.{Malformed, OutOfMemory}
 use Rattle.codec_walk.specs.declared.fault.WalkFault.TheVariants as walk_fault
-use Rattle.codec_graph.specs.declared.fault.GraphFault.TheVariants.{NoAudioGroup, BadCount, ConnectionOutside, ListTooLong, AmpOffset, Cycle}
 use Rattle.std.specs.Prelude.{◌⊎◌}
 use Rattle.std.proofs.Common.{inl, inr}
 use Rattle.std.proofs.lemmas.Option.{none-some}
 use Rattle.codec_walk.specs.Outcomes.{HasGoodLists, IsGood, IsOutcome}
+use Rattle.codec_walk.proofs.OneOutcome.{no_first}
 use Rattle.codec_walk.proofs.Leading.{Leads}
 use Rattle.codec_walk.proofs.Counted.{counted, widgets_there, widgets_at}
 use Rattle.codec_walk.proofs.Answering.{codec_value, codec_answer}
@@ -149,18 +147,6 @@ told_good graph well = record {
 }
 
 -- and nothing else comes of it but want of memory
-no_cycle : (graph : RawCodec) (fault : GraphFault) → IsWellFormed graph → IsCycleFault graph fault → ⊥
-no_cycle graph (NoAudioGroup nid) well fault = fault
-no_cycle graph (BadCount nid) well fault = fault
-no_cycle graph (ConnectionOutside nid) well fault = fault
-no_cycle graph (ListTooLong nid) well fault = fault
-no_cycle graph (AmpOffset nid) well fault = fault
-no_cycle graph (Cycle nid) well fault = well.acyclic nid fault.0
-
-no_first : (graph : RawCodec) (fault : GraphFault) → IsWellFormed graph → IsFirstFault graph fault → ⊥
-no_first graph fault well first =
-    no_cycle graph fault well (subst (λ (faults : List GraphFault). IsFirstFaultBy graph (first_fault faults) fault) well.tables.no_fault first)
-
 pub only_graph : (codec graph : RawCodec) (result : Result RawCodec WalkError) → IsGood codec graph → IsOutcome codec result → (result ≡ Ok graph) ⊎ (result ≡ Err OutOfMemory)
 only_graph codec graph (Ok other) good outcome = inl (ap Ok (outcome.value ∙ sym good.value))
 only_graph codec graph (Err (Malformed (walk_fault.List nid fault))) good outcome = absurd (none-some fault (sym (good.lists nid) ∙ outcome.here))

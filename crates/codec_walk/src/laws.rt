@@ -6,7 +6,7 @@ ghost use Rattle.codec_walk.specs.Dialogues.{Told, question, after, told, asked}
 ghost use Rattle.codec_walk.specs.Walks.{walk};
 ghost use Rattle.codec_walk.specs.Commands.{walk_commands, node_count};
 ghost use Rattle.codec_walk.specs.Replies.{CanAnswer, AreReplies};
-ghost use Rattle.codec_walk.specs.Outcomes.{IsGood, IsOutcomeOf};
+ghost use Rattle.codec_walk.specs.Outcomes.{IsGood, IsOutcome, IsOutcomeOf};
 ghost use Rattle.codec_walk.specs.declared.fault.WalkError.{WalkError};
 ghost use Rattle.codec_walk.specs.declared.fault.WalkError.TheVariants.{OutOfMemory};
 
@@ -44,4 +44,10 @@ pub fn tells_what_the_graph_has()
 /// How many walk commands there are: ten for the root and the function group, and those of each widget.
 pub fn counts_the_commands()
     ensures { (codec : RawCodec) → length (walk_commands codec) ≡ 10 + sum_by node_count codec.nodes }
+{}
+
+/// Of the words that were told comes one thing: two outcomes of them are the same, unless memory was wanting.
+pub fn outcomes_are_one()
+    ensures { (codec : RawCodec) (one other : Result RawCodec WalkError) → IsOutcome codec one → IsOutcome codec other
+        → (one ≡ other) ⊎ ((one ≡ Err OutOfMemory) ⊎ (other ≡ Err OutOfMemory)) }
 {}

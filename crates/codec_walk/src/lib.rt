@@ -11,6 +11,7 @@ mod words;
 
 pub use fault::{WalkError, WalkFault};
 pub use laws::{
-    asks_what_is_told, asks_what_the_graph_has, counts_the_commands, tells_what_the_graph_has,
+    asks_what_is_told, asks_what_the_graph_has, counts_the_commands, outcomes_are_one,
+    tells_what_the_graph_has,
 };
 pub use walk::Walk;
