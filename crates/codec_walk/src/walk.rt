@@ -56,7 +56,6 @@ impl Walk {
     ///
     /// # Errors
     /// Want of memory.
-    #[tactic(auto, unfolding(crate::specs::Remaining::remaining, crate::specs::Walks::walk, crate::specs::Walks::from_codec))]
     pub fn new(alloc: Global, address: u8) -> Result<Walk, AllocError>
         requires { address ≤ 14 }
         ensures { IfOk result (λ walk. remaining walk ≡ walks.walk address) }
@@ -110,6 +109,7 @@ impl Walk {
                 Ok(())
             }
             Step::Widget(step) => self.take_node_word(step, answer),
+            // What asks nothing is not answered.
             Step::Done => unreachable!(),
         }
     }
@@ -260,6 +260,7 @@ fn append(nodes: &mut Vec<RawNode>, node: &mut RawNode)
     let read = mem::replace(node, plain);
     match nodes.push(read) {
         Ok(()) => {}
+        // There is room.
         Err(_) => unreachable!(),
     }
 }
