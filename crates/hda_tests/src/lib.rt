@@ -10,6 +10,8 @@ mod codecs;
 #[cfg(test)]
 mod files;
 #[cfg(test)]
+mod formats;
+#[cfg(test)]
 mod graphs;
 #[cfg(test)]
 mod items;
@@ -26,8 +28,14 @@ mod registers;
 #[cfg(test)]
 mod rings;
 #[cfg(test)]
+mod schedules;
+#[cfg(test)]
+mod streams;
+#[cfg(test)]
 mod verbs;
 #[cfg(test)]
 mod walks;
+#[cfg(test)]
+mod wavs;
 #[cfg(test)]
 mod words;

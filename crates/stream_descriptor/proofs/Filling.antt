@@ -1,16 +1,18 @@
 -- What a fetch of a stream that plays leads to.
-use Rattle.std.proofs.Common.{◌≡◌, ◌%◌, nat_le, ℕ, Bool, true, false, List, [], length, if◌then◌else◌, refl, sym, ap, subst, ◌∙◌}
+use Rattle.std.proofs.Common.{◌≡◌, ◌%◌, ◌==◌, ◌&&◌, not, nat_le, ℕ, suc, Bool, true, false, List, [], length, Option, None, Some, if◌then◌else◌, refl, sym, ap, subst, ◌∙◌}
 use Rattle.std.proofs.Math.Nat.{zero-mod}
-use Rattle.hda_registers.specs.Fields.{Descriptor, Fields, is_running, stream_of, list_address}
+use Rattle.std.proofs.lemmas.Option.{none-some}
+use Rattle.hda_registers.specs.Fields.{Descriptor, Fields, is_out_of_reset, is_running, stream_of, list_address}
 use Rattle.hda_registers.specs.Status.{worth}
 use Rattle.stream_format.specs.declared.format.Format.{Format}
 use Rattle.stream_format.specs.Cadence.{most_bytes}
-use Rattle.stream_moves.specs.Streams.{StreamState, Stream, begun, is_ready}
+use Rattle.stream_format.specs.Layouts.{Layout, layout_of}
+use Rattle.stream_moves.specs.Streams.{StreamState, Stream, begun, is_format, is_ready, is_usable, broke}
 use Rattle.stream_moves.specs.Output.{fetch, bytes_came, some_completes, some_breaks}
-use Rattle.stream_moves.proofs.Callers.{whole, fetch-whole, left-came, frame-came}
+use Rattle.stream_moves.proofs.Callers.{whole, fetch-whole, fetch-stopped, fetch-unusable, left-came, frame-came}
 use Rattle.stream_fetch.specs.Fetching.{Fetching}
 use Rattle.stream_fetch.specs.Fetching as fetching
-use Rattle.stream_descriptor.specs.Running.{Playing, StandsFor, LeadsTo, Runs, CanPlay, stream_at, with_descriptor, frame_cycle}
+use Rattle.stream_descriptor.specs.Running.{Playing, StandsFor, LeadsTo, CanPlay, stream_at, with_descriptor, fetched_at, frame_cycle}
 use Rattle.stream_descriptor.proofs.Placing.{leads_to, ready_is, not_ready, held_is, runs_on, of_with, with_with}
 
 module _ (playing : Playing) (fields : Fields) (format : Format) (state came : StreamState) (done : Bool)
@@ -128,3 +130,61 @@ module _ (playing last_playing : Playing) (after : Fetching) (fields one two thr
       subst (LeadsTo last_playing fields three) (sym (fetch-whole fields.shape.fifo memory most stream can.runs can.usable runs.ready))
       (subst (λ (c : Bool). LeadsTo last_playing fields three (whole c (some_breaks most fields.shape.fifo memory (list_address here) here.last_index state) came_state stream)) done_is
       (subst (λ (b : Bool). LeadsTo last_playing fields three (whole done b came_state stream)) broke_is (by_broke broke refl)))
+
+-- ---- where nothing is fetched
+
+-- a stream that does not play is left
+pub still_fetched : (index most : ℕ) (memory : List ℕ) (fields : Fields) (state : StreamState) → (is_out_of_reset fields.global && is_running (stream_of fields index)) ≡ false
+    → fetched_at index most memory fields state ≡ stream_at index fields state
+still_fetched index most memory fields state still = by_out (is_out_of_reset fields.global) still
+  where
+    by_out : (out : Bool) → (out && is_running (stream_of fields index)) ≡ false
+        → (if out then fetch most fields.shape.fifo memory (stream_at index fields state) else stream_at index fields state) ≡ stream_at index fields state
+    by_out true stopped = fetch-stopped fields.shape.fifo memory most (stream_at index fields state) stopped
+    by_out false stopped = refl
+
+-- a fetch of no byte leaves it
+pub none_fetched : (index : ℕ) (memory : List ℕ) (fields : Fields) (state : StreamState) → fetched_at index 0 memory fields state ≡ stream_at index fields state
+none_fetched index memory fields state = by_out (is_out_of_reset fields.global)
+  where
+    by_out : (out : Bool) → (if out then stream_at index fields state else stream_at index fields state) ≡ stream_at index fields state
+    by_out true = refl
+    by_out false = refl
+
+-- a stream without a usable format can't be used
+pub no_format : (d : Descriptor) → None ≡ (if is_usable d then layout_of d.format else None) → is_usable d ≡ false
+no_format d none = by_format (layout_of d.format) refl none
+  where
+    usable_by : Option Layout → Bool
+    usable_by found = is_format found && not (d.buffer_length == 0) && not (d.last_index == 0)
+
+    by_test : (usable : Bool) (layout : Layout) → None ≡ (if usable then Some layout else None) → usable ≡ false
+    by_test true layout h = absurd (none-some layout h)
+    by_test false layout h = refl
+
+    by_format : (found : Option Layout) → layout_of d.format ≡ found → None ≡ (if is_usable d then layout_of d.format else None) → is_usable d ≡ false
+    by_format None is h = ap usable_by is
+    by_format (Some layout) is h = by_test (is_usable d) layout (h ∙ ap (λ (found : Option Layout). if is_usable d then found else None) is)
+
+pub both_out : (out runs : Bool) → (out && runs) ≡ true → (out ≡ true) × (runs ≡ true)
+both_out true true h = (refl, refl)
+both_out true false h = (refl, h)
+both_out false true h = (h, refl)
+both_out false false h = (h, h)
+
+-- and stops where it plays
+pub broke_fetched : (playing after : Playing) (most : ℕ) (memory : List ℕ) (fields new : Fields) (state : StreamState) → StandsFor playing fields state
+    → (is_out_of_reset fields.global && is_running (stream_of fields playing.index)) ≡ true → is_usable (stream_of fields playing.index) ≡ false
+    → after.index ≡ playing.index → after.fetch.capacity ≡ playing.fetch.capacity → after.fetch.bytes ≡ []
+    → new ≡ with_descriptor playing.index (record (stream_of fields playing.index) { descriptor_error = 1; run = 0; fifo_ready = 0 }) fields
+    → LeadsTo after fields new (fetched_at playing.index (suc most) memory fields state)
+broke_fetched playing after most memory fields new state stands plays unusable index capacity empty is =
+    let both = both_out (is_out_of_reset fields.global) (is_running (stream_of fields playing.index)) plays in
+    let stream = stream_at playing.index fields state in
+    let same : broke stream ≡ fetched_at playing.index (suc most) memory fields state =
+    sym (fetch-unusable fields.shape.fifo memory most stream both.1 unusable)
+    ∙ sym (ap (λ (out : Bool). if out then fetch (suc most) fields.shape.fifo memory stream else stream) both.0) in
+    subst (LeadsTo after fields new) same
+    (leads_to after fields new (broke stream)
+    (is ∙ ap (λ (i : ℕ). with_descriptor i (record (stream_of fields playing.index) { descriptor_error = 1; run = 0; fifo_ready = 0 }) fields) (sym index))
+    (capacity ∙ stands.capacity) (λ off. empty) (λ on. runs_on _ on refl))

@@ -1,18 +1,17 @@
 -- What a link frame of a stream that plays leads to.
-use Rattle.std.proofs.Common.{◌≡◌, ◌≢◌, ◌<◌, ◌≤◌, ◌+◌, ◌-◌, ◌*◌, ◌%◌, ◌==◌, nat_le, ℕ, Bool, true, false, List, [], ◌++◌, length, take, drop, Some, if◌then◌else◌, refl, sym, ap, ap₂, subst, ◌∙◌, arith, rules, tests}
+use Rattle.std.proofs.Common.{◌≡◌, ◌≢◌, ◌+◌, ◌*◌, ◌%◌, ◌==◌, nat_le, ℕ, Bool, true, false, List, ◌++◌, length, take, drop, if◌then◌else◌, refl, sym, ap, ap₂, subst, ◌∙◌, rules, tests}
 use Rattle.std.proofs.Math.Nat.{mod-add-mod}
 use Rattle.hda_registers.specs.Fields.{Descriptor, Fields, is_running, stream_of}
 use Rattle.hda_registers.specs.Status.{worth}
 use Rattle.stream_format.specs.declared.format.Format.{Format}
 use Rattle.stream_format.specs.Cadence.{blocks_of, most_bytes, block_bytes}
-use Rattle.stream_format.specs.Layouts.{Layout, layout, layout_of, frame_bytes}
-use Rattle.stream_moves.specs.Streams.{StreamState, Stream, held, held_bytes, due, due_by, is_usable, is_ready}
+use Rattle.stream_format.specs.Layouts.{layout, frame_bytes}
+use Rattle.stream_moves.specs.Streams.{StreamState, Stream, held, due, due_by, is_usable, is_ready}
 use Rattle.stream_moves.specs.Output as output
 use Rattle.stream_moves.proofs.Callers.{blocks-cycle}
 use Rattle.stream_fetch.specs.Fetching.{Fetching}
 use Rattle.stream_fetch.specs.Fetching as fetching
-use Rattle.stream_descriptor.specs.declared.frame.Frame.{Frame}
-use Rattle.stream_descriptor.specs.declared.frame.Frame.TheVariants.{Idle, Gap, Blocks, Hole}
+use Rattle.stream_descriptor.specs.declared.frame.Frame.TheVariants.{Blocks}
 use Rattle.stream_descriptor.specs.Running.{Playing, StandsFor, LeadsTo, Runs, CanPlay, stream_at, with_descriptor, frame_cycle}
 use Rattle.stream_descriptor.specs.Frames.{IsAnswer}
 use Rattle.stream_descriptor.proofs.Placing.{leads_to, with_same, ready_is, held_is, runs_on}
@@ -51,7 +50,7 @@ module _ (playing : Playing) (fields : Fields) (format : Format) (state : Stream
       ∙ (ap (λ (blocks : ℕ). blocks * block_bytes format) (sym blocks_are) ∙ sym sent_is)
 
   next_frame : (playing.frame + 1) % frame_cycle ≡ (state.frame + 1) % frame_cycle
-  next_frame = ap (λ (n : ℕ). (n + 1) % frame_cycle) runs.frame ∙ mod-add-mod state.frame 1 frame_cycle
+  next_frame = ap (λ (n : ℕ). (n + 1) % frame_cycle) runs.frame ∙ mod-add-mod state.frame frame_cycle 1
 
   -- no block is due
   pub gap_found : sent ≡ 0 → output.frame_of stream ≡ output.Gap
@@ -102,7 +101,7 @@ module _ (playing : Playing) (fields : Fields) (format : Format) (state : Stream
       let standing : fetching.StandsFor after sent_state = record { bytes = here.bytes; list = here.list; behind = here.behind } in
       let position : (d.link_position + sent) % d.buffer_length ≡ (state.left + due stream) % d.buffer_length =
       ap (λ (n : ℕ). (n + sent) % d.buffer_length) runs.position
-      ∙ (mod-add-mod state.left sent d.buffer_length ∙ ap (λ (n : ℕ). (state.left + n) % d.buffer_length) (sym due_is)) in
+      ∙ (mod-add-mod state.left d.buffer_length sent ∙ ap (λ (n : ℕ). (state.left + n) % d.buffer_length) (sym due_is)) in
       let ready : is_ready (stream_at playing.index fields sent_state) ≡ nat_le (most_bytes format) (length after.bytes) =
       ready_is fields playing.index format sent_state can ∙ ap (nat_le (most_bytes format)) (sym (held_is after sent_state standing)) in
       leads_to (record next { fetch = after }) fields new (output.after_frame output.Blocks stream)

@@ -1,14 +1,13 @@
 -- A descriptor in the registers, and what a stream that plays stands for.
-use Rattle.std.proofs.Common.{◌≡◌, ◌<◌, ◌≤◌, ◌+◌, ◌-◌, ◌%◌, ◌&&◌, ◌==◌, nat_le, ℕ, zero, suc, Bool, true, false, List, [], length, drop, Option, Some, None, if◌then◌else◌, refl, sym, ap, ap₂, subst, ◌∙◌, arith, rules, tests, length-drop}
+use Rattle.std.proofs.Common.{◌≡◌, ◌<◌, ◌&&◌, ◌==◌, nat_le, ℕ, Bool, true, false, [], length, Option, Some, None, if◌then◌else◌, refl, sym, ap, subst, ◌∙◌, rules, tests, length-drop}
 use Rattle.std.proofs.lemmas.Bool.{true≢false}
-use Rattle.std.proofs.Math.Nat.{zero-mod}
-use Rattle.hda_registers.specs.Fields.{Descriptor, Fields, is_out_of_reset, is_running, stream_of}
+use Rattle.hda_registers.specs.Fields.{Descriptor, Fields, is_running, stream_of}
 use Rattle.hda_registers.specs.Moves.{at_stream}
 use Rattle.hda_registers.specs.Status.{worth}
 use Rattle.stream_format.specs.declared.format.Format.{Format}
 use Rattle.stream_format.specs.Layouts.{Layout, layout, layout_of}
 use Rattle.stream_format.specs.Cadence.{most_bytes}
-use Rattle.stream_moves.specs.Streams.{StreamState, Stream, begun, held, is_ready, is_format, most_by, has_format}
+use Rattle.stream_moves.specs.Streams.{StreamState, Stream, begun, held, is_ready, is_format, most_by}
 use Rattle.stream_moves.proofs.Callers.{some_most}
 use Rattle.stream_fetch.specs.Fetching.{Fetching}
 use Rattle.stream_fetch.specs.Fetching as fetching

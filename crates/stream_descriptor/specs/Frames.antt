@@ -1,5 +1,5 @@
 -- What the code answers of a link frame.
-use Rattle.std.specs.Prelude.{◌≡◌, ◌⊎◌, ℕ, List, ◌++◌, length, take, drop, Option, Some}
+use Rattle.std.specs.Prelude.{◌≡◌, ◌⊎◌, ℕ, List, ◌++◌, take, drop, Some}
 use Rattle.stream_format.specs.Layouts.{Layout, layout_of}
 use Rattle.stream_format.specs.Cadence.{blocks_of}
 use Rattle.stream_moves.specs.Streams.{Stream, held_bytes, due}

@@ -1,14 +1,17 @@
 //! An output stream.
-ghost use Rattle.std.specs.Prelude.{◌≡◌, ◌≤◌, ◌<◌, ◌+◌, ◌*◌, ◌%◌, true, false, [], IfOk, length, nat_le, if◌then◌else◌, option_map, None};
-ghost use Rattle.hda_registers.specs.Fields.{is_out_of_reset, is_running, stream_of};
+ghost use Rattle.std.specs.Prelude.{◌≡◌, ◌≤◌, ◌<◌, ◌+◌, ◌*◌, ◌%◌, true, false, [], IfOk, length, nat_le, ◌&&◌, take, drop, ◌++◌, if◌then◌else◌, option_map, None};
+ghost use Rattle.hda_registers.specs.Laws.{IsHeldInReset};
+ghost use Rattle.hda_registers.specs.Access.{rose, fell};
+ghost use Rattle.hda_registers.specs.Fields.{Descriptor, is_out_of_reset, is_running, stream_of};
 ghost use Rattle.stream_format.specs.Layouts.{layout, layout_of, frame_bytes};
 ghost use Rattle.stream_moves.specs.Streams.{StreamState, begun, is_usable};
 ghost use Rattle.stream_moves.specs.Streams as streams;
 ghost use Rattle.stream_moves.specs.Output as output;
 ghost use Rattle.hda_registers.specs.Status.{worth};
 ghost use Rattle.stream_format.specs.Cadence.{most_bytes};
-ghost use Rattle.stream_descriptor.specs.Running.{StandsFor, LeadsTo, CanPlay, stream_at, with_descriptor, fetched_at, found_at};
+ghost use Rattle.stream_descriptor.specs.Running.{StandsFor, StoodFor, LeadsTo, CanPlay, stream_at, with_descriptor, fetched_at, found_at};
 ghost use Rattle.stream_descriptor.specs.Frames.{IsAnswer};
+ghost use Rattle.stream_fetch.specs.Fetching as fetching;
 
 use crate::frame::{Frame, MOST_FRAME_BYTES};
 use hda_registers::{Moved, Raise, Registers};
@@ -71,6 +74,24 @@ impl Stream {
         self.show_start(regs);
     }
 
+    /// Does what a write of a register leaves to do at the stream: it starts where RUN rose, and stops where RUN fell.
+    pub fn settle(&mut self, regs: &mut Registers, started: bool, stopped: bool)
+        ensures index { self.new.index ≡ self.old.index }
+        ensures leads { (old : Descriptor) (state : StreamState) → IsHeldInReset regs.old
+            → started ≡ rose old (stream_of regs.old self.old.index) → stopped ≡ fell old (stream_of regs.old self.old.index)
+            → StoodFor self.old regs.old old state
+            → LeadsTo self.new regs.old regs.new (record {
+              descriptor = streams.settled old (stream_of regs.old self.old.index);
+              state = streams.settled_state old (stream_of regs.old self.old.index) state;
+            }) }
+    {
+        if started && regs.is_out_of_reset() {
+            self.start(regs);
+        } else if stopped {
+            self.stop(regs);
+        }
+    }
+
     /// RUN fell at the descriptor, or a reset cleared it: the FIFO is emptied; LPIB keeps its value (HDA 1.0a, 3.3.35).
     pub fn stop(&mut self, regs: &mut Registers)
         ensures index { self.new.index ≡ self.old.index }
@@ -92,7 +113,10 @@ impl Stream {
         ensures leads { (state : StreamState) → StandsFor self.old regs.old state
             → LeadsTo self.new regs.old regs.new (fetched_at self.old.index most memory.now regs.old state) }
     {
-        if most == 0 || !regs.is_out_of_reset() || !regs.is_stream_running(self.index) {
+        if most == 0 {
+            return;
+        }
+        if !self.is_playing(regs) {
             return;
         }
         match self.usable_format(regs) {
@@ -109,7 +133,7 @@ impl Stream {
         ensures answer { (state : StreamState) → StandsFor self.old regs.old state
             → IsAnswer (stream_at self.old.index regs.old state) (found_at self.old.index regs.old state) into.old into.new result }
     {
-        if !regs.is_out_of_reset() || !regs.is_stream_running(self.index) {
+        if !self.is_playing(regs) {
             return Frame::Idle;
         }
         match self.usable_format(regs) {
@@ -119,6 +143,13 @@ impl Stream {
                 Frame::Idle
             }
         }
+    }
+
+    /// Whether the stream runs, the controller being out of reset.
+    fn is_playing(&self, regs: &Registers) -> bool
+        ensures { result ≡ (is_out_of_reset regs.now.global && is_running (stream_of regs.now self.now.index)) }
+    {
+        regs.is_out_of_reset() && regs.is_stream_running(self.index)
     }
 
     /// The stream's format, where its registers can be used.
@@ -169,7 +200,7 @@ impl Stream {
         if due == 0 {
             return Frame::Gap;
         }
-        if !self.fetch.send(&mut into[..due]) {
+        if !send_front(&mut self.fetch, into, due) {
             self.raise_missed(regs);
             return Frame::Hole;
         }
@@ -287,4 +318,18 @@ fn bytes_due(format: Format, frame: u16) -> usize
     ensures few { result ≤ MOST_FRAME_BYTES }
 {
     (format.blocks(u64::from(frame)) * format.block_bytes()) as usize
+}
+
+/// Moves the oldest bytes of the FIFO, as many as are due, to the front of a frame. False exactly where it holds fewer.
+fn send_front(fetch: &mut Fetch, into: &mut [u8; MOST_FRAME_BYTES], due: usize) -> bool
+    requires { due ≤ MOST_FRAME_BYTES }
+    ensures enough { result ≡ nat_le due (length fetch.old.bytes) }
+    ensures sent { result ≡ true → into.new ≡ take due fetch.old.bytes ++ drop due into.old }
+    ensures stands { result ≡ true → (state : StreamState) → fetching.StandsFor fetch.old state
+        → fetching.StandsFor fetch.new (record state { left = state.left + due }) }
+    ensures unsent { result ≡ false → into.new ≡ into.old }
+    ensures kept { result ≡ false → fetch.new ≡ fetch.old }
+    ensures capacity { fetch.new.capacity ≡ fetch.old.capacity }
+{
+    fetch.send(&mut into[..due])
 }

@@ -1,1 +1,3 @@
 mod Cycles
+mod Bounds
+pub mod Callers

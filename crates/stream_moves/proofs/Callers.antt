@@ -20,3 +20,5 @@ pub use Rattle.stream_moves.proofs.Coming.{can, cannot_full, cannot_bad, come, n
 pub use Rattle.stream_moves.proofs.Coming.{stays, none_completes, none_breaks}
 -- what a fetch comes to at a list entry that can't be used, and after a byte
 pub use Rattle.stream_moves.proofs.Coming.{breaks_now, breaks_later, completes_or, came_on}
+-- no frame has more than 128 bytes
+pub use Rattle.stream_moves.proofs.Formats.{few_bytes}

@@ -1,13 +1,15 @@
 -- Facts of formats that streams rest on.
-use Rattle.std.proofs.Common.{◌≡◌, ◌<◌, ◌+◌, ◌*◌, ◌/◌, ◌%◌, ℕ, Bool, true, false, slice_index, Option, Some, None, if◌then◌else◌, refl, ap, subst, arith}
-use Rattle.std.proofs.Math.Nat.{mod-mod_of_dvd}
+use Rattle.std.proofs.Common.{◌≡◌, ◌<◌, ◌≤◌, ◌+◌, ◌*◌, ◌/◌, ◌%◌, ℕ, Bool, true, false, slice_index, Option, Some, None, if◌then◌else◌, refl, ap, subst, arith}
+use Rattle.std.proofs.Math.Nat.{mod-mod_of_dvd, mul-le-mul}
 use Rattle.std.proofs.lemmas.Nat.{mul-lt}
 use Rattle.std.proofs.lemmas.Nat.Gcd.{dvd_of_mod-eq-zero}
 use Rattle.stream_format.specs.declared.format.Rate.{Rate}
 use Rattle.stream_format.specs.declared.format.Rate.TheVariants.{R8, R16, R44, R48, R96, R192}
 use Rattle.stream_format.specs.declared.format.Bits.{Bits}
 use Rattle.stream_format.specs.declared.format.Bits.TheVariants.{B16, B24, B32}
-use Rattle.stream_format.specs.Cadence.{blocks_of, cadence, cadence_44, most_blocks, container_bytes}
+use Rattle.stream_format.specs.declared.format.Format.{Format}
+use Rattle.stream_format.specs.Cadence.{blocks_of, cadence, cadence_44, most_blocks, container_bytes, block_bytes}
+use Rattle.stream_format.proofs.Callers.{most-bounds}
 use Rattle.stream_format.specs.Layouts.{Layout, layout_of, rate_named, size_named, is_channel_count, with_size, with_rate, most_frame_bytes}
 
 -- a format's frames come again after 480
@@ -72,3 +74,26 @@ some_block word layout is =
 
 pub some_most : (word : ℕ) (layout : Layout) → layout_of word ≡ Some layout → 0 < most_frame_bytes layout
 some_most word layout is = mul-lt 0 0 _ _ (some_blocks layout.rate) (some_block word layout is)
+
+-- ---- no frame has more than 128 bytes
+
+few_blocks : (rate : Rate) → most_blocks rate ≤ 4
+few_blocks R8 = omega arith
+few_blocks R16 = omega arith
+few_blocks R44 = omega arith
+few_blocks R48 = omega arith
+few_blocks R96 = omega arith
+few_blocks R192 = omega arith
+
+small_container : (bits : Bits) → container_bytes bits ≤ 4
+small_container B16 = omega arith
+small_container B24 = omega arith
+small_container B32 = omega arith
+
+-- so no frame of a format
+pub few_bytes : (format : Format) (frame : ℕ) → blocks_of format.rate frame * block_bytes format ≤ 128
+few_bytes format frame =
+    let bounded : blocks_of format.rate frame * block_bytes format ≤ most_blocks format.rate * block_bytes format = most-bounds format frame in
+    let block : block_bytes format ≤ 8 * 4 = mul-le-mul format.few (small_container format.bits) in
+    let most : most_blocks format.rate * block_bytes format ≤ 4 * (8 * 4) = mul-le-mul (few_blocks format.rate) block in
+    omega (arith, bounded, most)

@@ -1,4 +1,4 @@
-use Rattle.std.proofs.Common.{◌≡◌, sym, ap, subst, ◌∙◌}
+use Rattle.std.proofs.Common.{subst}
 use Rattle.stream_moves.specs.Streams.{StreamState}
 use Rattle.stream_moves.specs.Output as output
 use Rattle.stream_descriptor.specs.Running.{Playing, StandsFor, LeadsTo, CanPlay, stream_at}

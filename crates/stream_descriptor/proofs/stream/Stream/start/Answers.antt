@@ -1,4 +1,4 @@
-use Rattle.std.proofs.Common.{◌≡◌, true, sym, ap, ◌∙◌}
+use Rattle.std.proofs.Common.{ap, ◌∙◌}
 use Rattle.hda_registers.specs.Fields.{is_running, stream_of}
 use Rattle.stream_descriptor.specs.Running.{Playing}
 use Rattle.stream_descriptor.proofs.Filling.{started}

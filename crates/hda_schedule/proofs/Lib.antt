@@ -1,0 +1,7 @@
+pub mod CutLemmas
+pub mod DigitLemmas
+pub mod CountLemmas
+pub mod RowLemmas
+pub mod RangeLemmas
+pub mod ReadLemmas
+pub mod HeadLemmas

@@ -1,0 +1,12 @@
+use Rattle.std.proofs.Common.{◌*◌, ◌≤◌, arith}
+use Rattle.stream_moves.proofs.Callers.{few_bytes}
+use Rattle.stream_descriptor.proofs.stream.bytes_due.Goals as goal
+
+few : (c : goal.After-block_bytes) → c.blocks-2.result * c.block_bytes.result ≤ 128
+few c = rw (c.blocks-2.ensures, c.block_bytes.ensures) (few_bytes c.args.format c.from.result)
+
+pub overflow_mul-result : goal.overflow_mul-result
+overflow_mul-result c = omega (arith, few c)
+
+pub returns-clause-few : goal.returns-clause-few
+returns-clause-few c = few c

@@ -1,0 +1,6 @@
+-- What proofs of the layers above cite.
+
+-- no frame has more blocks than the most of its rate
+pub use Rattle.stream_format.proofs.Bounds.{bounded}
+-- nor more bytes than the most of its format
+pub use Rattle.stream_format.proofs.Bounds.{most-bounds}
