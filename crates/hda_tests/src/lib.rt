@@ -34,6 +34,8 @@ mod streams;
 #[cfg(test)]
 mod verbs;
 #[cfg(test)]
+mod walks;
+#[cfg(test)]
 mod wavs;
 #[cfg(test)]
 mod words;

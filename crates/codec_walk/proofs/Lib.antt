@@ -1,0 +1,11 @@
+pub mod StepLemmas
+pub mod WalkLemmas
+pub mod Endings
+pub mod Leading
+pub mod Counted
+pub mod Answering
+pub mod Following
+pub mod OneOutcome
+pub mod Whole
+pub mod Counting
+pub mod Callers
