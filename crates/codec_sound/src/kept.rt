@@ -1,0 +1,118 @@
+//! Signals that are kept until something changes on which they depend.
+ghost use Rattle.std.specs.Prelude.{◌≡◌, ℕ, map, IfOk, Contains};
+ghost use Rattle.codec_sound.specs.declared.signals.Signal.{Signal};
+ghost use Rattle.codec_sound.specs.Keeping as spec;
+
+use crate::pins::hears;
+use crate::signals::Signal;
+use crate::streams::LinkStream;
+use crate::table::outputs;
+use codec_graph::{Graph, Settings};
+use std::alloc::{AllocError, Global};
+use std::marker::Model;
+use stream_format::Format;
+
+/// Pins of a codec, each with its signal, and how often the signals were renewed. This project's own.
+#[derive(Debug, Drop)]
+pub struct Kept {
+    pins: Vec<(u8, Signal)>,
+    renewals: u64,
+}
+
+impl Model for Kept {
+    ghost use Rattle.codec_sound.specs.Keeping.{KeptSignals};
+
+    ghost Value = { KeptSignals };
+
+    ghost view = { λ kept. record { signals = kept.pins.items; renewals = kept.renewals } };
+}
+
+impl Kept {
+    /// Keeps the signals of some pins while a stream with this tag and format plays: without a format nothing is heard. The
+    /// settings are the graph's.
+    ///
+    /// # Errors
+    /// Want of memory.
+    pub fn new(
+        alloc: Global,
+        graph: &Graph,
+        settings: &Settings,
+        pins: Vec<u8>,
+        tag: u8,
+        format: Option<Format>,
+    ) -> Result<Kept, AllocError>
+        ensures { IfOk result (λ kept. kept ≡ record {
+          signals = spec.with_signals (spec.signal_by graph.now settings.now tag format) pins.items;
+          renewals = 0;
+        }) }
+    {
+        let mut kept = Kept {
+            pins: silent_pins(alloc, pins.as_slice())?,
+            renewals: 0,
+        };
+        kept.work_out(graph, settings, tag, format);
+        Ok(kept)
+    }
+
+    /// Works the signals of the kept pins out anew, and counts this: at 2^64 - 1 the count stays. Works out what each node gives
+    /// once, and takes no memory.
+    pub fn renew(&mut self, graph: &Graph, settings: &Settings, tag: u8, format: Option<Format>)
+        ensures { self.new ≡ record {
+          signals = spec.with_signals (spec.signal_by graph.now settings.now tag format) (spec.kept_pins self.old.signals);
+          renewals = spec.counted_on self.old.renewals;
+        } }
+    {
+        self.work_out(graph, settings, tag, format);
+        self.renewals = self.renewals.saturating_add(1);
+    }
+
+    /// Works the signals of the kept pins out anew.
+    fn work_out(&mut self, graph: &Graph, settings: &Settings, tag: u8, format: Option<Format>)
+        ensures { self.new ≡ record {
+          signals = spec.with_signals (spec.signal_by graph.now settings.now tag format) (spec.kept_pins self.old.signals);
+          renewals = self.old.renewals;
+        } }
+    {
+        match format {
+            Some(format) => {
+                let table = outputs(graph, settings, LinkStream::new(tag, format));
+                for kept in self.pins.iter_mut() {
+                    kept.1 = hears(graph.raw(), settings, &table, kept.0);
+                }
+            }
+            None => {
+                for kept in self.pins.iter_mut() {
+                    kept.1 = Signal::Silence;
+                }
+            }
+        }
+    }
+
+    /// The signal of a kept pin, as it was worked out last.
+    pub fn hear(&self, pin: u8) -> Signal
+        requires { Contains (spec.kept_pins self.now.signals) pin }
+        ensures kept { Contains self.now.signals (pin, result) }
+        ensures worked_out { (signal : ℕ → Signal) → spec.AreKept signal self.now.signals → result ≡ signal pin }
+    {
+        for (kept, signal) in &self.pins {
+            if *kept == pin {
+                return *signal;
+            }
+        }
+        unreachable!()
+    }
+
+    /// How often the signals were renewed.
+    pub fn renewals(&self) -> u64
+        ensures { result ≡ self.now.renewals }
+    {
+        self.renewals
+    }
+}
+
+/// Each of some pins, with nothing to hear.
+fn silent_pins(alloc: Global, pins: &[u8]) -> Result<Vec<(u8, Signal)>, AllocError>
+    ensures { IfOk result (λ kept. kept.items ≡ spec.with_signals (λ _. Signal.Silence) pins.now) }
+{
+    pins.iter().map(|pin| (*pin, Signal::Silence)).collect(alloc)
+}
