@@ -22,6 +22,10 @@ signal_by codec settings tag (Some format) pin = signal_of codec settings (strea
 abbrev pub with_signals : (ℕ → Signal) → List ℕ → List (ℕ × Signal)
 with_signals signal pins = map (λ pin. (pin, signal pin)) pins
 
+-- kept pins, each with the signal that this gives it now
+abbrev pub renewed : (ℕ → Signal) → List (ℕ × Signal) → List (ℕ × Signal)
+renewed signal signals = map (λ kept. (kept.0, signal kept.0)) signals
+
 -- the pins that are kept
 abbrev pub kept_pins : List (ℕ × Signal) → List ℕ
 kept_pins signals = map (λ kept. kept.0) signals

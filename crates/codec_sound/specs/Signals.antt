@@ -142,6 +142,9 @@ abbrev pub hears : RawCodec → Entries → (ℕ → Signal) → ℕ → Option 
 hears codec settings out nid None = Silence
 hears codec settings out nid (Some node) = if is_pin node then pin_hears codec settings out nid node else Silence
 
+abbrev pub hears_at : RawCodec → Entries → (ℕ → Signal) → ℕ → Signal
+hears_at codec settings out nid = hears codec settings out nid (node_at codec nid)
+
 -- the signal of a pin
 abbrev pub signal_of : RawCodec → Entries → LinkStream → ℕ → Signal
-signal_of codec settings stream pin = hears codec settings (out codec settings stream) pin (node_at codec pin)
+signal_of codec settings stream pin = hears_at codec settings (out codec settings stream) pin

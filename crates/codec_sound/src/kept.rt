@@ -1,13 +1,15 @@
 //! Signals that are kept until something changes on which they depend.
 ghost use Rattle.std.specs.Prelude.{◌≡◌, ℕ, map, IfOk, Contains};
 ghost use Rattle.codec_sound.specs.declared.signals.Signal.{Signal};
+ghost use Rattle.codec_sound.specs.Signals.{hears_at};
+ghost use Rattle.codec_sound.specs.Depths.{in_table};
 ghost use Rattle.codec_sound.specs.Keeping as spec;
 
 use crate::pins::hears;
-use crate::signals::Signal;
+use crate::signals::{Signal, Table};
 use crate::streams::LinkStream;
 use crate::table::outputs;
-use codec_graph::{Graph, Settings};
+use codec_graph::{Graph, RawCodec, Settings};
 use std::alloc::{AllocError, Global};
 use std::marker::Model;
 use stream_format::Format;
@@ -58,7 +60,7 @@ impl Kept {
     /// once, and takes no memory.
     pub fn renew(&mut self, graph: &Graph, settings: &Settings, tag: u8, format: Option<Format>)
         ensures { self.new ≡ record {
-          signals = spec.with_signals (spec.signal_by graph.now settings.now tag format) (spec.kept_pins self.old.signals);
+          signals = spec.renewed (spec.signal_by graph.now settings.now tag format) self.old.signals;
           renewals = spec.counted_on self.old.renewals;
         } }
     {
@@ -66,26 +68,13 @@ impl Kept {
         self.renewals = self.renewals.saturating_add(1);
     }
 
-    /// Works the signals of the kept pins out anew.
+    /// Works the signals of the kept pins out anew, without counting it.
     fn work_out(&mut self, graph: &Graph, settings: &Settings, tag: u8, format: Option<Format>)
-        ensures { self.new ≡ record {
-          signals = spec.with_signals (spec.signal_by graph.now settings.now tag format) (spec.kept_pins self.old.signals);
-          renewals = self.old.renewals;
+        ensures { self.new ≡ record self.old {
+          signals = spec.renewed (spec.signal_by graph.now settings.now tag format) self.old.signals;
         } }
     {
-        match format {
-            Some(format) => {
-                let table = outputs(graph, settings, LinkStream::new(tag, format));
-                for kept in self.pins.iter_mut() {
-                    kept.1 = hears(graph.raw(), settings, &table, kept.0);
-                }
-            }
-            None => {
-                for kept in self.pins.iter_mut() {
-                    kept.1 = Signal::Silence;
-                }
-            }
-        }
+        work_out(graph, settings, tag, format, self.pins.as_mut_slice());
     }
 
     /// The signal of a kept pin, as it was worked out last.
@@ -115,4 +104,41 @@ fn silent_pins(alloc: Global, pins: &[u8]) -> Result<Vec<(u8, Signal)>, AllocErr
     ensures { IfOk result (λ kept. kept.items ≡ spec.with_signals (λ _. Signal.Silence) pins.now) }
 {
     pins.iter().map(|pin| (*pin, Signal::Silence)).collect(alloc)
+}
+
+/// Gives each pin what it hears now.
+fn work_out(
+    graph: &Graph,
+    settings: &Settings,
+    tag: u8,
+    format: Option<Format>,
+    pins: &mut [(u8, Signal)],
+)
+    ensures { pins.new ≡ spec.renewed (spec.signal_by graph.now settings.now tag format) pins.old }
+{
+    match format {
+        Some(format) => {
+            let table = outputs(graph, settings, LinkStream::new(tag, format));
+            hear_all(graph.raw(), settings, &table, pins);
+        }
+        None => silence_all(pins),
+    }
+}
+
+/// Gives each pin what it hears where each node gives what the table says.
+fn hear_all(codec: &RawCodec, settings: &Settings, table: &Table, pins: &mut [(u8, Signal)])
+    ensures { pins.new ≡ spec.renewed (hears_at codec.now settings.now (in_table table.now)) pins.old }
+{
+    for kept in pins.iter_mut() {
+        kept.1 = hears(codec, settings, table, kept.0);
+    }
+}
+
+/// Gives each pin nothing to hear.
+fn silence_all(pins: &mut [(u8, Signal)])
+    ensures { pins.new ≡ spec.renewed (λ _. Signal.Silence) pins.old }
+{
+    for kept in pins.iter_mut() {
+        kept.1 = Signal::Silence;
+    }
 }

@@ -4,6 +4,7 @@
 mod amplifiers;
 mod heard;
 mod kept;
+mod laws;
 mod pins;
 mod signals;
 mod streams;
@@ -12,5 +13,9 @@ mod widgets;
 
 pub use heard::Heard;
 pub use kept::Kept;
+pub use laws::{
+    frames_add_their_items, heard_lists_go_on, heard_samples_are_the_formats,
+    kept_signals_are_those_of_words, signals_alone_fit_the_step,
+};
 pub use pins::signal;
 pub use signals::Signal;

@@ -1,6 +1,5 @@
 //! What pins hear.
 ghost use Rattle.std.specs.Prelude.{◌≡◌};
-ghost use Rattle.codec_graph.specs.Widget.{node_at};
 ghost use Rattle.codec_sound.specs.Signals as spec;
 ghost use Rattle.codec_sound.specs.Depths.{in_table};
 
@@ -32,7 +31,7 @@ pub fn signal(graph: &Graph, settings: &Settings, pin: u8, tag: u8, format: Form
 
 /// What the pin hears where each node gives what the table says.
 pub(crate) fn hears(codec: &RawCodec, settings: &Settings, table: &Table, pin: u8) -> Signal
-    ensures { result ≡ spec.hears codec.now settings.now (in_table table.now) pin (node_at codec.now pin) }
+    ensures { result ≡ spec.hears_at codec.now settings.now (in_table table.now) pin }
 {
     match codec.node(pin) {
         Some(node) if node.is_pin() => pin_hears(codec, settings, table, pin, node),
