@@ -28,6 +28,8 @@ mod rings;
 #[cfg(test)]
 mod schedules;
 #[cfg(test)]
+mod sounds;
+#[cfg(test)]
 mod verbs;
 #[cfg(test)]
 mod words;
