@@ -6,7 +6,7 @@ use Rattle.stream_format.specs.declared.format.Format.{Format}
 use Rattle.codec_sound.specs.declared.signals.Signal.{Signal}
 use Rattle.codec_sound.specs.declared.streams.LinkStream.{LinkStream}
 use Rattle.codec_sound.specs.Signals.{stream_of, signal_of}
-use Rattle.codec_sound.specs.Keeping.{signal_by, with_signals, renewed}
+use Rattle.codec_sound.specs.Keeping.{signal_by, with_signals, renewed, kept_pins}
 
 -- signals that agree are renewed alike
 pub renewed-agree : (f g : ℕ → Signal) (signals : List (ℕ × Signal)) → ((pin : ℕ) → f pin ≡ g pin) → renewed f signals ≡ renewed g signals
@@ -21,3 +21,12 @@ renewed-with_signals f g (pin ∷ pins) = rw (renewed-with_signals f g pins) ref
 -- the signal by a format that is there
 pub signal_by-some : (codec : RawCodec) (settings : Entries) (tag : ℕ) (option : Option Format) (format : Format) (stream : LinkStream) → option ≡ Some format → stream ≡ stream_of tag format → (pin : ℕ) → signal_of codec settings stream pin ≡ signal_by codec settings tag option pin
 signal_by-some codec settings tag option format stream is e pin = rw (is, e) refl
+
+-- the kept pins stay the same
+pub kept_pins-renewed : (f : ℕ → Signal) (signals : List (ℕ × Signal)) → kept_pins (renewed f signals) ≡ kept_pins signals
+kept_pins-renewed f [] = refl
+kept_pins-renewed f (kept ∷ signals) = rw (kept_pins-renewed f signals) refl
+
+pub kept_pins-with_signals : (f : ℕ → Signal) (pins : List ℕ) → kept_pins (with_signals f pins) ≡ pins
+kept_pins-with_signals f [] = refl
+kept_pins-with_signals f (pin ∷ pins) = rw (kept_pins-with_signals f pins) refl

@@ -43,10 +43,11 @@ impl Kept {
         tag: u8,
         format: Option<Format>,
     ) -> Result<Kept, AllocError>
-        ensures { IfOk result (λ kept. kept ≡ record {
+        ensures value { IfOk result (λ kept. kept ≡ record {
           signals = spec.with_signals (spec.signal_by graph.now settings.now tag format) pins.items;
           renewals = 0;
         }) }
+        ensures pins { IfOk result (λ kept. spec.kept_pins kept.signals ≡ pins.items) }
     {
         let mut kept = Kept {
             pins: silent_pins(alloc, pins.as_slice())?,
@@ -59,10 +60,11 @@ impl Kept {
     /// Works the signals of the kept pins out anew, and counts this: at 2^64 - 1 the count stays. Works out what each node gives
     /// once, and takes no memory.
     pub fn renew(&mut self, graph: &Graph, settings: &Settings, tag: u8, format: Option<Format>)
-        ensures { self.new ≡ record {
+        ensures value { self.new ≡ record {
           signals = spec.renewed (spec.signal_by graph.now settings.now tag format) self.old.signals;
           renewals = spec.counted_on self.old.renewals;
         } }
+        ensures pins { spec.kept_pins self.new.signals ≡ spec.kept_pins self.old.signals }
     {
         self.work_out(graph, settings, tag, format);
         self.renewals = self.renewals.saturating_add(1);
