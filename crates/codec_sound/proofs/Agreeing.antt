@@ -1,6 +1,5 @@
 -- What a node gives depends on what the nodes give that it lists, and on no other.
-use Rattle.std.proofs.Common.{◌≡◌, ℕ, zero, suc, ◌+◌, Bool, true, false, cond, ◌||◌, not, List, [], ◌∷◌, length, Contains, Option, Some, None, refl, ap, arith}
-use Rattle.std.specs.Prelude.{slice_get}
+use Rattle.std.proofs.Common.{◌≡◌, ℕ, suc, ◌+◌, Bool, true, false, cond, ◌||◌, not, List, [], ◌∷◌, Contains, Option, Some, None, refl, ap, arith}
 use Rattle.std.proofs.lemmas.Option.{get_or_from_slice_get, slice_get_within}
 use Rattle.codec_graph.specs.declared.raw.RawNode.{RawNode}
 use Rattle.codec_graph.specs.declared.raw.RawCodec.{RawCodec}
@@ -11,7 +10,7 @@ use Rattle.codec_sound.specs.declared.signals.Signal.{Signal}
 use Rattle.codec_sound.specs.declared.signals.Signal.TheVariants.{Silence}
 use Rattle.codec_sound.specs.declared.streams.LinkStream.{LinkStream}
 use Rattle.codec_sound.specs.Amplifiers.{changed_if, after_output, after_input}
-use Rattle.codec_sound.specs.Signals.{is_off, converted, sum_of, mixed, selected_place, selected, passed_on, made, given, given_at, gives, is_silent_pin, comes_from, pin_hears, hears}
+use Rattle.codec_sound.specs.Signals.{is_off, converted, mixed, selected_place, selected, passed_on, made, given_at, gives, is_silent_pin, comes_from, hears}
 
 -- an element at the front, and one behind it
 pub contains_first : {X : Type 0} (x : X) (xs : List X) → Contains (x ∷ xs) x

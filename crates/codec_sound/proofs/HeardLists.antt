@@ -1,7 +1,7 @@
 -- Heard lists grow frame by frame.
-use Rattle.std.proofs.Common.{◌≡◌, ℕ, ◌+◌, ◌*◌, ◌/◌, List, [], ◌∷◌, ◌++◌, map, length, drop, Option, Some, None, refl, sym, ap, ◌∙◌, arith}
+use Rattle.std.proofs.Common.{◌≡◌, ℕ, ◌/◌, List, [], ◌∷◌, ◌++◌, map, length, Option, Some, None, refl, ap, ◌∙◌}
 use Rattle.std.specs.Prelude.{MatchOption, option_map}
-use Rattle.std.specs.List.{flat_map, range_with_len}
+use Rattle.std.specs.List.{range_with_len}
 use Rattle.std.proofs.lemmas.Grind.{flat_map-append}
 use Rattle.std.proofs.lemmas.List.{append-nil, length-map}
 use Rattle.std.proofs.lemmas.List.FromFn.{length-range_with_len}
@@ -10,13 +10,13 @@ use Rattle.codec_graph.specs.CodecStates.{CodecState}
 use Rattle.stream_format.specs.declared.format.Format.{Format}
 use Rattle.stream_format.specs.Layouts.{Layout, layout, layout_of}
 use Rattle.stream_format.specs.Words.{format_word, HasNoFormat}
-use Rattle.stream_moves.specs.Output.{Carriage, Sent, Missed}
+use Rattle.stream_moves.specs.Output.{Sent, Missed}
 use Rattle.hda_world.specs.Worlds.{CarriedFrame}
 use Rattle.codec_sound.specs.declared.signals.Signal.{Signal}
 use Rattle.codec_sound.specs.declared.heard.Heard.{Heard}
 use Rattle.codec_sound.specs.declared.heard.Heard.TheVariants.{Hole}
 use Rattle.codec_sound.specs.Keeping.{signal_by}
-use Rattle.codec_sound.specs.HeardLists.{block_size, blocks, block_at, item_of, items_sent, items_of, signal_with, signal_in, frame_items, heard}
+use Rattle.codec_sound.specs.HeardLists.{block_size, block_at, item_of, items_sent, items_of, signal_with, signal_in, frame_items, heard}
 
 pub heard-append : (address pin : ℕ) (before added : List CarriedFrame) → heard address pin (before ++ added) ≡ heard address pin before ++ heard address pin added
 heard-append address pin before added = flat_map-append (frame_items address pin) before added

@@ -10,7 +10,6 @@ use Rattle.stream_moves.specs.Output.{Carriage, Sent, Missed}
 use Rattle.hda_world.specs.Worlds.{CarriedFrame, codec_at}
 use Rattle.codec_sound.specs.declared.signals.Signal.{Signal}
 use Rattle.codec_sound.specs.declared.signals.Signal.TheVariants as variant
-use Rattle.codec_sound.specs.declared.streams.LinkStream.{LinkStream}
 use Rattle.codec_sound.specs.declared.heard.Heard.{Heard}
 use Rattle.codec_sound.specs.declared.heard.Heard.TheVariants.{Sound, Quiet, Hole, Altered}
 use Rattle.codec_sound.specs.Signals.{signal_of}

@@ -1,6 +1,5 @@
 -- Signals that are kept until something changes on which they depend. This project's own.
-use Rattle.std.specs.Prelude.{◌≡◌, ℕ, ◌==◌, ◌+◌, ◌-◌, ◌^◌, List, map, min, Option, Some, None, All, unwrap_or, option_map}
-use Rattle.std.specs.List.{find}
+use Rattle.std.specs.Prelude.{◌≡◌, ℕ, ◌+◌, ◌-◌, ◌^◌, List, map, min, Option, Some, None, All}
 use Rattle.codec_graph.specs.declared.raw.RawCodec.{RawCodec}
 use Rattle.codec_graph.specs.Settings.{Entries}
 use Rattle.stream_format.specs.declared.format.Format.{Format}

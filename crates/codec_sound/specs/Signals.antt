@@ -1,7 +1,7 @@
 -- The signal that each widget gives and each pin hears while a stream plays: nothing, one pair of the stream's channels, or something
 -- that is not followed. Connections: High Definition Audio 1.0a, 7.1.2; widgets: 7.2.3. That two signals together, a mono widget and
 -- a digital one make a signal that is not followed is this project's own.
-use Rattle.std.specs.Prelude.{ℕ, zero, suc, Bool, ◌==◌, ◌&&◌, ◌||◌, not, ◌+◌, ◌/◌, ◌%◌, List, [], ◌∷◌, length, Option, Some, None, nat_lt, nat_le, slice_get, if◌then◌else◌}
+use Rattle.std.specs.Prelude.{ℕ, zero, suc, Bool, ◌==◌, ◌&&◌, ◌||◌, not, ◌+◌, ◌/◌, ◌%◌, List, [], ◌∷◌, length, Option, Some, None, nat_lt, slice_get, if◌then◌else◌}
 use Rattle.codec_graph.specs.declared.raw.RawNode.{RawNode}
 use Rattle.codec_graph.specs.declared.raw.RawCodec.{RawCodec}
 use Rattle.codec_graph.specs.declared.controls.Control.TheVariants as control
@@ -13,7 +13,7 @@ use Rattle.stream_format.specs.Words.{format_word}
 use Rattle.codec_sound.specs.declared.signals.Signal.{Signal}
 use Rattle.codec_sound.specs.declared.signals.Signal.TheVariants.{Silence, Pair, Altered}
 use Rattle.codec_sound.specs.declared.streams.LinkStream.{LinkStream}
-use Rattle.codec_sound.specs.Amplifiers.{changed, changed_if, after_output, after_input}
+use Rattle.codec_sound.specs.Amplifiers.{changed_if, after_output, after_input}
 
 -- the stream with this tag and format
 abbrev pub stream_of : ℕ → Format → LinkStream

@@ -105,7 +105,9 @@ impl Kept {
 fn silent_pins(alloc: Global, pins: &[u8]) -> Result<Vec<(u8, Signal)>, AllocError>
     ensures { IfOk result (λ kept. kept.items ≡ spec.with_signals (λ _. Signal.Silence) pins.now) }
 {
-    pins.iter().map(|pin| (*pin, Signal::Silence)).collect(alloc)
+    pins.iter()
+        .map(|pin| (*pin, Signal::Silence))
+        .collect(alloc)
 }
 
 /// Gives each pin what it hears now.

@@ -39,7 +39,13 @@ pub(crate) fn hears(codec: &RawCodec, settings: &Settings, table: &Table, pin: u
     }
 }
 
-fn pin_hears(codec: &RawCodec, settings: &Settings, table: &Table, pin: u8, node: &RawNode) -> Signal
+fn pin_hears(
+    codec: &RawCodec,
+    settings: &Settings,
+    table: &Table,
+    pin: u8,
+    node: &RawNode,
+) -> Signal
     ensures { result ≡ spec.pin_hears codec.now settings.now (in_table table.now) pin node.now }
 {
     if is_silent(codec, settings, pin, node) {

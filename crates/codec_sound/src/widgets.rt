@@ -40,12 +40,7 @@ fn takes(settings: &Settings, stream: LinkStream, nid: u8) -> bool
 }
 
 /// Whether a converter makes of the stream what is not followed.
-fn converts_otherwise(
-    settings: &Settings,
-    stream: LinkStream,
-    nid: u8,
-    node: &RawNode,
-) -> bool
+fn converts_otherwise(settings: &Settings, stream: LinkStream, nid: u8, node: &RawNode) -> bool
     ensures { result ≡ spec.converts_otherwise settings.now stream nid node.now }
 {
     let channel = channel_at(settings, nid);

@@ -1,6 +1,5 @@
-use Rattle.std.proofs.Common.{◌∙◌}
 use Rattle.codec_graph.specs.Widget.{node_at}
-use Rattle.codec_sound.specs.Signals.{out, stream_of}
+use Rattle.codec_sound.specs.Signals.{out}
 use Rattle.codec_sound.specs.Depths.{in_table}
 use Rattle.codec_sound.proofs.Agreeing.{hears-agree}
 use Rattle.codec_sound.proofs.pins.signal.Goals as goal

@@ -1,4 +1,4 @@
-use Rattle.std.proofs.Common.{◌≡◌, ap, ◌∙◌}
+use Rattle.std.proofs.Common.{ap, ◌∙◌}
 use Rattle.codec_sound.specs.Keeping.{KeptSignals, signal_by, kept_pins}
 use Rattle.codec_sound.proofs.Renewing.{kept_pins-renewed}
 use Rattle.codec_sound.proofs.kept.Kept.renew.Goals as goal
