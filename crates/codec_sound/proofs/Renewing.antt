@@ -23,9 +23,9 @@ pub signal_by-some : (codec : RawCodec) (settings : Entries) (tag : ℕ) (option
 signal_by-some codec settings tag option format stream is e pin = rw (is, e) refl
 
 -- the kept pins stay the same
-pub kept_pins-renewed : (f : ℕ → Signal) (signals : List (ℕ × Signal)) → kept_pins (renewed f signals) ≡ kept_pins signals
-kept_pins-renewed f [] = refl
-kept_pins-renewed f (kept ∷ signals) = rw (kept_pins-renewed f signals) refl
+pub pins_of_renewed : (f : ℕ → Signal) (signals : List (ℕ × Signal)) → kept_pins (renewed f signals) ≡ kept_pins signals
+pins_of_renewed f [] = refl
+pins_of_renewed f (kept ∷ signals) = rw (pins_of_renewed f signals) refl
 
 pub kept_pins-with_signals : (f : ℕ → Signal) (pins : List ℕ) → kept_pins (with_signals f pins) ≡ pins
 kept_pins-with_signals f [] = refl

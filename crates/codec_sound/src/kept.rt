@@ -59,6 +59,7 @@ impl Kept {
 
     /// Works the signals of the kept pins out anew, and counts this: at 2^64 - 1 the count stays. Works out what each node gives
     /// once, and takes no memory.
+    #[tactic(auto, using(crate::proofs::Renewing::pins_of_renewed))]
     pub fn renew(&mut self, graph: &Graph, settings: &Settings, tag: u8, format: Option<Format>)
         ensures value { self.new ≡ record {
           signals = spec.renewed (spec.signal_by graph.now settings.now tag format) self.old.signals;
