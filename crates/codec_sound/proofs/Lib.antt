@@ -3,3 +3,5 @@ pub mod Ways
 pub mod Outputs
 pub mod Renewing
 pub mod HeardLists
+pub mod Pairs
+pub mod Callers

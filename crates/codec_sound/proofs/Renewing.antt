@@ -1,12 +1,13 @@
 -- Kept signals that are worked out anew.
 use Rattle.std.proofs.Common.{◌≡◌, ℕ, List, [], ◌∷◌, Option, Some, refl}
+use Rattle.std.proofs.lemmas.List.Elements.{All-map}
 use Rattle.codec_graph.specs.declared.raw.RawCodec.{RawCodec}
 use Rattle.codec_graph.specs.Settings.{Entries}
 use Rattle.stream_format.specs.declared.format.Format.{Format}
 use Rattle.codec_sound.specs.declared.signals.Signal.{Signal}
 use Rattle.codec_sound.specs.declared.streams.LinkStream.{LinkStream}
 use Rattle.codec_sound.specs.Signals.{stream_of, signal_of}
-use Rattle.codec_sound.specs.Keeping.{signal_by, with_signals, renewed, kept_pins}
+use Rattle.codec_sound.specs.Keeping.{signal_by, with_signals, renewed, kept_pins, AreKept}
 
 -- signals that agree are renewed alike
 pub renewed-agree : (f g : ℕ → Signal) (signals : List (ℕ × Signal)) → ((pin : ℕ) → f pin ≡ g pin) → renewed f signals ≡ renewed g signals
@@ -30,3 +31,10 @@ pins_of_renewed f (kept ∷ signals) = rw (pins_of_renewed f signals) refl
 pub kept_pins-with_signals : (f : ℕ → Signal) (pins : List ℕ) → kept_pins (with_signals f pins) ≡ pins
 kept_pins-with_signals f [] = refl
 kept_pins-with_signals f (pin ∷ pins) = rw (kept_pins-with_signals f pins) refl
+
+-- renewed signals are the new ones, and so are those of pins that are kept anew
+pub AreKept-renewed : (f : ℕ → Signal) (signals : List (ℕ × Signal)) → AreKept f (renewed f signals)
+AreKept-renewed f signals = All-map (λ (kept : ℕ × Signal). kept.1 ≡ f kept.0) (λ (kept : ℕ × Signal). (kept.0, f kept.0)) signals (λ k d within. refl)
+
+pub AreKept-with_signals : (f : ℕ → Signal) (pins : List ℕ) → AreKept f (with_signals f pins)
+AreKept-with_signals f pins = All-map (λ (kept : ℕ × Signal). kept.1 ≡ f kept.0) (λ (pin : ℕ). (pin, f pin)) pins (λ k d within. refl)

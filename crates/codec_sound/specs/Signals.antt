@@ -1,7 +1,7 @@
 -- The signal that each widget gives and each pin hears while a stream plays: nothing, one pair of the stream's channels, or something
 -- that is not followed. Connections: High Definition Audio 1.0a, 7.1.2; widgets: 7.2.3. That two signals together, a mono widget and
 -- a digital one make a signal that is not followed is this project's own.
-use Rattle.std.specs.Prelude.{ℕ, zero, suc, Bool, ◌==◌, ◌&&◌, ◌||◌, not, ◌+◌, ◌/◌, ◌%◌, List, [], ◌∷◌, length, Option, Some, None, nat_lt, slice_get, if◌then◌else◌}
+use Rattle.std.specs.Prelude.{ℕ, zero, suc, Bool, ◌==◌, ◌&&◌, ◌||◌, not, ◌+◌, ◌*◌, ◌/◌, ◌%◌, ◌<◌, List, [], ◌∷◌, length, Option, Some, None, nat_lt, slice_get, if◌then◌else◌}
 use Rattle.codec_graph.specs.declared.raw.RawNode.{RawNode}
 use Rattle.codec_graph.specs.declared.raw.RawCodec.{RawCodec}
 use Rattle.codec_graph.specs.declared.controls.Control.TheVariants as control
@@ -18,6 +18,12 @@ use Rattle.codec_sound.specs.Amplifiers.{changed_if, after_output, after_input}
 -- the stream with this tag and format
 abbrev pub stream_of : ℕ → Format → LinkStream
 stream_of tag format = record { tag = tag; word = format_word format; channels = format.channels }
+
+-- if the signal is a pair, both its channels are among so many
+abbrev pub IsAmong : ℕ → Signal → Type 0
+IsAmong channels Silence = Unit {0}
+IsAmong channels (Pair pair) = 2 * pair + 1 < channels
+IsAmong channels Altered = Unit {0}
 
 -- ---- one widget
 

@@ -1,5 +1,5 @@
 //! Laws of signals and heard lists, each the contract of a function that does nothing.
-ghost use Rattle.std.specs.Prelude.{◌≡◌, ◌/◌, ◌++◌, ℕ, List, [], ◌∷◌, length, Option, Some, MatchOption, option_map};
+ghost use Rattle.std.specs.Prelude.{◌≡◌, ◌/◌, ◌%◌, ◌++◌, ℕ, List, [], ◌∷◌, length, Option, Some, MatchOption, option_map};
 ghost use Rattle.codec_graph.specs.declared.raw.RawCodec.{RawCodec};
 ghost use Rattle.codec_graph.specs.Cycles.{IsWellFormed};
 ghost use Rattle.codec_graph.specs.CodecStates.{CodecState};
@@ -13,7 +13,7 @@ ghost use Rattle.hda_world.specs.Worlds.{CarriedFrame};
 ghost use Rattle.codec_sound.specs.declared.signals.Signal.{Signal};
 ghost use Rattle.codec_sound.specs.declared.streams.LinkStream.{LinkStream};
 ghost use Rattle.codec_sound.specs.declared.heard.Heard.TheVariants.{Hole};
-ghost use Rattle.codec_sound.specs.Signals.{gives, out};
+ghost use Rattle.codec_sound.specs.Signals.{IsAmong, gives, out, signal_of};
 ghost use Rattle.codec_sound.specs.Keeping.{signal_by};
 ghost use Rattle.codec_sound.specs.HeardLists.{block_size, sample_in, items_of, signal_with, frame_items, heard};
 
@@ -23,6 +23,12 @@ pub fn signals_alone_fit_the_step()
         → (nid : ℕ) → out codec settings stream nid ≡ gives codec settings stream (out codec settings stream) nid }
     ensures only { (codec : RawCodec) (settings : Entries) (stream : LinkStream) (other : ℕ → Signal) → IsWellFormed codec
         → ((nid : ℕ) → other nid ≡ gives codec settings stream other nid) → (nid : ℕ) → other nid ≡ out codec settings stream nid }
+{}
+
+/// Both channels of a pair that a pin hears are among the stream's, which has an even number.
+pub fn pairs_are_among_the_channels()
+    ensures { (codec : RawCodec) (settings : Entries) (stream : LinkStream) (pin : ℕ) → stream.channels % 2 ≡ 0
+        → IsAmong stream.channels (signal_of codec settings stream pin) }
 {}
 
 /// The signals that are kept by the format of a word are those by which the lists of that word's frames grow.
