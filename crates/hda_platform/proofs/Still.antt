@@ -1,38 +1,29 @@
 -- What a platform in memory tells, entry by entry.
-use Rattle.std.proofs.Common.{◌≡◌, ◌≤◌, ◌+◌, ◌%◌, ◌^◌, ◌==◌, ℕ, Bool, true, false, List, [], ◌∷◌, ◌++◌, length, map, fold, if◌then◌else◌, take, drop, slice_range, refl, sym, ap, subst, ◌∙◌, arith, All}
-use Rattle.std.proofs.lemmas.List.{take-append-le, map-append, length-append, length-map}
+use Rattle.std.proofs.Common.{◌≡◌, ◌≤◌, ◌+◌, ℕ, List, [], ◌∷◌, ◌++◌, length, map, take, drop, slice_range, refl, sym, ap, subst, ◌∙◌, arith, All}
+use Rattle.std.proofs.lemmas.List.{take-append-le, append_assoc, map-append, length-append}
 use Rattle.std.proofs.Math.Seq.{take-length, take-append_seam, drop-append_seam}
 use Rattle.std.specs.List.{AllByRecursion}
 use Rattle.std.proofs.lemmas.Slice.{between_is}
 use Rattle.std.proofs.lemmas.List.Elements.{recursion_from_All, All-push}
 use Rattle.hda_registers.specs.declared.shapes.Shape.{Shape}
-use Rattle.hda_registers.specs.Fields.{Fields, opening, is_out_of_reset}
+use Rattle.hda_registers.specs.Fields.{opening}
 use Rattle.hda_registers.specs.Access.{written}
 use Rattle.hda_world.specs.declared.entry.Entry.{Entry}
 use Rattle.hda_world.specs.declared.entry.Entry.TheVariants as entry
-use Rattle.hda_world.specs.declared.step.TheConstants.{FRAMES_TO_DISCOVERY}
-use Rattle.hda_registers.specs.Moves.{framed, raised}
-use Rattle.hda_registers.specs.declared.shapes.Raise.TheVariants as event
-use Rattle.codec_graph.specs.CodecStates.{CodecState}
-use Rattle.hda_world.specs.Steps.{discovered, discovered_at, passed, frame_step}
-use Rattle.hda_world.specs.Worlds.{World}
-use Rattle.hda_world.specs.Events.{Event, DmaRead, DmaWrite, happens, after, after_write, IsHonest, IsPiece}
+use Rattle.hda_world.specs.Events.{Event, Stepped, DmaRead, DmaWrite, happens, after, IsHonest, IsPiece}
 use Rattle.hda_world.specs.Journals.{event_of, piece_end}
-use Rattle.hda_world.specs.Tellings.{world_of, Went, Accessed}
+use Rattle.hda_world.specs.Tellings.{Telling, world_of, Went, Accessed}
+use Rattle.device_steps.specs.declared.Step.{Step}
 use Rattle.hda_platform.specs.Stillness.{still_telling, still_world, zeros}
-use Rattle.hda_registers.specs.declared.shapes.Width.{Width}
-use Rattle.hda_world.proofs.Callers.{after-append, access_leaves}
+use Rattle.hda_platform.specs.Devices.{DeviceState, IsWorld}
+use Rattle.hda_world.proofs.Callers.{after-append, went_both}
 
 -- at the start
-pub start_memory : (shape : Shape) (size : ℕ) (memory : List ℕ) (entries : List Entry) (bytes : List ℕ) → entries ≡ [] → memory ≡ zeros size
-    → (world_of (still_telling shape size entries bytes)).memory ≡ memory
-start_memory shape size memory entries bytes none is =
-    ap (λ (some : List Entry). (world_of (still_telling shape size some bytes)).memory) none ∙ sym is
-
-pub start_registers : (shape : Shape) (registers : Fields) (size : ℕ) (entries : List Entry) (bytes : List ℕ) → entries ≡ [] → registers ≡ opening shape
-    → (world_of (still_telling shape size entries bytes)).registers ≡ registers
-start_registers shape registers size entries bytes none is =
-    ap (λ (some : List Entry). (world_of (still_telling shape size some bytes)).registers) none ∙ sym is
+pub starts : (shape : Shape) (size : ℕ) (memory : List ℕ) (device : DeviceState) (entries : List Entry) (bytes : List ℕ) → entries ≡ [] → memory ≡ zeros size
+    → IsWorld (zeros size) device (still_world (zeros size) (opening shape)) → IsWorld memory device (world_of (still_telling shape size entries bytes))
+starts shape size memory device entries bytes none is stands =
+    subst (λ (some : List Entry). IsWorld memory device (world_of (still_telling shape size some bytes))) (sym none)
+    (subst (λ (memory : List ℕ). IsWorld memory device (still_world (zeros size) (opening shape))) (sym is) stands)
 
 -- an entry more is an event more
 pub world_of-noted : (shape : Shape) (size : ℕ) (entries : List Entry) (entry : Entry) (bytes : List ℕ)
@@ -129,43 +120,6 @@ piece_world shape size entries noted entry bytes longer piece is grown placed =
 pub whole_write : (new old written : List ℕ) (n : ℕ) → new ≡ written → length new ≡ length old → n ≡ length old → written ≡ take n (new ++ drop (length new) old)
 whole_write new old written n is long size = sym (rw (size, ← long) (take-append_seam new (drop (length new) old)) ∙ is)
 
--- ---- a link frame
-
-discovered_nothing : (codecs : List CodecState) (fields : Fields) → codecs ≡ [] → discovered codecs fields ≡ fields
-discovered_nothing codecs fields none = ap (λ (codecs : List CodecState). discovered codecs fields) none
-
-discovery_registers : (now : Bool) (codecs : List CodecState) (fields : Fields) → codecs ≡ [] → (if now then discovered codecs fields else fields) ≡ fields
-discovery_registers true codecs fields none = discovered_nothing codecs fields none
-discovery_registers false codecs fields none = refl
-
-frame_registers_by : (out : Bool) (world : World) → is_out_of_reset world.registers.global ≡ out → world.codecs ≡ []
-    → (if out then passed world else world).registers ≡ framed world.registers
-frame_registers_by true world is none = discovery_registers (world.frames + 1 == FRAMES_TO_DISCOVERY) world.codecs (framed world.registers) none
-frame_registers_by false world is none =
-    sym (ap (λ (out : Bool). record world.registers { global = record world.registers.global { wall_clock = if out then (world.registers.global.wall_clock + 500) % 2 ^ 32 else world.registers.global.wall_clock } }) is)
-
-pub frame_registers : (world : World) → world.codecs ≡ [] → (frame_step world).registers ≡ framed world.registers
-frame_registers world none = frame_registers_by (is_out_of_reset world.registers.global) world refl none
-
-frame_memory_by : (out : Bool) (world : World) → (if out then passed world else world).memory ≡ world.memory
-frame_memory_by true world = refl
-frame_memory_by false world = refl
-
-pub frame_memory : (world : World) → (frame_step world).memory ≡ world.memory
-frame_memory world = frame_memory_by _ world
-
-frame_codecs_by : (out : Bool) (world : World) → (if out then passed world else world).codecs ≡ world.codecs
-frame_codecs_by true world = refl
-frame_codecs_by false world = refl
-
-pub frame_codecs : (world : World) → (frame_step world).codecs ≡ world.codecs
-frame_codecs world = frame_codecs_by _ world
-
--- ---- a write of a register
-
-pub write_codecs : (world : World) (at value : ℕ) (width : Width) → length (after_write at width value world).codecs ≡ length world.codecs
-write_codecs world at value width = simp length-map at (ap length (access_leaves world at value width).graphs)
-
 -- an entry without a piece is one event more
 pub noted_event : (shape : Shape) (size : ℕ) (entries noted : List Entry) (entry : Entry) (bytes : List ℕ) → noted ≡ entries ++ entry ∷ []
     → IsHonest (world_of (still_telling shape size entries bytes)) (event_of bytes entry)
@@ -174,4 +128,12 @@ noted_event shape size entries noted entry bytes is honest = record {
   start = refl;
   journal = ap (λ (some : List Entry). map (event_of bytes) some) is ∙ map-append (event_of bytes) entries (entry ∷ []);
   honest = (honest, tt);
+}
+
+-- steps before an access are those before it
+pub accessed_passed : (old middle new : Telling) (steps : List Step) (event : Event) → Went old middle (map Stepped steps) → Accessed middle new event → Accessed old new event
+accessed_passed old middle new steps event stepped later = record {
+  steps = steps ++ later.steps;
+  went = subst (Went old new) (sym (append_assoc (map Stepped steps) (map Stepped later.steps) (event ∷ [])) ∙ ap (λ (events : List Event). events ++ event ∷ []) (sym (map-append Stepped steps later.steps)))
+      (went_both old middle new (map Stepped steps) (map Stepped later.steps ++ event ∷ []) stepped later.went);
 }

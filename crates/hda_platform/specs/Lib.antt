@@ -1,4 +1,5 @@
 pub mod Stillness
+pub mod Devices
 pub mod ToldBy
 -- what private functions promise one another
 pub mod Passing

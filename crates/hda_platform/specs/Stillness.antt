@@ -4,6 +4,7 @@ use Rattle.std.specs.Prelude.{ℕ, List, [], replicate}
 use Rattle.hda_registers.specs.declared.shapes.Shape.{Shape}
 use Rattle.hda_registers.specs.Fields.{Fields, opening}
 use Rattle.hda_world.specs.declared.entry.Entry.{Entry}
+use Rattle.stream_moves.specs.Streams.{begun}
 use Rattle.hda_world.specs.Worlds.{World}
 use Rattle.hda_world.specs.Journals.{events_in}
 use Rattle.hda_world.specs.Tellings.{Telling}
@@ -16,8 +17,11 @@ still_world memory registers = record {
   codecs = [];
   waiting = [];
   frames = 0;
+  input = begun;
+  output = begun;
   commands = [];
   written = [];
+  carried = [];
 }
 
 -- so many bytes that are 0

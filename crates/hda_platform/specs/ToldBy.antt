@@ -14,4 +14,4 @@ told_by platform = Some (telling_of platform)
 
 -- its region has as many bytes at every moment
 pub told_whole : (platform : MemoryPlatform) → IfSome (told_by platform) (λ telling. length (world_of telling).memory ≡ REGION_BYTES)
-told_whole platform = ap length platform.memory_stands ∙ platform.whole
+told_whole platform = ap length platform.stands.memory_is ∙ platform.whole

@@ -1,6 +1,7 @@
 //! The platform that a driver drives: what it tells of the world, and one in memory for tests of drivers.
 #![tactic(auto)]
 
+mod device;
 mod memory_platform;
 mod notes;
 mod pieces;

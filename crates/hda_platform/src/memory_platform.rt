@@ -1,25 +1,30 @@
-//! A platform in memory without codecs, for tests of drivers: a link frame passes before each access.
+//! A platform in memory without codecs, for tests of drivers and of streams: before each access it makes a step of its schedule.
 ghost use Rattle.std.specs.Prelude.{◌≡◌, ◌≤◌, ◌<◌, ◌+◌, ◌*◌, All, IfOk, length, vec_len, vec_capacity};
 ghost use Rattle.std.proofs.Props.{props};
 ghost use Rattle.hda_world.specs.declared.world.TheConstants.{REGION_BYTES};
 ghost use Rattle.hda_world.specs.Tellings.{world_of};
 ghost use Rattle.hda_world.specs.Journals.{piece_end};
 ghost use Rattle.hda_platform.specs.Stillness.{still_telling, zeros};
+ghost use Rattle.hda_platform.specs.Devices.{IsWorld, IsStreamStep};
 
 mod accesses;
 
+use crate::device::Device;
 use crate::platform::Platform;
-use hda_registers::{Registers, Shape};
-use hda_world::{Entry, Journal, REGION_BYTES};
+use hda_registers::Shape;
+use hda_world::{Entry, Journal, REGION_BYTES, Step};
 use std::alloc::{AllocError, Global};
 
-/// A controller's registers and memory without codecs, whose device lets one link frame pass before each access. It notes all that
-/// happens in a journal, for which it has room from the start. This project's own.
+/// A controller without codecs and its memory. Before each access its device makes the next step of a schedule, while one is left. It
+/// notes all that happens in a journal, for which it has room from the start. This project's own.
 #[derive(Drop)]
 pub struct MemoryPlatform {
     shape: Shape,
     memory: Vec<u8>,
-    registers: Registers,
+    device: Device,
+    steps: Vec<Step>,
+    /// How many of the steps were made.
+    made: usize,
     entries: Vec<Entry>,
     bytes: Vec<u8>,
     /// How many entries and bytes there is room to note.
@@ -29,28 +34,31 @@ pub struct MemoryPlatform {
     pub ghost room_for_entries: { vec_len entries + entries_left ≤ vec_capacity entries },
     pub ghost room_for_bytes: { vec_len bytes + bytes_left ≤ vec_capacity bytes },
     pub ghost placed: { All (λ entry. piece_end entry ≤ length bytes.items) entries.items } by { Prim.hlevel props },
-    pub ghost no_codecs: { length (world_of (still_telling shape REGION_BYTES entries.items bytes.items)).codecs ≡ 0 },
-    pub ghost memory_stands: { (world_of (still_telling shape REGION_BYTES entries.items bytes.items)).memory ≡ memory.items },
-    pub ghost registers_stand: { (world_of (still_telling shape REGION_BYTES entries.items bytes.items)).registers ≡ registers } by { Prim.hlevel props },
+    pub ghost scheduled: { All IsStreamStep steps.items } by { Prim.hlevel props },
+    pub ghost stands: { IsWorld memory.items device (world_of (still_telling shape REGION_BYTES entries.items bytes.items)) } by { Prim.hlevel props },
 }
 
 impl MemoryPlatform {
-    ghost use Rattle.std.specs.Prelude.{◌≡◌, IfOk, Some, []};
+    ghost use Rattle.std.specs.Prelude.{◌≡◌, All, IfOk, Some, []};
     ghost use Rattle.hda_world.specs.declared.world.TheConstants.{REGION_BYTES};
     ghost use Rattle.hda_platform.specs.Stillness.{still_telling};
+    ghost use Rattle.hda_platform.specs.Devices.{IsStreamStep};
     ghost use Rattle.hda_world.specs.JournalEvents.{events_of};
     ghost use Rattle.hda_platform.specs.ToldBy.{told_by, telling_of};
 
-    /// A controller in reset and a region of zeros, with room for so many accesses and bytes of pieces of memory.
+    /// A controller in reset and a region of zeros, the steps that its device makes, one before each access, and room for so many
+    /// accesses and bytes of pieces of memory. The steps let link frames pass or name a stream.
     ///
     /// # Errors
     /// Want of memory.
     pub fn new(
         alloc: Global,
         shape: Shape,
+        steps: Vec<Step>,
         accesses: u32,
         bytes: usize,
     ) -> Result<MemoryPlatform, AllocError>
+        requires { All IsStreamStep steps.items }
         ensures told { IfOk result (λ platform. told_by platform ≡ Some (still_telling shape REGION_BYTES [] [])) }
         ensures accesses { IfOk result (λ platform. ⟦<MemoryPlatform as Platform>⟧.spare_accesses platform ≡ accesses) }
         ensures bytes { IfOk result (λ platform. ⟦<MemoryPlatform as Platform>⟧.spare_bytes platform ≡ bytes) }
@@ -59,7 +67,9 @@ impl MemoryPlatform {
         Ok(MemoryPlatform {
             shape,
             memory: zeroed(alloc, REGION_BYTES)?,
-            registers: Registers::new(shape),
+            device: Device::new(alloc, shape)?,
+            steps,
+            made: 0,
             entries: Vec::with_capacity(alloc, entries_left)?,
             bytes: Vec::with_capacity(alloc, bytes)?,
             entries_left,
@@ -74,7 +84,9 @@ impl MemoryPlatform {
         let MemoryPlatform {
             shape: _,
             memory: _,
-            registers: _,
+            device: _,
+            steps: _,
+            made: _,
             entries,
             bytes,
             entries_left: _,

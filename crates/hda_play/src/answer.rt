@@ -1,15 +1,15 @@
 //! What the program answers to its words, before anything is written.
 ghost use Rattle.std.specs.Prelude.{◌≡◌, ◌≢◌, ◌≤◌, ℕ, List, map, string_bytes, IfOk, IfSome, IfNone, OnOk, ◌++◌};
 ghost use Rattle.hda_outside.specs.Counts.{Rose};
-ghost use Rattle.hda_play.specs.Answers.{AsksForItsFile, IsCommand, IsRouteOf, begins_with_dash, IsMeant, RouteAnswers, ReadingAnswers, MachineAnswers, IsRoutePlan, ArePlans, has_route, is_route, plans_lines};
+ghost use Rattle.hda_play.specs.Answers.{AsksForItsFile, IsMeant, RouteAnswers, RequestAnswers, NamesOther, ReadingAnswers, MachineAnswers, ArePlans, has_route, is_route, plans_lines};
 ghost use Rattle.std.specs.List.{list_any};
 ghost use Rattle.hda_play.specs.Text.{refused_line, unreadable_line};
 
 use crate::text::{USAGE, push_fault, push_plan};
-use codec_graph::Graph;
 use hda_files::{CodecFile, FileFault, Machine, read_machine};
 use hda_outside::{ReadAll, Shelf, read_all};
-use route_planner::{Bits, Format, Outcome, Plan, Rate, plan};
+use hda_words::{Request, WordsFault, read_words};
+use route_planner::{Format, Outcome, Plan, plan};
 use std::alloc::{AllocError, Global};
 
 /// How many bytes a codec file may have.
@@ -34,49 +34,48 @@ pub fn answer_words<S: Shelf>(
     ensures told { S.told shelf.new ≡ S.told shelf.old }
     ensures later { (name : List ℕ) → S.faults shelf.old name ≤ S.faults shelf.new name }
 {
-    match route_file(words) {
-        Some(name) => answer_route(alloc, shelf, name),
-        None => Ok(Answer {
+    match read_words(alloc, words) {
+        Ok(request) => answer_request(alloc, shelf, request),
+        Err(WordsFault::NoCommand) => Ok(Answer {
             status: 2,
             text: String::from_str(alloc, USAGE)?,
         }),
+        Err(WordsFault::OutOfMemory) => Err(AllocError),
     }
 }
 
-/// The codec file of the command `route`, where the words are that command.
-fn route_file(words: &[String]) -> Option<&str>
-    ensures route { IfSome result (λ name. IsRouteOf (map string_bytes words.now) name.now) }
-    ensures none { IfNone result (IsCommand (map string_bytes words.now) → ⊥) }
+/// What the program answers to a request.
+fn answer_request<S: Shelf>(
+    alloc: Global,
+    shelf: &mut S,
+    request: Request<'_>,
+) -> Result<Answer, AllocError>
+    ensures answers { IfOk result (λ answer. RequestAnswers (S.told shelf.old) (λ name. Rose (S.faults shelf.old name) (S.faults shelf.new name))
+        request.entry answer.status (string_bytes answer.text)) }
+    ensures asked { (other : List ℕ) → NamesOther request.entry other → S.asked shelf.new other ≡ S.asked shelf.old other }
+    ensures told { S.told shelf.new ≡ S.told shelf.old }
+    ensures later { (other : List ℕ) → S.faults shelf.old other ≤ S.faults shelf.new other }
 {
-    match words {
-        [command, file] => {
-            if command.as_str() == "route" && !begins_with_dash(file.as_str()) {
-                Some(file.as_str())
-            } else {
-                None
-            }
-        }
-        _ => None,
+    match request {
+        Request::Route { codec, format } => answer_route(alloc, shelf, codec, format),
     }
 }
 
-/// Whether a word begins with `-`, as no name of a file does on the command line.
-fn begins_with_dash(word: &str) -> bool
-    ensures { result ≡ begins_with_dash word.now }
-{
-    word.starts_with('-')
-}
-
-/// What `route` answers for the codec file of this name.
-fn answer_route<S: Shelf>(alloc: Global, shelf: &mut S, name: &str) -> Result<Answer, AllocError>
+/// What `route` answers for the codec file of this name and for this format.
+fn answer_route<S: Shelf>(
+    alloc: Global,
+    shelf: &mut S,
+    name: &str,
+    format: Format,
+) -> Result<Answer, AllocError>
     ensures route { IfOk result (λ answer. RouteAnswers (S.told shelf.old) (λ name. Rose (S.faults shelf.old name) (S.faults shelf.new name))
-        name.now answer.status (string_bytes answer.text)) }
+        name.now format answer.status (string_bytes answer.text)) }
     ensures asked { (other : List ℕ) → other ≢ name.now → S.asked shelf.new other ≡ S.asked shelf.old other }
     ensures told { S.told shelf.new ≡ S.told shelf.old }
     ensures later { (other : List ℕ) → S.faults shelf.old other ≤ S.faults shelf.new other }
 {
     match read_all(alloc, shelf, name, MOST_CODEC_BYTES) {
-        Ok(bytes) => answer_reading(alloc, read_machine(alloc, bytes.as_slice())),
+        Ok(bytes) => answer_reading(alloc, read_machine(alloc, bytes.as_slice()), format),
         Err(ReadAll::TooLong) => answer_refused(alloc, "TooLong"),
         Err(ReadAll::Failed) => answer_unreadable(alloc, name),
         Err(ReadAll::OutOfMemory) => Err(AllocError),
@@ -84,11 +83,15 @@ fn answer_route<S: Shelf>(alloc: Global, shelf: &mut S, name: &str) -> Result<An
 }
 
 /// What `route` answers for a codec file that reads so.
-fn answer_reading(alloc: Global, reading: Result<Machine, FileFault>) -> Result<Answer, AllocError>
-    ensures { IfOk result (λ answer. ReadingAnswers reading answer.status (string_bytes answer.text)) }
+fn answer_reading(
+    alloc: Global,
+    reading: Result<Machine, FileFault>,
+    format: Format,
+) -> Result<Answer, AllocError>
+    ensures { IfOk result (λ answer. ReadingAnswers format reading answer.status (string_bytes answer.text)) }
 {
     match reading {
-        Ok(machine) => answer_machine(alloc, &machine),
+        Ok(machine) => answer_machine(alloc, &machine, format),
         Err(FileFault::OutOfMemory) => Err(AllocError),
         Err(fault) => {
             let mut text = String::new(alloc);
@@ -121,10 +124,10 @@ fn answer_unreadable(alloc: Global, name: &str) -> Result<Answer, AllocError>
 }
 
 /// What `route` answers for a machine: the plans of its codecs.
-fn answer_machine(alloc: Global, machine: &Machine) -> Result<Answer, AllocError>
-    ensures { IfOk result (λ answer. MachineAnswers machine.now answer.status (string_bytes answer.text)) }
+fn answer_machine(alloc: Global, machine: &Machine, format: Format) -> Result<Answer, AllocError>
+    ensures { IfOk result (λ answer. MachineAnswers format machine.now answer.status (string_bytes answer.text)) }
 {
-    let plans = plans_of(alloc, machine.codecs.as_slice())?;
+    let plans = plans_of(alloc, machine.codecs.as_slice(), format)?;
     let mut text = String::new(alloc);
     push_plans(&mut text, machine.codecs.as_slice(), plans.as_slice())?;
     if have_route(plans.as_slice()) {
@@ -135,26 +138,14 @@ fn answer_machine(alloc: Global, machine: &Machine) -> Result<Answer, AllocError
 }
 
 /// The plan of each codec.
-fn plans_of(alloc: Global, codecs: &[CodecFile]) -> Result<Vec<Plan>, AllocError>
-    ensures { IfOk result (λ plans. ArePlans codecs.now plans.items) }
+fn plans_of(alloc: Global, codecs: &[CodecFile], format: Format) -> Result<Vec<Plan>, AllocError>
+    ensures { IfOk result (λ plans. ArePlans format codecs.now plans.items) }
 {
     let mut plans = Vec::new(alloc);
     for codec in codecs {
-        plans.push(plan_of(alloc, &codec.graph)?)?;
+        plans.push(plan(alloc, &codec.graph, format)?)?;
     }
     Ok(plans)
-}
-
-/// The plan of a graph for 48 kHz, 16 bits and 2 channels.
-fn plan_of(alloc: Global, graph: &Graph) -> Result<Plan, AllocError>
-    ensures { IfOk result (IsRoutePlan graph.now) }
-{
-    let format = Format {
-        rate: Rate::R48,
-        bits: Bits::B16,
-        channels: 2,
-    };
-    plan(alloc, graph, format)
 }
 
 /// Appends the lines of the plans, codec by codec.

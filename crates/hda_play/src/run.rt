@@ -1,7 +1,8 @@
 //! The program over any shelf and sink.
 ghost use Rattle.std.specs.Prelude.{◌≡◌, ◌≤◌, ℕ, List, map, string_bytes, IsNone, true, false};
+ghost use Rattle.stream_format.specs.declared.format.Format.{Format};
 ghost use Rattle.hda_outside.specs.Counts.{Rose};
-ghost use Rattle.hda_play.specs.Answers.{AsksForItsFile, IsCommand, IsRouteOf, IsRefused, IsPlanned, HasEnded};
+ghost use Rattle.hda_play.specs.Answers.{AsksForItsFile, IsNoCommand, IsRouteOf, IsRefused, IsPlanned, HasEnded};
 ghost use Rattle.hda_play.specs.Writing.{WroteText};
 
 use crate::answer::{Answer, answer_words};
@@ -43,8 +44,8 @@ pub fn hda_main<S: Shelf, K: Sink>(
     ensures played { IsNone result.play }
 
     // The causes of single statuses.
-    ensures refused_words { result.status ≡ 2 → IsCommand (map string_bytes words.now) → ⊥ }
-    ensures unread { result.status ≡ 3 → (name : List ℕ) × IsRouteOf (map string_bytes words.now) name
+    ensures refused_words { result.status ≡ 2 → IsNoCommand (map string_bytes words.now) }
+    ensures unread { result.status ≡ 3 → (name : List ℕ) × (format : Format) × IsRouteOf (map string_bytes words.now) name format
         × Rose (S.faults shelf.old name) (S.faults shelf.new name) }
     ensures refused_file { result.status ≡ 5 → IsRefused (S.told shelf.old) (map string_bytes words.now) }
     ensures routed { result.status ≡ 0 → IsPlanned (S.told shelf.old) (map string_bytes words.now) true }

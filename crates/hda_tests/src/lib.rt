@@ -10,6 +10,8 @@ mod codecs;
 #[cfg(test)]
 mod files;
 #[cfg(test)]
+mod formats;
+#[cfg(test)]
 mod graphs;
 #[cfg(test)]
 mod items;
@@ -30,6 +32,10 @@ mod schedules;
 #[cfg(test)]
 mod sounds;
 #[cfg(test)]
+mod streams;
+#[cfg(test)]
 mod verbs;
+#[cfg(test)]
+mod wavs;
 #[cfg(test)]
 mod words;

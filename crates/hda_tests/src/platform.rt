@@ -45,14 +45,16 @@ fn set_rings<P: Platform>(platform: &mut P, corb: u32, rirb: u32)
 
 #[test]
 fn registers_are_read_and_written(rt: HostRuntime) -> Result<(), Fail> {
-    let mut platform = MemoryPlatform::new(rt.alloc(), shape(), 9, 0)?;
+    let alloc = rt.alloc();
+    let steps = vec![in alloc; Step::Link(1), Step::Link(0), Step::Link(1)]?;
+    let mut platform = MemoryPlatform::new(alloc, shape(), steps, 9, 0)?;
     assert_eq!(rt; leave_reset(&mut platform), 0x101);
     assert_eq!(rt; platform.read(0x30, Width::Four), 1_000);
     set_rings(&mut platform, 0x1000, 0x2000);
     assert_eq!(rt; platform.read(0x50, Width::Four), 0x2000);
     let journal = platform.into_journal();
     let entries = journal.entries.as_slice();
-    assert_eq!(rt; entries.len(), 18);
+    assert_eq!(rt; entries.len(), 12);
     assert_eq!(rt; entries[0], Entry::Step(Step::Link(1)));
     assert_eq!(rt;
         entries[1],
@@ -75,7 +77,7 @@ fn registers_are_read_and_written(rt: HostRuntime) -> Result<(), Fail> {
 
 #[test]
 fn memory_is_read_and_written(rt: HostRuntime) -> Result<(), Fail> {
-    let mut platform = MemoryPlatform::new(rt.alloc(), shape(), 2, 8)?;
+    let mut platform = MemoryPlatform::new(rt.alloc(), shape(), Vec::new(rt.alloc()), 2, 8)?;
     let mut pool = Pool::new(rt.alloc(), 2)?;
     let Ok(block) = pool.take(200) else {
         assert!(rt; false, "the pool has room");
@@ -90,7 +92,42 @@ fn memory_is_read_and_written(rt: HostRuntime) -> Result<(), Fail> {
     assert!(rt; read == [0, 0, 1, 2]);
     pool.give(lent.back());
     let journal = platform.into_journal();
-    assert_eq!(rt; journal.entries.len(), 4);
+    assert_eq!(rt; journal.entries.len(), 2);
     assert!(rt; journal.bytes.as_slice() == [1, 2, 3, 4, 0, 0, 1, 2].as_slice());
+    Ok(())
+}
+
+#[test]
+fn a_stream_plays_between_accesses(rt: HostRuntime) -> Result<(), Fail> {
+    let alloc = rt.alloc();
+    let idle = Step::Link(0);
+    let steps = vec![
+        in alloc;
+        idle, idle, idle, idle, idle, idle, idle, idle,
+        Step::Fetch(1, 8),
+        Step::Link(3),
+    ]?;
+    let mut platform = MemoryPlatform::new(alloc, shape(), steps, 10, 36)?;
+    let mut pool = Pool::new(alloc, 2)?;
+    let Ok(block) = pool.take(200) else {
+        assert!(rt; false, "the pool has room");
+        return Ok(());
+    };
+    let mut lent = block.lend();
+    let mut window = lent.window(0, 0, 200);
+    // The list stands at 128, and both its entries name 8 bytes at 0.
+    let list = [0, 0, 0, 0, 0, 0, 0, 0, 8, 0, 0, 0, 0, 0, 0, 0];
+    platform.dma_write(&mut window, 128, &list);
+    platform.dma_write(&mut window, 144, &list);
+    window.close();
+    platform.write(0x08, Width::Four, 1);
+    platform.write(0xA8, Width::Four, 16);
+    platform.write(0xAC, Width::Two, 1);
+    platform.write(0xB2, Width::Two, 0x0011);
+    platform.write(0xB8, Width::Four, 128);
+    platform.write(0xA0, Width::One, 2);
+    assert_eq!(rt; platform.read(0xA4, Width::Four), 0);
+    assert_eq!(rt; platform.read(0xA4, Width::Four), 8);
+    pool.give(lent.back());
     Ok(())
 }

@@ -100,3 +100,5 @@ pub use Rattle.hda_world.proofs.Streaming.{steps_leave_streams}
 pub use Rattle.hda_world.proofs.Writing.{beside_streams}
 -- a write keeps what the FIFO holds
 pub use Rattle.hda_world.proofs.Writing.{write_keeps_fifo}
+-- the streams' states after a write
+pub use Rattle.hda_world.proofs.Writing.{write_states}

@@ -50,6 +50,14 @@ beside_streams world at value width apart beside =
       carried = rest.2;
     }
 
+-- the streams' states after a write
+pub write_states : (world : World) (at value : ℕ) (width : Width) → let new = written world.registers at width value in
+    ((after_write at width value world).input ≡ settled_state world.registers.input new.input world.input)
+    × ((after_write at width value world).output ≡ settled_state world.registers.output new.output world.output)
+write_states world at value width =
+    let rest = parts (effects_of world.registers at width value).reset (effects_of world.registers at width value).left_reset (registers_written (written world.registers at width value) world) in
+    (rest.0, rest.1)
+
 -- ---- the FIFO
 
 fresh : (fifo : ℕ) → IsWithinFifo 0 0 fifo

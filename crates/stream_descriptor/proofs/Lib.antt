@@ -1,3 +1,5 @@
 mod Placing
 mod Filling
 mod Passing
+mod Settling
+pub mod Callers

@@ -61,3 +61,17 @@ pub record CanPlay (fields : Fields) (index : ℕ) (format : Format) : Type 0 wh
   pub runs : is_running (stream_of fields index) ≡ true
   pub usable : is_usable (stream_of fields index) ≡ true
   pub format_is : layout_of (stream_of fields index).format ≡ Some (layout format)
+
+-- what a stream that goes on playing over a write shows stays
+pub record SamePlay (old new : Descriptor) : Type 0 where
+  pub position : new.link_position ≡ old.link_position
+  pub length : new.buffer_length ≡ old.buffer_length
+  pub format : new.format ≡ old.format
+  pub ready : new.fifo_ready ≡ old.fifo_ready
+
+-- it stood for the stream with this descriptor, before a write left the registers as they are now
+pub record StoodFor (playing : Playing) (fields : Fields) (old : Descriptor) (state : StreamState) : Type 0 where
+  pub capacity : playing.fetch.capacity ≡ fields.shape.fifo
+  pub stopped : is_running old ≡ false → playing.fetch.bytes ≡ []
+  pub running : is_running old ≡ true → Runs playing (record { descriptor = old; state = state })
+  pub plays : is_running old ≡ true → is_running (stream_of fields playing.index) ≡ true → SamePlay old (stream_of fields playing.index)

@@ -1,13 +1,15 @@
 //! An output stream.
 ghost use Rattle.std.specs.Prelude.{◌≡◌, ◌≤◌, ◌<◌, ◌+◌, ◌*◌, ◌%◌, true, false, [], IfOk, length, nat_le, ◌&&◌, take, drop, ◌++◌, if◌then◌else◌, option_map, None};
-ghost use Rattle.hda_registers.specs.Fields.{is_out_of_reset, is_running, stream_of};
+ghost use Rattle.hda_registers.specs.Laws.{IsHeldInReset};
+ghost use Rattle.hda_registers.specs.Access.{rose, fell};
+ghost use Rattle.hda_registers.specs.Fields.{Descriptor, is_out_of_reset, is_running, stream_of};
 ghost use Rattle.stream_format.specs.Layouts.{layout, layout_of, frame_bytes};
 ghost use Rattle.stream_moves.specs.Streams.{StreamState, begun, is_usable};
 ghost use Rattle.stream_moves.specs.Streams as streams;
 ghost use Rattle.stream_moves.specs.Output as output;
 ghost use Rattle.hda_registers.specs.Status.{worth};
 ghost use Rattle.stream_format.specs.Cadence.{most_bytes};
-ghost use Rattle.stream_descriptor.specs.Running.{StandsFor, LeadsTo, CanPlay, stream_at, with_descriptor, fetched_at, found_at};
+ghost use Rattle.stream_descriptor.specs.Running.{StandsFor, StoodFor, LeadsTo, CanPlay, stream_at, with_descriptor, fetched_at, found_at};
 ghost use Rattle.stream_descriptor.specs.Frames.{IsAnswer};
 ghost use Rattle.stream_fetch.specs.Fetching as fetching;
 
@@ -70,6 +72,24 @@ impl Stream {
         self.fetch.start();
         self.frame = 0;
         self.show_start(regs);
+    }
+
+    /// Does what a write of a register leaves to do at the stream: it starts where RUN rose, and stops where RUN fell.
+    pub fn settle(&mut self, regs: &mut Registers, started: bool, stopped: bool)
+        ensures index { self.new.index ≡ self.old.index }
+        ensures leads { (old : Descriptor) (state : StreamState) → IsHeldInReset regs.old
+            → started ≡ rose old (stream_of regs.old self.old.index) → stopped ≡ fell old (stream_of regs.old self.old.index)
+            → StoodFor self.old regs.old old state
+            → LeadsTo self.new regs.old regs.new (record {
+              descriptor = streams.settled old (stream_of regs.old self.old.index);
+              state = streams.settled_state old (stream_of regs.old self.old.index) state;
+            }) }
+    {
+        if started && regs.is_out_of_reset() {
+            self.start(regs);
+        } else if stopped {
+            self.stop(regs);
+        }
     }
 
     /// RUN fell at the descriptor, or a reset cleared it: the FIFO is emptied; LPIB keeps its value (HDA 1.0a, 3.3.35).

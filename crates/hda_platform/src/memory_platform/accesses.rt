@@ -1,7 +1,8 @@
-//! The accesses of a platform in memory: before each a link frame passes, and both are noted.
+//! The accesses of a platform in memory: before each a step of its schedule is made, if one is left, and both are noted.
 ghost use Rattle.std.specs.Prelude.{◌≡◌, ◌≤◌, ◌<◌, ◌+◌, ◌/◌, [], ◌∷◌};
 ghost use Rattle.hda_platform.specs.ToldBy.{told_by, told_whole};
-ghost use Rattle.hda_platform.specs.Passing.{Passed};
+ghost use Rattle.hda_platform.specs.Devices.{IsStreamStep};
+ghost use Rattle.hda_platform.specs.Passing.{MadeStep, Passed};
 
 use crate::memory_platform::MemoryPlatform;
 use crate::notes::{note, note_bytes};
@@ -12,16 +13,34 @@ use hda_registers::{Shape, Width};
 use hda_world::{Entry, Step};
 
 impl MemoryPlatform {
-    /// Lets a link frame pass.
-    fn pass_frame(&mut self)
+    /// Makes the next step of the schedule, if one is left.
+    fn pass(&mut self)
         requires { 1 ≤ self.old.entries_left }
         ensures told { Passed self.old self.new }
         ensures shape { self.new.shape ≡ self.old.shape }
         ensures entries { self.new.entries_left + 1 ≡ self.old.entries_left }
         ensures bytes { self.new.bytes_left ≡ self.old.bytes_left }
     {
-        self.registers.frame();
-        note(&mut self.entries, Entry::Step(Step::Link(1)));
+        if self.made < self.steps.len() {
+            let step = self.steps[self.made];
+            self.made += 1;
+            self.make_step(step);
+        } else {
+            self.entries_left -= 1;
+        }
+    }
+
+    /// Makes a step and notes it.
+    fn make_step(&mut self, step: Step)
+        requires room { 1 ≤ self.old.entries_left }
+        requires step { IsStreamStep step }
+        ensures told { MadeStep step self.old self.new }
+        ensures shape { self.new.shape ≡ self.old.shape }
+        ensures entries { self.new.entries_left + 1 ≡ self.old.entries_left }
+        ensures bytes { self.new.bytes_left ≡ self.old.bytes_left }
+    {
+        self.device.make_step(&self.memory, step);
+        note(&mut self.entries, Entry::Step(step));
         self.entries_left -= 1;
     }
 }
@@ -38,22 +57,22 @@ impl Platform for MemoryPlatform {
     ghost spare_bytes = { λ platform. platform.bytes_left };
 
     fn read(&mut self, at: u16, width: Width) -> u32 {
-        self.pass_frame();
-        let value = self.registers.read(at, width);
+        self.pass();
+        let value = self.device.read(at, width);
         note(&mut self.entries, Entry::Read { at, width, value });
         self.entries_left -= 1;
         value
     }
 
     fn write(&mut self, at: u16, width: Width, value: u32) {
-        self.pass_frame();
-        self.registers.write(at, width, value);
+        self.pass();
+        self.device.write(at, width, value);
         note(&mut self.entries, Entry::Write { at, width, value });
         self.entries_left -= 1;
     }
 
     fn dma_read(&mut self, from: &Lent, at: u64, into: &mut [u8]) {
-        self.pass_frame();
+        self.pass();
         let address = from.address() + at as u32;
         let first = address as usize;
         let len = into.len();
@@ -72,7 +91,7 @@ impl Platform for MemoryPlatform {
     }
 
     fn dma_write(&mut self, to: &mut Window<'_>, at: u64, bytes: &[u8]) {
-        self.pass_frame();
+        self.pass();
         let address = to.place(at);
         let first = address as usize;
         let len = bytes.len();

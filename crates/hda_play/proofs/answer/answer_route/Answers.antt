@@ -13,5 +13,5 @@ returns-in-Ok-clause-route g c =
     let file : IsFile told c.args.name.now bytes = search rules in
     let short : length bytes ≤ most_codec_bytes = search rules in
     let reads = rw c.as_slice.ensures.value at c.read_machine.ensures.reading in
-    IfOk-weaker c.answer_reading.result (λ answer. ReadingAnswers c.read_machine.result answer.status (string_bytes answer.text)) (λ answer. RouteAnswers told failed c.args.name.now answer.status (string_bytes answer.text))
-    (λ answer h. RouteAnswers-read told failed c.args.name.now bytes c.read_machine.result answer.status (string_bytes answer.text) file short reads h) c.answer_reading.ensures
+    IfOk-weaker c.answer_reading.result (λ answer. ReadingAnswers c.args.format c.read_machine.result answer.status (string_bytes answer.text)) (λ answer. RouteAnswers told failed c.args.name.now c.args.format answer.status (string_bytes answer.text))
+    (λ answer h. RouteAnswers-read told failed c.args.name.now c.args.format bytes c.read_machine.result answer.status (string_bytes answer.text) file short reads h) c.answer_reading.ensures

@@ -4,4 +4,4 @@ use Rattle.hda_play.proofs.answer.plans_of.Given as goal
 
 -- the codecs so far have their plans
 abbrev pub invariant-loop-codec : goal.invariant-loop-codec
-invariant-loop-codec l = ArePlans (take l.codec-index l.codecs) l.plans.items
+invariant-loop-codec l = ArePlans l.format (take l.codec-index l.codecs) l.plans.items

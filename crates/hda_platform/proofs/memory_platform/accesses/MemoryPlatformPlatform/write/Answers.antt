@@ -1,28 +1,16 @@
-use Rattle.std.proofs.Common.{[], length, ap, sym, ◌∙◌, arith}
-use Rattle.hda_registers.specs.Fields.{Fields}
-use Rattle.hda_registers.specs.Access.{written}
+use Rattle.std.proofs.Common.{[], sym, subst, arith}
 use Rattle.hda_world.specs.Worlds.{World}
-use Rattle.hda_platform.proofs.Still.{noted_world, placed_entry, write_codecs, noted_event}
-use Rattle.hda_world.proofs.Callers.{write_memory, write_registers}
-use Rattle.hda_world.proofs.Callers.{accessed_after}
+use Rattle.hda_platform.specs.Devices.{IsWorld}
+use Rattle.hda_platform.proofs.Still.{noted_world, placed_entry, noted_event, accessed_passed}
 use Rattle.hda_platform.proofs.memory_platform.accesses.MemoryPlatformPlatform.write.Goals as goal
 
 pub invariant_of-self-clause-placed : goal.invariant_of-self-clause-placed
-invariant_of-self-clause-placed c = placed_entry _ _ _ _ c.note.ensures.items (omega arith) c.pass_frame.new.self.placed
+invariant_of-self-clause-placed c = placed_entry _ _ _ _ c.note.ensures.items (omega arith) c.pass.new.self.placed
 
-pub invariant_of-self-clause-memory_stands : goal.invariant_of-self-clause-memory_stands
-invariant_of-self-clause-memory_stands c =
-    ap (λ (world : World). world.memory) (noted_world _ _ _ _ _ _ c.note.ensures.items) ∙ write_memory _ c.args.at c.args.value c.args.width ∙ c.pass_frame.new.self.memory_stands
-
-pub invariant_of-self-clause-registers_stand : goal.invariant_of-self-clause-registers_stand
-invariant_of-self-clause-registers_stand c =
-    ap (λ (world : World). world.registers) (noted_world _ _ _ _ _ _ c.note.ensures.items) ∙ write_registers _ c.args.at c.args.value c.args.width
-    ∙ ap (λ (fields : Fields). written fields c.args.at c.args.width c.args.value) c.pass_frame.new.self.registers_stand ∙ sym c.write.ensures.registers
-
-pub invariant_of-self-clause-no_codecs : goal.invariant_of-self-clause-no_codecs
-invariant_of-self-clause-no_codecs c =
-    ap (λ (world : World). length world.codecs) (noted_world _ _ _ _ _ _ c.note.ensures.items) ∙ write_codecs _ c.args.at c.args.value c.args.width ∙ c.pass_frame.new.self.no_codecs
+pub invariant_of-self-clause-stands : goal.invariant_of-self-clause-stands
+invariant_of-self-clause-stands c =
+    subst (λ (world : World). IsWorld c.pass.new.self.memory.items c.write.new.self world) (sym (noted_world _ _ _ _ _ _ c.note.ensures.items)) (c.write.ensures _ _ c.pass.new.self.stands)
 
 pub returns-clause-told : goal.returns-clause-told
 returns-clause-told c =
-    record { is = accessed_after _ _ _ _ _ c.pass_frame.ensures.told (record { steps = []; went = noted_event _ _ _ _ _ _ c.note.ensures.items tt }) }
+    record { is = accessed_passed _ _ _ _ _ c.pass.ensures.told.went (record { steps = []; went = noted_event _ _ _ _ _ _ c.note.ensures.items tt }) }

@@ -1,0 +1,8 @@
+-- What proofs of the layers above cite.
+
+-- a stream that stood for its state before a write
+pub use Rattle.stream_descriptor.proofs.Settling.{stood_written}
+-- a descriptor in the registers
+pub use Rattle.stream_descriptor.proofs.Placing.{of_with, with_same}
+-- what it leads to
+pub use Rattle.stream_descriptor.proofs.Placing.{leads_to, leads_nowhere}

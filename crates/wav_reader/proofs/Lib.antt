@@ -1,0 +1,5 @@
+mod ChunkLemmas
+mod HeadLemmas
+mod RingLemmas
+mod WrittenLemmas
+mod StereoLemmas

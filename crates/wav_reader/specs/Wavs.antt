@@ -1,0 +1,58 @@
+-- What a WAV file means: its format and its sound in ring bytes, or its first fault. A block of the ring holds a container for each channel,
+-- lowest byte first: High Definition Audio 1.0a, 4.5.1.
+use Rattle.std.specs.Prelude.{◌≡◌, ℕ, ◌*◌, List, ◌++◌, map, take, drop, Bool, Result, Ok, Err, if◌then◌else◌}
+use Rattle.std.specs.List.{range_with_len, flat_map}
+use Rattle.stream_format.specs.Layouts.{Layout, layout}
+use Rattle.wav_reader.specs.declared.fault.WavFault.{WavFault}
+use Rattle.wav_reader.specs.declared.wav.Wav.{Wav}
+use Rattle.wav_reader.specs.Memory.{OrMemory}
+use Rattle.wav_reader.specs.Formats.{◌>>=◌}
+use Rattle.wav_reader.specs.Heads.{Head, head_of, frame_length}
+
+-- a list cut into pieces of one length: the piece with this number, counted from 0
+abbrev pub piece_at : ℕ → List ℕ → ℕ → List ℕ
+piece_at size bytes number = take size (drop (size * number) bytes)
+
+-- the first so many of them
+abbrev pub pieces_of : ℕ → List ℕ → ℕ → List (List ℕ)
+pieces_of size bytes count = map (piece_at size bytes) (range_with_len 0 count)
+
+-- all frames of the file, in order
+abbrev pub frames_of : List ℕ → Head → List (List ℕ)
+frames_of bytes head = pieces_of (frame_length head.mono head.format) (drop head.from bytes) head.frames
+
+-- the block that the ring gets for a frame: the one sample of a mono frame stands left and right
+abbrev pub ring_block : Bool → List ℕ → List ℕ
+ring_block mono frame = if mono then frame ++ frame else frame
+
+-- the blocks that the ring gets, one after the other
+unfoldable pub ring_bytes : List ℕ → Head → List ℕ
+ring_bytes bytes head = flat_map (ring_block head.mono) (frames_of bytes head)
+
+-- what a file means
+pub record Meaning : Type 0 where
+  pub format : Layout
+  pub mono : Bool
+  pub frames : ℕ
+  pub pcm : List ℕ
+
+abbrev pub meaning_by : List ℕ → Head → Meaning
+meaning_by bytes head = record { format = head.format; mono = head.mono; frames = head.frames; pcm = ring_bytes bytes head }
+
+-- what the bytes of a file mean, or their first fault
+abbrev pub wav_of : List ℕ → Result Meaning WavFault
+wav_of bytes = do
+  head ← head_of bytes
+  Ok (meaning_by bytes head)
+
+-- what was read says this
+abbrev pub meaning : Wav → Meaning
+meaning wav = record { format = layout wav.format; mono = wav.mono; frames = wav.frames; pcm = wav.pcm }
+
+abbrev pub seen : Result Wav WavFault → Result Meaning WavFault
+seen (Ok wav) = Ok (meaning wav)
+seen (Err fault) = Err fault
+
+-- the result is what the bytes mean, or memory was wanting
+abbrev pub Reads : List ℕ → Result Wav WavFault → Type 0
+Reads bytes result = OrMemory result (seen result ≡ wav_of bytes)

@@ -1,0 +1,17 @@
+//! Laws of WAV files, each the contract of a function that does nothing.
+ghost use Rattle.wav_reader.specs.Laws.{AreAllFound, AreReadBack, IsHeardAgain};
+
+/// The chunks of a file are all that it has: looking for more than it has bytes finds no other.
+pub fn all_chunks_are_found()
+    ensures { AreAllFound }
+{}
+
+/// A file that is written as chunk after chunk is read as these chunks, each at its place.
+pub fn written_chunks_are_read()
+    ensures { AreReadBack }
+{}
+
+/// Whole frames of sound that are written as a WAV file of two channels are read as that sound.
+pub fn written_sound_is_read()
+    ensures { IsHeardAgain }
+{}
