@@ -88,7 +88,11 @@ fn hears_after_three_more_words(rt: HostRuntime) -> Result<(), Fail> {
         (0x14, [0x0147_0103, VENDOR, VENDOR], Signal::Pair(0)),
         // A mono mixer; two converters at once; the selector's first input and its seventeenth.
         (0x14, [0x00D3_7000, 0x0147_0101, VENDOR], Signal::Altered),
-        (0x14, [0x0032_0011, 0x0037_0610, 0x00C3_7100], Signal::Altered),
+        (
+            0x14,
+            [0x0032_0011, 0x0037_0610, 0x00C3_7100],
+            Signal::Altered,
+        ),
         (0x14, [0x00E3_7000, 0x0147_0102, VENDOR], Signal::Pair(0)),
         (0x14, [0x00E7_0110, 0x0147_0102, VENDOR], Signal::Altered),
         // The function group off, and the converter.
@@ -118,7 +122,14 @@ fn keeps_until_renewed(rt: HostRuntime) -> Result<(), Fail> {
     let alloc = rt.alloc();
     let open = after(alloc, LEAST, &OPEN)?;
     let pins = Vec::from_slice(alloc, &[0x14])?;
-    let mut kept = Kept::new(alloc, open.graph(), open.settings(), pins, 1, Some(stereo()))?;
+    let mut kept = Kept::new(
+        alloc,
+        open.graph(),
+        open.settings(),
+        pins,
+        1,
+        Some(stereo()),
+    )?;
     assert!(rt; kept.hear(0x14) == Signal::Pair(0));
     kept.renew(open.graph(), open.settings(), 1, None);
     assert!(rt; kept.hear(0x14) == Signal::Silence);
