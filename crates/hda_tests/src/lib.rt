@@ -30,6 +30,8 @@ mod rings;
 #[cfg(test)]
 mod schedules;
 #[cfg(test)]
+mod sounds;
+#[cfg(test)]
 mod streams;
 #[cfg(test)]
 mod verbs;

@@ -97,6 +97,25 @@ fn memory_is_read_and_written(rt: HostRuntime) -> Result<(), Fail> {
     Ok(())
 }
 
+/// Lays a list of two entries at 128, both of 8 bytes at 0.
+fn lay_list(platform: &mut MemoryPlatform, pool: &mut Pool) -> bool
+    requires accesses { 2 ≤ ⟦<MemoryPlatform as Platform>⟧.spare_accesses platform.old }
+    requires bytes { 32 ≤ ⟦<MemoryPlatform as Platform>⟧.spare_bytes platform.old }
+    ensures { ⟦<MemoryPlatform as Platform>⟧.spare_accesses platform.old ≤ ⟦<MemoryPlatform as Platform>⟧.spare_accesses platform.new + 2 }
+{
+    let Ok(block) = pool.take(200) else {
+        return false;
+    };
+    let list = [0, 0, 0, 0, 0, 0, 0, 0, 8, 0, 0, 0, 0, 0, 0, 0];
+    let mut lent = block.lend();
+    let mut window = lent.window(0, 0, 200);
+    platform.dma_write(&mut window, 128, &list);
+    platform.dma_write(&mut window, 144, &list);
+    window.close();
+    pool.give(lent.back());
+    true
+}
+
 #[test]
 fn a_stream_plays_between_accesses(rt: HostRuntime) -> Result<(), Fail> {
     let alloc = rt.alloc();
@@ -115,17 +134,9 @@ fn a_stream_plays_between_accesses(rt: HostRuntime) -> Result<(), Fail> {
     ]?;
     let mut platform = MemoryPlatform::new(alloc, shape(), steps, 10, 36)?;
     let mut pool = Pool::new(alloc, 2)?;
-    let Ok(block) = pool.take(200) else {
+    if !lay_list(&mut platform, &mut pool) {
         assert!(rt; false, "the pool has room");
-        return Ok(());
-    };
-    let mut lent = block.lend();
-    let mut window = lent.window(0, 0, 200);
-    // The list stands at 128, and both its entries name 8 bytes at 0.
-    let list = [0, 0, 0, 0, 0, 0, 0, 0, 8, 0, 0, 0, 0, 0, 0, 0];
-    platform.dma_write(&mut window, 128, &list);
-    platform.dma_write(&mut window, 144, &list);
-    window.close();
+    }
     platform.write(0x08, Width::Four, 1);
     platform.write(0xA8, Width::Four, 16);
     platform.write(0xAC, Width::Two, 1);
@@ -134,6 +145,5 @@ fn a_stream_plays_between_accesses(rt: HostRuntime) -> Result<(), Fail> {
     platform.write(0xA0, Width::One, 2);
     assert_eq!(rt; platform.read(0xA4, Width::Four), 0);
     assert_eq!(rt; platform.read(0xA4, Width::Four), 8);
-    pool.give(lent.back());
     Ok(())
 }

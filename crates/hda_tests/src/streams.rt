@@ -31,12 +31,17 @@ const GOOD: Setting = Setting {
     format: 0x0011,
 };
 
-/// Bytes that are their place modulo 256, and at 2048 a list of two entries with IOC, the second of 384 bytes at 0.
-fn memory_with(setting: Setting) -> [u8; 4096] {
-    let mut memory = [0; 4096];
+/// Makes each byte its place modulo 256.
+fn number(memory: &mut [u8; 4096]) {
     for (place, byte) in memory.iter_mut().enumerate() {
         *byte = (place % 256) as u8;
     }
+}
+
+/// Bytes that are their place modulo 256, and at 2048 a list of two entries with IOC, the second of 384 bytes at 0.
+fn memory_with(setting: Setting) -> [u8; 4096] {
+    let mut memory = [0; 4096];
+    number(&mut memory);
     memory[2048..2080].fill(0);
     memory[2048..2052].copy_from_slice(&setting.address.to_le_bytes());
     memory[2056..2060].copy_from_slice(&setting.bytes.to_le_bytes());
@@ -194,6 +199,11 @@ fn an_entry_is_kept_while_it_is_in_use(rt: HostRuntime) -> Result<(), Fail> {
     assert_eq!(rt; stream.frame(&mut regs, &mut carried), Frame::Blocks(1));
     assert!(rt; carried[0..4] == [8, 9, 10, 11]);
     assert_eq!(rt; shown(&regs), (0, 12));
+    control(&mut regs, &mut stream, 0);
+    control(&mut regs, &mut stream, 2);
+    stream.fetch(&mut regs, &other, 8);
+    assert_eq!(rt; stream.frame(&mut regs, &mut carried), Frame::Blocks(1));
+    assert!(rt; carried[0..4] == [128, 129, 130, 131]);
     Ok(())
 }
 

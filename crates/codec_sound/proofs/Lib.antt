@@ -1,0 +1,7 @@
+pub mod Agreeing
+pub mod Ways
+pub mod Outputs
+pub mod Renewing
+pub mod HeardLists
+pub mod Pairs
+pub mod Callers

@@ -1,0 +1,18 @@
+use Rattle.std.proofs.Common.{◌≡◌, ℕ, ◌∙◌}
+use Rattle.codec_graph.specs.Widget.{node_at}
+use Rattle.codec_sound.specs.Signals.{out, hears_at}
+use Rattle.codec_sound.specs.Depths.{in_table}
+use Rattle.codec_sound.specs.Keeping.{signal_by}
+use Rattle.codec_sound.proofs.Agreeing.{hears-agree}
+use Rattle.codec_sound.proofs.Renewing.{renewed-agree, signal_by-some}
+use Rattle.codec_sound.proofs.kept.work_out.Goals as goal
+
+pub returns-in-Some : goal.returns-in-Some
+returns-in-Some c =
+    let graph = c.args.graph.now in
+    let settings = c.args.settings.now in
+    let same : (pin : ℕ) → hears_at graph settings (in_table c.outputs-table.result) pin ≡ signal_by graph settings c.args.tag c.args.format pin = λ pin.
+    hears-agree graph settings (in_table c.outputs-table.result) (out graph settings c.new.result) pin (node_at graph pin) c.outputs-table.ensures
+    ∙ signal_by-some graph settings c.args.tag c.args.format c.in-Some.format c.new.result c.in-Some.is c.new.ensures pin in
+    rw (c.hear_all.ensures, c.raw.ensures.value)
+    (renewed-agree (hears_at graph settings (in_table c.outputs-table.result)) (signal_by graph settings c.args.tag c.args.format) c.args.pins.now same)

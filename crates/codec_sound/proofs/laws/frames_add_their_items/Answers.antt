@@ -1,0 +1,9 @@
+use Rattle.codec_sound.proofs.HeardLists.{items-missed, items-empty, length-items}
+use Rattle.codec_sound.proofs.laws.frames_add_their_items.Goals as goal
+
+pub returns : goal.returns
+returns c = record {
+  missed = items-missed;
+  empty = items-empty;
+  each = length-items;
+}

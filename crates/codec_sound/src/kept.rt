@@ -1,0 +1,149 @@
+//! Signals that are kept until something changes on which they depend.
+ghost use Rattle.std.specs.Prelude.{◌≡◌, ℕ, map, IfOk, Contains};
+ghost use Rattle.codec_sound.specs.declared.signals.Signal.{Signal};
+ghost use Rattle.codec_sound.specs.Signals.{hears_at};
+ghost use Rattle.codec_sound.specs.Depths.{in_table};
+ghost use Rattle.codec_sound.specs.Keeping as spec;
+
+use crate::pins::hears;
+use crate::signals::{Signal, Table};
+use crate::streams::LinkStream;
+use crate::table::outputs;
+use codec_graph::{Graph, RawCodec, Settings};
+use std::alloc::{AllocError, Global};
+use std::marker::Model;
+use stream_format::Format;
+
+/// Pins of a codec, each with its signal, and how often the signals were renewed. This project's own.
+#[derive(Debug, Drop)]
+pub struct Kept {
+    pins: Vec<(u8, Signal)>,
+    renewals: u64,
+}
+
+impl Model for Kept {
+    ghost use Rattle.codec_sound.specs.Keeping.{KeptSignals};
+
+    ghost Value = { KeptSignals };
+
+    ghost view = { λ kept. record { signals = kept.pins.items; renewals = kept.renewals } };
+}
+
+impl Kept {
+    /// Keeps the signals of some pins while a stream with this tag and format plays: without a format nothing is heard. The
+    /// settings are the graph's.
+    ///
+    /// # Errors
+    /// Want of memory.
+    pub fn new(
+        alloc: Global,
+        graph: &Graph,
+        settings: &Settings,
+        pins: Vec<u8>,
+        tag: u8,
+        format: Option<Format>,
+    ) -> Result<Kept, AllocError>
+        ensures value { IfOk result (λ kept. kept ≡ record {
+          signals = spec.with_signals (spec.signal_by graph.now settings.now tag format) pins.items;
+          renewals = 0;
+        }) }
+        ensures pins { IfOk result (λ kept. spec.kept_pins kept.signals ≡ pins.items) }
+    {
+        let mut kept = Kept {
+            pins: silent_pins(alloc, pins.as_slice())?,
+            renewals: 0,
+        };
+        kept.work_out(graph, settings, tag, format);
+        Ok(kept)
+    }
+
+    /// Works the signals of the kept pins out anew, and counts this: at 2^64 - 1 the count stays. Works out what each node gives
+    /// once, and takes no memory.
+    #[tactic(auto, using(crate::proofs::Renewing::pins_of_renewed))]
+    pub fn renew(&mut self, graph: &Graph, settings: &Settings, tag: u8, format: Option<Format>)
+        ensures value { self.new ≡ record {
+          signals = spec.renewed (spec.signal_by graph.now settings.now tag format) self.old.signals;
+          renewals = spec.counted_on self.old.renewals;
+        } }
+        ensures pins { spec.kept_pins self.new.signals ≡ spec.kept_pins self.old.signals }
+    {
+        self.work_out(graph, settings, tag, format);
+        self.renewals = self.renewals.saturating_add(1);
+    }
+
+    /// Works the signals of the kept pins out anew, without counting it.
+    fn work_out(&mut self, graph: &Graph, settings: &Settings, tag: u8, format: Option<Format>)
+        ensures { self.new ≡ record self.old {
+          signals = spec.renewed (spec.signal_by graph.now settings.now tag format) self.old.signals;
+        } }
+    {
+        work_out(graph, settings, tag, format, self.pins.as_mut_slice());
+    }
+
+    /// The signal of a kept pin, as it was worked out last.
+    pub fn hear(&self, pin: u8) -> Signal
+        requires { Contains (spec.kept_pins self.now.signals) pin }
+        ensures kept { Contains self.now.signals (pin, result) }
+        ensures worked_out { (signal : ℕ → Signal) → spec.AreKept signal self.now.signals → result ≡ signal pin }
+    {
+        for (kept, signal) in &self.pins {
+            if *kept == pin {
+                return *signal;
+            }
+        }
+        unreachable!()
+    }
+
+    /// How often the signals were renewed.
+    pub fn renewals(&self) -> u64
+        ensures { result ≡ self.now.renewals }
+    {
+        self.renewals
+    }
+}
+
+/// Each of some pins, with nothing to hear.
+fn silent_pins(alloc: Global, pins: &[u8]) -> Result<Vec<(u8, Signal)>, AllocError>
+    ensures { IfOk result (λ kept. kept.items ≡ spec.with_signals (λ _. Signal.Silence) pins.now) }
+{
+    pins.iter()
+        .map(|pin| (*pin, Signal::Silence))
+        .collect(alloc)
+}
+
+/// Gives each pin what it hears now.
+fn work_out(
+    graph: &Graph,
+    settings: &Settings,
+    tag: u8,
+    format: Option<Format>,
+    pins: &mut [(u8, Signal)],
+)
+    ensures { pins.new ≡ spec.renewed (spec.signal_by graph.now settings.now tag format) pins.old }
+{
+    match format {
+        Some(format) => {
+            let table = outputs(graph, settings, LinkStream::new(tag, format));
+            hear_all(graph.raw(), settings, &table, pins);
+        }
+        None => silence_all(pins),
+    }
+}
+
+/// Gives each pin what it hears where each node gives what the table says.
+fn hear_all(codec: &RawCodec, settings: &Settings, table: &Table, pins: &mut [(u8, Signal)])
+    ensures { pins.new ≡ spec.renewed (hears_at codec.now settings.now (in_table table.now)) pins.old }
+{
+    for kept in pins.iter_mut() {
+        kept.1 = hears(codec, settings, table, kept.0);
+    }
+}
+
+/// Gives each pin nothing to hear.
+fn silence_all(pins: &mut [(u8, Signal)])
+    ensures { pins.new ≡ spec.renewed (λ _. Signal.Silence) pins.old }
+{
+    for kept in pins.iter_mut() {
+        kept.1 = Signal::Silence;
+    }
+}

@@ -1,0 +1,61 @@
+//! Laws of signals and heard lists, each the contract of a function that does nothing.
+ghost use Rattle.std.specs.Prelude.{◌≡◌, ◌/◌, ◌%◌, ◌++◌, ℕ, List, [], ◌∷◌, length, Option, Some, MatchOption, option_map};
+ghost use Rattle.codec_graph.specs.declared.raw.RawCodec.{RawCodec};
+ghost use Rattle.codec_graph.specs.Cycles.{IsWellFormed};
+ghost use Rattle.codec_graph.specs.CodecStates.{CodecState};
+ghost use Rattle.codec_graph.specs.Settings.{Entries};
+ghost use Rattle.stream_format.specs.declared.format.Format.{Format};
+ghost use Rattle.stream_format.specs.Layouts.{Layout, layout, layout_of};
+ghost use Rattle.stream_format.specs.Samples.{sample_of};
+ghost use Rattle.stream_format.specs.Words.{format_word, HasNoFormat};
+ghost use Rattle.stream_moves.specs.Output.{Sent, Missed};
+ghost use Rattle.hda_world.specs.Worlds.{CarriedFrame};
+ghost use Rattle.codec_sound.specs.declared.signals.Signal.{Signal};
+ghost use Rattle.codec_sound.specs.declared.streams.LinkStream.{LinkStream};
+ghost use Rattle.codec_sound.specs.declared.heard.Heard.TheVariants.{Hole};
+ghost use Rattle.codec_sound.specs.Signals.{IsAmong, gives, out, signal_of};
+ghost use Rattle.codec_sound.specs.Keeping.{signal_by};
+ghost use Rattle.codec_sound.specs.HeardLists.{block_size, sample_in, items_of, signal_with, frame_items, heard};
+
+/// What the nodes of a well-formed graph give fits the step at every node, and nothing else does.
+pub fn signals_alone_fit_the_step()
+    ensures fits { (codec : RawCodec) (settings : Entries) (stream : LinkStream) → IsWellFormed codec
+        → (nid : ℕ) → out codec settings stream nid ≡ gives codec settings stream (out codec settings stream) nid }
+    ensures only { (codec : RawCodec) (settings : Entries) (stream : LinkStream) (other : ℕ → Signal) → IsWellFormed codec
+        → ((nid : ℕ) → other nid ≡ gives codec settings stream other nid) → (nid : ℕ) → other nid ≡ out codec settings stream nid }
+{}
+
+/// Both channels of a pair that a pin hears are among the stream's, which has an even number.
+pub fn pairs_are_among_the_channels()
+    ensures { (codec : RawCodec) (settings : Entries) (stream : LinkStream) (pin : ℕ) → stream.channels % 2 ≡ 0
+        → IsAmong stream.channels (signal_of codec settings stream pin) }
+{}
+
+/// The signals that are kept by the format of a word are those by which the lists of that word's frames grow.
+pub fn kept_signals_are_those_of_words()
+    ensures { (codec : CodecState) (tag word pin : ℕ) (format : Option Format) → option_map layout format ≡ layout_of word
+        → MatchOption format (HasNoFormat word) (λ f. format_word f ≡ word)
+        → signal_by codec.graph codec.settings tag format pin ≡ signal_with (Some codec) tag word (layout_of word) pin }
+{}
+
+/// The samples of items are those of the format.
+pub fn heard_samples_are_the_formats()
+    ensures { (format : Format) (block : List ℕ) (channel : ℕ) → sample_in (layout format) block channel ≡ sample_of format block channel }
+{}
+
+/// The list of a history that goes on is the list before, and then the items of what was added.
+pub fn heard_lists_go_on()
+    ensures history { (address pin : ℕ) (before added : List CarriedFrame)
+        → heard address pin (before ++ added) ≡ heard address pin before ++ heard address pin added }
+    ensures frame { (address pin : ℕ) (before : List CarriedFrame) (frame : CarriedFrame)
+        → heard address pin (before ++ frame ∷ []) ≡ heard address pin before ++ frame_items address pin frame }
+{}
+
+/// A link frame that missed its blocks adds one hole to each list, one without bytes adds nothing, and any other adds one item for
+/// each whole block.
+pub fn frames_add_their_items()
+    ensures missed { (address pin : ℕ) (frame : CarriedFrame) → frame.carriage ≡ Missed → frame_items address pin frame ≡ Hole ∷ [] }
+    ensures empty { (address pin : ℕ) (frame : CarriedFrame) → frame.carriage ≡ Sent [] → frame_items address pin frame ≡ [] }
+    ensures each { (layout : Layout) (signal : Signal) (bytes : List ℕ)
+        → length (items_of (Some layout) signal (Sent bytes)) ≡ length bytes / block_size layout }
+{}

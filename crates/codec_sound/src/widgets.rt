@@ -1,0 +1,170 @@
+//! What each widget gives.
+ghost use Rattle.std.specs.Prelude.{◌≡◌, option_copied};
+ghost use Rattle.codec_graph.specs.Widget.{node_at};
+ghost use Rattle.codec_sound.specs.Signals as spec;
+ghost use Rattle.codec_sound.specs.Depths.{in_table};
+
+use crate::amplifiers::{after_input, after_output, setting};
+use crate::signals::{Signal, Table};
+use crate::streams::LinkStream;
+use codec_graph::{Control, RawCodec, RawNode, Settings, bits_of};
+
+/// Whether the function group or the widget is in another power state than D0 (HDA 1.0a, 7.3.3.10).
+pub(crate) fn is_off(codec: &RawCodec, settings: &Settings, nid: u8, node: &RawNode) -> bool
+    ensures { result ≡ spec.is_off codec.now settings.now nid node.now }
+{
+    setting(settings, codec.group, Control::Power) != 0
+        || node.has_power_control() && setting(settings, nid, Control::Power) != 0
+}
+
+/// The tag of the stream that a converter takes, 0 where it takes none (HDA 1.0a, 7.3.3.11).
+fn tag_at(settings: &Settings, nid: u8) -> u32
+    ensures { result ≡ spec.tag_at settings.now nid }
+{
+    bits_of(setting(settings, nid, Control::Stream), 4, 4)
+}
+
+/// The lowest channel that a converter takes (HDA 1.0a, 7.3.3.11).
+fn channel_at(settings: &Settings, nid: u8) -> u8
+    ensures { result ≡ spec.channel_at settings.now nid }
+{
+    bits_of(setting(settings, nid, Control::Stream), 0, 4) as u8
+}
+
+/// Whether a converter takes the stream.
+fn takes(settings: &Settings, stream: LinkStream, nid: u8) -> bool
+    ensures { result ≡ spec.takes settings.now stream nid }
+{
+    let tag = tag_at(settings, nid);
+    tag != 0 && tag == u32::from(stream.tag)
+}
+
+/// Whether a converter makes of the stream what is not followed.
+fn converts_otherwise(settings: &Settings, stream: LinkStream, nid: u8, node: &RawNode) -> bool
+    ensures { result ≡ spec.converts_otherwise settings.now stream nid node.now }
+{
+    let channel = channel_at(settings, nid);
+    setting(settings, nid, Control::Format) != u32::from(stream.word)
+        || node.is_digital()
+        || !node.is_stereo()
+        || channel % 2 == 1 && channel < stream.channels
+}
+
+/// The pair that begins at the channel, if the stream has it.
+fn pair_from(stream: LinkStream, channel: u8) -> Signal
+    ensures { result ≡ spec.pair_from stream channel }
+{
+    if channel < stream.channels {
+        Signal::Pair(channel / 2)
+    } else {
+        Signal::Silence
+    }
+}
+
+/// What an output converter makes of the stream.
+fn converted(settings: &Settings, stream: LinkStream, nid: u8, node: &RawNode) -> Signal
+    ensures { result ≡ spec.converted settings.now stream nid node.now }
+{
+    if !takes(settings, stream, nid) {
+        return Signal::Silence;
+    }
+    if converts_otherwise(settings, stream, nid, node) {
+        return Signal::Altered;
+    }
+    pair_from(stream, channel_at(settings, nid))
+}
+
+/// What a mixer makes of its connections.
+fn mixed(codec: &RawCodec, settings: &Settings, table: &Table, nid: u8, node: &RawNode) -> Signal
+    ensures { result ≡ spec.mixed codec.now settings.now (in_table table.now) nid node.now 0 node.now.list }
+{
+    let mut sum = Signal::Silence;
+    for (place, from) in node.list.as_slice().iter().enumerate() {
+        let input = table[usize::from(*from)];
+        sum = sum.plus(after_input(codec, settings, nid, node, place, input));
+    }
+    sum
+}
+
+/// The place of its list that a selector or pin selects (HDA 1.0a, 7.3.3.2).
+fn selected_place(settings: &Settings, nid: u8, node: &RawNode) -> usize
+    ensures { result ≡ spec.selected_place settings.now nid node.now }
+{
+    if node.list.len() == 1 {
+        0
+    } else {
+        setting(settings, nid, Control::Select) as usize
+    }
+}
+
+/// The node that a selector or pin selects: `None` where its list is empty or ends before the place.
+pub(crate) fn selected(settings: &Settings, nid: u8, node: &RawNode) -> Option<u8>
+    ensures { result ≡ spec.selected settings.now nid node.now }
+{
+    let place = selected_place(settings, nid, node);
+    node.list.as_slice().get(place).copied()
+}
+
+/// What a selector makes of the connection that it selects.
+fn passed_on(
+    codec: &RawCodec,
+    settings: &Settings,
+    table: &Table,
+    nid: u8,
+    node: &RawNode,
+) -> Signal
+    ensures { result
+        ≡ spec.passed_on codec.now settings.now (in_table table.now) nid node.now (spec.selected settings.now nid node.now) }
+{
+    match selected(settings, nid, node) {
+        Some(from) => {
+            let place = selected_place(settings, nid, node);
+            let input = table[usize::from(from)];
+            after_input(codec, settings, nid, node, place, input)
+        }
+        None => Signal::Silence,
+    }
+}
+
+/// What the widget makes of the stream and of the signals that the nodes give which it lists.
+fn made(
+    codec: &RawCodec,
+    settings: &Settings,
+    stream: LinkStream,
+    table: &Table,
+    nid: u8,
+    node: &RawNode,
+) -> Signal
+    ensures { result ≡ spec.made codec.now settings.now stream (in_table table.now) nid node.now }
+{
+    if node.is_output_converter() {
+        converted(settings, stream, nid, node)
+    } else if node.is_mixer() {
+        mixed(codec, settings, table, nid, node).changed_if(!node.is_stereo())
+    } else if node.is_selector() {
+        passed_on(codec, settings, table, nid, node).changed_if(!node.is_stereo())
+    } else {
+        Signal::Silence
+    }
+}
+
+/// What the node gives, if the nodes that it lists give what the table says.
+#[tactic(auto, unfolding(crate::specs::Signals::gives))]
+pub(crate) fn gives(
+    codec: &RawCodec,
+    settings: &Settings,
+    stream: LinkStream,
+    table: &Table,
+    nid: u8,
+) -> Signal
+    ensures { result ≡ spec.gives codec.now settings.now stream (in_table table.now) nid }
+{
+    let Some(node) = codec.node(nid) else {
+        return Signal::Silence;
+    };
+    if is_off(codec, settings, nid, node) {
+        return Signal::Silence;
+    }
+    let signal = made(codec, settings, stream, table, nid, node);
+    after_output(codec, settings, nid, node, signal)
+}
