@@ -18,6 +18,7 @@ mod cuts;
 mod fault;
 mod heads;
 mod keywords;
+mod laws;
 mod numbers;
 mod parts;
 mod read;
@@ -26,6 +27,7 @@ mod schedule;
 mod steps;
 
 pub use fault::SchedFault;
+pub use laws::schedules_have_a_limit;
 pub use parts::MOST_SCHEDULE_BYTES;
 pub use read::read_schedule;
 pub use schedule::{DriverLine, Group, Item, Part, Schedule};

@@ -67,7 +67,7 @@ outside_stays old new stay at apart =
 memory_both : (old new : Fields) (first second third : List ℕ) → RegistersStay old new → MemoryStays old first second → MemoryStays new second third → MemoryStays old first third
 memory_both old new first second third stay a b = record {
   size = b.size ∙ a.size;
-  outside = λ still at apart. b.outside (ap is_running (stay.input still) ∙ still) at (outside_stays old new stay at apart) ∙ a.outside still at apart;
+  outside = λ still at apart. b.outside (ap is_running (stay.input.still still) ∙ still) at (outside_stays old new stay at apart) ∙ a.outside still at apart;
 }
 
 -- ---- what the moves do to the registers
@@ -273,7 +273,7 @@ leaves start = record {
 nothing_left : (world : World) → StepsLeave world world
 nothing_left world = record {
   memory = record { size = refl; outside = λ still at apart. refl };
-  registers = record { shape = refl; input = λ still. refl; output = record { only = refl; run = inl refl; still = λ still. refl }; global = refl };
+  registers = record { shape = refl; input = record { only = refl; run = inl refl; still = λ still. refl }; output = record { only = refl; run = inl refl; still = λ still. refl }; global = refl };
   graphs = refl;
   commands = ([], sym (append-nil world.commands));
   written = ([], sym (append-nil world.written));

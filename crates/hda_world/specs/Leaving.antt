@@ -27,7 +27,7 @@ pub record DescriptorStays (old new : Descriptor) : Type 0 where
 -- status, the pointers and the flag of the rings, and the descriptors of streams that run
 pub record RegistersStay (old new : Fields) : Type 0 where
   pub shape : new.shape ≡ old.shape
-  pub input : is_running old.input ≡ false → new.input ≡ old.input
+  pub input : DescriptorStays old.input new.input
   pub output : DescriptorStays old.output new.output
   pub global : new.global ≡ record old.global {
     wall_clock = new.global.wall_clock;

@@ -3,7 +3,9 @@
 #![tactic(auto)]
 
 mod frame;
+mod laws;
 mod stream;
 
 pub use frame::{Frame, MOST_FRAME_BYTES};
+pub use laws::frames_have_a_limit;
 pub use stream::Stream;

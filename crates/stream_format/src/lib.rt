@@ -11,4 +11,6 @@ mod samples;
 mod words;
 
 pub use format::{Bits, Format, Rate};
-pub use laws::{blocks_in_160_frames, most_bounds_every_frame, one_format_for_a_word};
+pub use laws::{
+    blocks_in_160_frames, most_bounds_every_frame, one_format_for_a_word, words_are_read_back,
+};

@@ -3,5 +3,7 @@
 #![tactic(auto)]
 
 mod buffers;
+mod laws;
 
 pub use buffers::{BUFFER_ALIGNMENT, BUFFER_ENTRY_BYTES, Buffer, ListPlace};
+pub use laws::lists_are_the_standards;
