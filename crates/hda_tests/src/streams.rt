@@ -1,4 +1,6 @@
 //! An output stream over a slice of memory.
+ghost use Rattle.std.specs.Prelude.{◌≤◌, ◌+◌};
+
 use hda_registers::places::{
     GCTL, OUTPUT_DESCRIPTOR, SDBDPL, SDCBL, SDCTL, SDFMT, SDLPIB, SDLVI, SDSTS,
 };
@@ -38,16 +40,25 @@ fn number(memory: &mut [u8; 4096]) {
     }
 }
 
+/// Puts a word into four bytes from a place on.
+fn put(memory: &mut [u8; 4096], at: usize, word: u32)
+    requires { at + 4 ≤ 4096 }
+{
+    memory[at..at + 4].copy_from_slice(&word.to_le_bytes());
+}
+
 /// Bytes that are their place modulo 256, and at 2048 a list of two entries with IOC, the second of 384 bytes at 0.
 fn memory_with(setting: Setting) -> [u8; 4096] {
     let mut memory = [0; 4096];
     number(&mut memory);
-    memory[2048..2080].fill(0);
-    memory[2048..2052].copy_from_slice(&setting.address.to_le_bytes());
-    memory[2056..2060].copy_from_slice(&setting.bytes.to_le_bytes());
-    memory[2060] = 1;
-    memory[2072..2076].copy_from_slice(&384_u32.to_le_bytes());
-    memory[2076] = 1;
+    put(&mut memory, 2048, setting.address);
+    put(&mut memory, 2052, 0);
+    put(&mut memory, 2056, setting.bytes);
+    put(&mut memory, 2060, 1);
+    put(&mut memory, 2064, 0);
+    put(&mut memory, 2068, 0);
+    put(&mut memory, 2072, 384);
+    put(&mut memory, 2076, 1);
     memory
 }
 

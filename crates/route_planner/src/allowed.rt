@@ -4,10 +4,10 @@ ghost use Rattle.route_planner.specs.Formats as formats;
 ghost use Rattle.route_planner.specs.Paths as paths;
 ghost use Rattle.route_planner.specs.Search as spec;
 
-use stream_format::{Bits, Format, Rate};
 use crate::left::Left;
 use crate::routes::{Outcome, PinPlan};
 use codec_graph::{RawCodec, RawNode, can_mute};
+use stream_format::{Bits, Format, Rate};
 use verb_codes::has_bit;
 
 /// Whether the node has two channels and carries no digital stream.

@@ -6,10 +6,10 @@ ghost use Rattle.route_planner.specs.Levels as stage;
 ghost use Rattle.route_planner.specs.Ways as ways;
 
 use crate::allowed::{can_leave, is_end, is_inner};
-use stream_format::Format;
 use crate::left::Left;
 use crate::routes::PinPlan;
 use codec_graph::{NODE_IDENTIFIERS, RawCodec};
+use stream_format::Format;
 
 /// The level of a node from which no way is known.
 pub(crate) const FAR: u16 = u16::MAX;

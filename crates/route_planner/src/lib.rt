@@ -10,7 +10,6 @@ mod planner;
 mod routes;
 mod walk;
 
-
 pub use laws::one_order;
 pub use pin_order::order;
 pub use planner::plan;

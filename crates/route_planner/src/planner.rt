@@ -5,7 +5,6 @@ ghost use Rattle.route_planner.specs.Found as found;
 ghost use Rattle.route_planner.specs.Search as spec;
 ghost use Rattle.route_planner.specs.Laws as laws;
 
-use stream_format::Format;
 use crate::left::lefts_of;
 use crate::levels::{end_levels, nearest_level};
 use crate::pin_order::{order, pair_of};
@@ -14,6 +13,7 @@ use crate::walk::walk;
 use codec_graph::{Graph, RawCodec};
 use hda_items::Items;
 use std::alloc::{AllocError, Global};
+use stream_format::Format;
 
 /// The plan of a graph for a stream format: for each candidate pin, in order, the least admissible path that the routes of
 /// earlier pins leave open, by the number of hops and then by the indexes in order. This project's own.
