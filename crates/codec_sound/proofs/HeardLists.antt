@@ -1,10 +1,10 @@
 -- Heard lists grow frame by frame.
-use Rattle.std.proofs.Common.{◌≡◌, ℕ, ◌/◌, List, [], ◌∷◌, ◌++◌, map, length, Option, Some, None, refl, ap, ◌∙◌}
+use Rattle.std.proofs.Common.{◌≡◌, ◌<◌, ℕ, ◌/◌, List, [], ◌∷◌, ◌++◌, map, length, get_or, Option, Some, None, refl, sym, ap, subst, ◌∙◌, arith}
 use Rattle.std.specs.Prelude.{MatchOption, option_map}
 use Rattle.std.specs.List.{range_with_len}
 use Rattle.std.proofs.lemmas.Grind.{flat_map-append}
-use Rattle.std.proofs.lemmas.List.{append-nil, length-map}
-use Rattle.std.proofs.lemmas.List.FromFn.{length-range_with_len}
+use Rattle.std.proofs.lemmas.List.{append-nil, length-map, get_or-map}
+use Rattle.std.proofs.lemmas.List.FromFn.{length-range_with_len, length-map-range_with_len, get_or-map-range_with_len}
 use Rattle.std.proofs.Math.Nat.{zero-div}
 use Rattle.codec_graph.specs.CodecStates.{CodecState}
 use Rattle.stream_format.specs.declared.format.Format.{Format}
@@ -16,7 +16,7 @@ use Rattle.codec_sound.specs.declared.signals.Signal.{Signal}
 use Rattle.codec_sound.specs.declared.heard.Heard.{Heard}
 use Rattle.codec_sound.specs.declared.heard.Heard.TheVariants.{Hole}
 use Rattle.codec_sound.specs.Keeping.{signal_by}
-use Rattle.codec_sound.specs.HeardLists.{block_size, block_at, item_of, items_sent, items_of, signal_with, signal_in, frame_items, heard}
+use Rattle.codec_sound.specs.HeardLists.{block_size, block_at, blocks, item_of, items_sent, items_of, signal_with, signal_in, frame_items, heard}
 
 pub heard-append : (address pin : ℕ) (before added : List CarriedFrame) → heard address pin (before ++ added) ≡ heard address pin before ++ heard address pin added
 heard-append address pin before added = flat_map-append (frame_items address pin) before added
@@ -30,6 +30,15 @@ items-missed address pin frame e = ap (items_of (layout_of frame.format) (signal
 -- as many items as blocks
 pub length-items : (layout : Layout) (signal : Signal) (bytes : List ℕ) → length (items_of (Some layout) signal (Sent bytes)) ≡ length bytes / block_size layout
 length-items layout signal bytes = simp (length-map, length-range_with_len)
+
+-- and each of its block
+pub item-of-block : (layout : Layout) (signal : Signal) (bytes : List ℕ) (place : ℕ) → place < length bytes / block_size layout
+    → get_or (items_of (Some layout) signal (Sent bytes)) place Hole ≡ item_of layout signal (block_at (block_size layout) bytes place)
+item-of-block layout signal bytes place within =
+    let count : ℕ = length bytes / block_size layout in
+    let inside : place < length (blocks (block_size layout) bytes) = subst (λ (n : ℕ). place < n) (sym (length-map-range_with_len (block_at (block_size layout) bytes) 0 count)) within in
+    get_or-map (item_of layout signal) (blocks (block_size layout) bytes) place [] Hole inside
+    ∙ ap (item_of layout signal) (get_or-map-range_with_len (block_at (block_size layout) bytes) 0 count place place [] within (omega arith))
 
 no_items : (o : Option Layout) (signal : Signal) → items_sent o signal [] ≡ []
 no_items None signal = refl

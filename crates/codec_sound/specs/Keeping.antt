@@ -9,7 +9,7 @@ use Rattle.codec_sound.specs.Signals.{stream_of, signal_of}
 
 -- pins, each with its signal, and how often they were renewed
 pub record KeptSignals : Type 0 where
-  pub signals : List (ℕ × Signal)
+  pub pins : List (ℕ × Signal)
   pub renewals : ℕ
 
 -- the signal of a pin while a stream with this tag and format plays: without a format nothing is heard

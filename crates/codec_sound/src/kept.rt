@@ -26,7 +26,7 @@ impl Model for Kept {
 
     ghost Value = { KeptSignals };
 
-    ghost view = { λ kept. record { signals = kept.pins.items; renewals = kept.renewals } };
+    ghost view = { λ kept. record { pins = kept.pins.items; renewals = kept.renewals } };
 }
 
 impl Kept {
@@ -44,10 +44,10 @@ impl Kept {
         format: Option<Format>,
     ) -> Result<Kept, AllocError>
         ensures value { IfOk result (λ kept. kept ≡ record {
-          signals = spec.with_signals (spec.signal_by graph.now settings.now tag format) pins.items;
+          pins = spec.with_signals (spec.signal_by graph.now settings.now tag format) pins.items;
           renewals = 0;
         }) }
-        ensures pins { IfOk result (λ kept. spec.kept_pins kept.signals ≡ pins.items) }
+        ensures pins { IfOk result (λ kept. spec.kept_pins kept.pins ≡ pins.items) }
     {
         let mut kept = Kept {
             pins: silent_pins(alloc, pins.as_slice())?,
@@ -62,10 +62,10 @@ impl Kept {
     #[tactic(auto, using(crate::proofs::Renewing::pins_of_renewed))]
     pub fn renew(&mut self, graph: &Graph, settings: &Settings, tag: u8, format: Option<Format>)
         ensures value { self.new ≡ record {
-          signals = spec.renewed (spec.signal_by graph.now settings.now tag format) self.old.signals;
+          pins = spec.renewed (spec.signal_by graph.now settings.now tag format) self.old.pins;
           renewals = spec.counted_on self.old.renewals;
         } }
-        ensures pins { spec.kept_pins self.new.signals ≡ spec.kept_pins self.old.signals }
+        ensures pins { spec.kept_pins self.new.pins ≡ spec.kept_pins self.old.pins }
     {
         self.work_out(graph, settings, tag, format);
         self.renewals = self.renewals.saturating_add(1);
@@ -74,7 +74,7 @@ impl Kept {
     /// Works the signals of the kept pins out anew, without counting it.
     fn work_out(&mut self, graph: &Graph, settings: &Settings, tag: u8, format: Option<Format>)
         ensures { self.new ≡ record self.old {
-          signals = spec.renewed (spec.signal_by graph.now settings.now tag format) self.old.signals;
+          pins = spec.renewed (spec.signal_by graph.now settings.now tag format) self.old.pins;
         } }
     {
         work_out(graph, settings, tag, format, self.pins.as_mut_slice());
@@ -82,9 +82,9 @@ impl Kept {
 
     /// The signal of a kept pin, as it was worked out last.
     pub fn hear(&self, pin: u8) -> Signal
-        requires { Contains (spec.kept_pins self.now.signals) pin }
-        ensures kept { Contains self.now.signals (pin, result) }
-        ensures worked_out { (signal : ℕ → Signal) → spec.AreKept signal self.now.signals → result ≡ signal pin }
+        requires { Contains (spec.kept_pins self.now.pins) pin }
+        ensures kept { Contains self.now.pins (pin, result) }
+        ensures worked_out { (signal : ℕ → Signal) → spec.AreKept signal self.now.pins → result ≡ signal pin }
     {
         for (kept, signal) in &self.pins {
             if *kept == pin {

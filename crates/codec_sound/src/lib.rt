@@ -14,7 +14,7 @@ mod widgets;
 pub use heard::Heard;
 pub use kept::Kept;
 pub use laws::{
-    frames_add_their_items, heard_lists_go_on, heard_samples_are_the_formats,
+    bytes_are_items, frames_add_their_items, heard_lists_go_on, heard_samples_are_the_formats,
     kept_signals_are_those_of_words, pairs_are_among_the_channels, signals_alone_fit_the_step,
 };
 pub use pins::signal;

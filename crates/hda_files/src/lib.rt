@@ -1,5 +1,6 @@
-//! Reads a codec file, a TOML text that describes the codecs of a machine. The format is this project's own; the words are
-//! those of High Definition Audio 1.0a, 7.3.4.
+//! Reads the files of a run. A schedule is read by `hda_schedule`, whose names this crate hands on; a codec file, a TOML text that
+//! describes the codecs of a machine, is read here. The format is this project's own; the words are those of High Definition
+//! Audio 1.0a, 7.3.4.
 //!
 //! | table | key | value | where it is not given |
 //! |---|---|---|---|
@@ -50,6 +51,9 @@ mod top;
 mod values;
 
 pub use fault::{FileFault, Key, Place};
+pub use hda_schedule::{
+    DriverLine, Group, Item, MOST_SCHEDULE_BYTES, Part, SchedFault, Schedule, read_schedule,
+};
 pub use laws::{keeps_each_codec, one_reading};
 pub use machine::{CodecFile, Machine, read_machine};
 pub use top::RingSize;

@@ -5,3 +5,4 @@ pub mod RowLemmas
 pub mod RangeLemmas
 pub mod ReadLemmas
 pub mod HeadLemmas
+pub mod FaultLemmas

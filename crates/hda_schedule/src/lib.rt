@@ -27,7 +27,7 @@ mod schedule;
 mod steps;
 
 pub use fault::SchedFault;
-pub use laws::schedules_have_a_limit;
+pub use laws::{one_schedule, schedules_have_a_limit};
 pub use parts::MOST_SCHEDULE_BYTES;
 pub use read::read_schedule;
 pub use schedule::{DriverLine, Group, Item, Part, Schedule};

@@ -98,7 +98,15 @@ pub use Rattle.hda_world.proofs.Streaming.{step_leaves_streams}
 pub use Rattle.hda_world.proofs.Streaming.{steps_leave_streams}
 -- a write beside GCTL and the descriptors leaves both streams
 pub use Rattle.hda_world.proofs.Writing.{beside_streams}
+-- and so does one beside the descriptors after which CRST is 1
+pub use Rattle.hda_world.proofs.Writing.{streams_out}
 -- a write keeps what the FIFO holds
 pub use Rattle.hda_world.proofs.Writing.{write_keeps_fifo}
 -- the streams' states after a write
 pub use Rattle.hda_world.proofs.Writing.{write_states}
+-- a write keeps LPIB the bytes sent modulo CBL
+pub use Rattle.hda_world.proofs.Settling.{write_keeps_position}
+-- and FIFORDY what it says
+pub use Rattle.hda_world.proofs.Settling.{write_keeps_ready}
+-- the order of the sound begins where RUN rises, and is kept else
+pub use Rattle.hda_world.proofs.Settling.{write_begins_order, write_keeps_order}

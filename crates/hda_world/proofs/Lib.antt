@@ -10,3 +10,4 @@ pub mod Unread
 pub mod Discovery
 pub mod Streaming
 pub mod Writing
+pub mod Settling

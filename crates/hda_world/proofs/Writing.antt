@@ -1,10 +1,10 @@
 -- What writes of registers do to the streams.
-use Rattle.std.proofs.Common.{◌≡◌, ◌≢◌, ◌/◌, ◌&&◌, not, ℕ, Bool, true, false, length, if◌then◌else◌, refl, sym, ap, subst, ◌∙◌, arith}
+use Rattle.std.proofs.Common.{◌≡◌, ◌≢◌, ◌≤◌, ◌<◌, ◌/◌, ◌&&◌, not, inl, inr, nat_lt, ℕ, Bool, true, false, length, if◌then◌else◌, refl, sym, ap, subst, ◌∙◌, arith, rules, tests}
 use Rattle.hda_registers.specs.declared.shapes.Width.{Width}
 use Rattle.hda_registers.specs.declared.shapes.Shape.{Shape}
-use Rattle.hda_registers.specs.Fields.{Descriptor, Fields, is_running}
-use Rattle.hda_registers.specs.Access.{written, effects_of, rose}
-use Rattle.hda_registers.specs.Laws.{IsBesideStreams}
+use Rattle.hda_registers.specs.Fields.{Global, Descriptor, Fields, reset_fields, is_out_of_reset, is_running}
+use Rattle.hda_registers.specs.Access.{written, placed, with_global, global_written, access_of, is_taken, effects_of, rose}
+use Rattle.hda_registers.specs.Laws.{IsBesideStreams, LeavesStreams}
 use Rattle.hda_registers.proofs.Callers.{leaves-streams, keeps-shape}
 use Rattle.stream_moves.specs.Streams.{StreamState, begun, settled, settled_state}
 use Rattle.hda_world.specs.Worlds.{World}
@@ -37,9 +37,9 @@ settled_same d = rw (no_rise (is_running d), no_fall (is_running d)) refl
 state_same : (d : Descriptor) (state : StreamState) → settled_state d d state ≡ state
 state_same d state = rw (no_rise (is_running d)) refl
 
-pub beside_streams : (world : World) (at value : ℕ) (width : Width) → at / 4 ≢ 2 → IsBesideStreams at → StreamsStay world (after_write at width value world)
-beside_streams world at value width apart beside =
-    let left = leaves-streams world.registers at width value apart beside in
+-- a write that leaves both descriptors leaves both streams
+descriptors_left : (world : World) (at value : ℕ) (width : Width) → LeavesStreams world.registers (written world.registers at width value) → StreamsStay world (after_write at width value world)
+descriptors_left world at value width left =
     let fields = write_registers world at value width in
     let rest = parts (effects_of world.registers at width value).reset (effects_of world.registers at width value).left_reset (registers_written (written world.registers at width value) world) in
     record {
@@ -49,6 +49,57 @@ beside_streams world at value width apart beside =
       output = rest.1 ∙ (ap (λ (d : Descriptor). settled_state world.registers.output d world.output) left.output ∙ state_same world.registers.output world.output);
       carried = rest.2;
     }
+
+pub beside_streams : (world : World) (at value : ℕ) (width : Width) → at / 4 ≢ 2 → IsBesideStreams at → StreamsStay world (after_write at width value world)
+beside_streams world at value width apart beside = descriptors_left world at value width (leaves-streams world.registers at width value apart beside)
+
+-- a change after which CRST is 1 leaves both descriptors
+abbrev LeavesOut : Fields → Fields → Type 0
+LeavesOut old new = is_out_of_reset new.global ≡ true → LeavesStreams old new
+
+same_out : (f : Fields) → LeavesOut f f
+same_out f out = record { input = refl; output = refl }
+
+global_out : (f : Fields) (g : Global) → LeavesOut f (with_global f g)
+global_out f g = by_out (is_out_of_reset g)
+  where
+    by_out : (out : Bool) → LeavesOut f (if out then record f { global = g } else reset_fields f.shape g.state_status)
+    by_out true still = record { input = refl; output = refl }
+    by_out false still = (
+        let z : false ≡ true = still in
+        cc)
+
+where_true : (test : Bool) (f one other : Fields) → test ≡ true → LeavesOut f one → LeavesOut f (if test then one else other)
+where_true true f one other is leaves = leaves
+where_true false f one other is leaves = cc
+
+where_false : (test : Bool) (f one other : Fields) → test ≡ false → LeavesOut f other → LeavesOut f (if test then one else other)
+where_false true f one other is leaves = cc
+where_false false f one other is leaves = leaves
+
+either : (test : Bool) (f one : Fields) → LeavesOut f one → LeavesOut f (if test then one else f)
+either true f one leaves = leaves
+either false f one leaves = same_out f
+
+is_below : (at bound : ℕ) → at < bound → nat_lt at bound ≡ true
+is_below at bound below = search (rules, tests)
+
+is_above : (at bound : ℕ) → bound ≤ at → nat_lt at bound ≡ false
+is_above at bound above = search (rules, tests)
+
+written_out : (f : Fields) (at value : ℕ) (width : Width) → IsBesideStreams at → LeavesOut f (written f at width value)
+unfolding written placed
+written_out f at value width (inl below) = either (is_taken f at width) f _ (where_true (nat_lt at 0x80) f _ _ (is_below at 0x80 below) (global_out f (global_written f.shape (access_of at width value) f.global)))
+written_out f at value width (inr above) = either (is_taken f at width) f _
+    (where_false (nat_lt at 0x80) f _ _ (is_above at 0x80 (omega (arith, above))) (where_false (nat_lt at 0xA0) f _ _ (is_above at 0xA0 (omega (arith, above)))
+    (where_false (nat_lt at 0xC0) f _ _ (is_above at 0xC0 above) (same_out f))))
+
+-- so a write beside the descriptors after which CRST is 1 leaves both streams
+pub streams_out : (world : World) (at value : ℕ) (width : Width) → IsBesideStreams at → is_out_of_reset (after_write at width value world).registers.global ≡ true
+    → StreamsStay world (after_write at width value world)
+streams_out world at value width beside out =
+    descriptors_left world at value width
+    (written_out world.registers at value width beside (ap (λ (f : Fields). is_out_of_reset f.global) (sym (write_registers world at value width)) ∙ out))
 
 -- the streams' states after a write
 pub write_states : (world : World) (at value : ℕ) (width : Width) → let new = written world.registers at width value in

@@ -18,7 +18,8 @@ pub use laws::{
 };
 pub use step::{FRAMES_TO_DISCOVERY, Step};
 pub use stream_laws::{
-    accesses_keep_fifo, steps_keep_fifo, steps_keep_order, steps_keep_position, steps_keep_ready,
-    steps_leave_stopped_streams, steps_leave_streams, write_beside_streams_leaves,
+    accesses_keep_fifo, accesses_keep_position, accesses_keep_ready, steps_keep_fifo,
+    steps_keep_order, steps_keep_position, steps_keep_ready, steps_leave_stopped_streams,
+    steps_leave_streams, write_beside_streams_leaves, writes_keep_order,
 };
 pub use world::REGION_BYTES;

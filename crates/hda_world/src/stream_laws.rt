@@ -1,7 +1,8 @@
 //! Laws of the streams in the world, each the contract of a function that does nothing.
-ghost use Rattle.std.specs.Prelude.{◌≡◌, ◌≢◌, ◌/◌, ℕ, false, List, All};
+ghost use Rattle.std.specs.Prelude.{◌≡◌, ◌≢◌, ◌/◌, ℕ, true, false, List, length, All};
 ghost use Rattle.hda_registers.specs.declared.shapes.Width.{Width};
-ghost use Rattle.hda_registers.specs.Fields.{is_running};
+ghost use Rattle.hda_registers.specs.Fields.{is_running, is_out_of_reset};
+ghost use Rattle.hda_registers.specs.Access.{written, rose};
 ghost use Rattle.hda_registers.specs.Laws.{IsBesideStreams};
 ghost use Rattle.device_steps.specs.declared.Step.{Step};
 ghost use Rattle.hda_world.specs.Worlds.{World};
@@ -48,8 +49,28 @@ pub fn steps_leave_streams()
     ensures all { (steps : List Step) (world : World) → All NamesNoStream steps → StreamsStay world (after_steps steps world) }
 {}
 
-/// A write that is neither at GCTL nor at a stream descriptor leaves both streams.
+/// A write that is neither at GCTL nor at a stream descriptor leaves both streams, and so does one to GCTL after which CRST is 1.
 pub fn write_beside_streams_leaves()
-    ensures { (world : World) (at value : ℕ) (width : Width) → at / 4 ≢ 2 → IsBesideStreams at
+    ensures beside { (world : World) (at value : ℕ) (width : Width) → at / 4 ≢ 2 → IsBesideStreams at
         → StreamsStay world (after_write at width value world) }
+    ensures running { (world : World) (at value : ℕ) (width : Width) → IsBesideStreams at
+        → is_out_of_reset (after_write at width value world).registers.global ≡ true → StreamsStay world (after_write at width value world) }
+{}
+
+/// Accesses of the driver keep LPIB the bytes sent modulo CBL (HDA 1.0a, 3.3.37).
+pub fn accesses_keep_position()
+    ensures { (event : Event) (world : World) → IsNoStep event → HasPosition world → HasPosition (happens world event) }
+{}
+
+/// Accesses of the driver keep that FIFORDY says whether the stream is ready (HDA 1.0a, 3.3.36).
+pub fn accesses_keep_ready()
+    ensures { (event : Event) (world : World) → IsNoStep event → ShowsReady world → ShowsReady (happens world event) }
+{}
+
+/// A write by which RUN rises begins the order of the sound at the next link frame, and every other write keeps it.
+pub fn writes_keep_order()
+    ensures begins { (world : World) (at value : ℕ) (width : Width) → rose world.registers.output (written world.registers at width value).output ≡ true
+        → HasSent (length world.carried) (after_write at width value world) }
+    ensures keeps { (world : World) (from at value : ℕ) (width : Width) → rose world.registers.output (written world.registers at width value).output ≡ false
+        → HasSent from world → HasSent from (after_write at width value world) }
 {}

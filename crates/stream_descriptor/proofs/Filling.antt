@@ -9,11 +9,11 @@ use Rattle.stream_format.specs.Cadence.{most_bytes}
 use Rattle.stream_format.specs.Layouts.{Layout, layout_of}
 use Rattle.stream_moves.specs.Streams.{StreamState, Stream, begun, is_format, is_ready, is_usable, broke}
 use Rattle.stream_moves.specs.Output.{fetch, bytes_came, some_completes, some_breaks}
-use Rattle.stream_moves.proofs.Callers.{whole, fetch-whole, fetch-stopped, fetch-unusable, left-came, frame-came}
+use Rattle.stream_moves.proofs.Callers.{whole, fetch-whole, fetch-stopped, fetch-unusable, left-came, frame-came, not_ready}
 use Rattle.stream_fetch.specs.Fetching.{Fetching}
 use Rattle.stream_fetch.specs.Fetching as fetching
 use Rattle.stream_descriptor.specs.Running.{Playing, StandsFor, LeadsTo, CanPlay, stream_at, with_descriptor, fetched_at, frame_cycle}
-use Rattle.stream_descriptor.proofs.Placing.{leads_to, ready_is, not_ready, held_is, runs_on, of_with, with_with}
+use Rattle.stream_descriptor.proofs.Placing.{leads_to, ready_is, held_is, runs_on, of_with, with_with}
 
 module _ (playing : Playing) (fields : Fields) (format : Format) (state came : StreamState) (done : Bool)
     (stands : StandsFor playing fields state) (can : CanPlay fields playing.index format)

@@ -1,14 +1,11 @@
 -- A descriptor in the registers, and what a stream that plays stands for.
-use Rattle.std.proofs.Common.{◌≡◌, ◌<◌, ◌&&◌, ◌==◌, nat_le, ℕ, Bool, true, false, [], length, Option, Some, None, if◌then◌else◌, refl, sym, ap, subst, ◌∙◌, rules, tests, length-drop}
+use Rattle.std.proofs.Common.{◌≡◌, ◌==◌, nat_le, ℕ, Bool, true, false, [], length, if◌then◌else◌, refl, sym, ap, subst, ◌∙◌, length-drop}
 use Rattle.std.proofs.lemmas.Bool.{true≢false}
 use Rattle.hda_registers.specs.Fields.{Descriptor, Fields, is_running, stream_of}
 use Rattle.hda_registers.specs.Moves.{at_stream}
-use Rattle.hda_registers.specs.Status.{worth}
 use Rattle.stream_format.specs.declared.format.Format.{Format}
-use Rattle.stream_format.specs.Layouts.{Layout, layout, layout_of}
 use Rattle.stream_format.specs.Cadence.{most_bytes}
-use Rattle.stream_moves.specs.Streams.{StreamState, Stream, begun, held, is_ready, is_format, most_by}
-use Rattle.stream_moves.proofs.Callers.{some_most}
+use Rattle.stream_moves.specs.Streams.{StreamState, Stream, held, is_ready}
 use Rattle.stream_fetch.specs.Fetching.{Fetching}
 use Rattle.stream_fetch.specs.Fetching as fetching
 use Rattle.stream_descriptor.specs.Running.{Playing, StandsFor, LeadsTo, Runs, CanPlay, stream_at, with_descriptor}
@@ -55,23 +52,6 @@ at-with index change fields = by_zero (index == 0)
     by_zero false = refl
 
 -- ---- FIFORDY
-
-not_yet : (most : ℕ) → 0 < most → nat_le most 0 ≡ false
-not_yet most some = search (rules, tests)
-
-no_and : (one : Bool) → (one && false) ≡ false
-no_and true = refl
-no_and false = refl
-
--- an empty FIFO is not ready
-pub not_ready : (d : Descriptor) → worth (is_ready (record { descriptor = d; state = begun })) 0 ≡ 0
-not_ready d = by_format (layout_of d.format) refl
-  where
-    by_format : (found : Option Layout) → layout_of d.format ≡ found → worth (is_running d && is_format found && nat_le (most_by found) 0) 0 ≡ 0
-    by_format None is = ap (λ (ready : Bool). worth (ready && nat_le 0 0) 0) (no_and (is_running d))
-    by_format (Some layout) is =
-        ap (λ (enough : Bool). worth (is_running d && true && enough) 0) (not_yet (most_by (Some layout)) (some_most d.format layout is))
-        ∙ ap (λ (ready : Bool). worth ready 0) (no_and (is_running d && true))
 
 -- that of a stream that runs with this format
 pub ready_is : (fields : Fields) (index : ℕ) (format : Format) (state : StreamState) → CanPlay fields index format

@@ -5,7 +5,7 @@ use Rattle.hda_registers.specs.Moves.{at_stream}
 use Rattle.hda_registers.specs.Status.{worth}
 use Rattle.stream_format.specs.declared.format.Format.{Format}
 use Rattle.stream_format.specs.Layouts.{layout, layout_of}
-use Rattle.stream_moves.specs.Streams.{StreamState, Stream, is_ready, is_usable}
+use Rattle.stream_moves.specs.Streams.{SamePlay, StreamState, Stream, is_ready, is_usable}
 use Rattle.stream_moves.specs.Output.{fetch, Frame, Stopped, frame_of}
 use Rattle.stream_fetch.specs.Fetching.{Fetching}
 use Rattle.stream_fetch.specs.Fetching as fetching
@@ -61,13 +61,6 @@ pub record CanPlay (fields : Fields) (index : ℕ) (format : Format) : Type 0 wh
   pub runs : is_running (stream_of fields index) ≡ true
   pub usable : is_usable (stream_of fields index) ≡ true
   pub format_is : layout_of (stream_of fields index).format ≡ Some (layout format)
-
--- what a stream that goes on playing over a write shows stays
-pub record SamePlay (old new : Descriptor) : Type 0 where
-  pub position : new.link_position ≡ old.link_position
-  pub length : new.buffer_length ≡ old.buffer_length
-  pub format : new.format ≡ old.format
-  pub ready : new.fifo_ready ≡ old.fifo_ready
 
 -- it stood for the stream with this descriptor, before a write left the registers as they are now
 pub record StoodFor (playing : Playing) (fields : Fields) (old : Descriptor) (state : StreamState) : Type 0 where

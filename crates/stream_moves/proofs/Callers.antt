@@ -22,3 +22,9 @@ pub use Rattle.stream_moves.proofs.Coming.{stays, none_completes, none_breaks}
 pub use Rattle.stream_moves.proofs.Coming.{breaks_now, breaks_later, completes_or, came_on}
 -- no frame has more than 128 bytes
 pub use Rattle.stream_moves.proofs.Formats.{few_bytes}
+-- what a stream that runs before and after a write shows stays
+pub use Rattle.stream_moves.proofs.Writing.{write_plays, same_play}
+-- FIFORDY of the output stream stays over a write or is reset
+pub use Rattle.stream_moves.proofs.Writing.{write_ready}
+-- an empty FIFO is not ready
+pub use Rattle.stream_moves.proofs.Writing.{not_ready}

@@ -1,7 +1,7 @@
 -- The state of a stream beside its descriptor's registers: what went through its FIFO since RUN rose, and where it is in its list of
 -- buffers. High Definition Audio 1.0a, 3.3.35 to 3.3.42 and 4.5. One record serves both directions: an output stream's FIFO is filled
 -- from memory and emptied on the link, an input stream's the other way.
-use Rattle.std.specs.Prelude.{ℕ, ◌==◌, ◌&&◌, ◌||◌, ◌-◌, Bool, false, true, not, nat_le, List, [], length, drop, Option, Some, None, if◌then◌else◌}
+use Rattle.std.specs.Prelude.{◌≡◌, ℕ, ◌==◌, ◌&&◌, ◌||◌, ◌-◌, Bool, false, true, not, nat_le, List, [], length, drop, Option, Some, None, if◌then◌else◌}
 use Rattle.hda_registers.specs.Fields.{Descriptor, is_running}
 use Rattle.hda_registers.specs.Access.{rose, fell}
 use Rattle.hda_registers.specs.Status.{worth}
@@ -81,6 +81,13 @@ settled old new = record new {
 -- the state after a write: it begins anew where RUN rose, and is kept where RUN fell
 abbrev pub settled_state : (old new : Descriptor) → StreamState → StreamState
 settled_state old new state = if rose old new then begun else state
+
+-- what a stream that goes on playing over a write shows stays
+pub record SamePlay (old new : Descriptor) : Type 0 where
+  pub position : new.link_position ≡ old.link_position
+  pub length : new.buffer_length ≡ old.buffer_length
+  pub format : new.format ≡ old.format
+  pub ready : new.fifo_ready ≡ old.fifo_ready
 
 -- ---- a fault of the list or the registers
 

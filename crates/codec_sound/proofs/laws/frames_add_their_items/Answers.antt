@@ -1,4 +1,4 @@
-use Rattle.codec_sound.proofs.HeardLists.{items-missed, items-empty, length-items}
+use Rattle.codec_sound.proofs.HeardLists.{items-missed, items-empty, length-items, item-of-block}
 use Rattle.codec_sound.proofs.laws.frames_add_their_items.Goals as goal
 
 pub returns : goal.returns
@@ -6,4 +6,5 @@ returns c = record {
   missed = items-missed;
   empty = items-empty;
   each = length-items;
+  item = item-of-block;
 }
