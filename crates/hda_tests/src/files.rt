@@ -1,6 +1,6 @@
 //! Codec files, and the machine or the fault that each reads as. More files with faults stand with the program, whose text names
 //! them.
-use crate::codec_files::{LEAST, read_codec};
+use codec_examples::{LEAST, read_codec};
 use codec_graph::{Control, GraphFault};
 use hda_files::{FileFault, Key, Place, RingSize, read_machine};
 use std::alloc::Global;

@@ -1,7 +1,7 @@
 //! The graphs of codec files, what their widgets keep, and how they answer commands.
 ghost use Rattle.codec_graph.specs.Settings.{IsSettingsOf};
 
-use crate::codec_files::{LARGE, SMALL, read_codec};
+use codec_examples::{LARGE, SMALL, read_codec};
 use codec_graph::{
     Control, FaultyList, Graph, GraphFault, GroupWords, Presence, RawCodec, RawNode, Settings,
     answer,

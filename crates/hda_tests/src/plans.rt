@@ -1,5 +1,5 @@
 //! The plans of codec files.
-use crate::codec_files::{LARGE, LEAST, read_codec, two_pins};
+use codec_examples::{LARGE, LEAST, read_codec, two_pins};
 use route_planner::{Bits, Format, Outcome, Plan, Rate, order, plan};
 use std::alloc::Global;
 use std::fmt::Write;

@@ -1,7 +1,7 @@
 //! Walks over a codec that answers as it should, and over such as lie.
 ghost use Rattle.codec_graph.specs.Settings.{IsSettingsOf};
 
-use crate::codec_files::{LARGE, LEAST, read_codec};
+use codec_examples::{LARGE, LEAST, read_codec};
 use codec_graph::{Graph, GraphFault, Presence, Settings, answer};
 use codec_walk::{Walk, WalkError, WalkFault};
 use std::alloc::Global;

@@ -3,7 +3,7 @@ use Rattle.std.specs.Prelude.{All}
 use Rattle.std.proofs.lemmas.List.Elements.{All-get_or}
 use Rattle.hda_files.specs.declared.machine.CodecFile.{CodecFile}
 use Rattle.hda_files.specs.Machines.{IsSoundCodec}
-use Rattle.hda_tests.proofs.codec_files.read_codec.Goals as goal
+use Rattle.codec_examples.proofs.codec_files.read_codec.Goals as goal
 
 -- the last codec of a sound machine is sound
 pub returns : goal.returns

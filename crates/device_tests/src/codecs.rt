@@ -1,5 +1,5 @@
 //! A codec on the link that is driven as a controller would drive it.
-use crate::codec_files::read_codec;
+use codec_examples::read_codec;
 use codec_graph::Control;
 use codec_nodes::Codec;
 use std::alloc::Global;

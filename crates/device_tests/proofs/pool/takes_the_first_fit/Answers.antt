@@ -2,7 +2,7 @@ use Rattle.std.proofs.Common.{◌≢◌, ◌/◌, sym, subst, rules}
 use Rattle.std.specs.Prelude.{Contains}
 use Rattle.std.specs.Int.{div_ceil}
 use Rattle.dma_pool.specs.declared.runs.Run.{Run}
-use Rattle.hda_tests.proofs.pool.takes_the_first_fit.Goals as goal
+use Rattle.device_tests.proofs.pool.takes_the_first_fit.Goals as goal
 
 -- the second block was taken after the first and before the third, so its run is neither's
 pub give-requires-3 : goal.give-requires-3

@@ -1,5 +1,5 @@
 //! What the pins of codecs hear.
-use crate::codec_files::{LEAST, read_codec};
+use codec_examples::{LEAST, read_codec};
 use codec_nodes::Codec;
 use codec_sound::{Kept, Signal, signal};
 use route_planner::{Bits, Format, Rate};
