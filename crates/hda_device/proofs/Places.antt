@@ -1,0 +1,87 @@
+-- A codec of an address and its place.
+use Rattle.std.proofs.Common.{◌≡◌, ◌≢◌, ◌≤◌, ◌<◌, ◌==◌, ◌⊎◌, ℕ, Bool, true, false, cond, List, length, map, set, get_or, nat_lt, if◌then◌else◌, Option, Some, None, refl, sym, ap, subst, ◌∙◌, inl, inr, arith, ne_eqb, eq-eqb}
+use Rattle.std.specs.Prelude.{slice_get}
+use Rattle.std.specs.Option.{unwrap_or}
+use Rattle.std.specs.List.{position, position_or_len}
+use Rattle.std.specs.List.Sorted.{IsStrictlyIncreasing}
+use Rattle.std.proofs.lemmas.Bool.{ltb-false, cases_lt, cases_eq, eqb-true}
+use Rattle.std.proofs.lemmas.List.{same_lists, length-map, length-set, get_or-map, get_or-set_same, get_or-set_other, get_or_default}
+use Rattle.std.proofs.lemmas.List.Folds.{find_at}
+use Rattle.std.proofs.lemmas.List.Sums.{fails_before_first}
+use Rattle.std.proofs.lemmas.List.Quantifiers.{position-Some}
+use Rattle.std.proofs.lemmas.List.Kept.{AllPairs-from_increasing}
+use Rattle.std.proofs.lemmas.Option.{slice_get_past}
+use Rattle.codec_graph.specs.CodecStates.{CodecState}
+use Rattle.hda_world.specs.Worlds.{codec_at, with_codec}
+use Rattle.hda_device.specs.Codecs.{addresses_of, place_of}
+
+first_is : (first size place : ℕ) (within : Bool) → cond within (Some first) None ≡ Some place → first ≡ place
+first_is first size place true is = ap (λ (o : Option ℕ). unwrap_or o 0) is
+first_is first size place false is = (let never : None {ℕ} ≡ Some place = is in cc)
+
+none_is : (first size : ℕ) (within : Bool) → nat_lt first size ≡ within → cond within (Some first) None ≡ None {ℕ} → size ≤ first
+none_is first size true here is = (let never : Some first ≡ None {ℕ} = is in cc)
+none_is first size false here is = ltb-false first size here
+
+module _ (address : ℕ) where
+  abbrev named : CodecState → Bool
+  named codec = codec.graph.address == address
+
+  abbrev changed : (CodecState → CodecState) → CodecState → CodecState
+  changed change codec = if codec.graph.address == address then change codec else codec
+
+  pub codec_there : (codecs : List CodecState) (place : ℕ) → place_of address codecs ≡ Some place → codec_at address codecs ≡ slice_get codecs place
+  codec_there codecs place is = find_at named codecs ∙ ap (slice_get codecs) (first_is (position_or_len named codecs) (length codecs) place _ is)
+
+  none_before : (codecs : List CodecState) → place_of address codecs ≡ None → length codecs ≤ position_or_len named codecs
+  none_before codecs is = none_is (position_or_len named codecs) (length codecs) _ refl is
+
+  pub none_there : (codecs : List CodecState) → place_of address codecs ≡ None → codec_at address codecs ≡ None
+  none_there codecs is = find_at named codecs ∙ slice_get_past codecs (position_or_len named codecs) (none_before codecs is)
+
+  at_named : (change : CodecState → CodecState) (codec : CodecState) → (codec.graph.address == address) ≡ true → changed change codec ≡ change codec
+  at_named change codec is = rw is refl
+
+  at_other : (change : CodecState → CodecState) (codec : CodecState) → (codec.graph.address == address) ≡ false → changed change codec ≡ codec
+  at_other change codec is = rw is refl
+
+  pub changed_none : (change : CodecState → CodecState) (codecs : List CodecState) → place_of address codecs ≡ None → with_codec address change codecs ≡ codecs
+  changed_none change codecs is = same_lists (with_codec address change codecs) codecs (length-map codecs (changed change)) (λ k d within. (
+    let inside : k < length codecs = subst (λ (n : ℕ). k < n) (length-map codecs (changed change)) within in
+    let before : k < position_or_len named codecs = (let all = none_before codecs is in omega (arith, all, inside)) in
+    get_or-map (changed change) codecs k d d inside ∙ at_other change (get_or codecs k d) (fails_before_first named codecs k d before)))
+
+  module _ (change : CodecState → CodecState) (codecs : List CodecState) (place : ℕ) (default : CodecState) where
+    abbrev here : CodecState
+    here = get_or codecs place default
+
+    -- another place has another address
+    others : IsStrictlyIncreasing (addresses_of codecs) → place < length codecs → (here.graph.address == address) ≡ true → (k : ℕ) (d : CodecState) → k < length codecs → k ≢ place
+        → ((get_or codecs k d).graph.address == address) ≡ false
+    others ascend within is k d inside apart =
+        let pairs = AllPairs-from_increasing (addresses_of codecs) ascend in
+        let same = eqb-true here.graph.address address is in
+        let size = length-map codecs (λ codec. codec.graph.address) in
+        let first = get_or-map (λ (codec : CodecState). codec.graph.address) codecs k d 0 inside in
+        let second = get_or-map (λ (codec : CodecState). codec.graph.address) codecs place default 0 within in
+        ne_eqb (get_or codecs k d).graph.address address (λ equal. elim cases_lt k place [
+          inl below ↦ (let less = pairs k place 0 below (omega (arith, within, size)) in omega (arith, less, first, second, same, equal))
+          | inr past ↦ (let less = pairs place k 0 (omega (arith, past, apart)) (omega (arith, inside, size)) in omega (arith, less, first, second, same, equal))
+        ])
+
+    pub changed_here : IsStrictlyIncreasing (addresses_of codecs) → place_of address codecs ≡ Some place → with_codec address change codecs ≡ set codecs place (change here)
+    changed_here ascend is =
+        let found = position-Some named codecs place default is in
+        let after : List CodecState = set codecs place (change here) in
+        same_lists (with_codec address change codecs) after (length-map codecs (changed change) ∙ sym (length-set codecs place (change here))) (λ k d bound. (
+          let inside : k < length codecs = subst (λ (n : ℕ). k < n) (length-map codecs (changed change)) bound in
+          get_or-map (changed change) codecs k d d inside ∙ at_place k d inside found))
+      where
+        at_place : (k : ℕ) (d : CodecState) → k < length codecs → (place < length codecs) × (named here ≡ true) × ((k : ℕ) → k < place → named (get_or codecs k default) ≡ false)
+            → changed change (get_or codecs k d) ≡ get_or (set codecs place (change here)) k d
+        at_place k d inside found = elim cases_eq k place [
+          inl same ↦ subst (λ (p : ℕ). changed change (get_or codecs p d) ≡ get_or (set codecs place (change here)) p d) (sym same)
+              (subst (λ (c : CodecState). changed change c ≡ get_or (set codecs place (change here)) place d) (get_or_default codecs place default d found.0)
+              (at_named change here found.1 ∙ sym (get_or-set_same codecs place (change here) d found.0)))
+          | inr apart ↦ at_other change (get_or codecs k d) (others ascend found.0 found.1 k d inside apart) ∙ sym (get_or-set_other codecs place k (change here) d apart)
+        ]
