@@ -1,2 +1,4 @@
 pub mod Standing
 pub mod Places
+pub mod Moves
+pub mod Discovery

@@ -1,9 +1,10 @@
 -- A device as contracts see it, and the worlds that it is. This project's own.
-use Rattle.std.specs.Prelude.{◌≡◌, ◌≤◌, ◌⊎◌, ℕ, List, []}
+use Rattle.std.specs.Prelude.{◌≡◌, ◌≤◌, ◌⊎◌, ◌&&◌, ℕ, Bool, nat_lt, List, [], length}
 use Rattle.hda_registers.specs.declared.shapes.Shape.{Shape}
-use Rattle.hda_registers.specs.Fields.{Fields, opening}
+use Rattle.hda_registers.specs.Fields.{Fields, opening, is_out_of_reset}
 use Rattle.codec_graph.specs.CodecStates.{CodecState}
 use Rattle.ring_entries.specs.declared.response.Response.{Response}
+use Rattle.ring_entries.specs.declared.response.TheConstants.{MOST_WAITING}
 use Rattle.stream_moves.specs.Streams.{begun}
 use Rattle.stream_descriptor.specs.Running.{Playing, StandsFor}
 use Rattle.hda_world.specs.declared.step.TheConstants.{FRAMES_TO_DISCOVERY}
@@ -53,3 +54,7 @@ new_world memory shape codecs = record {
 pub record KeepsSound (old new : Fields) : Type 0 where
   pub tag : new.output.tag ≡ old.output.tag
   pub format : new.output.format ≡ old.output.format
+
+-- whether the controller takes an item of a codec
+abbrev pub can_receive_now : Fields → List Response → Bool
+can_receive_now fields waiting = is_out_of_reset fields.global && nat_lt (length waiting) MOST_WAITING

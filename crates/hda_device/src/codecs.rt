@@ -1,6 +1,8 @@
 //! The codecs of a device, ascending by address.
-ghost use Rattle.std.specs.Prelude.{◌≡◌, ◌≤◌, ◌<◌, ◌==◌, All, map, IsTrue, MatchOption, length};
+ghost use Rattle.std.specs.Prelude.{◌≡◌, ◌≤◌, ◌<◌, ◌==◌, All, IfSome, None, map, IsTrue, slice_get};
+ghost use Rattle.std.specs.Option.{option_map};
 ghost use Rattle.codec_graph.specs.CodecStates as states;
+ghost use Rattle.codec_nodes.specs.Queues as queues;
 ghost use Rattle.hda_registers.specs.Fields.{is_out_of_reset};
 ghost use Rattle.hda_world.specs.Worlds.{with_codec, codec_at};
 ghost use Rattle.hda_world.specs.Steps as steps;
@@ -54,5 +56,40 @@ pub(crate) fn clear_all(codecs: &mut [Codec])
 {
     for place in 0..codecs.len() {
         codecs[place].clear();
+    }
+}
+
+/// Takes out the first item that waits at the codec of this address; the truth value marks one that was sent unasked. `None` exactly
+/// where nothing waits there, and then nothing changes.
+pub(crate) fn pop(codecs: &mut [Codec], wanted: u8) -> Option<(u32, bool)>
+    requires { spec.AreAddresses (spec.addresses_of codecs.old) }
+    ensures item { result ≡ option_map queues.marked (slice_get (steps.items_of (codec_at wanted codecs.old)) 0) }
+    ensures codecs { codecs.new ≡ with_codec wanted states.without_first codecs.old }
+    ensures unchanged { result ≡ None → codecs.new ≡ codecs.old }
+    ensures few { IfSome result (λ _. wanted ≤ 14) }
+{
+    let Some(place) = find(codecs, wanted) else {
+        return None;
+    };
+    codecs[place].next_answer()
+}
+
+/// Drops the first answer to a command that waits at the codec of this address.
+pub(crate) fn lose(codecs: &mut [Codec], wanted: u8)
+    requires { spec.AreAddresses (spec.addresses_of codecs.old) }
+    ensures { codecs.new ≡ with_codec wanted states.without_answer codecs.old }
+{
+    if let Some(place) = find(codecs, wanted) {
+        let _lost = codecs[place].lose();
+    }
+}
+
+/// Says whether something is plugged in at a pin of the codec of this address.
+pub(crate) fn plug(codecs: &mut [Codec], wanted: u8, nid: u8, present: bool)
+    requires { spec.AreAddresses (spec.addresses_of codecs.old) }
+    ensures { codecs.new ≡ with_codec wanted (λ codec. states.plugged codec nid present) codecs.old }
+{
+    if let Some(place) = find(codecs, wanted) {
+        codecs[place].plug(nid, present);
     }
 }

@@ -9,9 +9,11 @@ use hda_registers::places::{GCTL, OUTPUT_DESCRIPTOR, SDCTL, SDFMT, SDSTS};
 const GCTL_WORD: u16 = GCTL / 4;
 /// The first byte of the output stream's control, and the one after its last.
 const CONTROL: u16 = OUTPUT_DESCRIPTOR + SDCTL;
+
 const CONTROL_END: u16 = OUTPUT_DESCRIPTOR + SDSTS;
 /// The first byte of its format, and the one after its last.
 const FORMAT: u16 = OUTPUT_DESCRIPTOR + SDFMT;
+
 const FORMAT_END: u16 = FORMAT + 2;
 
 /// Whether a write of this width at this place may change the tag or the format of the output stream: it touches GCTL, by which all
