@@ -5,13 +5,16 @@ use Rattle.std.specs.Option.{unwrap_or, option_map}
 use Rattle.std.specs.List.{position, position_or_len}
 use Rattle.std.specs.List.Sorted.{IsStrictlyIncreasing}
 use Rattle.std.proofs.lemmas.Bool.{ltb-false, cases_lt, cases_eq, eqb-true}
-use Rattle.std.proofs.lemmas.List.{same_lists, length-map, length-set, get_or-map, get_or-set_same, get_or-set_other, get_or_default}
+use Rattle.std.proofs.lemmas.List.{same_lists, length-map, length-set, get_or-map, get_or-set_same, get_or-set_other, get_or_default, with_items_is}
 use Rattle.std.proofs.lemmas.List.Folds.{find_at}
 use Rattle.std.proofs.lemmas.List.Sums.{fails_before_first, position_or_len_is}
 use Rattle.std.proofs.lemmas.List.Quantifiers.{position-Some}
 use Rattle.std.proofs.lemmas.List.Kept.{AllPairs-from_increasing}
 use Rattle.std.proofs.lemmas.Option.{slice_get_past, slice_get-get_or}
 use Rattle.std.proofs.lemmas.List.Elements.{All-get_or}
+use Rattle.std.specs.Vec.{with_items}
+use Rattle.std.specs.Prelude.{Vec}
+use Rattle.codec_graph.specs.declared.raw.RawCodec.{RawCodec}
 use Rattle.codec_graph.specs.CodecStates.{CodecState, without_first}
 use Rattle.codec_graph.specs.declared.waiting.Waiting.{Waiting}
 use Rattle.codec_nodes.specs.Queues.{marked}
@@ -154,3 +157,17 @@ keeps-with_codec address change graphs settings codecs = record {
   graphs = parts-with_codec (λ codec. codec.graph) address change graphs codecs;
   settings = parts-with_codec (λ codec. codec.settings) address change settings codecs;
 }
+
+pub addresses-with_codec : (address : ℕ) (change : CodecState → CodecState) → ((codec : CodecState) → (change codec).graph ≡ codec.graph) → (codecs : List CodecState)
+    → addresses_of (with_codec address change codecs) ≡ addresses_of codecs
+addresses-with_codec address change graphs codecs =
+    parts-with_codec (λ codec. codec.graph.address) address change (λ codec. ap (λ (graph : RawCodec). graph.address) (graphs codec)) codecs
+
+-- a list that was changed at one codec, put back
+pub put_back : {Z : Type 0} (address : ℕ) (change : CodecState → CodecState) (v : Vec CodecState Z) (codecs : List CodecState) → codecs ≡ with_codec address change v.items
+    → (with_items v codecs).items ≡ with_codec address change v.items
+put_back address change v codecs is =
+    with_items_is v codecs (ap length is ∙ (length-map v.items (λ codec. if codec.graph.address == address then change codec else codec) ∙ sym v.ok.0)) ∙ is
+
+pub put_same : {Z : Type 0} (v : Vec CodecState Z) (codecs : List CodecState) → codecs ≡ v.items → (with_items v codecs).items ≡ v.items
+put_same v codecs is = with_items_is v codecs (ap length is ∙ sym v.ok.0) ∙ is
