@@ -5,10 +5,10 @@ use Rattle.std.specs.List.{position}
 use Rattle.std.specs.List.Sorted.{IsStrictlyIncreasing}
 use Rattle.codec_graph.specs.declared.raw.RawCodec.{RawCodec}
 use Rattle.codec_graph.specs.Settings.{Entries}
-use Rattle.codec_graph.specs.CodecStates.{CodecState, is_full}
+use Rattle.codec_graph.specs.CodecStates.{CodecState, is_full, taken}
 use Rattle.hda_registers.specs.Fields.{Fields}
 use Rattle.ring_entries.specs.Engines.{next_word}
-use Rattle.hda_world.specs.Worlds.{World}
+use Rattle.hda_world.specs.Worlds.{with_codec}
 use Rattle.hda_world.specs.Steps.{address_of}
 use Rattle.hda_device.specs.declared.codecs.Handed.{Handed}
 
@@ -67,3 +67,8 @@ handed_by (Some word) codecs = taken_there (place_of (address_of word) codecs) c
 -- the place of the codec that takes the next command of CORB, and the command
 abbrev pub handed_now : Fields → List ℕ → List CodecState → Option Handed
 handed_now fields memory codecs = handed_by (next_word fields memory) codecs
+
+-- the codecs after a command that was handed to one of them, or not
+abbrev pub with_handed : Option Handed → List CodecState → List CodecState
+with_handed None codecs = codecs
+with_handed (Some handed) codecs = with_codec (address_of handed.word) (λ codec. taken codec handed.word) codecs

@@ -1,5 +1,5 @@
 //! The codecs of a device, ascending by address.
-ghost use Rattle.std.specs.Prelude.{◌≡◌, ◌≤◌, ◌<◌, ◌==◌, All, IfSome, None, map, IsTrue, slice_get};
+ghost use Rattle.std.specs.Prelude.{◌≡◌, ◌≤◌, ◌<◌, ◌==◌, All, IfSome, Some, None, false, map, IsTrue, slice_get};
 ghost use Rattle.std.specs.Option.{option_map};
 ghost use Rattle.codec_graph.specs.CodecStates as states;
 ghost use Rattle.codec_nodes.specs.Queues as queues;
@@ -92,4 +92,37 @@ pub(crate) fn plug(codecs: &mut [Codec], wanted: u8, nid: u8, present: bool)
     if let Some(place) = find(codecs, wanted) {
         codecs[place].plug(nid, present);
     }
+}
+
+/// The address that a command's word names: bits 31:28 (HDA 1.0a, 7.3).
+pub(crate) fn address_in(word: u32) -> u8
+    ensures { result ≡ steps.address_of word }
+{
+    (word >> 28) as u8
+}
+
+/// Whether the codec that the word names is full.
+pub(crate) fn is_busy(codecs: &[Codec], word: u32) -> bool
+    ensures { result ≡ steps.is_busy (codec_at (steps.address_of word) codecs.now) }
+{
+    match find(codecs, address_in(word)) {
+        Some(place) => codecs[place].full(),
+        None => false,
+    }
+}
+
+/// Hands a command to the codec that its word names, which is not full, and says which one took it. `None` exactly where there is no
+/// such codec, and then nothing changes.
+pub(crate) fn hand(codecs: &mut [Codec], word: u32) -> Option<Handed>
+    requires addresses { spec.AreAddresses (spec.addresses_of codecs.old) }
+    requires free { steps.is_busy (codec_at (steps.address_of word) codecs.old) ≡ false }
+    ensures handed { result ≡ spec.handed_by (Some word) codecs.old }
+    ensures codecs { codecs.new ≡ with_codec (steps.address_of word) (λ codec. states.taken codec word) codecs.old }
+    ensures exactly { codecs.new ≡ spec.with_handed result codecs.old }
+{
+    let Some(place) = find(codecs, address_in(word)) else {
+        return None;
+    };
+    let _answer = codecs[place].take(word);
+    Some(Handed { place, word })
 }

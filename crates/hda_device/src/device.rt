@@ -12,7 +12,7 @@ ghost use Rattle.hda_world.specs.Events.{after_write};
 ghost use Rattle.hda_device.specs.Codecs as spec;
 ghost use Rattle.hda_device.specs.Devices.{IsWorld, new_world, KeepsSound, can_receive_now};
 
-use crate::codecs;
+use crate::codecs::{self, Handed};
 use codec_nodes::Codec;
 use command_rings::Rings;
 use hda_registers::{Registers, Shape, Width};
@@ -99,6 +99,25 @@ impl Device {
         ensures { result.now ≡ self.now.registers }
     {
         &self.registers
+    }
+
+    /// CORB's engine fetches the next command and hands it to the codec that its word names (HDA 1.0a, 4.4.1), unless that codec is full.
+    /// Says which codec took it, and its word. `None` exactly where none did: CRST or CORBRUN is 0, CORBRPRST is 1, the ring has no
+    /// further command, the codec is full, or there is no codec with the address; in the last case the command is gone.
+    pub fn corb(&mut self, memory: &[u8]) -> Option<Handed>
+        ensures stands { (world : World) → IsWorld memory.now self.old world → IsWorld memory.now self.new (steps.corb_step world) }
+        ensures handed { result ≡ spec.handed_now self.old.registers memory.now self.old.codecs }
+        ensures codecs { self.new.codecs ≡ spec.with_handed result self.old.codecs }
+        ensures sound { KeepsSound self.old.registers self.new.registers }
+    {
+        let Some(word) = self.rings.next_word(&self.registers, memory) else {
+            return None;
+        };
+        if codecs::is_busy(self.codecs.as_slice(), word) {
+            return None;
+        }
+        let _word = self.rings.corb(&mut self.registers, memory);
+        codecs::hand(self.codecs.as_mut_slice(), word)
     }
 
     /// The codec of this address sends its first waiting item to the controller, which drops one that was sent unasked where UNSOL is 0.
