@@ -1,0 +1,5 @@
+pub mod Standing
+pub mod Places
+pub mod Moves
+pub mod Steps
+pub mod Discovery

@@ -1,0 +1,32 @@
+use Rattle.std.proofs.Common.{◌≡◌, ℕ, Bool, true, false, List, Option, Some, None, refl, ap, sym, subst, ◌∙◌}
+use Rattle.std.specs.Prelude.{slice_get}
+use Rattle.std.specs.Vec.{with_items}
+use Rattle.std.specs.Option.{option_map}
+use Rattle.codec_graph.specs.CodecStates.{CodecState, without_first, without_answer, plugged}
+use Rattle.codec_nodes.specs.Queues.{marked}
+use Rattle.hda_world.specs.Worlds.{codec_at, with_codec}
+use Rattle.hda_world.specs.Steps.{items_of}
+use Rattle.hda_device.specs.Codecs.{KeepCodecs, addresses_of}
+use Rattle.hda_device.specs.Devices.{DeviceState, IsWorld}
+use Rattle.hda_device.proofs.Moves.{keeps_queues, lose_lost, plug_plugged, answer_refused, answer_none, answer_sent, graph_plugged, settings_plugged}
+use Rattle.hda_device.proofs.Places.{keeps-with_codec, addresses-with_codec, put_back}
+use Rattle.hda_device.proofs.device.Device.lose.Goals as goal
+
+pub invariant_of-self : goal.invariant_of-self
+invariant_of-self c =
+    let before : DeviceState = record { registers = c.self.inside.registers; codecs = c.self.inside.codecs.items; waiting = c.self.inside.rings; frames = c.self.inside.frames; input = c.self.inside.input; output = c.self.inside.output } in
+    let back = put_back c.args.codec without_answer c.self.inside.codecs c.lose.new.codecs (c.lose.ensures ∙ ap (with_codec c.args.codec without_answer) c.as_mut_slice.ensures.value) in
+    keeps_queues before _ before.waiting c.self.invariant (ap addresses_of back ∙ addresses-with_codec c.args.codec without_answer (λ codec. refl) before.codecs)
+
+pub returns-then-is_out_of_reset-clause-stands : goal.returns-then-is_out_of_reset-clause-stands
+returns-then-is_out_of_reset-clause-stands c memory world is =
+    let before : DeviceState = record { registers = c.self.inside.registers; codecs = c.self.inside.codecs.items; waiting = c.self.inside.rings; frames = c.self.inside.frames; input = c.self.inside.input; output = c.self.inside.output } in
+    let here : IsWorld memory before world = subst (λ (device : DeviceState). IsWorld memory device world) (sym c.self.view_is) is in
+    let back = put_back c.args.codec without_answer c.self.inside.codecs c.lose.new.codecs (c.lose.ensures ∙ ap (with_codec c.args.codec without_answer) c.as_mut_slice.ensures.value) in
+    lose_lost memory before world here c.args.codec _ (sym c.is_out_of_reset.ensures ∙ c.if-is_out_of_reset.true) back
+
+pub returns-then-is_out_of_reset-clause-codecs : goal.returns-then-is_out_of_reset-clause-codecs
+returns-then-is_out_of_reset-clause-codecs c =
+    let back = put_back c.args.codec without_answer c.self.inside.codecs c.lose.new.codecs (c.lose.ensures ∙ ap (with_codec c.args.codec without_answer) c.as_mut_slice.ensures.value) in
+    subst (λ (device : DeviceState). KeepCodecs device.codecs (with_items c.self.inside.codecs c.lose.new.codecs).items) c.self.view_is
+    (subst (λ (codecs : List CodecState). KeepCodecs c.self.inside.codecs.items codecs) (sym back) (keeps-with_codec c.args.codec without_answer (λ codec. refl) (λ codec. refl) c.self.inside.codecs.items))
