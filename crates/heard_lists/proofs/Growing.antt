@@ -1,0 +1,97 @@
+-- Lists that grow.
+use Rattle.std.proofs.Common.{◌≡◌, ◌≢◌, ◌≤◌, ◌<◌, ◌+◌, ◌-◌, ◌/◌, ℕ, List, [], ◌∷◌, ◌++◌, length, map, get_or, set, take, drop, refl, sym, ap, subst, ◌∙◌, arith}
+use Rattle.std.specs.Prelude.{All}
+use Rattle.std.specs.List.{range_with_len, AllZip}
+use Rattle.std.proofs.lemmas.List.{append-nil, append_assoc, length-map}
+use Rattle.std.proofs.lemmas.List.FromFn.{length-range_with_len, map-range_with_len_more}
+use Rattle.std.proofs.lemmas.List.Elements.{All-append, AllZip-push}
+use Rattle.codec_graph.specs.declared.raw.RawCodec.{RawCodec}
+use Rattle.stream_format.specs.Layouts.{Layout}
+use Rattle.hda_world.specs.Worlds.{CarriedFrame}
+use Rattle.codec_sound.specs.declared.signals.Signal.{Signal}
+use Rattle.codec_sound.specs.declared.heard.Heard.{Heard}
+use Rattle.codec_sound.specs.HeardLists.{block_at, block_size, item_of, heard}
+use Rattle.codec_sound.proofs.Callers.{heard-append}
+use Rattle.route_planner.specs.Order.{IsOrder}
+use Rattle.heard_lists.specs.Listings.{Listing, AreListsOf, AreEmpty, places_of, places_in, pins_of, empty_lists, with_items, items_before, grown}
+
+-- ---- one list
+
+-- one more item
+pub with_more : (listing : Listing) (items : List Heard) (item : Heard)
+    → record (with_items items listing) { list = (with_items items listing).list ++ item ∷ []; room = (with_items items listing).room - 1 } ≡ with_items (items ++ item ∷ []) listing
+with_more listing items item =
+    ap (λ (list : List Heard). record listing { list = list; room = listing.room - length items - 1 }) (append_assoc listing.list items (item ∷ []))
+    ∙ ap (λ (room : ℕ). record listing { list = listing.list ++ (items ++ item ∷ []); room = room }) (fewer listing.room)
+  where
+    fewer : (room : ℕ) → room - length items - 1 ≡ room - length (items ++ item ∷ [])
+    fewer room = simp (length-append) omega arith
+
+-- and items after items
+pub with_both : (listing : Listing) (first second : List Heard) → with_items second (with_items first listing) ≡ with_items (first ++ second) listing
+with_both listing first second =
+    ap (λ (list : List Heard). record listing { list = list; room = listing.room - length first - length second }) (append_assoc listing.list first second)
+    ∙ ap (λ (room : ℕ). record listing { list = listing.list ++ (first ++ second); room = room }) (fewer listing.room)
+  where
+    fewer : (room : ℕ) → room - length first - length second ≡ room - length (first ++ second)
+    fewer room = simp (length-append) omega arith
+
+-- no items
+pub with_none : (listing : Listing) → with_items [] listing ≡ listing
+with_none listing = ap (λ (list : List Heard). record listing { list = list }) (append-nil listing.list)
+
+-- ---- the blocks of a frame
+
+pub length-before : (layout : Layout) (signal : Signal) (bytes : List ℕ) (count : ℕ) → length (items_before layout signal bytes count) ≡ count
+length-before layout signal bytes count = simp (length-map, length-range_with_len)
+
+pub before-more : (layout : Layout) (signal : Signal) (bytes : List ℕ) (count : ℕ)
+    → items_before layout signal bytes (count + 1) ≡ items_before layout signal bytes count ++ item_of layout signal (block_at (block_size layout) bytes count) ∷ []
+before-more layout signal bytes count =
+    ap (map (item_of layout signal)) (map-range_with_len_more (block_at (block_size layout) bytes) 0 count count (omega arith))
+    ∙ map-append (item_of layout signal) (map (block_at (block_size layout) bytes) (range_with_len 0 count)) (block_at (block_size layout) bytes count ∷ [])
+
+-- ---- the lists of codecs
+
+places-push : (graphs : List RawCodec) (orders : List (List ℕ)) (graph : RawCodec) (pins : List ℕ) → AllZip IsOrder graphs orders
+    → places_in (graphs ++ graph ∷ []) (orders ++ pins ∷ []) ≡ places_in graphs orders ++ places_of graph.address pins
+places-push [] [] graph pins h = append-nil (places_of graph.address pins)
+places-push [] (first ∷ orders) graph pins h = absurd h
+places-push (first ∷ graphs) [] graph pins h = absurd h
+places-push (first ∷ graphs) (order ∷ orders) graph pins h =
+    ap (λ (rest : List (ℕ × ℕ)). places_of first.address order ++ rest) (places-push graphs orders graph pins h.1)
+    ∙ sym (append_assoc (places_of first.address order) (places_in graphs orders) (places_of graph.address pins))
+
+pins-empty : (address : ℕ) (pins : List ℕ) → pins_of (empty_lists address pins) ≡ places_of address pins
+pins-empty address [] = refl
+pins-empty address (pin ∷ pins) = ap (λ (rest : List (ℕ × ℕ)). (address, pin) ∷ rest) (pins-empty address pins)
+
+pub AreListsOf-push : (graphs : List RawCodec) (lists : List Listing) (graph : RawCodec) (pins : List ℕ) → AreListsOf graphs lists → IsOrder graph pins
+    → AreListsOf (graphs ++ graph ∷ []) (lists ++ empty_lists graph.address pins)
+AreListsOf-push graphs lists graph pins are order = record {
+  orders = are.orders ++ pins ∷ [];
+  ordered = AllZip-push IsOrder graphs are.orders graph pins are.ordered order;
+  pins = map-append (λ (listing : Listing). (listing.codec, listing.pin)) lists (empty_lists graph.address pins)
+      ∙ (ap (λ (front : List (ℕ × ℕ)). front ++ pins_of (empty_lists graph.address pins)) are.pins
+      ∙ (ap (λ (back : List (ℕ × ℕ)). places_in graphs are.orders ++ back) (pins-empty graph.address pins)
+      ∙ sym (places-push graphs are.orders graph pins are.ordered)));
+}
+
+pub AreListsOf-none : AreListsOf [] []
+AreListsOf-none = record { orders = []; ordered = tt; pins = refl }
+
+-- ---- frames in turn
+
+pub grown-append : (first second : List CarriedFrame) (lists : List Listing) → grown second (grown first lists) ≡ grown (first ++ second) lists
+grown-append first second [] = refl
+grown-append first second (listing ∷ lists) =
+    let one : with_items (heard listing.codec listing.pin second) (with_items (heard listing.codec listing.pin first) listing) ≡ with_items (heard listing.codec listing.pin (first ++ second)) listing =
+    with_both listing (heard listing.codec listing.pin first) (heard listing.codec listing.pin second)
+    ∙ ap (λ (items : List Heard). with_items items listing) (sym (heard-append listing.codec listing.pin first second)) in
+    ap (λ (l : Listing). l ∷ grown second (grown first lists)) one
+    ∙ ap (λ (rest : List Listing). with_items (heard listing.codec listing.pin (first ++ second)) listing ∷ rest) (grown-append first second lists)
+
+pub grown-none : (lists : List Listing) → grown [] lists ≡ lists
+grown-none [] = refl
+grown-none (listing ∷ lists) =
+    ap (λ (l : Listing). l ∷ grown [] lists) (with_none listing) ∙ ap (λ (rest : List Listing). listing ∷ rest) (grown-none lists)
