@@ -1,10 +1,11 @@
 -- Lists that grow.
-use Rattle.std.proofs.Common.{◌≡◌, ◌≢◌, ◌≤◌, ◌<◌, ◌+◌, ◌-◌, ◌/◌, ℕ, List, [], ◌∷◌, ◌++◌, length, map, get_or, set, take, drop, refl, sym, ap, subst, ◌∙◌, arith}
-use Rattle.std.specs.Prelude.{All}
-use Rattle.std.specs.List.{range_with_len, AllZip}
-use Rattle.std.proofs.lemmas.List.{append-nil, append_assoc, length-map}
+use Rattle.std.proofs.Common.{◌≡◌, ◌≢◌, ◌≤◌, ◌<◌, ◌+◌, ◌-◌, ℕ, suc, List, [], ◌∷◌, ◌++◌, length, map, get_or, set, drop, nat_eq, Bool, true, false, Some, if◌then◌else◌, tests, rules, refl, sym, ap, subst, ◌∙◌, arith, ◌*◌, length-append}
+use Rattle.std.specs.List.{find, range_with_len, AllZip}
+use Rattle.std.proofs.Math.Nat.{suc-mul}
+use Rattle.std.proofs.lemmas.List.{drop_more, get_or-set_other, map-append, append-nil, append_assoc, length-map}
 use Rattle.std.proofs.lemmas.List.FromFn.{length-range_with_len, map-range_with_len_more}
-use Rattle.std.proofs.lemmas.List.Elements.{All-append, AllZip-push}
+use Rattle.std.proofs.lemmas.Grind.{get_or-set_at}
+use Rattle.std.proofs.lemmas.List.Elements.{All-map}
 use Rattle.codec_graph.specs.declared.raw.RawCodec.{RawCodec}
 use Rattle.stream_format.specs.Layouts.{Layout}
 use Rattle.hda_world.specs.Worlds.{CarriedFrame}
@@ -13,7 +14,7 @@ use Rattle.codec_sound.specs.declared.heard.Heard.{Heard}
 use Rattle.codec_sound.specs.HeardLists.{block_at, block_size, item_of, heard}
 use Rattle.codec_sound.proofs.Callers.{heard-append}
 use Rattle.route_planner.specs.Order.{IsOrder}
-use Rattle.heard_lists.specs.Listings.{Listing, AreListsOf, AreEmpty, places_of, places_in, pins_of, empty_lists, with_items, items_before, grown}
+use Rattle.heard_lists.specs.Listings.{Listing, AreListsOf, AreEmpty, places_of, places_in, is_of, pins_of, empty_lists, with_items, items_before, grown}
 
 -- ---- one list
 
@@ -38,7 +39,12 @@ with_both listing first second =
 
 -- no items
 pub with_none : (listing : Listing) → with_items [] listing ≡ listing
-with_none listing = ap (λ (list : List Heard). record listing { list = list }) (append-nil listing.list)
+with_none listing =
+    ap (λ (list : List Heard). record listing { list = list; room = listing.room - 0 }) (append-nil listing.list)
+    ∙ ap (λ (room : ℕ). record listing { room = room }) (whole listing.room)
+  where
+    whole : (room : ℕ) → room - 0 ≡ room
+    whole room = omega arith
 
 -- ---- the blocks of a frame
 
@@ -51,6 +57,13 @@ before-more layout signal bytes count =
     ap (map (item_of layout signal)) (map-range_with_len_more (block_at (block_size layout) bytes) 0 count count (omega arith))
     ∙ map-append (item_of layout signal) (map (block_at (block_size layout) bytes) (range_with_len 0 count)) (block_at (block_size layout) bytes count ∷ [])
 
+suc_times : (place size : ℕ) → (place + 1) * size ≡ place * size + size
+suc_times place size = let e : place + 1 ≡ suc place = omega arith in ap (λ (n : ℕ). n * size) e ∙ suc-mul place size
+
+-- a block ends one block's size after its begin
+pub piece_of : (place size : ℕ) → (place + 1) * size - place * size ≡ size
+piece_of place size = let e : (place + 1) * size ≡ place * size + size = suc_times place size in rw e omega arith
+
 -- ---- the lists of codecs
 
 places-push : (graphs : List RawCodec) (orders : List (List ℕ)) (graph : RawCodec) (pins : List ℕ) → AllZip IsOrder graphs orders
@@ -62,6 +75,13 @@ places-push (first ∷ graphs) (order ∷ orders) graph pins h =
     ap (λ (rest : List (ℕ × ℕ)). places_of first.address order ++ rest) (places-push graphs orders graph pins h.1)
     ∙ sym (append_assoc (places_of first.address order) (places_in graphs orders) (places_of graph.address pins))
 
+ordered-push : (graphs : List RawCodec) (orders : List (List ℕ)) (graph : RawCodec) (pins : List ℕ) → AllZip IsOrder graphs orders → IsOrder graph pins
+    → AllZip IsOrder (graphs ++ graph ∷ []) (orders ++ pins ∷ [])
+ordered-push [] [] graph pins h order = (order, tt)
+ordered-push [] (first ∷ orders) graph pins h order = absurd h
+ordered-push (first ∷ graphs) [] graph pins h order = absurd h
+ordered-push (first ∷ graphs) (other ∷ orders) graph pins h order = (h.0, ordered-push graphs orders graph pins h.1 order)
+
 pins-empty : (address : ℕ) (pins : List ℕ) → pins_of (empty_lists address pins) ≡ places_of address pins
 pins-empty address [] = refl
 pins-empty address (pin ∷ pins) = ap (λ (rest : List (ℕ × ℕ)). (address, pin) ∷ rest) (pins-empty address pins)
@@ -70,7 +90,7 @@ pub AreListsOf-push : (graphs : List RawCodec) (lists : List Listing) (graph : R
     → AreListsOf (graphs ++ graph ∷ []) (lists ++ empty_lists graph.address pins)
 AreListsOf-push graphs lists graph pins are order = record {
   orders = are.orders ++ pins ∷ [];
-  ordered = AllZip-push IsOrder graphs are.orders graph pins are.ordered order;
+  ordered = ordered-push graphs are.orders graph pins are.ordered order;
   pins = map-append (λ (listing : Listing). (listing.codec, listing.pin)) lists (empty_lists graph.address pins)
       ∙ (ap (λ (front : List (ℕ × ℕ)). front ++ pins_of (empty_lists graph.address pins)) are.pins
       ∙ (ap (λ (back : List (ℕ × ℕ)). places_in graphs are.orders ++ back) (pins-empty graph.address pins)
@@ -95,3 +115,36 @@ pub grown-none : (lists : List Listing) → grown [] lists ≡ lists
 grown-none [] = refl
 grown-none (listing ∷ lists) =
     ap (λ (l : Listing). l ∷ grown [] lists) (with_none listing) ∙ ap (λ (rest : List Listing). listing ∷ rest) (grown-none lists)
+
+-- ---- loops over lists
+
+-- a list that isn't looked for
+pub find-on : (p : Listing → Bool) (lists : List Listing) (i : ℕ) (listing : Listing) → i < length lists → listing ≡ get_or lists i listing → p listing ≡ false
+    → find p (drop (i + 1) lists) ≡ find p (drop i lists)
+find-on p lists i listing inside is other =
+    sym (ap (find p) (drop_more lists i listing inside ∙ ap (λ (l : Listing). l ∷ drop (i + 1) lists) (sym is))
+    ∙ ap (λ (found : Bool). if found then Some listing else find p (drop (i + 1) lists)) other)
+
+pub found-is : (codec pin : ℕ) (listing : Listing) → ◌≡◌ {A = ℕ × ℕ} (listing.codec, listing.pin) (codec, pin) → is_of codec pin listing ≡ true
+found-is codec pin listing e =
+    let address : listing.codec ≡ codec = ap (λ (p : ℕ × ℕ). p.0) e in
+    let node : listing.pin ≡ pin = ap (λ (p : ℕ × ℕ). p.1) e in
+    search (rules, tests)
+
+-- one more list has room
+pub room-more : (lists : List Listing) (i items : ℕ) (new : Listing) → i < length lists → items ≤ new.room
+    → ((k : ℕ) (d : Listing) → k < i → items ≤ (get_or lists k d).room) → (k : ℕ) (d : Listing) → k < i + 1 → items ≤ (get_or (set lists i new) k d).room
+room-more lists i items new inside some before k d within = by_place (nat_eq k i) refl
+  where
+    by_place : (same : Bool) → nat_eq k i ≡ same → items ≤ (get_or (set lists i new) k d).room
+    by_place true is =
+        let here : k ≡ i = search (rules, tests) in
+        subst (λ (l : Listing). items ≤ l.room) (sym (get_or-set_at lists i k new d here inside)) some
+    by_place false is =
+        let apart : k ≢ i = search (rules, tests) in
+        let below : k < i = omega (arith, apart) in
+        subst (λ (l : Listing). items ≤ l.room) (sym (get_or-set_other lists i k new d apart)) (before k d below)
+
+pub AreEmpty-empty : (address : ℕ) (pins : List ℕ) → AreEmpty (empty_lists address pins)
+AreEmpty-empty address pins =
+    All-map (λ (listing : Listing). listing.list ≡ []) (λ (pin : ℕ). record { codec = address; pin = pin; list = []; room = 0 }) pins (λ k d within. refl)

@@ -1,4 +1,4 @@
-use Rattle.std.proofs.Common.{[], ◌∷◌, get_or, arith}
+use Rattle.std.proofs.Common.{[], ◌∷◌, set, get_or, ap, ◌∙◌, arith}
 use Rattle.std.proofs.lemmas.List.{get_or_default}
 use Rattle.std.proofs.lemmas.List.Edits.{map_over_more}
 use Rattle.codec_sound.specs.declared.heard.Heard.TheVariants.{Hole}
@@ -7,7 +7,7 @@ use Rattle.heard_lists.proofs.lists.miss_all.Goals as goal
 
 pub loop-list-preserved : goal.loop-list-preserved
 loop-list-preserved c =
-
-    rw c.push.ensures
-    (map_over_more (with_items (Hole ∷ [])) c.args.lists.now c.loop-list.lists c.loop-list.list-index
-    c.list-item.result (omega arith) c.loop-list.invariant c.list-item.is)
+    ap (λ (l : Listing). set c.loop-list.lists c.loop-list.list-index l) c.push.ensures
+    ∙ map_over_more (with_items (Hole ∷ [])) c.args.lists.now c.loop-list.lists c.loop-list.list-index
+    (get_or c.loop-list.lists c.loop-list.list-index c.list-item.result) (omega arith) c.loop-list.invariant
+    (get_or_default c.loop-list.lists c.loop-list.list-index _ _ (omega arith))
