@@ -6,6 +6,8 @@
 #[cfg(test)]
 mod codecs;
 #[cfg(test)]
+mod engine;
+#[cfg(test)]
 mod formats;
 #[cfg(test)]
 mod platform;
@@ -15,6 +17,8 @@ mod pool;
 mod registers;
 #[cfg(test)]
 mod rings;
+#[cfg(test)]
+mod scripted;
 #[cfg(test)]
 mod sounds;
 #[cfg(test)]
