@@ -1,0 +1,8 @@
+pub mod Blocks
+pub mod Sizes
+pub mod Entries
+pub mod Starting
+pub mod Submitting
+pub mod Polling
+-- what private functions promise one another
+pub mod Reading

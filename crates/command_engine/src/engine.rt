@@ -1,0 +1,43 @@
+//! The engine.
+ghost use Rattle.std.specs.Prelude.{◌≡◌, ◌<◌, ◌≤◌, true};
+ghost use Rattle.hda_registers.specs.Fields.{entries_of};
+ghost use Rattle.command_engine.specs.Blocks.{are_apart};
+
+
+use crate::answers::{Event, Outstanding};
+use crate::rings::Rings;
+use circular_buffer::HeapCircularBuffer;
+use dma_pool::{Block, Lent, NoRun, Pool};
+use hda_registers::RingSize;
+use std::alloc::{AllocError, Global};
+
+/// The bytes of CORB: 256 commands.
+pub const CORB_BYTES: u32 = 1_024;
+/// The bytes of RIRB: 256 responses.
+pub const RIRB_BYTES: u32 = 2_048;
+/// How many events wait at most.
+pub const MOST_EVENTS: usize = 256;
+
+/// Why there is no engine.
+#[derive(Clone, Copy, Debug, PartialEq, Eq)]
+pub enum OpenFault {
+    /// The pool has no run for CORB, or after that none for RIRB.
+    NoRun,
+    /// Want of memory.
+    OutOfMemory,
+}
+
+/// The driver's side of both rings. It owns their blocks, which it gives back when it is closed, and keeps nothing of a platform.
+pub struct Engine {
+    corb: Lent,
+    rirb: Lent,
+    rings: Rings,
+    started: bool,
+    outstanding: Option<Outstanding>,
+    events: HeapCircularBuffer<Event>,
+    pub ghost corb_bytes: { corb.bytes ≡ CORB_BYTES },
+    pub ghost rirb_bytes: { rirb.bytes ≡ RIRB_BYTES },
+    pub ghost apart: { are_apart corb.address rirb.address ≡ true },
+    pub ghost room: { events.capacity ≡ MOST_EVENTS },
+    pub ghost read_within: { rings.read < entries_of rings.rirb },
+}
