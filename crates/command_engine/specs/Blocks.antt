@@ -1,6 +1,12 @@
--- The blocks of both rings.
+-- The blocks of both rings. High Definition Audio 1.0a, 4.4.1 and 4.4.2: room for 256 commands of 4 bytes and 256 responses of 8.
 use Rattle.std.specs.Prelude.{ℕ, Bool, ◌+◌, ◌||◌, nat_le}
 
--- a block of 1,024 bytes for CORB and one of 2,048 for RIRB, which have no byte in common
+abbrev pub corb_bytes : ℕ
+corb_bytes = 1024
+
+abbrev pub rirb_bytes : ℕ
+rirb_bytes = 2048
+
+-- the blocks at these addresses have no byte in common
 abbrev pub are_apart : ℕ → ℕ → Bool
-are_apart corb rirb = nat_le (corb + 1024) rirb || nat_le (rirb + 2048) corb
+are_apart corb rirb = nat_le (corb + corb_bytes) rirb || nat_le (rirb + rirb_bytes) corb

@@ -1,4 +1,5 @@
 pub mod Blocks
+pub mod Opening
 pub mod Sizes
 pub mod Entries
 pub mod Starting

@@ -6,6 +6,7 @@ use Rattle.hda_registers.specs.declared.places.TheConstants.{RIRBWP, RIRBSTS}
 use Rattle.hda_registers.specs.Fields.{entries_of}
 use Rattle.ring_entries.specs.declared.entries.TheConstants.{RESPONSE_BYTES}
 use Rattle.hda_world.specs.Events as happens
+use Rattle.hda_world.specs.Tellings.{Telling, Between, Makes}
 use Rattle.command_engine.specs.declared.rings.Rings.{Rings}
 use Rattle.command_engine.specs.declared.answers.Event.{Event}
 use Rattle.command_engine.specs.declared.answers.Outstanding.{Outstanding}
@@ -42,9 +43,6 @@ poll_accesses rirb rings reads =
 abbrev pub new_entries : Rings → ℕ → ℕ
 new_entries rings pointer = entries_up_to rings.rirb rings.read pointer
 
-abbrev pub rings_polled : Rings → ℕ → Rings
-rings_polled rings pointer = record rings { read = pointer % entries_of rings.rirb }
-
 -- the codec that is asked
 abbrev pub asked_of : Option Outstanding → Option ℕ
 asked_of None = None
@@ -65,12 +63,31 @@ abbrev pub still_outstanding : Option Outstanding → Option ℕ → Option Outs
 still_outstanding outstanding None = outstanding
 still_outstanding outstanding (Some value) = None
 
--- a poll, where RIRB's block lies at this address: from the engine's rings, outstanding command and events to the new ones
-pub record Polls (rirb clock : ℕ) (rings : Rings) (outstanding : Option Outstanding) (reads : PollReads) (rings' : Rings) (outstanding' : Option Outstanding) (events : List Event) (answer : Poll) : Type 0 where
-  -- as many entries were read as are new, of 8 bytes each
+-- the answer among the entries that were read
+abbrev pub found_by : Rings → PollReads → Option ℕ
+found_by rings reads = answer_among (asked_of rings.outstanding) (responses_in reads.entries)
+
+-- the entry that was read last is the one at the pointer
+abbrev pub read_to : Rings → PollReads → ℕ
+read_to rings reads = if has_bit reads.flag 0 then reads.pointer % entries_of rings.rirb else rings.read
+
+abbrev pub rings_polled : Rings → PollReads → Rings
+rings_polled rings reads = record rings {
+  read = read_to rings reads;
+  outstanding = still_outstanding rings.outstanding (found_by rings reads);
+}
+
+-- as many entries were read as are new, of 8 bytes each
+pub record AreNew (rings : Rings) (reads : PollReads) : Type 0 where
   pub number : length reads.entries ≡ (if has_bit reads.flag 0 then new_entries rings reads.pointer else 0)
   pub whole : All (λ (entry : List ℕ). length entry ≡ RESPONSE_BYTES) reads.entries
-  pub rings_are : rings' ≡ (if has_bit reads.flag 0 then rings_polled rings reads.pointer else rings)
+
+-- a poll at this clock, where RIRB's block lies at this address: what it answers, how the engine stands after it with its events,
+-- and what is told
+pub record Polls (rirb clock : ℕ) (rings : Rings) (answer : Poll) (rings' : Rings) (events : List Event) (old new : Option Telling) : Type 0 where
+  pub reads : PollReads
+  pub new_ones : AreNew rings reads
+  pub made : Between (Makes (poll_accesses rirb rings reads)) old new
+  pub answer_is : answer ≡ poll_of rings.outstanding (found_by rings reads) clock
+  pub rings_are : rings' ≡ rings_polled rings reads
   pub events_are : events ≡ events_of (responses_in reads.entries)
-  pub answer_is : answer ≡ poll_of outstanding (answer_among (asked_of outstanding) (responses_in reads.entries)) clock
-  pub outstanding_is : outstanding' ≡ still_outstanding outstanding (answer_among (asked_of outstanding) (responses_in reads.entries))

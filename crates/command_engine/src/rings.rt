@@ -1,17 +1,17 @@
 //! Where the engine stands in both rings.
-ghost use Rattle.std.specs.Prelude.{◌≡◌, ◌<◌, ◌≤◌, ◌^◌};
+ghost use Rattle.std.specs.Prelude.{◌≡◌, ◌<◌, ◌%◌};
 ghost use Rattle.hda_registers.specs.Fields.{entries_of};
 ghost use Rattle.command_engine.specs.Sizes as sizes;
 ghost use Rattle.command_engine.specs.Starting as starting;
 ghost use Rattle.command_engine.specs.Submitting as submitting;
 ghost use Rattle.command_engine.specs.Polling as polling;
 
+use crate::answers::Outstanding;
 use hda_registers::RingSize;
 use ring_entries::next_place;
 use verb_codes::has_bit;
 
-/// The sizes of both rings, the entry of CORB that has the last command, and the entry of RIRB that was read last (HDA 1.0a,
-/// 4.4.1 and 4.4.2).
+/// Where the engine stands in both rings (HDA 1.0a, 4.4.1 and 4.4.2).
 #[derive(Clone, Copy, Debug, PartialEq, Eq)]
 pub struct Rings {
     /// The size of CORB.
@@ -22,6 +22,10 @@ pub struct Rings {
     pub submitted: u8,
     /// The entry of RIRB that was read last.
     pub read: u8,
+    /// Whether the rings were set going.
+    pub started: bool,
+    /// The command that is outstanding.
+    pub outstanding: Option<Outstanding>,
 }
 
 /// The largest size that a size register names as supported, if it names one (HDA 1.0a, 3.3.24 and 3.3.31).
@@ -67,6 +71,8 @@ pub(crate) fn rings_found(status: u32, corb_size: u32, rirb_size: u32) -> Option
         rirb,
         submitted: 0,
         read: 0,
+        started: true,
+        outstanding: None,
     })
 }
 
@@ -79,11 +85,12 @@ pub(crate) fn command_place(rings: Rings) -> u8
 }
 
 /// The rings after a command was written to the next entry.
-pub(crate) fn rings_submitted(rings: Rings) -> Rings
-    ensures { result ≡ submitting.rings_submitted rings }
+pub(crate) fn rings_submitted(rings: Rings, command: Outstanding) -> Rings
+    ensures { result ≡ submitting.rings_submitted rings command }
 {
     Rings {
         submitted: command_place(rings),
+        outstanding: Some(command),
         ..rings
     }
 }
@@ -99,13 +106,10 @@ pub(crate) fn new_entries(rings: Rings, pointer: u32) -> u16
     (written + (size - u16::from(rings.read))) % size
 }
 
-/// The rings after all entries up to the write pointer were read.
-pub(crate) fn rings_polled(rings: Rings, pointer: u32) -> Rings
-    ensures value { result ≡ polling.rings_polled rings pointer }
-    ensures within { result.read < entries_of result.rirb }
+/// The entry of RIRB that was read last, once all up to its write pointer were read.
+pub(crate) fn read_to(rings: Rings, pointer: u32) -> u8
+    ensures value { result ≡ pointer % entries_of rings.rirb }
+    ensures within { result < entries_of rings.rirb }
 {
-    Rings {
-        read: (pointer % u32::from(rings.rirb.entries())) as u8,
-        ..rings
-    }
+    (pointer % u32::from(rings.rirb.entries())) as u8
 }

@@ -1,0 +1,2 @@
+-- Runs that were taken are given back.
+use Rattle.std.proofs.Common.{◌≡◌, ℕ, List, [], ◌∷◌, ◌++◌, refl}
