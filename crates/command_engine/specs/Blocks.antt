@@ -7,6 +7,10 @@ corb_bytes = 1024
 abbrev pub rirb_bytes : ℕ
 rirb_bytes = 2048
 
+-- how many events wait at most
+abbrev pub most_events : ℕ
+most_events = 256
+
 -- the blocks at these addresses have no byte in common
 abbrev pub are_apart : ℕ → ℕ → Bool
 are_apart corb rirb = nat_le (corb + corb_bytes) rirb || nat_le (rirb + rirb_bytes) corb

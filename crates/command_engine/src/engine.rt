@@ -1,7 +1,7 @@
 //! The engine.
 ghost use Rattle.std.specs.Prelude.{◌≡◌, ◌<◌, true};
 ghost use Rattle.hda_registers.specs.Fields.{entries_of};
-ghost use Rattle.command_engine.specs.Blocks.{are_apart};
+ghost use Rattle.command_engine.specs.Blocks.{corb_bytes, rirb_bytes, most_events, are_apart};
 
 mod opening;
 mod polling;
@@ -36,10 +36,10 @@ pub struct Engine {
     rirb: Lent,
     rings: Rings,
     events: HeapCircularBuffer<Event>,
-    pub ghost corb_bytes: { corb.bytes ≡ CORB_BYTES },
-    pub ghost rirb_bytes: { rirb.bytes ≡ RIRB_BYTES },
+    pub ghost corb_bytes: { corb.bytes ≡ corb_bytes },
+    pub ghost rirb_bytes: { rirb.bytes ≡ rirb_bytes },
     pub ghost apart: { are_apart corb.address rirb.address ≡ true },
-    pub ghost room: { events.capacity ≡ MOST_EVENTS },
+    pub ghost room: { events.capacity ≡ most_events },
     pub ghost read_within: { rings.read < entries_of rings.rirb },
 }
 

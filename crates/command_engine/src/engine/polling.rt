@@ -3,9 +3,10 @@ ghost use Rattle.std.specs.Prelude.{◌≡◌, ◌≤◌, ◌<◌, ◌+◌, ◌*
 ghost use Rattle.hda_registers.specs.Fields.{entries_of};
 ghost use Rattle.ring_entries.specs.declared.entries.TheConstants.{RESPONSE_BYTES};
 ghost use Rattle.command_engine.specs.Polling as spec;
-ghost use Rattle.command_engine.specs.Reading as spec;
+ghost use Rattle.command_engine.specs.Reading as reading;
+ghost use Rattle.command_engine.specs.Blocks.{rirb_bytes};
 
-use super::{Engine, RIRB_BYTES};
+use super::Engine;
 use crate::answers::{Event, Poll, asked_of, found_with, note_event, poll_of, response_in, still_outstanding};
 use crate::memory::read_entry;
 use crate::rings::{Rings, new_entries, read_to};
@@ -57,7 +58,7 @@ impl Engine {
         requires events { self.old.events.items ≡ [] }
         requires room { 257 ≤ P.spare_accesses platform.old }
         requires bytes_room { 2040 ≤ P.spare_bytes platform.old }
-        ensures reads { spec.ReadsNew self.old.rirb.address self.old.rings flag result self.new.rings self.new.events.items (P.told platform.old) (P.told platform.new) }
+        ensures reads { reading.ReadsNew self.old.rirb.address self.old.rings flag result self.new.rings self.new.events.items (P.told platform.old) (P.told platform.new) }
         ensures corb { self.new.corb ≡ self.old.corb }
         ensures rirb { self.new.rirb ≡ self.old.rirb }
         ensures fixed { P.fixed platform.new ≡ P.fixed platform.old }
@@ -76,7 +77,7 @@ impl Engine {
         requires events { self.old.events.items ≡ [] }
         requires room { 257 ≤ P.spare_accesses platform.old }
         requires bytes_room { 2040 ≤ P.spare_bytes platform.old }
-        ensures reads { spec.ReadsBatch self.old.rirb.address self.old.rings result self.new.rings self.new.events.items (P.told platform.old) (P.told platform.new) }
+        ensures reads { reading.ReadsBatch self.old.rirb.address self.old.rings result self.new.rings self.new.events.items (P.told platform.old) (P.told platform.new) }
         ensures corb { self.new.corb ≡ self.old.corb }
         ensures rirb { self.new.rirb ≡ self.old.rirb }
         ensures fixed { P.fixed platform.new ≡ P.fixed platform.old }
@@ -102,11 +103,11 @@ fn read_entries<P: Platform>(
     events: &mut HeapCircularBuffer<Event>,
 ) -> Option<u32>
     requires few { count < 256 }
-    requires block { rirb.now.bytes ≡ RIRB_BYTES }
+    requires block { rirb.now.bytes ≡ rirb_bytes }
     requires events_room { length events.old.items + count ≤ events.old.capacity }
     requires room { count ≤ P.spare_accesses platform.old }
     requires bytes_room { RESPONSE_BYTES * count ≤ P.spare_bytes platform.old }
-    ensures reads { spec.ReadsEntries rirb.now.address (entries_of rings.rirb) (rings.read + 1) count (spec.asked_of rings.outstanding)
+    ensures reads { reading.ReadsEntries rirb.now.address (entries_of rings.rirb) (rings.read + 1) count (spec.asked_of rings.outstanding)
         events.old.items events.new.items result (P.told platform.old) (P.told platform.new) }
     ensures capacity { events.new.capacity ≡ events.old.capacity }
     ensures fixed { P.fixed platform.new ≡ P.fixed platform.old }
