@@ -1,5 +1,5 @@
 -- Runs that were taken are given back.
-use Rattle.std.proofs.Common.{◌≡◌, ℕ, List, [], ◌∷◌, ◌++◌, refl, sym, ap, subst, ◌∙◌, rules}
+use Rattle.std.proofs.Common.{◌≡◌, ℕ, List, [], ◌∷◌, ◌++◌, refl, sym, subst, ◌∙◌, rules}
 use Rattle.std.specs.Prelude.{Contains}
 use Rattle.std.proofs.lemmas.List.Elements.{Contains-append_right}
 use Rattle.dma_pool.specs.declared.runs.Run.{Run}
@@ -26,7 +26,6 @@ same_rest (other ∷ front) back (other' ∷ front') back' run fresh e =
     let rest : front ++ run ∷ back ≡ front' ++ run ∷ back' = cc in
     let ih = same_rest front back front' back' run (λ has. fresh (later_one run other (front ++ back) has)) rest in
     cc
-
 
 -- so the pool is as it was
 pub given_back : (pool middle given : PoolState) (run : Run) → (Contains pool.taken run → ⊥) → AddsRun pool.taken run middle.taken → AddsRun given.taken run middle.taken

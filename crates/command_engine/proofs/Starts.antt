@@ -1,5 +1,5 @@
 -- What the reads of a start lead to.
-use Rattle.std.proofs.Common.{◌≡◌, ℕ, List, ◌++◌, Option, Some, None, refl, sym, subst}
+use Rattle.std.proofs.Common.{◌≡◌, ℕ, ◌++◌, Option, Some, None, refl, sym, subst}
 use Rattle.hda_world.specs.Tellings.{Telling, Between, Makes}
 use Rattle.hda_world.proofs.Callers.{row_both}
 use Rattle.command_engine.specs.declared.rings.Rings.{Rings}

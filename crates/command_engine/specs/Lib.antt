@@ -5,5 +5,6 @@ pub mod Entries
 pub mod Starting
 pub mod Submitting
 pub mod Polling
+pub mod Courses
 -- what private functions promise one another
 pub mod Reading

@@ -12,7 +12,6 @@ use Rattle.command_engine.specs.declared.answers.Event.{Event}
 use Rattle.command_engine.specs.declared.answers.Outstanding.{Outstanding}
 use Rattle.command_engine.specs.declared.answers.Poll.{Poll}
 use Rattle.command_engine.specs.declared.answers.Poll.TheVariants.{Idle, Answered, Waiting, Unanswered}
-use Rattle.command_engine.specs.declared.answers.TheConstants.{ANSWER_LIMIT}
 use Rattle.command_engine.specs.Sizes.{entries_up_to}
 use Rattle.command_engine.specs.Entries.{responses_in, events_of, answer_among}
 
@@ -48,10 +47,14 @@ abbrev pub asked_of : Option Outstanding → Option ℕ
 asked_of None = None
 asked_of (Some command) = Some command.codec
 
+-- for how many ticks of the wall clock it may stay without an answer: 1,000 link frames of 500
+abbrev pub answer_limit : ℕ
+answer_limit = 500000
+
 -- what a poll answers: of the outstanding command, the answer that was found, and the clock
 abbrev pub without_answer : Outstanding → ℕ → Poll
 without_answer command clock =
-    if nat_le (command.issued + ANSWER_LIMIT) clock then Unanswered command.issued clock else Waiting
+    if nat_le (command.issued + answer_limit) clock then Unanswered command.issued clock else Waiting
 
 abbrev pub poll_of : Option Outstanding → Option ℕ → ℕ → Poll
 poll_of None found clock = Idle

@@ -134,7 +134,10 @@ fn without_answer(command: Outstanding, clock: u32) -> Poll
 }
 
 /// The command that is outstanding after a poll.
-pub(crate) fn still_outstanding(outstanding: Option<Outstanding>, found: Option<u32>) -> Option<Outstanding>
+pub(crate) fn still_outstanding(
+    outstanding: Option<Outstanding>,
+    found: Option<u32>,
+) -> Option<Outstanding>
     ensures { result ≡ polling.still_outstanding outstanding found }
 {
     match found {

@@ -31,7 +31,11 @@ pub(crate) fn write_command<P: Platform>(platform: &mut P, corb: &mut Lent, plac
 }
 
 /// Reads an entry of RIRB.
-pub(crate) fn read_entry<P: Platform>(platform: &mut P, rirb: &Lent, place: u8) -> [u8; RESPONSE_BYTES]
+pub(crate) fn read_entry<P: Platform>(
+    platform: &mut P,
+    rirb: &Lent,
+    place: u8,
+) -> [u8; RESPONSE_BYTES]
     requires room { 1 ≤ P.spare_accesses platform.old }
     requires bytes_room { RESPONSE_BYTES ≤ P.spare_bytes platform.old }
     requires within { RESPONSE_BYTES * (place + 1) ≤ rirb.now.bytes }
@@ -42,6 +46,10 @@ pub(crate) fn read_entry<P: Platform>(platform: &mut P, rirb: &Lent, place: u8) 
     ensures bytes { P.spare_bytes platform.new + RESPONSE_BYTES ≡ P.spare_bytes platform.old }
 {
     let mut entry = [0; RESPONSE_BYTES];
-    platform.dma_read(rirb, (RESPONSE_BYTES * usize::from(place)) as u64, &mut entry);
+    platform.dma_read(
+        rirb,
+        (RESPONSE_BYTES * usize::from(place)) as u64,
+        &mut entry,
+    );
     entry
 }

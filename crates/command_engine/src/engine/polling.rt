@@ -7,7 +7,9 @@ ghost use Rattle.command_engine.specs.Reading as reading;
 ghost use Rattle.command_engine.specs.Blocks.{rirb_bytes};
 
 use super::Engine;
-use crate::answers::{Event, Poll, asked_of, found_with, note_event, poll_of, response_in, still_outstanding};
+use crate::answers::{
+    Event, Poll, asked_of, found_with, note_event, poll_of, response_in, still_outstanding,
+};
 use crate::memory::read_entry;
 use crate::rings::{Rings, new_entries, read_to};
 use circular_buffer::HeapCircularBuffer;

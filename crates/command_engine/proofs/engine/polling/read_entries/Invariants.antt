@@ -1,4 +1,4 @@
-use Rattle.std.proofs.Common.{◌≡◌, ◌≤◌, ◌<◌, ◌+◌, ◌*◌, length}
+use Rattle.std.proofs.Common.{◌≡◌, ◌≤◌, ◌+◌, ◌*◌, length}
 use Rattle.hda_registers.specs.Fields.{entries_of}
 use Rattle.ring_entries.specs.declared.entries.TheConstants.{RESPONSE_BYTES}
 use Rattle.command_engine.specs.Polling.{asked_of}
