@@ -1,3 +1,5 @@
 pub mod Readings
 pub mod Pools
 pub mod Starts
+pub mod Codecs
+pub mod Coming
