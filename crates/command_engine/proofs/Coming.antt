@@ -5,7 +5,11 @@ use Rattle.std.proofs.lemmas.List.Elements.{All-cons, All-head, All-tail, All-ni
 use Rattle.std.proofs.lemmas.List.Sums.{sum_by-append, sum_by-cons}
 use Rattle.codec_graph.specs.declared.waiting.Waiting.{Waiting}
 use Rattle.codec_graph.specs.declared.waiting.Waiting.TheVariants.{Answer, Unsolicited}
-use Rattle.codec_graph.specs.CodecStates.{CodecState, answers, answer_to, taken, without_first, without_answer, drop_answer}
+use Rattle.codec_graph.specs.CodecStates.{CodecState, answers, answer_to, taken, without_first, without_answer, drop_answer, plugged, node_plugged, pin_plugged, is_told, response_of}
+use Rattle.codec_graph.specs.declared.raw.RawNode.{RawNode}
+use Rattle.codec_graph.specs.declared.controls.Control.TheVariants.{Unsol}
+use Rattle.codec_graph.specs.Widget.{node_at, is_pin}
+use Rattle.codec_graph.specs.Settings.{setting_of}
 use Rattle.codec_graph.proofs.Callers.{answers-push, answers-cons}
 use Rattle.hda_registers.specs.Fields.{Fields}
 use Rattle.ring_entries.specs.declared.response.Response.{Response}
@@ -145,3 +149,75 @@ pub coming_lost : (gained : List TakenCommand) (address : ℕ) (unread waiting :
     → IsOnItsWay gained unread waiting codecs → IsOnItsWay gained unread waiting (with_codec address without_answer codecs)
 coming_lost gained address unread waiting codecs ascend way =
     coming_changed gained address without_answer unread waiting codecs ascend (λ codec can. all_left (ItemCanCome gained codec.graph.address) codec.waiting can) (λ codec. fewer_left codec.waiting) way
+
+-- ---- something is plugged in or out
+
+plugged_can : (gained : List TakenCommand) (codec : CodecState) (nid : ℕ) (present : Bool) → CodecCanSend gained codec → CodecCanSend gained (plugged codec nid present)
+plugged_can gained codec nid present can = by (node_at codec.graph nid)
+  where
+    told : (b : Bool) (control : ℕ) → All (ItemCanCome gained codec.graph.address) (if b then codec.waiting ++ response_of control ∷ [] else codec.waiting)
+    told true control = All-push (ItemCanCome gained codec.graph.address) codec.waiting (response_of control) can tt
+    told false control = can
+
+    pin : (node : RawNode) (b : Bool) → CodecCanSend gained (if b then pin_plugged codec nid present node else codec)
+    pin node true = told (is_told codec nid present node) (setting_of codec.settings nid Unsol)
+    pin node false = can
+
+    by : (node : Option RawNode) → CodecCanSend gained (node_plugged codec nid present node)
+    by None = can
+    by (Some node) = pin node (is_pin node)
+
+plugged_fewer : (codec : CodecState) (nid : ℕ) (present : Bool) → answers (plugged codec nid present).waiting ≤ answers codec.waiting
+plugged_fewer codec nid present = by (node_at codec.graph nid)
+  where
+    told : (b : Bool) (control : ℕ) → answers (if b then codec.waiting ++ response_of control ∷ [] else codec.waiting) ≤ answers codec.waiting
+    told true control = let e = answers-push codec.waiting (response_of control) in omega arith
+    told false control = omega arith
+
+    pin : (node : RawNode) (b : Bool) → answers (if b then pin_plugged codec nid present node else codec).waiting ≤ answers codec.waiting
+    pin node true = told (is_told codec nid present node) (setting_of codec.settings nid Unsol)
+    pin node false = omega arith
+
+    by : (node : Option RawNode) → answers (node_plugged codec nid present node).waiting ≤ answers codec.waiting
+    by None = omega arith
+    by (Some node) = pin node (is_pin node)
+
+pub coming_plugged : (gained : List TakenCommand) (address nid : ℕ) (present : Bool) (unread waiting : List Response) (codecs : List CodecState) → AscendByAddress codecs
+    → IsOnItsWay gained unread waiting codecs → IsOnItsWay gained unread waiting (with_codec address (λ codec. plugged codec nid present) codecs)
+coming_plugged gained address nid present unread waiting codecs ascend way =
+    coming_changed gained address (λ codec. plugged codec nid present) unread waiting codecs ascend (λ codec can. plugged_can gained codec nid present can) (λ codec. plugged_fewer codec nid present) way
+
+-- the graph stays
+pub graph_plugged : (nid : ℕ) (present : Bool) (codec : CodecState) → (plugged codec nid present).graph ≡ codec.graph
+graph_plugged nid present codec = by (node_at codec.graph nid)
+  where
+    pin : (node : RawNode) (b : Bool) → (if b then pin_plugged codec nid present node else codec).graph ≡ codec.graph
+    pin node true = refl
+    pin node false = refl
+
+    by : (node : Option RawNode) → (node_plugged codec nid present node).graph ≡ codec.graph
+    by None = refl
+    by (Some node) = pin node (is_pin node)
+
+-- ---- RIRB's engine writes the first that wait
+
+first_all : (P : Response → Type 0) (first rest : List Response) → All P (first ++ rest) → All P first
+first_all P [] rest all = All-nil P
+first_all P (response ∷ first) rest all = All-cons P response first (All-head P response (first ++ rest) all) (first_all P first rest (All-tail P response (first ++ rest) all))
+
+rest_all : (P : Response → Type 0) (first rest : List Response) → All P (first ++ rest) → All P rest
+rest_all P [] rest all = all
+rest_all P (response ∷ first) rest all = rest_all P first rest (All-tail P response (first ++ rest) all)
+
+pub coming_responded : (gained : List TakenCommand) (unread responses rest : List Response) (codecs : List CodecState)
+    → IsOnItsWay gained unread (responses ++ rest) codecs → IsOnItsWay gained (unread ++ responses) rest codecs
+coming_responded gained unread responses rest codecs way =
+    let before = count-append responses rest in
+    let after = count-append unread responses in
+    let few = way.few in
+    record {
+      in_ring = All-append (ResponseCanCome gained) unread responses way.in_ring (first_all (ResponseCanCome gained) responses rest way.in_controller);
+      in_controller = rest_all (ResponseCanCome gained) responses rest way.in_controller;
+      at_codecs = way.at_codecs;
+      few = omega arith;
+    }

@@ -3,3 +3,5 @@ pub mod Pools
 pub mod Starts
 pub mod Codecs
 pub mod Coming
+pub mod Batches
+pub mod Keeping
