@@ -1,5 +1,5 @@
 -- Every move of the device keeps how the engine stands.
-use Rattle.std.proofs.Common.{◌≡◌, ◌<◌, ◌≤◌, ◌⊎◌, ◌+◌, ◌-◌, ◌*◌, ◌%◌, ◌==◌, ◌||◌, ℕ, Bool, true, false, List, [], ◌∷◌, ◌++◌, length, map, drop, Option, None, Some, refl, sym, ap, subst, ◌∙◌, inl, inr, arith, rules, tests, length-append, append-nil, if◌then◌else◌}
+use Rattle.std.proofs.Common.{◌≡◌, ◌<◌, ◌≤◌, ◌⊎◌, ◌+◌, ◌-◌, ◌*◌, ◌%◌, ◌==◌, ◌||◌, ℕ, Bool, true, false, List, [], ◌∷◌, ◌++◌, length, map, drop, Option, None, Some, refl, sym, ap, subst, ◌∙◌, inl, inr, arith, rules, tests, lit≤, length-append, append-nil, if◌then◌else◌}
 use Rattle.std.proofs.Math.Nat.{mod-lt, mod-eq_of_lt}
 use Rattle.std.proofs.Math.Seq.{drop-append_seam}
 use Rattle.std.proofs.lemmas.List.{drop-append-le, drop_all}
@@ -107,6 +107,7 @@ module _ (from read corb rirb : ℕ) (rings : Rings) where
             blocks = holds.blocks;
             ascend = ascend_with (address_of word) (λ codec. taken codec word) (λ codec. refl) world.codecs holds.ascend;
             reading = holds.reading;
+            flag = holds.flag;
             few = holds.few;
             pointer = holds.pointer;
             standing = holds.standing;
@@ -124,6 +125,7 @@ module _ (from read corb rirb : ℕ) (rings : Rings) where
     blocks = holds.blocks;
     ascend = ascend_with address without_first (λ codec. refl) world.codecs holds.ascend;
     reading = holds.reading;
+    flag = holds.flag;
     few = holds.few;
     pointer = holds.pointer;
     standing = holds.standing;
@@ -139,6 +141,7 @@ module _ (from read corb rirb : ℕ) (rings : Rings) where
     blocks = holds.blocks;
     ascend = ascend_with address without_answer (λ codec. refl) world.codecs holds.ascend;
     reading = holds.reading;
+    flag = holds.flag;
     few = holds.few;
     pointer = holds.pointer;
     standing = holds.standing;
@@ -154,6 +157,7 @@ module _ (from read corb rirb : ℕ) (rings : Rings) where
     blocks = holds.blocks;
     ascend = ascend_with address (λ codec. plugged codec nid present) (graph_plugged nid present) world.codecs holds.ascend;
     reading = holds.reading;
+    flag = holds.flag;
     few = holds.few;
     pointer = holds.pointer;
     standing = holds.standing;
@@ -204,6 +208,7 @@ module _ (from read corb rirb : ℕ) (rings : Rings) where
         blocks = record { corb_inside = subst (λ (n : ℕ). corb + 1024 ≤ n) (sym sized) blocks.corb_inside; rirb_inside = subst (λ (n : ℕ). rirb + 2048 ≤ n) (sym sized) blocks.rirb_inside; apart = blocks.apart };
         ascend = holds.ascend;
         reading = reading;
+        flag = lit≤ tt;
         few = omega arith;
         pointer = ap (λ (at : ℕ). (at + length responses) % entries_of fields.shape.rirb) at ∙ ap (λ (n : ℕ). (rings.read + length responses) % n) size ∙ ap (λ (n : ℕ). (rings.read + n) % entries_of rings.rirb) (omega arith);
         standing = subst (λ (unread : List Response). AreStanding rirb (entries_of rings.rirb) rings.read (responses_stored fields world.memory responses) unread) (sym unread)

@@ -5,3 +5,4 @@ pub mod Codecs
 pub mod Coming
 pub mod Batches
 pub mod Keeping
+pub mod Beside

@@ -14,6 +14,8 @@ use Rattle.ring_entries.specs.Entries.{next_place, response_bytes}
 use Rattle.hda_world.specs.Worlds.{World, TakenCommand}
 use Rattle.hda_world.specs.Steps.{address_of}
 use Rattle.hda_world.specs.Unread.{IsReadTo}
+use Rattle.hda_registers.specs.Laws.{IsBesideRings}
+use Rattle.hda_world.specs.Events.{Event, Stepped, Begin, End, Read, Write, DmaRead, DmaWrite}
 use Rattle.command_engine.specs.declared.rings.Rings.{Rings}
 use Rattle.command_engine.specs.declared.answers.Outstanding.{Outstanding}
 use Rattle.command_engine.specs.Blocks.{corb_bytes, rirb_bytes, are_apart}
@@ -150,6 +152,7 @@ pub record StandsBy (from read corb rirb : ℕ) (rings : Rings) (part : RingPart
   pub blocks : HasBlocks corb rirb (length memory)
   pub ascend : AscendByAddress codecs
   pub reading : IsReadTo read (length written) part.response_flag (entries_of part.rirb_size)
+  pub flag : part.response_flag ≤ 1
   pub few : length written ≤ read + half_of rings.rirb
   pub pointer : part.rirb_write_pointer ≡ (rings.read + (length written - read)) % entries_of rings.rirb
   pub standing : AreStanding rirb (entries_of rings.rirb) rings.read memory (drop read written)
@@ -160,3 +163,24 @@ pub record StandsBy (from read corb rirb : ℕ) (rings : Rings) (part : RingPart
 abbrev pub Stands : (from read corb rirb : ℕ) → Rings → World → Type 0
 Stands from read corb rirb rings world =
     StandsBy from read corb rirb rings (part_of world.registers) world.memory world.codecs world.waiting world.commands world.written
+
+-- ---- what else happens between the engine's calls
+
+-- none of so many bytes from this address on is one of the block's
+abbrev pub IsBesideBlock : (block size at bytes : ℕ) → Type 0
+IsBesideBlock block size at bytes = (at + bytes ≤ block) ⊎ (block + size ≤ at)
+
+-- an event that is none of the engine's: a step of the device, a mark, a read, a write of a register that is neither GCTL nor one of
+-- CORB or RIRB, or a write of memory beside both blocks
+abbrev pub IsBeside : ℕ → ℕ → Event → Type 0
+IsBeside corb rirb (Stepped step) = Unit {0}
+IsBeside corb rirb Begin = Unit {0}
+IsBeside corb rirb End = Unit {0}
+IsBeside corb rirb (Read at width value) = Unit {0}
+IsBeside corb rirb (Write at width value) = IsBesideRings at
+IsBeside corb rirb (DmaRead at bytes) = Unit {0}
+IsBeside corb rirb (DmaWrite at bytes) = IsBesideBlock corb corb_bytes at (length bytes) × IsBesideBlock rirb rirb_bytes at (length bytes)
+
+abbrev pub AreBeside : ℕ → ℕ → List Event → Type 0
+AreBeside corb rirb [] = Unit {0}
+AreBeside corb rirb (event ∷ events) = IsBeside corb rirb event × AreBeside corb rirb events

@@ -4,9 +4,11 @@
 
 mod answers;
 mod engine;
+mod laws;
 mod memory;
 mod rings;
 
 pub use answers::{ANSWER_LIMIT, Event, Outstanding, Poll};
 pub use engine::{CORB_BYTES, Engine, MOST_EVENTS, OpenFault, RIRB_BYTES};
+pub use laws::{events_beside_keep_standing, steps_keep_standing};
 pub use rings::Rings;
