@@ -246,6 +246,9 @@ module _ (from read corb rirb : ℕ) (rings : Rings) where
   part-frame true codecs old fields = part-discovered codecs old fields
   part-frame false codecs old fields = refl
 
+  pub part-passed : (world : World) → part_of (passed world).registers ≡ part_of world.registers
+  part-passed world = part-frame (world.frames + 1 == FRAMES_TO_DISCOVERY) world.codecs world.registers (framed world.registers)
+
   passes : (world : World) → Stands from read corb rirb rings world → Stands from read corb rirb rings (passed world)
   passes world holds =
       let same = part-frame (world.frames + 1 == FRAMES_TO_DISCOVERY) world.codecs world.registers (framed world.registers) in

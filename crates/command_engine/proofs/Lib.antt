@@ -6,3 +6,6 @@ pub mod Coming
 pub mod Batches
 pub mod Keeping
 pub mod Beside
+pub mod Holding
+pub mod EntryReads
+pub mod PollWorlds

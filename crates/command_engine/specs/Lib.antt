@@ -6,5 +6,6 @@ pub mod Starting
 pub mod Submitting
 pub mod Polling
 pub mod Courses
+pub mod Belonging
 -- what private functions promise one another
 pub mod Reading
