@@ -9,3 +9,4 @@ pub mod Beside
 pub mod Holding
 pub mod EntryReads
 pub mod PollWorlds
+pub mod PollTellings

@@ -74,14 +74,14 @@ found_first gained asked (response ∷ responses) value can e =
         let count = counted false is in
         (response.codec, response.answer, (All-head (ResponseCanCome gained) response responses can).answer is, sym same, omega arith)
 
-split_row : (first second : List happens.Event) (old new : Telling) → MakesBy (first ++ second) old new → (middle : Telling) × MakesBy first old middle × MakesBy second middle new
+pub split_row : (first second : List happens.Event) (old new : Telling) → MakesBy (first ++ second) old new → (middle : Telling) × MakesBy first old middle × MakesBy second middle new
 split_row [] second old new made = (old, refl, made)
 split_row (event ∷ first) second old new made =
     let rest = split_row first second made.0 new made.2 in
     (rest.0, (made.0, made.1, rest.1), rest.2)
 
 -- RINTFL is cleared
-write-response_flag : (f : Fields) → is_out_of_reset f.global ≡ true → f.global.response_flag ≡ 1 → written f 0x5D One 1 ≡ record f { global = record f.global { response_flag = 0 } }
+pub write-response_flag : (f : Fields) → is_out_of_reset f.global ≡ true → f.global.response_flag ≡ 1 → written f 0x5D One 1 ≡ record f { global = record f.global { response_flag = 0 } }
 unfolding written placed global_written
 write-response_flag f out set = rw (out, set) refl
 

@@ -7,6 +7,10 @@ ghost use Rattle.hda_world.specs.Events.{Event, after};
 ghost use Rattle.command_engine.specs.declared.rings.Rings.{Rings};
 ghost use Rattle.command_engine.specs.Courses.{AreBeside, Stands};
 
+ghost use Rattle.hda_world.specs.Tellings.{Telling, world_of, Makes};
+ghost use Rattle.command_engine.specs.Polling.{PollReads, poll_accesses, AreNew};
+ghost use Rattle.command_engine.specs.Belonging.{PollLeaves};
+
 use ring_entries::responses_stand;
 
 /// How an engine stands to the world is kept by every step of the device: at most one answer is on its way to it, and that is the
@@ -22,6 +26,17 @@ pub fn steps_keep_standing()
 pub fn events_beside_keep_standing()
     ensures { (from read corb rirb : ℕ) (rings : Rings) (events : List Event) (world : World)
         → AreBeside corb rirb events → Stands from read corb rirb rings world → Stands from read corb rirb rings (after events world) }
+{
+    responses_stand();
+}
+
+/// A poll leads from how the engine stands to how it stands after it. The responses that it read are those that were written since
+/// the poll before, and an answer that it found is the answer to the outstanding command: by the one command that a codec took since
+/// that was submitted, with the settings and the presence that the codec had then.
+pub fn answers_belong_to_their_commands()
+    ensures { (from read corb rirb : ℕ) (rings : Rings) (reads : PollReads) (old new : Telling)
+        → AreNew rings reads → Makes (poll_accesses rirb rings reads) old new → Stands from read corb rirb rings (world_of old)
+        → PollLeaves from read corb rirb rings reads (world_of new) }
 {
     responses_stand();
 }
