@@ -10,3 +10,4 @@ pub mod Holding
 pub mod EntryReads
 pub mod PollWorlds
 pub mod PollTellings
+pub mod SubmitTellings

@@ -1,5 +1,5 @@
 //! Laws of the engine, each the contract of a function that does nothing.
-ghost use Rattle.std.specs.Prelude.{◌≡◌, ◌≤◌, ◌+◌, ℕ, List};
+ghost use Rattle.std.specs.Prelude.{◌≡◌, ◌<◌, ◌^◌, ℕ, List, None};
 ghost use Rattle.device_steps.specs.declared.Step.{Step};
 ghost use Rattle.hda_world.specs.Worlds.{World};
 ghost use Rattle.hda_world.specs.Steps.{after_steps};
@@ -10,6 +10,8 @@ ghost use Rattle.command_engine.specs.Courses.{AreBeside, Stands};
 ghost use Rattle.hda_world.specs.Tellings.{Telling, world_of, Makes};
 ghost use Rattle.command_engine.specs.Polling.{PollReads, poll_accesses, AreNew};
 ghost use Rattle.command_engine.specs.Belonging.{PollLeaves};
+ghost use Rattle.command_engine.specs.declared.answers.Outstanding.{Outstanding};
+ghost use Rattle.command_engine.specs.Submitting.{submit_accesses, rings_submitted};
 
 use ring_entries::responses_stand;
 
@@ -37,6 +39,15 @@ pub fn answers_belong_to_their_commands()
     ensures { (from read corb rirb : ℕ) (rings : Rings) (reads : PollReads) (old new : Telling)
         → AreNew rings reads → Makes (poll_accesses rirb rings reads) old new → Stands from read corb rirb rings (world_of old)
         → PollLeaves from read corb rirb rings reads (world_of new) }
+{
+    responses_stand();
+}
+
+/// A submission leads from how the engine stands to how it stands after it: its command is outstanding.
+pub fn submissions_keep_standing()
+    ensures { (from read corb rirb : ℕ) (rings : Rings) (command : Outstanding) (old new : Telling)
+        → rings.outstanding ≡ None → command.word < 2 ^ 32 → Makes (submit_accesses corb rings command.word) old new
+        → Stands from read corb rirb rings (world_of old) → Stands from read corb rirb (rings_submitted rings command) (world_of new) }
 {
     responses_stand();
 }
