@@ -11,3 +11,4 @@ pub mod EntryReads
 pub mod PollWorlds
 pub mod PollTellings
 pub mod SubmitTellings
+pub mod StartWrites
