@@ -15,7 +15,7 @@ module _ (from read corb rirb : ℕ) (rings : Rings) (stands : EachStands) (Fact
   Holding world = Stands from read corb rirb rings world × Fact world.registers.global.response_flag world.memory world.written
 
   passing : (world : World) → Fact world.registers.global.response_flag world.memory world.written → Fact (passed world).registers.global.response_flag world.memory world.written
-  passing world fact = subst (λ (flag : ℕ). Fact flag world.memory world.written) (sym (ap (λ (part : RingPart). part.response_flag) (part-passed from read corb rirb rings world))) fact
+  passing world fact = subst (λ (flag : ℕ). Fact flag world.memory world.written) (sym (ap (λ (part : RingPart). part.response_flag) (part-passed world))) fact
 
   pub keeps_holding : ((world : World) (response : Response) (rest : List Response) → Holding world → can_respond world.registers ≡ true → batch world.registers world.waiting ≡ response ∷ rest
           → Fact 1 (responded (response ∷ rest) world).memory (responded (response ∷ rest) world).written)

@@ -32,10 +32,23 @@ use Rattle.command_engine.proofs.Batches.{EachStands, some_entries, few_entries,
 
 -- ---- codecs stay by address
 
-ascend_with : (address : ℕ) (change : CodecState → CodecState) → ((codec : CodecState) → (change codec).graph ≡ codec.graph) → (codecs : List CodecState) → AscendByAddress codecs → AscendByAddress (with_codec address change codecs)
+pub ascend_with : (address : ℕ) (change : CodecState → CodecState) → ((codec : CodecState) → (change codec).graph ≡ codec.graph) → (codecs : List CodecState) → AscendByAddress codecs → AscendByAddress (with_codec address change codecs)
 ascend_with address change keeps codecs ascend = subst (AscendFrom 0) (sym (graphs-with_codec address change keeps codecs)) ascend
 
 -- ---- a command is handed over
+
+-- ---- a link frame leaves the rings' registers
+
+part-discovered : (codecs : List CodecState) (old fields : Fields) → part_of (record old { global = (discovered codecs fields).global }) ≡ part_of (record old { global = fields.global })
+part-discovered [] old fields = refl
+part-discovered (codec ∷ codecs) old fields = part-discovered codecs old (raised fields (event.Codec codec.graph.address))
+
+part-frame : (now : Bool) (codecs : List CodecState) (old fields : Fields) → part_of (record old { global = (if now then discovered codecs fields else fields).global }) ≡ part_of (record old { global = fields.global })
+part-frame true codecs old fields = part-discovered codecs old fields
+part-frame false codecs old fields = refl
+
+pub part-passed : (world : World) → part_of (passed world).registers ≡ part_of world.registers
+part-passed world = part-frame (world.frames + 1 == FRAMES_TO_DISCOVERY) world.codecs world.registers (framed world.registers)
 
 -- the pointers that the device moves are none of what the engine set
 moved_rings : (corb rirb corb_read rirb_write flag : ℕ) (rings : Rings) (part : RingPart) → HasRings corb rirb rings part
@@ -238,20 +251,9 @@ module _ (from read corb rirb : ℕ) (rings : Rings) where
 
   -- ---- a link frame passes
 
-  part-discovered : (codecs : List CodecState) (old fields : Fields) → part_of (record old { global = (discovered codecs fields).global }) ≡ part_of (record old { global = fields.global })
-  part-discovered [] old fields = refl
-  part-discovered (codec ∷ codecs) old fields = part-discovered codecs old (raised fields (event.Codec codec.graph.address))
-
-  part-frame : (now : Bool) (codecs : List CodecState) (old fields : Fields) → part_of (record old { global = (if now then discovered codecs fields else fields).global }) ≡ part_of (record old { global = fields.global })
-  part-frame true codecs old fields = part-discovered codecs old fields
-  part-frame false codecs old fields = refl
-
-  pub part-passed : (world : World) → part_of (passed world).registers ≡ part_of world.registers
-  part-passed world = part-frame (world.frames + 1 == FRAMES_TO_DISCOVERY) world.codecs world.registers (framed world.registers)
-
   passes : (world : World) → Stands from read corb rirb rings world → Stands from read corb rirb rings (passed world)
   passes world holds =
-      let same = part-frame (world.frames + 1 == FRAMES_TO_DISCOVERY) world.codecs world.registers (framed world.registers) in
+      let same = part-passed world in
       subst (λ (part : RingPart). StandsBy from read corb rirb rings part world.memory world.codecs world.waiting world.commands world.written) (sym same) holds
 
   -- every move keeps how the engine stands

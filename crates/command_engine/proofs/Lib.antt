@@ -12,3 +12,4 @@ pub mod PollWorlds
 pub mod PollTellings
 pub mod SubmitTellings
 pub mod StartWrites
+pub mod StartTellings

@@ -54,7 +54,3 @@ pub record CanStart (corb rirb : ℕ) (world : World) : Type 0 where
 pub record IsBlockAddress (address : ℕ) : Type 0 where
   pub aligned : address % 128 ≡ 0
   pub narrow : address < 2 ^ 32
-
--- the engine stands so that nothing was taken and nothing is unread
-abbrev pub StandsFresh : (corb rirb : ℕ) → Rings → World → Type 0
-StandsFresh corb rirb rings world = Stands (length world.commands) (length world.written) corb rirb rings world
