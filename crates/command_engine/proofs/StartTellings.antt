@@ -1,5 +1,5 @@
 -- What a start brings about.
-use Rattle.std.proofs.Common.{◌≡◌, ◌≢◌, ◌<◌, ◌≤◌, ◌⊎◌, ◌+◌, ◌-◌, ◌*◌, ◌/◌, ◌%◌, ◌^◌, ◌==◌, ℕ, Bool, true, false, List, [], ◌∷◌, ◌++◌, length, drop, slice_get, Option, None, Some, refl, sym, ap, subst, ◌∙◌, inl, inr, arith, rules, tests, lit≤, if◌then◌else◌}
+use Rattle.std.proofs.Common.{◌≡◌, ◌≢◌, ◌<◌, ◌≤◌, ◌⊎◌, ◌+◌, ◌-◌, ◌*◌, ◌/◌, ◌%◌, ◌^◌, ◌==◌, ℕ, Bool, true, false, List, [], ◌∷◌, ◌++◌, length, drop, slice_get, Option, None, Some, refl, sym, ap, subst, ◌∙◌, inl, inr, arith, rules, tests, lit<, lit≤, if◌then◌else◌}
 use Rattle.std.proofs.Math.Nat.{mod-eq_of_lt}
 use Rattle.std.proofs.lemmas.List.{drop_all}
 use Rattle.codec_graph.specs.declared.waiting.Waiting.{Waiting}
@@ -212,3 +212,118 @@ module _ (from read corb rirb : ℕ) where
       let a11 = a10.2 in
       let s11 = set_write p10 (set_part part s) 1 1 0x5A (half_of s) Two (inr refl) (omega arith) (λ fields is runs. let e = write-response_count fields (half_of s) (is_out fields p10 is refl) in (ap part_of e ∙ ap (λ (p : RingPart). record p { response_count = half_of s % 2 ^ 8 }) is, ap runs_of e ∙ runs)) a10.0 a11.0 a11.1 s10 in
       (a11.0, s11, a11.2)
+
+  -- ---- RIRB runs, and so the engine stands
+
+  abbrev fresh : RingSize → RingSize → Rings
+  fresh c r = record { corb = c; rirb = r; submitted = 0; read = 0; started = true; outstanding = None }
+
+  stands_set : (part : RingPart) (world : World) → IsBlockAddress corb → IsBlockAddress rirb → (part.controller_reset == 1) ≡ true → part.response_flag ≤ 1
+      → IsSet from read corb rirb (set_part part part.rirb_size) 1 world → Stands from read corb rirb (fresh part.corb_size part.rirb_size) (happens.after_write 0x5C One 3 world)
+  stands_set part world corb_block rirb_block out flag holds =
+      let fields = world.registers in
+      let is_out : is_out_of_reset fields.global ≡ true = ap (λ (p : RingPart). p.controller_reset == 1) holds.part_is ∙ out in
+      let e = write-rirb_run fields is_out in
+      let is : part_of (written fields 0x5C One 3) ≡ set_part part part.rirb_size = ap part_of e ∙ holds.part_is in
+      let read_is = holds.read_is in
+      let from_is = holds.from_is in
+      let some = some_entries part.rirb_size in
+      let unread : drop read world.written ≡ [] = drop_all read world.written (omega arith) in
+      let gained : drop from world.commands ≡ [] = drop_all from world.commands (omega arith) in
+      let behind : 0 + (length world.written - read) ≡ 0 = omega arith in
+      subst (λ (w : World). Stands from read corb rirb (fresh part.corb_size part.rirb_size) w) (sym (plain_write world 0x5C 3 One (keeps-reset fields 0x5C One 3 (omega arith)) (keeps-left fields 0x5C One 3 (omega arith))))
+      (subst (λ (p : RingPart). StandsBy from read corb rirb (fresh part.corb_size part.rirb_size) p world.memory world.codecs world.waiting world.commands world.written) (sym is) (record {
+        has_rings = record {
+          out = out;
+          corb_size = refl;
+          rirb_size = refl;
+          corb_at = based corb corb_block;
+          rirb_at = based rirb rirb_block;
+          submitted = refl;
+          served = half_narrow part.rirb_size;
+          submitted_within = some_entries part.corb_size;
+          read_within = some;
+        };
+        blocks = holds.blocks;
+        ascend = holds.ascend;
+        reading = record { all = λ clear. read_is; within = omega arith; few = omega arith };
+        flag = flag;
+        few = omega arith;
+        pointer = sym (ap (λ (n : ℕ). n % entries_of part.rirb_size) behind ∙ mod-eq_of_lt some);
+        standing = λ index response byte there small.
+            let past : slice_get (drop read world.written) index ≡ None = ap (λ (rs : List Response). slice_get rs index) unread in
+            let z : None ≡ Some response = sym past ∙ there in
+            cc;
+        from_within = omega arith;
+        course = inl (record { pointers = refl; taken = subst (AreOf None) (sym gained) tt });
+        on_its_way = subst (λ (gained : List TakenCommand). IsOnItsWay gained (drop read world.written) world.waiting world.codecs) (sym gained)
+        (subst (λ (unread : List Response). IsOnItsWay [] unread world.waiting world.codecs) (sym unread) holds.way);
+      }))
+
+  beside_interrupts : IsBesideRings 0x20
+  beside_interrupts = record { control = inr (lit≤ tt); rings = inl (lit< tt) }
+
+  started : EachStands → (part : RingPart) (old new : Telling) → IsBlockAddress corb → IsBlockAddress rirb → (part.controller_reset == 1) ≡ true → part.response_flag ≤ 1
+      → MakesBy (happens.Write 0x5C One 3 ∷ happens.Write 0x20 Four 0xC0000000 ∷ []) old new → IsSet from read corb rirb (set_part part part.rirb_size) 1 (world_of old)
+      → Stands from read corb rirb (fresh part.corb_size part.rirb_size) (world_of new)
+  started stands part old new corb_block rirb_block out flag made holds =
+      let rings = fresh part.corb_size part.rirb_size in
+      let runs = accessed_then (IsSet from read corb rirb (set_part part part.rirb_size) 1) (Stands from read corb rirb rings) (happens.Write 0x5C One 3) (set_kept (set_part part part.rirb_size) 1 (inr refl))
+      (λ world there honest. stands_set part world corb_block rirb_block out flag there) old made.0 made.1 holds in
+      let last = made.2 in
+      let interrupts = accessed_then (Stands from read corb rirb rings) (Stands from read corb rirb rings) (happens.Write 0x20 Four 0xC0000000) (keeps_standing from read corb rirb rings stands)
+      (λ world there honest. event_keeps from read corb rirb rings stands (happens.Write 0x20 Four 0xC0000000) world beside_interrupts there) made.0 last.0 last.1 runs in
+      subst (λ (to : Telling). Stands from read corb rirb rings (world_of to)) (sym last.2) interrupts
+
+-- ---- the sizes that are read
+
+largest : (s : RingSize) → largest_size (size_code s) ≡ Some s
+largest size.Two = refl
+largest size.Sixteen = refl
+largest size.Full = refl
+
+begun_is : (none : Bool) (c r : RingSize) (begun : Rings) → (if none then None else rings_of (Some c) (Some r)) ≡ Some begun → begun ≡ record { corb = c; rirb = r; submitted = 0; read = 0; started = true; outstanding = None }
+begun_is true c r begun e = cc
+begun_is false c r begun e = cc
+
+runs_stopped : (corb rirb : ℕ) → corb ≡ 0 → rirb ≡ 0 → let runs : Runs = record { corb = corb; rirb = rirb } in runs ≡ record { corb = 0; rirb = 0 }
+runs_stopped corb rirb a b = cc
+
+pub start_leaves : EachStands → (corb rirb : ℕ) (reads : StartReads) (begun : Rings) (old new : Telling) → IsBlockAddress corb → IsBlockAddress rirb → rings_read reads ≡ Some begun
+    → Makes (start_accesses corb rirb reads) old new → CanStart corb rirb (world_of old) → Stands (length (world_of old).commands) (length (world_of old).written) corb rirb begun (world_of new)
+start_leaves stands corb rirb reads begun old new corb_block rirb_block found makes can =
+    let from = length (world_of old).commands in
+    let read = length (world_of old).written in
+    let part = part_of (world_of old).registers in
+    let still : (0 ≡ 0) ⊎ (part.corb_read_pointer ≡ part.corb_write_pointer) = inl refl in
+    let s0 : IsSet from read corb rirb part 0 (world_of old) = record {
+      part_is = refl;
+      runs_are = runs_stopped _ _ can.corb_stopped can.rirb_stopped;
+      blocks = can.blocks;
+      ascend = can.ascend;
+      way = can.nothing_comes;
+      from_is = refl;
+      read_is = refl;
+    } in
+    let r1 = makes.by in
+    let s1 = set_read from read corb rirb part 0 0x0E reads.status Two still old r1.0 r1.1 s0 in
+    let r2 = r1.2 in
+    let s2 : IsSet from read corb rirb part 0 (world_of r2.0) × (reads.corb_size ≡ size_code part.corb_size) =
+    accessed_then (IsSet from read corb rirb part 0) (λ (world : World). IsSet from read corb rirb part 0 world × (reads.corb_size ≡ size_code part.corb_size)) (happens.Read 0x4E One reads.corb_size) (set_kept from read corb rirb part 0 still)
+    (λ world there honest. (there, honest ∙ read-corb_size world.registers ∙ ap (λ (p : RingPart). size_code p.corb_size) there.part_is)) r1.0 r2.0 r2.1 s1 in
+    let r3 = r2.2 in
+    let s3 : IsSet from read corb rirb part 0 (world_of r3.0) × (reads.rirb_size ≡ size_code part.rirb_size) =
+    accessed_then (IsSet from read corb rirb part 0) (λ (world : World). IsSet from read corb rirb part 0 world × (reads.rirb_size ≡ size_code part.rirb_size)) (happens.Read 0x5E One reads.rirb_size) (set_kept from read corb rirb part 0 still)
+    (λ world there honest. (there, honest ∙ read-rirb_size world.registers ∙ ap (λ (p : RingPart). size_code p.rirb_size) there.part_is)) r2.0 r3.0 r3.1 s2.0 in
+    let corb_found : largest_size reads.corb_size ≡ Some part.corb_size = ap largest_size s2.1 ∙ largest part.corb_size in
+    let rirb_found : largest_size reads.rirb_size ≡ Some part.rirb_size = ap largest_size s3.1 ∙ largest part.rirb_size in
+    let named : (if codecs_in reads.status == 0 then None else rings_of (Some part.corb_size) (Some part.rirb_size)) ≡ Some begun =
+    ap (λ (r : Option RingSize). if codecs_in reads.status == 0 then None else rings_of (Some part.corb_size) r) (sym rirb_found)
+    ∙ ap (λ (c : Option RingSize). if codecs_in reads.status == 0 then None else rings_of c (largest_size reads.rirb_size)) (sym corb_found) ∙ found in
+    let is = begun_is (codecs_in reads.status == 0) part.corb_size part.rirb_size begun named in
+    let rest : MakesBy (corb_accesses corb reads.status reads.pointer_reset reads.pointer_ready ++ rirb_accesses rirb part.rirb_size) r3.0 new =
+    subst (λ (rings : Rings). MakesBy (corb_accesses corb reads.status reads.pointer_reset reads.pointer_ready ++ rirb_accesses rirb rings.rirb) r3.0 new) is
+    (subst (λ (rings : Option Rings). MakesBy (settings_if rings corb rirb reads) r3.0 new) found r3.2) in
+    let set = corb_set from read corb rirb part reads.status reads.pointer_reset reads.pointer_ready part.rirb_size r3.0 new can.out rest s3.0 in
+    subst (λ (rings : Rings). Stands from read corb rirb rings (world_of new)) (sym is)
+    (started from read corb rirb stands part set.0 new corb_block rirb_block can.out can.flag set.2 set.1)

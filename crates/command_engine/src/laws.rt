@@ -1,5 +1,5 @@
 //! Laws of the engine, each the contract of a function that does nothing.
-ghost use Rattle.std.specs.Prelude.{◌≡◌, ◌<◌, ◌^◌, ℕ, List, None};
+ghost use Rattle.std.specs.Prelude.{◌≡◌, ◌<◌, ◌^◌, ℕ, List, length, None, Some};
 ghost use Rattle.device_steps.specs.declared.Step.{Step};
 ghost use Rattle.hda_world.specs.Worlds.{World};
 ghost use Rattle.hda_world.specs.Steps.{after_steps};
@@ -9,7 +9,8 @@ ghost use Rattle.command_engine.specs.Courses.{AreBeside, Stands};
 
 ghost use Rattle.hda_world.specs.Tellings.{Telling, world_of, Makes};
 ghost use Rattle.command_engine.specs.Polling.{PollReads, poll_accesses, AreNew};
-ghost use Rattle.command_engine.specs.Belonging.{PollLeaves};
+ghost use Rattle.command_engine.specs.Belonging.{PollLeaves, CanStart, IsBlockAddress};
+ghost use Rattle.command_engine.specs.Starting.{StartReads, rings_read, start_accesses};
 ghost use Rattle.command_engine.specs.declared.answers.Outstanding.{Outstanding};
 ghost use Rattle.command_engine.specs.Submitting.{submit_accesses, rings_submitted};
 
@@ -48,6 +49,16 @@ pub fn submissions_keep_standing()
     ensures { (from read corb rirb : ℕ) (rings : Rings) (command : Outstanding) (old new : Telling)
         → rings.outstanding ≡ None → command.word < 2 ^ 32 → Makes (submit_accesses corb rings command.word) old new
         → Stands from read corb rirb rings (world_of old) → Stands from read corb rirb (rings_submitted rings command) (world_of new) }
+{
+    responses_stand();
+}
+
+/// A start that found codecs and both sizes brings about how the engine stands, from every world that it may start in.
+pub fn starts_bring_standing()
+    ensures { (corb rirb : ℕ) (reads : StartReads) (begun : Rings) (old new : Telling)
+        → IsBlockAddress corb → IsBlockAddress rirb → rings_read reads ≡ Some begun → Makes (start_accesses corb rirb reads) old new
+        → CanStart corb rirb (world_of old)
+        → Stands (length (world_of old).commands) (length (world_of old).written) corb rirb begun (world_of new) }
 {
     responses_stand();
 }
