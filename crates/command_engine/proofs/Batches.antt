@@ -1,9 +1,8 @@
 -- What a batch of RIRB's engine leaves.
-use Rattle.std.proofs.Common.{◌≡◌, ◌<◌, ◌≤◌, ◌⊎◌, ◌+◌, ◌-◌, ◌*◌, ◌%◌, ◌==◌, ◌||◌, ℕ, zero, suc, Bool, true, false, min, nat_le, List, [], ◌∷◌, ◌++◌, length, take, drop, slice_index, slice_get, Some, refl, sym, ap, subst, ◌∙◌, inl, inr, arith, rules, tests, lit<, lit≤, length-append, if◌then◌else◌}
+use Rattle.std.proofs.Common.{◌≡◌, ◌<◌, ◌≤◌, ◌⊎◌, ◌+◌, ◌*◌, ◌%◌, ◌==◌, ◌||◌, ℕ, suc, Bool, true, false, min, nat_le, List, [], ◌∷◌, ◌++◌, length, take, drop, slice_index, slice_get, Some, refl, sym, ap, subst, ◌∙◌, inl, inr, arith, rules, tests, lit<, lit≤, length-append, if◌then◌else◌}
 use Rattle.std.proofs.Math.Nat.{mod-lt, mod-add-mod, mod-eq_of_lt}
 use Rattle.std.proofs.Math.Seq.{drop-append_seam}
-use Rattle.std.proofs.lemmas.List.{length-take, take-append-drop, drop-append-le, drop_all}
-use Rattle.byteorder.specs.Numbers.{length-bytes_low_first}
+use Rattle.std.proofs.lemmas.List.{length-take, take-append-drop}
 use Rattle.hda_registers.specs.declared.shapes.RingSize.{RingSize}
 use Rattle.hda_registers.specs.declared.shapes.RingSize.TheVariants.{Two, Sixteen, Full}
 use Rattle.hda_registers.specs.Fields.{Fields, entries_of, responses_of, rirb_address}
@@ -13,9 +12,9 @@ use Rattle.ring_entries.specs.Entries.{response_bytes, response_place, response_
 use Rattle.ring_entries.specs.Engines.{can_respond, batch_of, batch}
 use Rattle.ring_entries.specs.Standing.{StandsAt, IsRirbInside}
 use Rattle.ring_entries.proofs.Callers.{stored_outside}
-use Rattle.command_engine.specs.Blocks.{are_apart, corb_bytes, rirb_bytes}
+use Rattle.command_engine.specs.Blocks.{are_apart}
 use Rattle.command_engine.specs.Sizes.{half_of}
-use Rattle.command_engine.specs.Courses.{RingPart, part_of, AreStanding}
+use Rattle.command_engine.specs.Courses.{part_of, AreStanding}
 
 -- fewer responses than RIRB has entries stand each in an entry of its own
 abbrev pub EachStands : Type 0
@@ -89,7 +88,7 @@ flag_clear fields can = search (rules, tests)
 -- ---- memory
 
 length-response_bytes : (response : Response) → length (response_bytes response) ≡ 8
-length-response_bytes response = simp (length-append, length-bytes_low_first)
+length-response_bytes response = simp length-append
 
 abbrev OutsideRirb : Fields → ℕ → Type 0
 OutsideRirb fields at = (at < rirb_address fields) ⊎ (rirb_address fields + 8 * entries_of fields.shape.rirb ≤ at)

@@ -1,23 +1,22 @@
 -- What happens beside the engine leaves how it stands.
-use Rattle.std.proofs.Common.{◌≡◌, ◌≢◌, ◌<◌, ◌≤◌, ◌⊎◌, ◌+◌, ◌*◌, ◌/◌, ◌%◌, ◌==◌, ℕ, Bool, true, false, List, [], ◌∷◌, length, drop, slice_index, Option, refl, sym, ap, subst, ◌∙◌, inl, inr, arith, rules, tests, lit<}
+use Rattle.std.proofs.Common.{◌≡◌, ◌≢◌, ◌<◌, ◌≤◌, ◌+◌, ◌*◌, ◌%◌, ◌==◌, ℕ, Bool, true, false, List, [], ◌∷◌, length, drop, refl, sym, ap, subst, ◌∙◌, inl, inr, arith, rules, tests}
 use Rattle.std.proofs.Math.Nat.{mod-lt}
 use Rattle.hda_registers.specs.declared.shapes.Width.{Width}
 use Rattle.hda_registers.specs.declared.shapes.Shape.{Shape}
 use Rattle.hda_registers.specs.declared.shapes.RingSize.{RingSize}
 use Rattle.hda_registers.specs.declared.shapes.RingSize.TheVariants.{Two, Sixteen, Full}
-use Rattle.hda_registers.specs.Fields.{Fields, entries_of, reset_fields, is_out_of_reset}
+use Rattle.hda_registers.specs.Fields.{Fields, entries_of, is_out_of_reset}
 use Rattle.hda_registers.specs.Access.{written}
-use Rattle.hda_registers.specs.Laws.{IsBesideRings, LeavesRings, IsHeldInReset}
+use Rattle.hda_registers.specs.Laws.{IsBesideRings, IsHeldInReset}
 use Rattle.hda_registers.proofs.Callers.{leaves-rings, keeps-shape, stays-held}
 use Rattle.ring_entries.specs.Memory.{word_at, stored, IsOutside}
 use Rattle.ring_entries.proofs.Callers.{stored_outside}
-use Rattle.device_steps.specs.declared.Step.{Step}
 use Rattle.hda_world.specs.Worlds.{World}
-use Rattle.hda_world.specs.Events.{Event, Stepped, Begin, End, Read, Write, DmaRead, DmaWrite, registers_written, after_write, happens, after}
+use Rattle.hda_world.specs.Events.{Event, Stepped, Begin, End, Read, Write, DmaRead, DmaWrite, after_write, happens, after}
 use Rattle.hda_world.proofs.Callers.{beside_write}
 use Rattle.command_engine.specs.declared.rings.Rings.{Rings}
 use Rattle.command_engine.specs.Sizes.{half_of}
-use Rattle.command_engine.specs.Courses.{RingPart, part_of, HasRings, HasBlocks, IsBeside, IsBesideBlock, AreBeside, AllFetched, IsNext, Course, IsWordOf, AreStanding, StandsBy, Stands}
+use Rattle.command_engine.specs.Courses.{RingPart, part_of, HasRings, IsBeside, IsBesideBlock, AreBeside, Course, StandsBy, Stands}
 use Rattle.command_engine.proofs.Batches.{EachStands, some_entries, few_entries, same_word}
 use Rattle.command_engine.proofs.Keeping.{steps_keep_standing}
 

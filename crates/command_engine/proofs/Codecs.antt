@@ -1,12 +1,11 @@
 -- A change of one codec among those that stand by address.
-use Rattle.std.proofs.Common.{◌≡◌, ◌<◌, ◌≤◌, ◌+◌, ◌==◌, ℕ, Bool, true, false, List, [], ◌∷◌, map, Option, None, Some, refl, sym, ap, subst, ◌∙◌, arith, rules, tests, if◌then◌else◌}
+use Rattle.std.proofs.Common.{◌≡◌, ◌<◌, ◌+◌, ◌==◌, ℕ, Bool, true, false, List, [], ◌∷◌, map, None, Some, refl, sym, ap, subst, arith, rules, tests, if◌then◌else◌}
 use Rattle.std.specs.Prelude.{All, sum_by}
 use Rattle.std.proofs.lemmas.List.Elements.{All-cons, All-head, All-tail}
 use Rattle.std.proofs.lemmas.List.Sums.{sum_by-cons}
 use Rattle.codec_graph.specs.CodecStates.{CodecState}
 use Rattle.hda_world.specs.Worlds.{codec_at, with_codec}
 use Rattle.command_engine.specs.Courses.{AscendFrom}
-
 
 is_address : (codec : CodecState) (address : ℕ) → (codec.graph.address == address) ≡ true → codec.graph.address ≡ address
 is_address codec address is = search (rules, tests)

@@ -1,8 +1,8 @@
 -- What is on its way, over each move of the device.
-use Rattle.std.proofs.Common.{◌≡◌, ◌<◌, ◌≤◌, ◌+◌, ◌/◌, ◌^◌, ℕ, Bool, true, false, cond, not, List, [], ◌∷◌, ◌++◌, length, map, drop, Option, None, Some, refl, sym, ap, subst, ◌∙◌, arith, rules, tests, if◌then◌else◌}
-use Rattle.std.specs.Prelude.{All, sum_by, count_by, slice_index_or}
+use Rattle.std.proofs.Common.{◌≡◌, ◌≤◌, ◌+◌, ℕ, Bool, true, false, cond, not, List, [], ◌∷◌, ◌++◌, map, drop, Option, None, Some, refl, sym, ap, subst, arith, if◌then◌else◌}
+use Rattle.std.specs.Prelude.{All, slice_index_or}
 use Rattle.std.proofs.lemmas.List.Elements.{All-cons, All-head, All-tail, All-nil, All-push, All-append, All-drop}
-use Rattle.std.proofs.lemmas.List.Sums.{sum_by-append, sum_by-cons}
+use Rattle.std.proofs.lemmas.List.Sums.{sum_by-append}
 use Rattle.codec_graph.specs.declared.waiting.Waiting.{Waiting}
 use Rattle.codec_graph.specs.declared.waiting.Waiting.TheVariants.{Answer, Unsolicited}
 use Rattle.codec_graph.specs.CodecStates.{CodecState, answers, answer_to, taken, without_first, without_answer, drop_answer, plugged, node_plugged, pin_plugged, is_told, response_of}
@@ -15,7 +15,7 @@ use Rattle.hda_registers.specs.Fields.{Fields}
 use Rattle.ring_entries.specs.declared.response.Response.{Response}
 use Rattle.hda_world.specs.Worlds.{TakenCommand, codec_at, with_codec}
 use Rattle.hda_world.specs.Steps.{address_of, responses_of, items_of}
-use Rattle.command_engine.specs.Courses.{AscendFrom, AscendByAddress, IsAnswerTo, CanCome, ResponseCanCome, ItemCanCome, CodecCanSend, solicited, waiting_answers, IsOnItsWay}
+use Rattle.command_engine.specs.Courses.{AscendFrom, AscendByAddress, IsAnswerTo, ResponseCanCome, ItemCanCome, CodecCanSend, solicited, IsOnItsWay}
 use Rattle.command_engine.proofs.Codecs.{found_address, found_all, absent, changed_all, changed_sum}
 
 -- ---- a command is taken: before, nothing comes; then its answer does
@@ -50,7 +50,7 @@ coming_taken word carried running unread waiting codecs codec ascend there way =
       in_ring = λ k d within. weak_response (gained ∷ []) (slice_index_or unread k d) (way.in_ring k d within);
       in_controller = λ k d within. weak_response (gained ∷ []) (slice_index_or waiting k d) (way.in_controller k d within);
       at_codecs = changed_all (CodecCanSend (gained ∷ [])) (address_of word) 0 (λ codec. taken codec word) codecs codec ascend there weak
-      (can_taken gained codec word (found_all (CodecCanSend (gained ∷ [])) (address_of word) codecs codec there weak) answer);
+          (can_taken gained codec word (found_all (CodecCanSend (gained ∷ [])) (address_of word) codecs codec there weak) answer);
       few = omega arith;
     }
 

@@ -1,10 +1,10 @@
 -- What entries of RIRB say that are read where responses stand.
-use Rattle.std.proofs.Common.{◌≡◌, ◌<◌, ◌≤◌, ◌+◌, ◌-◌, ◌*◌, ◌/◌, ◌%◌, ◌^◌, ◌==◌, ℕ, zero, suc, Bool, true, false, List, [], ◌∷◌, ◌++◌, length, map, drop, take, slice_index, slice_get, Option, None, Some, refl, sym, ap, subst, ◌∙◌, arith, rules, tests, lit<, if◌then◌else◌}
-use Rattle.std.specs.Prelude.{All, slice_range}
+use Rattle.std.proofs.Common.{◌≡◌, ◌<◌, ◌≤◌, ◌+◌, ◌-◌, ◌%◌, ◌^◌, ℕ, Bool, true, false, List, [], length, slice_index, refl, ap, subst, ◌∙◌, arith, rules, if◌then◌else◌}
+use Rattle.std.specs.Prelude.{slice_range}
 use Rattle.std.proofs.Math.Nat.{mod-lt, mod-add-mod, mod-eq_of_lt, add-mod_left}
 use Rattle.std.proofs.lemmas.List.{places}
-use Rattle.byteorder.specs.Endian.{little_bytes, little_from}
-use Rattle.byteorder.specs.Numbers.{little_from-bytes, little_from-cons}
+use Rattle.byteorder.specs.Endian.{little_bytes}
+use Rattle.byteorder.specs.Numbers.{little_from-bytes}
 use Rattle.verb_codes.specs.Words.{bits_of, has_bit}
 use Rattle.ring_entries.specs.declared.response.Response.{Response}
 use Rattle.ring_entries.specs.Memory.{word_at}

@@ -6,7 +6,7 @@ use Rattle.hda_world.specs.Worlds.{World}
 use Rattle.hda_world.specs.Steps.{responded, passed}
 use Rattle.hda_world.specs.Kept.{Kept}
 use Rattle.command_engine.specs.declared.rings.Rings.{Rings}
-use Rattle.command_engine.specs.Courses.{RingPart, part_of, Stands}
+use Rattle.command_engine.specs.Courses.{RingPart, Stands}
 use Rattle.command_engine.proofs.Batches.{EachStands}
 use Rattle.command_engine.proofs.Keeping.{keeps_standing, part-passed}
 
@@ -18,7 +18,7 @@ module _ (from read corb rirb : ℕ) (rings : Rings) (stands : EachStands) (Fact
   passing world fact = subst (λ (flag : ℕ). Fact flag world.memory world.written) (sym (ap (λ (part : RingPart). part.response_flag) (part-passed world))) fact
 
   pub keeps_holding : ((world : World) (response : Response) (rest : List Response) → Holding world → can_respond world.registers ≡ true → batch world.registers world.waiting ≡ response ∷ rest
-          → Fact 1 (responded (response ∷ rest) world).memory (responded (response ∷ rest) world).written)
+      → Fact 1 (responded (response ∷ rest) world).memory (responded (response ∷ rest) world).written)
       → Kept Holding
   keeps_holding writes =
       let kept = keeps_standing from read corb rirb rings stands in

@@ -1,14 +1,13 @@
 -- Every move of the device keeps how the engine stands.
-use Rattle.std.proofs.Common.{◌≡◌, ◌<◌, ◌≤◌, ◌⊎◌, ◌+◌, ◌-◌, ◌*◌, ◌%◌, ◌==◌, ◌||◌, ℕ, Bool, true, false, List, [], ◌∷◌, ◌++◌, length, map, drop, Option, None, Some, refl, sym, ap, subst, ◌∙◌, inl, inr, arith, rules, tests, lit≤, length-append, append-nil, if◌then◌else◌}
+use Rattle.std.proofs.Common.{◌≡◌, ◌<◌, ◌≤◌, ◌+◌, ◌-◌, ◌*◌, ◌%◌, ◌==◌, ℕ, Bool, true, false, List, [], ◌∷◌, ◌++◌, length, drop, Option, None, Some, refl, sym, ap, subst, ◌∙◌, inl, inr, arith, rules, tests, lit≤, length-append, append-nil, if◌then◌else◌}
 use Rattle.std.proofs.Math.Nat.{mod-lt, mod-eq_of_lt}
 use Rattle.std.proofs.Math.Seq.{drop-append_seam}
 use Rattle.std.proofs.lemmas.List.{drop-append-le, drop_all}
-use Rattle.codec_graph.specs.declared.raw.RawCodec.{RawCodec}
 use Rattle.codec_graph.specs.declared.waiting.Waiting.{Waiting}
 use Rattle.codec_graph.specs.CodecStates.{CodecState, taken, plugged, without_first, without_answer}
 use Rattle.hda_registers.specs.declared.shapes.RingSize.{RingSize}
 use Rattle.hda_registers.specs.declared.shapes.Raise.TheVariants as event
-use Rattle.hda_registers.specs.Fields.{Fields, entries_of, rirb_address, is_out_of_reset, is_running}
+use Rattle.hda_registers.specs.Fields.{Fields, entries_of, rirb_address, is_running}
 use Rattle.hda_registers.specs.Moves.{framed, raised}
 use Rattle.ring_entries.specs.declared.response.Response.{Response}
 use Rattle.ring_entries.specs.Memory.{word_at}
@@ -17,18 +16,17 @@ use Rattle.ring_entries.specs.Engines.{can_fetch, can_respond, batch}
 use Rattle.device_steps.specs.declared.Step.{Step}
 use Rattle.hda_world.specs.declared.step.TheConstants.{FRAMES_TO_DISCOVERY}
 use Rattle.hda_world.specs.Worlds.{World, TakenCommand, codec_at, with_codec}
-use Rattle.hda_world.specs.Steps.{address_of, taking, is_busy, items_of, handed, responses_of, responded, discovered, discovered_at, passed, after_steps}
+use Rattle.hda_world.specs.Steps.{address_of, taking, items_of, handed, responses_of, responded, discovered, passed, after_steps}
 use Rattle.hda_world.specs.Kept.{Kept}
 use Rattle.hda_world.specs.Unread.{IsReadTo}
 use Rattle.hda_world.proofs.Callers.{graphs-with_codec, keeps_reading, frames_after, kept_steps}
 use Rattle.command_engine.specs.declared.rings.Rings.{Rings}
 use Rattle.command_engine.specs.declared.answers.Outstanding.{Outstanding}
 use Rattle.command_engine.specs.Blocks.{are_apart}
-use Rattle.command_engine.specs.Sizes.{half_of}
-use Rattle.command_engine.specs.Courses.{RingPart, part_of, HasRings, HasBlocks, AscendFrom, AscendByAddress, AreOf, IsWordOf, AllFetched, IsNext, Course, IsOnItsWay, AreStanding, StandsBy, Stands}
+use Rattle.command_engine.specs.Courses.{RingPart, part_of, HasRings, AscendFrom, AscendByAddress, AreOf, IsWordOf, Course, IsOnItsWay, AreStanding, StandsBy, Stands}
 use Rattle.command_engine.proofs.Codecs.{absent}
 use Rattle.command_engine.proofs.Coming.{coming_taken, coming_sent, coming_lost, coming_plugged, graph_plugged, coming_responded}
-use Rattle.command_engine.proofs.Batches.{EachStands, some_entries, few_entries, half_small, part_after, pointer_after, batch_short, batch_first, flag_clear, outside_stored, size_stored, word_stays, standing_written}
+use Rattle.command_engine.proofs.Batches.{EachStands, some_entries, few_entries, half_small, part_after, pointer_after, batch_short, batch_first, flag_clear, size_stored, word_stays, standing_written}
 
 -- ---- codecs stay by address
 
@@ -73,22 +71,20 @@ module _ (from read corb rirb : ℕ) (rings : Rings) where
   handed_to : (found : Option CodecState) (world : World) (word carried : ℕ) (running : Bool) → codec_at (address_of word) world.codecs ≡ found → IsWordOf rings.outstanding word
       → drop from world.commands ≡ [] → from ≤ length world.commands → AscendByAddress world.codecs → IsOnItsWay (drop from world.commands) (drop read world.written) world.waiting world.codecs
       → AreOf rings.outstanding (drop from (world.commands ++ taking word found running carried))
-          × IsOnItsWay (drop from (world.commands ++ taking word found running carried)) (drop read world.written) world.waiting (with_codec (address_of word) (λ codec. taken codec word) world.codecs)
+      × IsOnItsWay (drop from (world.commands ++ taking word found running carried)) (drop read world.written) world.waiting (with_codec (address_of word) (λ codec. taken codec word) world.codecs)
   handed_to None world word carried running there is none within ascend way =
       let same = append-nil world.commands in
-      let gained : drop from (world.commands ++ []) ≡ [] = ap (drop from) same ∙ none in
-      (
+      let gained : drop from (world.commands ++ []) ≡ [] = ap (drop from) same ∙ none in (
         subst (AreOf rings.outstanding) (sym gained) tt,
         subst (λ (cs : List CodecState). IsOnItsWay (drop from (world.commands ++ [])) (drop read world.written) world.waiting cs) (sym (absent (address_of word) (λ codec. taken codec word) world.codecs there))
-        (subst (λ (commands : List TakenCommand). IsOnItsWay (drop from commands) (drop read world.written) world.waiting world.codecs) (sym same) way),
+            (subst (λ (commands : List TakenCommand). IsOnItsWay (drop from commands) (drop read world.written) world.waiting world.codecs) (sym same) way),
       )
   handed_to (Some codec) world word carried running there is none within ascend way =
       let one : TakenCommand = record { word = word; codec = codec; running = running; carried = carried } in
-      let gained : drop from (world.commands ++ one ∷ []) ≡ one ∷ [] = drop-append-le from world.commands (one ∷ []) within ∙ ap (λ (first : List TakenCommand). first ++ one ∷ []) none in
-      (
+      let gained : drop from (world.commands ++ one ∷ []) ≡ one ∷ [] = drop-append-le from world.commands (one ∷ []) within ∙ ap (λ (first : List TakenCommand). first ++ one ∷ []) none in (
         subst (AreOf rings.outstanding) (sym gained) (of_one rings.outstanding one is),
         subst (λ (gained : List TakenCommand). IsOnItsWay gained (drop read world.written) world.waiting (with_codec (address_of word) (λ codec. taken codec word) world.codecs)) (sym gained)
-        (coming_taken word carried running (drop read world.written) world.waiting world.codecs codec ascend there (subst (λ (gained : List TakenCommand). IsOnItsWay gained (drop read world.written) world.waiting world.codecs) none way)),
+            (coming_taken word carried running (drop read world.written) world.waiting world.codecs codec ascend there (subst (λ (gained : List TakenCommand). IsOnItsWay gained (drop read world.written) world.waiting world.codecs) none way)),
       )
     where
       of_one : (outstanding : Option Outstanding) (one : TakenCommand) → IsWordOf outstanding one.word → AreOf outstanding (one ∷ [])
@@ -225,11 +221,11 @@ module _ (from read corb rirb : ℕ) (rings : Rings) where
         few = omega arith;
         pointer = ap (λ (at : ℕ). (at + length responses) % entries_of fields.shape.rirb) at ∙ ap (λ (n : ℕ). (rings.read + length responses) % n) size ∙ ap (λ (n : ℕ). (rings.read + n) % entries_of rings.rirb) (omega arith);
         standing = subst (λ (unread : List Response). AreStanding rirb (entries_of rings.rirb) rings.read (responses_stored fields world.memory responses) unread) (sym unread)
-        (subst (λ (base : ℕ). AreStanding base (entries_of rings.rirb) rings.read (responses_stored fields world.memory responses) responses) base
-        (subst (λ (size : ℕ). AreStanding (rirb_address fields) size rings.read (responses_stored fields world.memory responses) responses) size standing));
+            (subst (λ (base : ℕ). AreStanding base (entries_of rings.rirb) rings.read (responses_stored fields world.memory responses) responses) base
+            (subst (λ (size : ℕ). AreStanding (rirb_address fields) size rings.read (responses_stored fields world.memory responses) responses) size standing));
         from_within = holds.from_within;
         course = course_stays (part_of fields) (word_at world.memory (corb + 4 * rings.submitted)) (word_at (responses_stored fields world.memory responses) (corb + 4 * rings.submitted)) _ 1 (drop from world.commands)
-        (word_stays responses fields world.memory corb rings.submitted apart (omega arith)) holds.course;
+            (word_stays responses fields world.memory corb rings.submitted apart (omega arith)) holds.course;
         on_its_way = subst (λ (unread : List Response). IsOnItsWay (drop from world.commands) unread (drop (length responses) world.waiting) world.codecs) (ap (λ (first : List Response). first ++ responses) none ∙ sym unread) way;
       }
 

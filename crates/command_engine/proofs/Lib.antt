@@ -1,3 +1,5 @@
+-- what other crates cite
+pub mod Callers
 pub mod Readings
 pub mod Pools
 pub mod Starts

@@ -1,12 +1,11 @@
 -- What a poll leaves of what is told.
-use Rattle.std.proofs.Common.{◌≡◌, ◌<◌, ◌≤◌, ◌+◌, ◌-◌, ◌*◌, ◌/◌, ◌%◌, ◌^◌, ◌==◌, ◌≢◌, ℕ, zero, suc, Bool, true, false, List, [], ◌∷◌, ◌++◌, length, map, drop, slice_get, slice_index, Option, None, Some, refl, sym, ap, subst, ◌∙◌, arith, rules, tests, if◌then◌else◌}
+use Rattle.std.proofs.Common.{◌≡◌, ◌<◌, ◌≤◌, ◌+◌, ◌-◌, ◌*◌, ◌%◌, ◌==◌, ◌≢◌, ℕ, zero, suc, Bool, true, false, List, [], ◌∷◌, length, map, drop, slice_get, slice_index, Some, refl, sym, ap, subst, ◌∙◌, arith, rules, tests, if◌then◌else◌}
 use Rattle.std.specs.Prelude.{All}
 use Rattle.std.proofs.Math.Nat.{mod-lt, mod-eq_of_lt}
 use Rattle.std.proofs.lemmas.List.{drop_all, length-drop}
 use Rattle.std.proofs.lemmas.List.Elements.{All-head, All-tail}
 use Rattle.verb_codes.specs.Words.{bits_of, has_bit}
-use Rattle.hda_registers.specs.declared.shapes.RingSize.{RingSize}
-use Rattle.hda_registers.specs.declared.shapes.Width.TheVariants.{One, Two}
+use Rattle.hda_registers.specs.declared.shapes.Width.TheVariants.{One}
 use Rattle.hda_registers.specs.Fields.{Fields, entries_of}
 use Rattle.hda_registers.specs.Access.{written}
 use Rattle.hda_registers.proofs.Callers.{read-response_flag, read-rirb_write_pointer, keeps-reset, keeps-left}
@@ -16,15 +15,14 @@ use Rattle.ring_entries.specs.Entries.{response_bytes}
 use Rattle.stream_moves.specs.Streams.{StreamState, settled_state}
 use Rattle.hda_world.specs.Worlds.{World}
 use Rattle.hda_world.specs.Events as happens
-use Rattle.hda_world.specs.Tellings.{Telling, world_of, Accessed, MakesBy, Makes}
+use Rattle.hda_world.specs.Tellings.{Telling, world_of, MakesBy, Makes}
 use Rattle.hda_world.specs.Kept.{Kept}
 use Rattle.hda_world.proofs.Callers.{accessed_then, plain_write}
 use Rattle.command_engine.specs.declared.rings.Rings.{Rings}
-use Rattle.command_engine.specs.Sizes.{half_of}
 use Rattle.command_engine.specs.Entries.{response_in, responses_in, answer_among}
-use Rattle.command_engine.specs.Polling.{PollReads, entry_reads, batch_accesses, poll_accesses, new_entries, asked_of, found_by, read_to, rings_polled, still_outstanding, AreNew}
+use Rattle.command_engine.specs.Polling.{PollReads, entry_reads, batch_accesses, poll_accesses, new_entries, asked_of, found_by, read_to, still_outstanding, AreNew}
 use Rattle.command_engine.specs.Courses.{RingPart, part_of, ResponseCanCome, StandsBy, Stands}
-use Rattle.command_engine.specs.Belonging.{as_held, Belongs, from_after, PollLeaves}
+use Rattle.command_engine.specs.Belonging.{as_held, from_after, PollLeaves}
 use Rattle.command_engine.proofs.Batches.{EachStands, some_entries, half_small, flag_clear}
 use Rattle.command_engine.proofs.Keeping.{keeps_standing}
 use Rattle.command_engine.proofs.Holding.{Holding, keeps_holding}
@@ -97,7 +95,7 @@ module _ (from read corb rirb : ℕ) (rings : Rings) (stands : EachStands) where
         responses = says;
         belongs = both.0;
         stands = subst (λ (place : ℕ). StandsBy (from_after found from world.commands) (length world.written) corb rirb (record rings { read = place; outstanding = still_outstanding rings.outstanding found }) (part_of registers) world.memory world.codecs world.waiting world.commands world.written) (sym there)
-        (subst (λ (part : RingPart). StandsBy (from_after found from world.commands) (length world.written) corb rirb (record rings { read = place; outstanding = still_outstanding rings.outstanding found }) part world.memory world.codecs world.waiting world.commands world.written) (sym (is ∙ cleared)) both.1);
+            (subst (λ (part : RingPart). StandsBy (from_after found from world.commands) (length world.written) corb rirb (record rings { read = place; outstanding = still_outstanding rings.outstanding found }) part world.memory world.codecs world.waiting world.commands world.written) (sym (is ∙ cleared)) both.1);
       }
 
   flag_one : (flag : ℕ) → flag ≤ 1 → has_bit flag 0 ≡ true → flag ≡ 1

@@ -1,44 +1,31 @@
 -- What a poll leaves of a told world.
-use Rattle.std.proofs.Common.{◌≡◌, ◌<◌, ◌≤◌, ◌⊎◌, ◌+◌, ◌-◌, ◌*◌, ◌/◌, ◌%◌, ◌^◌, ◌==◌, ◌||◌, ◌&&◌, not, ℕ, zero, suc, Bool, true, false, cond, List, [], ◌∷◌, ◌++◌, length, map, drop, take, slice_get, slice_index, Option, None, Some, refl, sym, ap, subst, ◌∙◌, inl, inr, arith, rules, tests, lit<, lit≤, if◌then◌else◌}
-use Rattle.std.specs.Prelude.{All, slice_index_or}
+use Rattle.std.proofs.Common.{◌≡◌, ◌<◌, ◌≤◌, ◌+◌, ◌*◌, ◌%◌, ◌^◌, ◌&&◌, not, ℕ, Bool, true, false, cond, List, [], ◌∷◌, ◌++◌, length, map, drop, slice_get, Option, None, Some, refl, sym, ap, subst, ◌∙◌, inl, inr, arith, lit≤, if◌then◌else◌}
+use Rattle.std.specs.Prelude.{All}
 use Rattle.std.specs.List.{find}
 use Rattle.std.specs.Option.{option_map}
-use Rattle.std.proofs.Math.Nat.{mod-lt, mod-eq_of_lt}
-use Rattle.std.proofs.lemmas.List.{drop_all, length-drop}
+use Rattle.std.proofs.Math.Nat.{mod-eq_of_lt}
+use Rattle.std.proofs.lemmas.List.{drop_all}
 use Rattle.std.proofs.lemmas.List.Elements.{All-cons, All-head, All-tail, All-nil}
 use Rattle.std.proofs.lemmas.List.Sums.{sum_by-cons}
-use Rattle.std.proofs.lemmas.Option.{slice_get_past}
-use Rattle.verb_codes.specs.Words.{has_bit}
 use Rattle.codec_graph.specs.declared.waiting.Waiting.{Waiting}
 use Rattle.codec_graph.specs.declared.waiting.Waiting.TheVariants.{Answer, Unsolicited}
-use Rattle.codec_graph.specs.CodecStates.{CodecState, answers, answer_to}
+use Rattle.codec_graph.specs.CodecStates.{CodecState, answers}
 use Rattle.codec_graph.proofs.Callers.{answers-cons}
-use Rattle.hda_registers.specs.declared.shapes.RingSize.{RingSize}
-use Rattle.hda_registers.specs.declared.shapes.Width.TheVariants.{One, Two}
-use Rattle.hda_registers.specs.declared.places.TheConstants.{RIRBWP, RIRBSTS}
+use Rattle.hda_registers.specs.declared.shapes.Width.TheVariants.{One}
 use Rattle.hda_registers.specs.Fields.{Fields, entries_of, is_out_of_reset}
-use Rattle.hda_registers.specs.Access.{value_at, written, placed, global_written}
-use Rattle.hda_registers.proofs.Callers.{read-response_flag, read-rirb_write_pointer, keeps-reset, keeps-left}
+use Rattle.hda_registers.specs.Access.{written, placed, global_written}
 use Rattle.ring_entries.specs.declared.response.Response.{Response}
 use Rattle.ring_entries.specs.Memory.{word_at}
-use Rattle.ring_entries.specs.Entries.{response_bytes}
-use Rattle.ring_entries.specs.Engines.{can_respond, batch}
 use Rattle.hda_world.specs.Worlds.{World, TakenCommand}
 use Rattle.hda_world.specs.Events as happens
-use Rattle.hda_world.specs.Tellings.{Telling, world_of, Accessed, MakesBy, Makes}
-use Rattle.hda_world.specs.Kept.{Kept}
-use Rattle.hda_world.proofs.Callers.{accessed_then, plain_write}
+use Rattle.hda_world.specs.Tellings.{Telling, MakesBy}
 use Rattle.command_engine.specs.declared.rings.Rings.{Rings}
 use Rattle.command_engine.specs.declared.answers.Outstanding.{Outstanding}
-use Rattle.command_engine.specs.Sizes.{half_of, entries_up_to}
-use Rattle.command_engine.specs.Entries.{response_in, responses_in, is_from, answers_it, answer_among}
-use Rattle.command_engine.specs.Polling.{PollReads, entry_reads, batch_accesses, poll_accesses, new_entries, asked_of, found_by, read_to, rings_polled, still_outstanding, AreNew}
-use Rattle.command_engine.specs.Courses.{RingPart, part_of, HasRings, HasBlocks, AreOf, AllFetched, IsNext, Course, IsAnswerTo, CanCome, ResponseCanCome, ItemCanCome, CodecCanSend, solicited, waiting_answers, IsOnItsWay, AreStanding, StandsBy, Stands}
-use Rattle.command_engine.specs.Belonging.{as_held, IsAnswered, Belongs, from_after, PollLeaves}
-use Rattle.command_engine.proofs.Batches.{EachStands, some_entries, half_small, flag_clear}
-use Rattle.command_engine.proofs.Keeping.{keeps_standing}
-use Rattle.command_engine.proofs.Holding.{Holding, keeps_holding}
-use Rattle.command_engine.proofs.EntryReads.{entry_says, new_is}
+use Rattle.command_engine.specs.Entries.{is_from, answers_it, answer_among}
+use Rattle.command_engine.specs.Polling.{asked_of, still_outstanding}
+use Rattle.command_engine.specs.Courses.{RingPart, part_of, HasRings, AreOf, Course, CanCome, ResponseCanCome, ItemCanCome, CodecCanSend, solicited, waiting_answers, IsOnItsWay, StandsBy, Stands}
+use Rattle.command_engine.specs.Belonging.{as_held, Belongs, from_after}
+use Rattle.command_engine.proofs.Batches.{some_entries}
 
 -- ---- the answer among what was read
 
@@ -175,7 +162,7 @@ module _ (from read corb rirb : ℕ) (rings : Rings) (world : World) (holds : St
   -- the answer was found: it is that of the outstanding command, and nothing more comes
   answered : (value address answer : ℕ) → CanCome (drop from world.commands) address answer → value ≡ answer % 2 ^ 32 → 1 ≤ solicited (drop read world.written)
       → Belongs from rings.outstanding world.commands (Some value)
-          × StandsBy (length world.commands) (length world.written) corb rirb (record rings { read = place; outstanding = None }) cleared_part world.memory world.codecs world.waiting world.commands world.written
+      × StandsBy (length world.commands) (length world.written) corb rirb (record rings { read = place; outstanding = None }) cleared_part world.memory world.codecs world.waiting world.commands world.written
   answered value address answer can is some = by (drop from world.commands) refl can holds.course
     where
       nothing : drop (length world.commands) world.commands ≡ []
@@ -206,7 +193,7 @@ module _ (from read corb rirb : ℕ) (rings : Rings) (world : World) (holds : St
       by : (gained : List TakenCommand) → drop from world.commands ≡ gained → CanCome gained address answer
           → Course rings.outstanding (part_of world.registers) (word_at world.memory (corb + 4 * rings.submitted)) (drop from world.commands)
           → Belongs from rings.outstanding world.commands (Some value)
-              × StandsBy (length world.commands) (length world.written) corb rirb (record rings { read = place; outstanding = None }) cleared_part world.memory world.codecs world.waiting world.commands world.written
+          × StandsBy (length world.commands) (length world.written) corb rirb (record rings { read = place; outstanding = None }) cleared_part world.memory world.codecs world.waiting world.commands world.written
       by [] gained can course = absurd can
       by (taken ∷ more) gained can (inr next) = let z : taken ∷ more ≡ [] = sym gained ∙ next.none in cc
       by (taken ∷ more) gained can (inl all) =
@@ -217,7 +204,7 @@ module _ (from read corb rirb : ℕ) (rings : Rings) (world : World) (holds : St
   -- whatever was found
   pub after_poll : (found : Option ℕ) → found ≡ answer_among (asked_of rings.outstanding) (map as_held (drop read world.written))
       → Belongs from rings.outstanding world.commands found
-          × StandsBy (from_after found from world.commands) (length world.written) corb rirb (record rings { read = place; outstanding = still_outstanding rings.outstanding found }) cleared_part world.memory world.codecs world.waiting world.commands world.written
+      × StandsBy (from_after found from world.commands) (length world.written) corb rirb (record rings { read = place; outstanding = still_outstanding rings.outstanding found }) cleared_part world.memory world.codecs world.waiting world.commands world.written
   after_poll None is = (tt, unfound)
   after_poll (Some value) is =
       let first = found_first (drop from world.commands) (asked_of rings.outstanding) (drop read world.written) value holds.on_its_way.in_ring (sym is) in

@@ -1,37 +1,35 @@
 -- What a start brings about.
-use Rattle.std.proofs.Common.{◌≡◌, ◌≢◌, ◌<◌, ◌≤◌, ◌⊎◌, ◌+◌, ◌-◌, ◌*◌, ◌/◌, ◌%◌, ◌^◌, ◌==◌, ℕ, Bool, true, false, List, [], ◌∷◌, ◌++◌, length, drop, slice_get, Option, None, Some, refl, sym, ap, subst, ◌∙◌, inl, inr, arith, rules, tests, lit<, lit≤, if◌then◌else◌}
+use Rattle.std.proofs.Common.{◌≡◌, ◌≢◌, ◌≤◌, ◌⊎◌, ◌+◌, ◌-◌, ◌*◌, ◌/◌, ◌%◌, ◌^◌, ◌==◌, ℕ, Bool, true, false, List, [], ◌∷◌, ◌++◌, length, drop, slice_get, Option, None, Some, refl, sym, ap, subst, ◌∙◌, inl, inr, arith, rules, tests, lit<, lit≤, if◌then◌else◌}
 use Rattle.std.proofs.Math.Nat.{mod-eq_of_lt}
 use Rattle.std.proofs.lemmas.List.{drop_all}
-use Rattle.codec_graph.specs.declared.waiting.Waiting.{Waiting}
 use Rattle.codec_graph.specs.CodecStates.{CodecState, plugged, without_first, without_answer}
 use Rattle.hda_registers.specs.declared.shapes.RingSize.{RingSize}
 use Rattle.hda_registers.specs.declared.shapes.RingSize.TheVariants as size
 use Rattle.hda_registers.specs.declared.shapes.Width.{Width}
 use Rattle.hda_registers.specs.declared.shapes.Width.TheVariants.{One, Two, Four}
 use Rattle.hda_registers.specs.declared.shapes.Raise.TheVariants as event
-use Rattle.hda_registers.specs.Fields.{Fields, Global, entries_of, is_out_of_reset}
+use Rattle.hda_registers.specs.Fields.{Fields, entries_of, is_out_of_reset}
 use Rattle.hda_registers.specs.Moves.{framed, raised}
 use Rattle.hda_registers.specs.Table.{size_code}
 use Rattle.hda_registers.specs.Access.{written}
 use Rattle.hda_registers.specs.Laws.{IsBesideRings}
 use Rattle.hda_registers.proofs.Callers.{keeps-reset, keeps-left, read-corb_size, read-rirb_size, write-corb_write_pointer}
 use Rattle.ring_entries.specs.declared.response.Response.{Response}
-use Rattle.ring_entries.specs.Entries.{response_bytes}
-use Rattle.ring_entries.specs.Engines.{can_fetch, can_respond, batch}
+use Rattle.ring_entries.specs.Engines.{can_fetch, can_respond}
 use Rattle.hda_world.specs.declared.step.TheConstants.{FRAMES_TO_DISCOVERY}
-use Rattle.hda_world.specs.Worlds.{World, TakenCommand, codec_at, with_codec}
-use Rattle.hda_world.specs.Steps.{items_of, responses_of, discovered, passed}
+use Rattle.hda_world.specs.Worlds.{World, TakenCommand, with_codec}
+use Rattle.hda_world.specs.Steps.{responses_of, discovered, passed}
 use Rattle.hda_world.specs.Events as happens
 use Rattle.hda_world.specs.Tellings.{Telling, world_of, Accessed, MakesBy, Makes}
 use Rattle.hda_world.specs.Kept.{Kept}
 use Rattle.hda_world.proofs.Callers.{accessed_then, plain_write, frames_after}
 use Rattle.command_engine.specs.declared.rings.Rings.{Rings}
 use Rattle.command_engine.specs.Sizes.{largest_size, half_of}
-use Rattle.command_engine.specs.Starting.{StartReads, codecs_in, rings_of, rings_read, first_reads, settings_if, corb_accesses, rirb_accesses, start_accesses}
-use Rattle.command_engine.specs.Courses.{RingPart, part_of, HasRings, HasBlocks, AscendByAddress, AreOf, IsOnItsWay, StandsBy, Stands}
+use Rattle.command_engine.specs.Starting.{StartReads, codecs_in, rings_of, rings_read, settings_if, corb_accesses, rirb_accesses, start_accesses}
+use Rattle.command_engine.specs.Courses.{RingPart, part_of, HasBlocks, AscendByAddress, AreOf, IsOnItsWay, StandsBy, Stands}
 use Rattle.command_engine.specs.Belonging.{CanStart, IsBlockAddress}
 use Rattle.command_engine.proofs.Coming.{coming_sent, coming_lost, coming_plugged, graph_plugged}
-use Rattle.command_engine.proofs.Batches.{EachStands, some_entries, few_entries}
+use Rattle.command_engine.proofs.Batches.{EachStands, some_entries}
 use Rattle.command_engine.proofs.Keeping.{ascend_with, part-passed, keeps_standing}
 use Rattle.command_engine.proofs.Beside.{event_keeps}
 use Rattle.command_engine.proofs.StartWrites.{write-state_status, write-corb_base, write-corb_reset, write-corb_ready, write-corb_run, write-rirb_base, write-rirb_reset, write-response_count, write-rirb_run}
@@ -257,7 +255,7 @@ module _ (from read corb rirb : ℕ) where
         from_within = omega arith;
         course = inl (record { pointers = refl; taken = subst (AreOf None) (sym gained) tt });
         on_its_way = subst (λ (gained : List TakenCommand). IsOnItsWay gained (drop read world.written) world.waiting world.codecs) (sym gained)
-        (subst (λ (unread : List Response). IsOnItsWay [] unread world.waiting world.codecs) (sym unread) holds.way);
+            (subst (λ (unread : List Response). IsOnItsWay [] unread world.waiting world.codecs) (sym unread) holds.way);
       }))
 
   beside_interrupts : IsBesideRings 0x20

@@ -1,9 +1,8 @@
 -- What a write leaves of each register by which both rings are set going, while CRST is 1.
-use Rattle.std.proofs.Common.{◌≡◌, ◌+◌, ◌-◌, ◌*◌, ◌/◌, ◌%◌, ◌^◌, ℕ, true, bit_and, refl, arith}
+use Rattle.std.proofs.Common.{◌≡◌, ◌*◌, ◌/◌, ◌%◌, ◌^◌, ℕ, true, refl, arith}
 use Rattle.hda_registers.specs.declared.shapes.Width.TheVariants.{One, Two, Four}
 use Rattle.hda_registers.specs.Fields.{Fields, is_out_of_reset}
 use Rattle.hda_registers.specs.Access.{written, placed, global_written}
-use Rattle.command_engine.specs.Courses.{part_of}
 
 pub write-state_status : (f : Fields) (v : ℕ) → is_out_of_reset f.global ≡ true → written f 0x0E Two v ≡ record f { global = record f.global { state_status = (written f 0x0E Two v).global.state_status } }
 unfolding written placed global_written

@@ -1,27 +1,26 @@
 -- What a submission leaves of what is told.
-use Rattle.std.proofs.Common.{◌≡◌, ◌<◌, ◌≤◌, ◌⊎◌, ◌+◌, ◌*◌, ◌/◌, ◌%◌, ◌^◌, ◌==◌, ◌||◌, ℕ, suc, Bool, true, false, nat_le, List, [], ◌∷◌, length, drop, slice_index, Option, None, Some, refl, sym, ap, subst, ◌∙◌, inl, inr, arith, rules, tests, lit<}
+use Rattle.std.proofs.Common.{◌≡◌, ◌<◌, ◌≤◌, ◌+◌, ◌*◌, ◌%◌, ◌^◌, ◌||◌, ℕ, suc, Bool, true, false, nat_le, List, [], ◌∷◌, length, drop, slice_index, Option, None, refl, sym, ap, subst, ◌∙◌, inl, inr, arith, rules, tests, lit<}
 use Rattle.std.proofs.Math.Nat.{mod-lt, mod-eq_of_lt}
 use Rattle.byteorder.specs.Endian.{little_bytes}
 use Rattle.byteorder.specs.Numbers.{little_from-bytes, length-bytes_low_first}
 use Rattle.hda_registers.specs.declared.shapes.Width.TheVariants.{Two}
-use Rattle.hda_registers.specs.Fields.{Fields, entries_of, rirb_address}
+use Rattle.hda_registers.specs.Fields.{entries_of, rirb_address}
 use Rattle.hda_registers.specs.Access.{written}
 use Rattle.hda_registers.proofs.Callers.{keeps-reset, keeps-left, write-corb_write_pointer}
 use Rattle.ring_entries.specs.declared.response.Response.{Response}
-use Rattle.ring_entries.specs.declared.entries.TheConstants.{COMMAND_BYTES}
 use Rattle.ring_entries.specs.Memory.{word_at, stored, IsOutside}
-use Rattle.ring_entries.specs.Entries.{next_place, responses_stored}
+use Rattle.ring_entries.specs.Entries.{next_place}
 use Rattle.ring_entries.proofs.Callers.{stored_outside, piece_is_stored}
 use Rattle.hda_world.specs.Worlds.{World, TakenCommand}
 use Rattle.hda_world.specs.Events as happens
-use Rattle.hda_world.specs.Tellings.{Telling, world_of, MakesBy, Makes}
+use Rattle.hda_world.specs.Tellings.{Telling, world_of, Makes}
 use Rattle.hda_world.specs.Kept.{Kept}
 use Rattle.hda_world.proofs.Callers.{accessed_then, plain_write}
 use Rattle.command_engine.specs.declared.rings.Rings.{Rings}
 use Rattle.command_engine.specs.declared.answers.Outstanding.{Outstanding}
 use Rattle.command_engine.specs.Blocks.{are_apart}
 use Rattle.command_engine.specs.Submitting.{command_place, submit_accesses, rings_submitted}
-use Rattle.command_engine.specs.Courses.{RingPart, part_of, HasRings, HasBlocks, AreOf, AllFetched, IsNext, Course, AreStanding, StandsBy, Stands}
+use Rattle.command_engine.specs.Courses.{RingPart, part_of, AreOf, AllFetched, Course, StandsBy, Stands}
 use Rattle.command_engine.proofs.Batches.{EachStands, some_entries, few_entries, word_stays}
 use Rattle.command_engine.proofs.Keeping.{keeps_standing}
 use Rattle.command_engine.proofs.Holding.{Holding, keeps_holding}

@@ -1,6 +1,6 @@
 -- That what is on its way to the engine belongs to its outstanding command: at most one answer comes, and it is the answer of that
 -- command by the codec as it was when it took it. This project's own, over the rings of High Definition Audio 1.0a, 4.4.
-use Rattle.std.specs.Prelude.{◌≡◌, ◌≤◌, ◌<◌, ◌⊎◌, ℕ, ◌+◌, ◌-◌, ◌*◌, ◌%◌, ◌^◌, ◌==◌, Bool, true, false, not, List, [], ◌∷◌, length, map, drop, All, count_by, sum_by, slice_get, slice_index, Option, None, Some}
+use Rattle.std.specs.Prelude.{◌≡◌, ◌≤◌, ◌<◌, ◌⊎◌, ℕ, ◌+◌, ◌-◌, ◌*◌, ◌%◌, ◌==◌, true, false, not, List, [], ◌∷◌, length, map, drop, All, count_by, sum_by, slice_get, slice_index, Option, None, Some}
 use Rattle.codec_graph.specs.declared.raw.RawCodec.{RawCodec}
 use Rattle.codec_graph.specs.declared.waiting.Waiting.{Waiting}
 use Rattle.codec_graph.specs.declared.waiting.Waiting.TheVariants.{Answer, Unsolicited}

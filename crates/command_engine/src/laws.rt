@@ -1,12 +1,13 @@
 //! Laws of the engine, each the contract of a function that does nothing.
-ghost use Rattle.std.specs.Prelude.{◌≡◌, ◌<◌, ◌^◌, ℕ, List, length, None, Some};
+ghost use Rattle.std.specs.Prelude.{◌≡◌, ◌<◌, ◌≤◌, ◌^◌, ℕ, List, length, drop, None, Some};
 ghost use Rattle.device_steps.specs.declared.Step.{Step};
 ghost use Rattle.hda_world.specs.Worlds.{World};
 ghost use Rattle.hda_world.specs.Steps.{after_steps};
 ghost use Rattle.hda_world.specs.Events.{Event, after};
 ghost use Rattle.command_engine.specs.declared.rings.Rings.{Rings};
+ghost use Rattle.hda_registers.specs.declared.shapes.RingSize.{RingSize};
+ghost use Rattle.command_engine.specs.Sizes.{half_of};
 ghost use Rattle.command_engine.specs.Courses.{AreBeside, Stands};
-
 ghost use Rattle.hda_world.specs.Tellings.{Telling, world_of, Makes};
 ghost use Rattle.command_engine.specs.Polling.{PollReads, poll_accesses, AreNew};
 ghost use Rattle.command_engine.specs.Belonging.{PollLeaves, CanStart, IsBlockAddress};
@@ -62,3 +63,10 @@ pub fn starts_bring_standing()
 {
     responses_stand();
 }
+
+/// At most as many responses stand unread as RINTCNT says, half of RIRB's entries, so a poll that is told reads at most 128.
+pub fn few_responses_are_unread()
+    ensures unread { (from read corb rirb : ℕ) (rings : Rings) (world : World) → Stands from read corb rirb rings world
+        → length (drop read world.written) ≤ half_of rings.rirb }
+    ensures half { (size : RingSize) → half_of size ≤ 128 }
+{}

@@ -25,6 +25,8 @@ impl Engine {
     /// Looks for the answer to the outstanding command, at this clock. Where responses were written it reads all that are new: the
     /// first to a command of the codec that is asked is the answer, other answers are dropped, and what was sent unasked becomes
     /// events, in order. A command that has no answer stays outstanding. No event is left from earlier polls (HDA 1.0a, 4.4.2).
+    ///
+    /// A write pointer names fewer new entries than RIRB has, whatever it reads, so at most 255; the queue holds 256 events.
     #[tactic(auto, using(hda_world::proofs::Callers::rows))]
     pub fn poll<P: Platform>(&mut self, platform: &mut P, clock: u32) -> Poll
         requires events { self.old.events.items ≡ [] }
