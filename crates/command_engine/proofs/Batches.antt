@@ -1,0 +1,144 @@
+-- What a batch of RIRB's engine leaves.
+use Rattle.std.proofs.Common.{◌≡◌, ◌<◌, ◌≤◌, ◌⊎◌, ◌+◌, ◌*◌, ◌%◌, ◌==◌, ◌||◌, ℕ, suc, Bool, true, false, min, nat_le, List, [], ◌∷◌, ◌++◌, length, take, drop, slice_index, slice_get, Some, refl, sym, ap, subst, ◌∙◌, inl, inr, arith, rules, tests, lit<, lit≤, length-append, if◌then◌else◌}
+use Rattle.std.proofs.Math.Nat.{mod-lt, mod-add-mod, mod-eq_of_lt}
+use Rattle.std.proofs.Math.Seq.{drop-append_seam}
+use Rattle.std.proofs.lemmas.List.{length-take, take-append-drop}
+use Rattle.hda_registers.specs.declared.shapes.RingSize.{RingSize}
+use Rattle.hda_registers.specs.declared.shapes.RingSize.TheVariants.{Two, Sixteen, Full}
+use Rattle.hda_registers.specs.Fields.{Fields, entries_of, responses_of, rirb_address}
+use Rattle.ring_entries.specs.declared.response.Response.{Response}
+use Rattle.ring_entries.specs.Memory.{word_at, IsOutside}
+use Rattle.ring_entries.specs.Entries.{response_bytes, response_place, response_stored, responses_stored, after_response, after_responses}
+use Rattle.ring_entries.specs.Engines.{can_respond, batch_of, batch}
+use Rattle.ring_entries.specs.Standing.{StandsAt, IsRirbInside}
+use Rattle.ring_entries.proofs.Callers.{stored_outside}
+use Rattle.command_engine.specs.Blocks.{are_apart}
+use Rattle.command_engine.specs.Sizes.{half_of}
+use Rattle.command_engine.specs.Courses.{part_of, AreStanding}
+
+-- fewer responses than RIRB has entries stand each in an entry of its own
+abbrev pub EachStands : Type 0
+EachStands = (fields : Fields) (memory : List ℕ) (responses : List Response) (place : ℕ) (response : Response)
+    → length responses < entries_of fields.shape.rirb → IsRirbInside fields memory → slice_get responses place ≡ Some response
+    → StandsAt fields (responses_stored fields memory responses) (place + 1) response
+
+pub some_entries : (size : RingSize) → 0 < entries_of size
+some_entries Two = lit< tt
+some_entries Sixteen = lit< tt
+some_entries Full = lit< tt
+
+pub few_entries : (size : RingSize) → entries_of size ≤ 256
+few_entries Two = lit≤ tt
+few_entries Sixteen = lit≤ tt
+few_entries Full = lit≤ tt
+
+pub half_small : (size : RingSize) → half_of size < entries_of size
+half_small Two = lit< tt
+half_small Sixteen = lit< tt
+half_small Full = lit< tt
+
+half_asked : (size : RingSize) → responses_of (half_of size) ≡ half_of size
+half_asked Two = refl
+half_asked Sixteen = refl
+half_asked Full = refl
+
+-- ---- the registers
+
+-- of the rings' registers responses move RIRB's write pointer alone
+pub part_after : (responses : List Response) (fields : Fields) → part_of (after_responses fields responses) ≡ record (part_of fields) { rirb_write_pointer = (after_responses fields responses).global.rirb_write_pointer }
+part_after [] fields = refl
+part_after (response ∷ responses) fields = part_after responses (after_response fields)
+
+-- by as many entries as they are
+pub pointer_after : (responses : List Response) (fields : Fields) → fields.global.rirb_write_pointer < entries_of fields.shape.rirb
+    → (after_responses fields responses).global.rirb_write_pointer ≡ (fields.global.rirb_write_pointer + length responses) % entries_of fields.shape.rirb
+pointer_after [] fields within = sym (mod-eq_of_lt (omega arith)) ∙ ap (λ (n : ℕ). n % entries_of fields.shape.rirb) (omega arith)
+pointer_after (response ∷ responses) fields within =
+    pointer_after responses (after_response fields) (mod-lt _ (some_entries fields.shape.rirb))
+    ∙ mod-add-mod (fields.global.rirb_write_pointer + 1) (entries_of fields.shape.rirb) (length responses)
+    ∙ ap (λ (n : ℕ). n % entries_of fields.shape.rirb) (omega arith)
+
+-- ---- which responses
+
+batch_by : (can : Bool) (count : ℕ) (waiting responses : List Response) → can ≡ true → (if can then take count waiting else []) ≡ responses → take count waiting ≡ responses
+batch_by true count waiting responses is e = e
+batch_by false count waiting responses is e = cc
+
+-- a batch has at most as many responses as RINTCNT says, half of the entries
+pub batch_short : (fields : Fields) (size : RingSize) (waiting responses : List Response) → can_respond fields ≡ true → batch fields waiting ≡ responses
+    → fields.global.response_count ≡ half_of size → length responses ≤ half_of size
+batch_short fields size waiting responses can are served =
+    let taken = batch_by (can_respond fields) (batch_of fields) waiting responses can are in
+    let long : length responses ≡ min (batch_of fields) (length waiting) = ap length (sym taken) ∙ length-take (batch_of fields) waiting in
+    let asked : responses_of fields.global.response_count ≡ half_of size = ap responses_of served ∙ half_asked size in
+    omega arith
+
+-- they are the first that wait
+pub batch_first : (fields : Fields) (waiting responses : List Response) → can_respond fields ≡ true → batch fields waiting ≡ responses → responses ++ drop (length responses) waiting ≡ waiting
+batch_first fields waiting responses can are =
+    let taken = batch_by (can_respond fields) (batch_of fields) waiting responses can are in
+    let all : responses ++ drop (batch_of fields) waiting ≡ waiting = ap (λ (rs : List Response). rs ++ drop (batch_of fields) waiting) (sym taken) ∙ take-append-drop (batch_of fields) waiting in
+    let tail : drop (length responses) waiting ≡ drop (batch_of fields) waiting = ap (drop (length responses)) (sym all) ∙ drop-append_seam responses (drop (batch_of fields) waiting) in
+    ap (λ (rest : List Response). responses ++ rest) tail ∙ all
+
+-- RIRB's engine writes while the flag is 0
+pub flag_clear : (fields : Fields) → can_respond fields ≡ true → (fields.global.response_flag == 1) ≡ false
+flag_clear fields can = search (rules, tests)
+
+-- ---- memory
+
+length-response_bytes : (response : Response) → length (response_bytes response) ≡ 8
+length-response_bytes response = simp length-append
+
+abbrev OutsideRirb : Fields → ℕ → Type 0
+OutsideRirb fields at = (at < rirb_address fields) ⊎ (rirb_address fields + 8 * entries_of fields.shape.rirb ≤ at)
+
+outside_entry : (base place entries at : ℕ) → place < entries → (at < base) ⊎ (base + 8 * entries ≤ at) → IsOutside (base + 8 * place) 8 at
+outside_entry base place entries at within (inl below) = inl (omega arith)
+outside_entry base place entries at within (inr above) = inr (omega arith)
+
+-- responses are written in RIRB alone
+pub outside_stored : (responses : List Response) (fields : Fields) (memory : List ℕ) (at : ℕ) → OutsideRirb fields at → slice_index (responses_stored fields memory responses) at ≡ slice_index memory at
+outside_stored [] fields memory at outside = refl
+outside_stored (response ∷ responses) fields memory at outside =
+    outside_stored responses (after_response fields) (response_stored fields memory response) at outside
+    ∙ (stored_outside (rirb_address fields + 8 * response_place fields) (response_bytes response) memory).1 at
+    (rw (length-response_bytes response) (outside_entry (rirb_address fields) (response_place fields) (entries_of fields.shape.rirb) at (mod-lt _ (some_entries fields.shape.rirb)) outside))
+
+-- the memory keeps its size
+pub size_stored : (responses : List Response) (fields : Fields) (memory : List ℕ) → length (responses_stored fields memory responses) ≡ length memory
+size_stored [] fields memory = refl
+size_stored (response ∷ responses) fields memory =
+    size_stored responses (after_response fields) (response_stored fields memory response)
+    ∙ (stored_outside (rirb_address fields + 8 * response_place fields) (response_bytes response) memory).0
+
+-- a word is the same where its four bytes are
+pub same_word : (old new : List ℕ) (at : ℕ) → ((byte : ℕ) → byte < 4 → slice_index new (at + byte) ≡ slice_index old (at + byte)) → word_at new at ≡ word_at old at
+same_word old new at same =
+    let e0 : slice_index new at ≡ slice_index old at = subst (λ (n : ℕ). slice_index new n ≡ slice_index old n) (omega arith) (same 0 (lit< tt)) in
+    let e1 : slice_index new (suc at) ≡ slice_index old (suc at) = subst (λ (n : ℕ). slice_index new n ≡ slice_index old n) (omega arith) (same 1 (lit< tt)) in
+    let e2 : slice_index new (suc (suc at)) ≡ slice_index old (suc (suc at)) = subst (λ (n : ℕ). slice_index new n ≡ slice_index old n) (omega arith) (same 2 (lit< tt)) in
+    let e3 : slice_index new (suc (suc (suc at))) ≡ slice_index old (suc (suc (suc at))) = subst (λ (n : ℕ). slice_index new n ≡ slice_index old n) (omega arith) (same 3 (lit< tt)) in
+    cc
+
+apart_by : (corb rirb at entries : ℕ) → are_apart corb rirb ≡ true → corb ≤ at → at < corb + 1024 → entries ≤ 256 → (at < rirb) ⊎ (rirb + 8 * entries ≤ at)
+apart_by corb rirb at entries apart from to few = by (nat_le (corb + 1024) rirb) refl apart
+  where
+    by : (b : Bool) → nat_le (corb + 1024) rirb ≡ b → (b || nat_le (rirb + 2048) corb) ≡ true → (at < rirb) ⊎ (rirb + 8 * entries ≤ at)
+    by true is e = let below : corb + 1024 ≤ rirb = search (rules, tests) in inl (omega arith)
+    by false is e = let above : rirb + 2048 ≤ corb = search (rules, tests) in inr (omega arith)
+
+-- so a command of CORB stays
+pub word_stays : (responses : List Response) (fields : Fields) (memory : List ℕ) (corb place : ℕ) → are_apart corb (rirb_address fields) ≡ true → place < 256
+    → word_at (responses_stored fields memory responses) (corb + 4 * place) ≡ word_at memory (corb + 4 * place)
+word_stays responses fields memory corb place apart few =
+    same_word memory (responses_stored fields memory responses) (corb + 4 * place)
+    (λ byte small. outside_stored responses fields memory (corb + 4 * place + byte) (apart_by corb (rirb_address fields) (corb + 4 * place + byte) (entries_of fields.shape.rirb) apart (omega arith) (omega arith) (few_entries fields.shape.rirb)))
+
+-- responses that are written where none is unread stand from the entry after the write pointer on
+pub standing_written : EachStands → (responses : List Response) (fields : Fields) (memory : List ℕ) (place : ℕ) → length responses < entries_of fields.shape.rirb → IsRirbInside fields memory
+    → fields.global.rirb_write_pointer ≡ place
+    → AreStanding (rirb_address fields) (entries_of fields.shape.rirb) place (responses_stored fields memory responses) responses
+standing_written stands responses fields memory place few inside at = λ index response byte is small.
+    subst (λ (p : ℕ). slice_index (responses_stored fields memory responses) (rirb_address fields + 8 * ((p + (index + 1)) % entries_of fields.shape.rirb) + byte) ≡ slice_index (response_bytes response) byte) at
+    (stands fields memory responses index response few inside is byte small)

@@ -1,0 +1,22 @@
+-- What proofs of the layers above cite.
+
+-- fewer responses than RIRB has entries stand each in an entry of its own: what the lemmas below take
+pub use Rattle.command_engine.proofs.Batches.{EachStands}
+-- every move of the device keeps how the engine stands
+pub use Rattle.command_engine.proofs.Keeping.{keeps_standing}
+-- and so do steps in a row
+pub use Rattle.command_engine.proofs.Keeping.{steps_keep_standing}
+-- with a fact of RINTFL, the memory and the responses that were written beside it
+pub use Rattle.command_engine.proofs.Holding.{Holding, keeps_holding}
+-- an event beside the engine keeps it
+pub use Rattle.command_engine.proofs.Beside.{event_keeps}
+-- and so do events in a row
+pub use Rattle.command_engine.proofs.Beside.{events_keep}
+-- a start brings it about
+pub use Rattle.command_engine.proofs.StartTellings.{start_leaves}
+-- a submission leads on
+pub use Rattle.command_engine.proofs.SubmitTellings.{submit_leaves}
+-- and so does a poll
+pub use Rattle.command_engine.proofs.PollTellings.{poll_leaves}
+-- where nothing happens, no access is made
+pub use Rattle.command_engine.proofs.Readings.{made_none}

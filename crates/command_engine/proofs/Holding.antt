@@ -1,0 +1,46 @@
+-- What the device's moves keep beside how the engine stands: a fact of RINTFL, the memory and the responses that were written.
+use Rattle.std.proofs.Common.{◌≡◌, ℕ, List, ◌∷◌, sym, ap, subst, true}
+use Rattle.ring_entries.specs.declared.response.Response.{Response}
+use Rattle.ring_entries.specs.Engines.{can_respond, batch}
+use Rattle.hda_world.specs.Worlds.{World}
+use Rattle.hda_world.specs.Steps.{responded, passed}
+use Rattle.hda_world.specs.Kept.{Kept}
+use Rattle.command_engine.specs.declared.rings.Rings.{Rings}
+use Rattle.command_engine.specs.Courses.{RingPart, Stands}
+use Rattle.command_engine.proofs.Batches.{EachStands}
+use Rattle.command_engine.proofs.Keeping.{keeps_standing, part-passed}
+
+module _ (from read corb rirb : ℕ) (rings : Rings) (stands : EachStands) (Fact : ℕ → List ℕ → List Response → Type 0) where
+  abbrev pub Holding : World → Type 0
+  Holding world = Stands from read corb rirb rings world × Fact world.registers.global.response_flag world.memory world.written
+
+  passing : (world : World) → Fact world.registers.global.response_flag world.memory world.written → Fact (passed world).registers.global.response_flag world.memory world.written
+  passing world fact = subst (λ (flag : ℕ). Fact flag world.memory world.written) (sym (ap (λ (part : RingPart). part.response_flag) (part-passed world))) fact
+
+  pub keeps_holding : ((world : World) (response : Response) (rest : List Response) → Holding world → can_respond world.registers ≡ true → batch world.registers world.waiting ≡ response ∷ rest
+      → Fact 1 (responded (response ∷ rest) world).memory (responded (response ∷ rest) world).written)
+      → Kept Holding
+  keeps_holding writes =
+      let kept = keeps_standing from read corb rirb rings stands in
+      record {
+        codecs = record {
+          hands = λ world holds can free. (kept.codecs.hands world holds.0 can free, holds.1);
+          sends = λ world address item rest holds out room are. (kept.codecs.sends world address item rest holds.0 out room are, holds.1);
+          loses = λ world address holds out. (kept.codecs.loses world address holds.0 out, holds.1);
+          plugs = λ world address nid present holds. (kept.codecs.plugs world address nid present holds.0, holds.1);
+        };
+        responds = λ world response rest holds can are. (kept.responds world response rest holds.0 can are, writes world response rest holds can are);
+        bytes = record {
+          comes = λ world holds can room good is. holds;
+          ends = λ world holds can room good is. holds;
+          breaks = λ world holds can room bad. holds;
+          refuses = λ world holds must. holds;
+        };
+        passes = λ world holds out still. (kept.passes world holds.0 out still, passing world holds.1);
+        frames = record {
+          gaps = λ world holds can none. (kept.frames.gaps world holds.0 can none, passing world holds.1);
+          sends = λ world holds can some enough. (kept.frames.sends world holds.0 can some enough, passing world holds.1);
+          misses = λ world holds can short. (kept.frames.misses world holds.0 can short, passing world holds.1);
+          stops = λ world holds must. (kept.frames.stops world holds.0 must, passing world holds.1);
+        };
+      }

@@ -1,0 +1,5 @@
+use Rattle.command_engine.proofs.Beside.{events_keep}
+use Rattle.command_engine.proofs.laws.events_beside_keep_standing.Goals as goal
+
+pub returns : goal.returns
+returns c = λ from read corb rirb rings events world beside holds. events_keep from read corb rirb rings c.responses_stand.ensures events world beside holds

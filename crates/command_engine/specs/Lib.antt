@@ -1,0 +1,11 @@
+pub mod Blocks
+pub mod Opening
+pub mod Sizes
+pub mod Entries
+pub mod Starting
+pub mod Submitting
+pub mod Polling
+pub mod Courses
+pub mod Belonging
+-- what private functions promise one another
+pub mod Reading

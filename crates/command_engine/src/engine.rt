@@ -1,0 +1,67 @@
+//! The engine.
+ghost use Rattle.std.specs.Prelude.{◌≡◌, ◌<◌, true};
+ghost use Rattle.hda_registers.specs.Fields.{entries_of};
+ghost use Rattle.command_engine.specs.Blocks.{corb_bytes, rirb_bytes, most_events, are_apart};
+
+mod opening;
+mod polling;
+mod starting;
+mod submitting;
+
+use crate::answers::{Event, Outstanding};
+use crate::rings::Rings;
+use circular_buffer::HeapCircularBuffer;
+use dma_pool::Lent;
+
+/// The bytes of CORB: 256 commands.
+pub const CORB_BYTES: u32 = 1_024;
+/// The bytes of RIRB: 256 responses.
+pub const RIRB_BYTES: u32 = 2_048;
+/// How many events wait at most.
+pub const MOST_EVENTS: usize = 256;
+
+/// Why there is no engine.
+#[derive(Clone, Copy, Debug, PartialEq, Eq)]
+pub enum OpenFault {
+    /// The pool has no run for CORB, or after that none for RIRB.
+    NoRun,
+    /// Want of memory.
+    OutOfMemory,
+}
+
+/// The driver's side of both rings (HDA 1.0a, 4.4). It owns their blocks, which it gives back when it is closed, and keeps nothing of
+/// a platform between its calls.
+pub struct Engine {
+    corb: Lent,
+    rirb: Lent,
+    rings: Rings,
+    events: HeapCircularBuffer<Event>,
+    pub ghost corb_bytes: { corb.bytes ≡ corb_bytes },
+    pub ghost rirb_bytes: { rirb.bytes ≡ rirb_bytes },
+    pub ghost apart: { are_apart corb.address rirb.address ≡ true },
+    pub ghost room: { events.capacity ≡ most_events },
+    pub ghost read_within: { rings.read < entries_of rings.rirb },
+}
+
+impl Engine {
+    /// Whether the engine was started.
+    pub fn is_started(&self) -> bool
+        ensures { result ≡ self.now.rings.started }
+    {
+        self.rings.started
+    }
+
+    /// The command that is outstanding.
+    pub fn outstanding(&self) -> Option<Outstanding>
+        ensures { result ≡ self.now.rings.outstanding }
+    {
+        self.rings.outstanding
+    }
+
+    /// The addresses of CORB and of RIRB.
+    pub fn addresses(&self) -> (u32, u32)
+        ensures { result ≡ (self.now.corb.address, self.now.rirb.address) }
+    {
+        (self.corb.address(), self.rirb.address())
+    }
+}
