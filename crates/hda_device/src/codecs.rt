@@ -10,6 +10,7 @@ ghost use Rattle.hda_device.specs.Codecs as spec;
 
 use codec_nodes::Codec;
 use hda_registers::{Raise, Registers};
+use hda_world::FRAMES_TO_DISCOVERY;
 
 /// A command that a codec took.
 #[derive(Clone, Copy, Debug, PartialEq, Eq)]
@@ -47,6 +48,17 @@ pub(crate) fn discover(codecs: &[Codec], regs: &mut Registers)
 {
     for codec in codecs {
         regs.raise(Raise::Codec(address(codec)));
+    }
+}
+
+/// Discovers the codecs where this is the link frame in which they are (HDA 1.0a, 4.3).
+pub(crate) fn discover_at(frame: u32, codecs: &[Codec], regs: &mut Registers)
+    requires out { IsTrue (is_out_of_reset regs.old.global) }
+    requires few { All (λ address. address ≤ 14) (spec.addresses_of codecs.now) }
+    ensures { regs.new ≡ steps.discovered_at frame codecs.now regs.old }
+{
+    if frame == FRAMES_TO_DISCOVERY {
+        discover(codecs, regs);
     }
 }
 

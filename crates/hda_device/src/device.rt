@@ -9,16 +9,19 @@ ghost use Rattle.hda_registers.specs.Fields.{opening};
 ghost use Rattle.hda_world.specs.Worlds.{World, with_codec, output_of};
 ghost use Rattle.hda_world.specs.Steps as steps;
 ghost use Rattle.hda_world.specs.Events.{after_write};
+ghost use Rattle.stream_descriptor.specs.Running.{found_at};
+ghost use Rattle.stream_descriptor.specs.Frames.{IsAnswer};
 ghost use Rattle.hda_device.specs.Codecs as spec;
-ghost use Rattle.hda_device.specs.Devices.{IsWorld, new_world, KeepsSound, can_receive_now};
+ghost use Rattle.hda_device.specs.Devices.{IsWorld, new_world, KeepsSound, can_receive_now, counted_on, discovered_next, is_counted as is_counted_now};
 
 use crate::codecs::{self, Handed};
 use codec_nodes::Codec;
 use command_rings::Rings;
 use hda_registers::{Registers, Shape, Width};
+use hda_world::FRAMES_TO_DISCOVERY;
 use std::alloc::{AllocError, Global};
 use std::marker::Model;
-use stream_descriptor::Stream;
+use stream_descriptor::{Frame, MOST_FRAME_BYTES, Stream};
 
 /// A controller with its codecs: its registers, the engines of CORB and RIRB, an input and an output stream, and the codecs on its link.
 /// Contracts see a `DeviceState`, and of each call the move of the world (this project's own) that it makes.
@@ -167,6 +170,21 @@ impl Device {
         let _written = self.rings.rirb(&mut self.registers, memory);
     }
 
+    /// Lets a link frame pass (HDA 1.0a, 4.3, 4.5 and 5.3): the wall clock goes on, in the frame of number `FRAMES_TO_DISCOVERY` after CRST
+    /// rose the codecs' bits of STATESTS are set, and the output stream sends the blocks that are due, which then stand at the front of
+    /// `into`. Nothing happens while CRST is 0. Says what the frame carried.
+    pub fn frame(&mut self, into: &mut [u8; MOST_FRAME_BYTES]) -> Frame
+        ensures stands { (memory : List ℕ) (world : World) → IsWorld memory self.old world → IsWorld memory self.new (steps.frame_step world) }
+        ensures answer { (memory : List ℕ) (world : World) → IsWorld memory self.old world
+            → IsAnswer (output_of world) (found_at 1 world.registers world.output) into.old into.new result }
+        ensures codecs { self.new.codecs ≡ self.old.codecs }
+        ensures sound { KeepsSound self.old.registers self.new.registers }
+    {
+        self.registers.frame();
+        self.frames = count_frame(self.frames, self.codecs.as_slice(), &mut self.registers);
+        self.output.frame(&mut self.registers, into)
+    }
+
     /// A stream fetches at most so many bytes of its buffers: the output stream, of descriptor 1. That of descriptor 0 does not move
     /// (HDA 1.0a, 4.5).
     pub fn fetch(&mut self, memory: &[u8], stream: u8, most: u16)
@@ -180,6 +198,26 @@ impl Device {
                 .fetch(&mut self.registers, memory, u32::from(most));
         }
     }
+}
+
+/// Counts a link frame after which the codecs may be discovered, and discovers them in theirs. Later ones are not counted.
+fn count_frame(frames: u32, codecs: &[Codec], regs: &mut Registers) -> u32
+    requires few { All (λ address. address ≤ 14) (spec.addresses_of codecs.now) }
+    ensures frames { result ≡ counted_on regs.old frames }
+    ensures registers { regs.new ≡ discovered_next frames codecs.now regs.old }
+{
+    if !is_counted(frames, regs) {
+        return frames;
+    }
+    codecs::discover_at(frames + 1, codecs, regs);
+    frames + 1
+}
+
+/// Whether a link frame is counted: CRST is 1, and the codecs are not discovered yet.
+fn is_counted(frames: u32, regs: &Registers) -> bool
+    ensures { result ≡ is_counted_now regs.now frames }
+{
+    regs.is_out_of_reset() && frames < FRAMES_TO_DISCOVERY
 }
 
 /// Whether the controller takes an item of a codec: CRST is 1, and fewer responses wait than can.
