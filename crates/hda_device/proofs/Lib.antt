@@ -1,5 +1,6 @@
 pub mod Standing
 pub mod Places
+pub mod Frames
 pub mod Moves
 pub mod Steps
 pub mod Discovery
