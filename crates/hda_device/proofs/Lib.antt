@@ -1,6 +1,7 @@
 pub mod Standing
 pub mod Places
 pub mod Frames
+pub mod Writes
 pub mod Moves
 pub mod Steps
 pub mod Discovery

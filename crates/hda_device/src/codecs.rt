@@ -1,5 +1,5 @@
 //! The codecs of a device, ascending by address.
-ghost use Rattle.std.specs.Prelude.{◌≡◌, ◌≤◌, ◌<◌, ◌==◌, All, IfSome, Some, None, false, map, IsTrue, slice_get};
+ghost use Rattle.std.specs.Prelude.{◌≡◌, ◌≤◌, ◌<◌, ◌==◌, All, IfSome, Some, None, false, map, IsTrue, slice_get, if◌then◌else◌};
 ghost use Rattle.std.specs.Option.{option_map};
 ghost use Rattle.codec_graph.specs.CodecStates as states;
 ghost use Rattle.codec_nodes.specs.Queues as queues;
@@ -62,8 +62,17 @@ pub(crate) fn discover_at(frame: u32, codecs: &[Codec], regs: &mut Registers)
     }
 }
 
+/// Drops all that waits at the codecs, where the controller was reset (HDA 1.0a, 5.5.1).
+pub(crate) fn clear_if(reset: bool, codecs: &mut [Codec])
+    ensures { codecs.new ≡ (if reset then map states.cleared codecs.old else codecs.old) }
+{
+    if reset {
+        clear_all(codecs);
+    }
+}
+
 /// Drops all that waits at the codecs.
-pub(crate) fn clear_all(codecs: &mut [Codec])
+fn clear_all(codecs: &mut [Codec])
     ensures { codecs.new ≡ map states.cleared codecs.old }
 {
     for place in 0..codecs.len() {

@@ -1,5 +1,5 @@
 //! The device.
-ghost use Rattle.std.specs.Prelude.{◌≡◌, ◌≤◌, ◌<◌, ◌==◌, ◌++◌, ℕ, List, All, IfOk, false, length};
+ghost use Rattle.std.specs.Prelude.{◌≡◌, ◌≤◌, ◌<◌, ◌==◌, ◌++◌, ◌||◌, ℕ, List, [], All, IfOk, false, length, if◌then◌else◌};
 ghost use Rattle.codec_graph.specs.CodecStates as states;
 ghost use Rattle.codec_graph.specs.declared.waiting.Waiting.{Waiting};
 ghost use Rattle.codec_nodes.specs.Queues as queues;
@@ -12,6 +12,7 @@ ghost use Rattle.hda_world.specs.Events.{after_write};
 ghost use Rattle.stream_descriptor.specs.Running.{found_at};
 ghost use Rattle.stream_descriptor.specs.Frames.{IsAnswer};
 ghost use Rattle.hda_device.specs.Codecs as spec;
+ghost use Rattle.hda_device.specs.Sound.{touches_sound};
 ghost use Rattle.hda_device.specs.Devices.{IsWorld, new_world, KeepsSound, can_receive_now, counted_on, discovered_next, is_counted as is_counted_now};
 
 use crate::codecs::{self, Handed};
@@ -102,6 +103,26 @@ impl Device {
         ensures { result.now ≡ self.now.registers }
     {
         &self.registers
+    }
+
+    /// Writes a register (HDA 1.0a, 3.3). The streams whose RUN rose or fell begin anew or stop. Where CRST was written 0 all that waits
+    /// at the codecs and in the controller is dropped (HDA 1.0a, 5.5.1), and where CRST was written 0 or rose the link frames are
+    /// counted anew.
+    pub fn write(&mut self, at: u16, width: Width, value: u32)
+        ensures stands { (memory : List ℕ) (world : World) → IsWorld memory self.old world → IsWorld memory self.new (after_write at width value world) }
+        ensures codecs { spec.KeepCodecs self.old.codecs self.new.codecs }
+        ensures sound { touches_sound at width ≡ false → KeepsSound self.old.registers self.new.registers }
+    {
+        let effects = self.registers.write(at, width, value);
+        let [input_started, output_started] = effects.started;
+        let [input_stopped, output_stopped] = effects.stopped;
+        self.input
+            .settle(&mut self.registers, input_started, input_stopped);
+        self.output
+            .settle(&mut self.registers, output_started, output_stopped);
+        codecs::clear_if(effects.reset, self.codecs.as_mut_slice());
+        clear_if(effects.reset, &mut self.rings);
+        self.frames = counted_anew(self.frames, effects.reset, effects.left_reset);
     }
 
     /// CORB's engine fetches the next command and hands it to the codec that its word names (HDA 1.0a, 4.4.1), unless that codec is full.
@@ -198,6 +219,22 @@ impl Device {
                 .fetch(&mut self.registers, memory, u32::from(most));
         }
     }
+}
+
+/// Drops all that waits in the controller, where it was reset (HDA 1.0a, 5.5.1).
+fn clear_if(reset: bool, rings: &mut Rings)
+    ensures { rings.new ≡ (if reset then [] else rings.old) }
+{
+    if reset {
+        rings.clear();
+    }
+}
+
+/// The count of link frames, which begins anew where the controller was reset or left its reset.
+fn counted_anew(frames: u32, reset: bool, left_reset: bool) -> u32
+    ensures { result ≡ (if reset || left_reset then 0 else frames) }
+{
+    if reset || left_reset { 0 } else { frames }
 }
 
 /// Counts a link frame after which the codecs may be discovered, and discovers them in theirs. Later ones are not counted.
