@@ -2,6 +2,7 @@ pub mod Standing
 pub mod Places
 pub mod Frames
 pub mod Writes
+pub mod Sounding
 pub mod Moves
 pub mod Steps
 pub mod Discovery
