@@ -1,8 +1,8 @@
 -- That the device goes where the world goes in a link frame.
-use Rattle.std.proofs.Common.{◌≡◌, ◌≤◌, ◌<◌, ◌+◌, ◌==◌, ◌&&◌, ℕ, Bool, true, false, List, nat_lt, if◌then◌else◌, refl, sym, ap, subst, ◌∙◌, inl, inr, arith, ne_eqb}
+use Rattle.std.proofs.Common.{◌≡◌, ◌≤◌, ◌+◌, ◌==◌, ◌&&◌, ℕ, Bool, true, false, List, nat_lt, if◌then◌else◌, refl, sym, ap, subst, ◌∙◌, inl, inr, arith, ne_eqb}
 use Rattle.std.proofs.lemmas.Bool.{ltb-true, ltb-false}
 use Rattle.codec_graph.specs.CodecStates.{CodecState}
-use Rattle.hda_registers.specs.Fields.{Fields, Global, Descriptor, is_out_of_reset, is_running, stream_of}
+use Rattle.hda_registers.specs.Fields.{Fields, Global, Descriptor, is_out_of_reset}
 use Rattle.hda_registers.specs.Moves.{framed}
 use Rattle.stream_moves.specs.Streams.{StreamState, Stream}
 use Rattle.stream_moves.specs.Output.{Stopped, frame_of, after_frame}

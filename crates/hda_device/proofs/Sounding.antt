@@ -1,6 +1,6 @@
 -- Which writes leave the tag and the format of the output stream.
-use Rattle.std.proofs.Common.{◌≡◌, ◌≢◌, ◌≤◌, ◌<◌, ◌⊎◌, ◌+◌, ◌-◌, ◌*◌, ◌/◌, ◌%◌, ◌^◌, ◌==◌, ◌&&◌, ◌||◌, ℕ, Bool, true, false, nat_lt, if◌then◌else◌, refl, sym, ap, subst, ◌∙◌, inl, inr, arith, ne_eqb, eq-eqb, tests, rules}
-use Rattle.std.proofs.lemmas.Bool.{ltb-true, ltb-false, eqb-true, eqb-false, cases_lt, cases_eq, lt-ltb}
+use Rattle.std.proofs.Common.{◌≡◌, ◌≢◌, ◌≤◌, ◌<◌, ◌⊎◌, ◌+◌, ◌-◌, ◌/◌, ◌%◌, ◌==◌, ◌&&◌, ◌||◌, ℕ, Bool, true, false, nat_lt, refl, sym, ap, subst, inl, inr, arith, ne_eqb, tests, rules}
+use Rattle.std.proofs.lemmas.Bool.{ltb-false, eqb-true, eqb-false, cases_lt, cases_eq, lt-ltb}
 use Rattle.hda_registers.specs.declared.shapes.Width.{Width}
 use Rattle.hda_registers.specs.declared.shapes.Width.TheVariants.{One, Two, Four}
 use Rattle.hda_registers.specs.Fields.{Descriptor, Fields, is_out_of_reset}

@@ -1,5 +1,5 @@
 -- That the device goes where the world goes over a write of a register.
-use Rattle.std.proofs.Common.{◌≡◌, ◌==◌, ◌&&◌, ◌||◌, not, slice_index_or, ℕ, Bool, true, false, List, [], ◌∷◌, length, map, if◌then◌else◌, refl, sym, ap, subst, ◌∙◌, inl, inr}
+use Rattle.std.proofs.Common.{◌≡◌, ◌&&◌, ◌||◌, not, slice_index_or, ℕ, Bool, true, false, List, [], ◌∷◌, length, map, if◌then◌else◌, refl, sym, ap, subst, ◌∙◌, inl}
 use Rattle.std.specs.Prelude.{Vec}
 use Rattle.std.specs.Vec.{with_items}
 use Rattle.std.proofs.lemmas.List.{length-map, with_items_is}
@@ -21,7 +21,6 @@ use Rattle.hda_device.specs.Codecs.{KeepCodecs, addresses_of}
 use Rattle.hda_device.specs.Devices.{DeviceState, AreAlike, IsWorld}
 use Rattle.hda_device.specs.Keeping.{IsDevice}
 use Rattle.hda_device.proofs.Steps.{beside_output}
-use Rattle.hda_device.proofs.Standing.{shown_world, shown_is, device_from}
 
 -- ---- the streams
 

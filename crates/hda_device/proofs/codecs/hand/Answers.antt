@@ -1,4 +1,4 @@
-use Rattle.std.proofs.Common.{◌≡◌, ℕ, Option, Some, None, set, sym, ap, ◌∙◌}
+use Rattle.std.proofs.Common.{ℕ, set, sym, ap, ◌∙◌}
 use Rattle.codec_graph.specs.CodecStates.{CodecState, taken}
 use Rattle.hda_world.specs.Steps as steps
 use Rattle.hda_device.specs.Codecs.{place_of}

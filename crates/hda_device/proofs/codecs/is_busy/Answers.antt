@@ -1,5 +1,5 @@
-use Rattle.std.proofs.Common.{◌≡◌, ℕ, Option, Some, None, sym, ap, ◌∙◌}
-use Rattle.codec_graph.specs.CodecStates.{CodecState, is_full}
+use Rattle.std.proofs.Common.{ℕ, sym, ap, ◌∙◌}
+use Rattle.codec_graph.specs.CodecStates.{is_full}
 use Rattle.hda_world.specs.Steps as steps
 use Rattle.hda_device.specs.Codecs.{place_of}
 use Rattle.hda_device.proofs.Places.{codec_is, none_there}

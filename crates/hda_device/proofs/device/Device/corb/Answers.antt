@@ -1,18 +1,16 @@
-use Rattle.std.proofs.Common.{◌≡◌, ℕ, Bool, true, false, List, Option, Some, None, refl, ap, sym, subst, ◌∙◌}
+use Rattle.std.proofs.Common.{◌≡◌, ℕ, List, Option, None, refl, ap, sym, subst, ◌∙◌}
 use Rattle.std.specs.Vec.{with_items}
 use Rattle.codec_graph.specs.CodecStates.{CodecState, taken}
-use Rattle.hda_registers.specs.Fields.{Fields}
 use Rattle.ring_entries.specs.declared.response.Response.{Response}
-use Rattle.ring_entries.specs.Engines.{next_word}
 use Rattle.device_steps.specs.declared.Step.TheVariants as step
 use Rattle.hda_world.specs.Worlds.{codec_at, with_codec}
 use Rattle.hda_world.specs.Steps.{address_of, is_busy, corb_step}
-use Rattle.hda_device.specs.Codecs.{addresses_of, handed_by, handed_now, with_handed}
-use Rattle.hda_device.specs.Devices.{DeviceState, IsWorld, KeepsSound}
+use Rattle.hda_device.specs.Codecs.{addresses_of, handed_by, handed_now}
+use Rattle.hda_device.specs.Devices.{DeviceState, IsWorld}
 use Rattle.hda_device.specs.Keeping.{IsDevice}
 use Rattle.hda_device.proofs.Places.{addresses-with_codec, put_back}
 use Rattle.hda_device.proofs.Standing.{shown_world, shown_is}
-use Rattle.hda_device.proofs.Steps.{step_keeps, step_keeps_sound, corb_busy, corb_handed, corb_still, busy_hands_none}
+use Rattle.hda_device.proofs.Steps.{step_keeps, corb_handed, corb_still, busy_hands_none}
 use Rattle.hda_device.proofs.device.Device.corb.Goals as goal
 
 pub returns-then-is_busy-clause-handed : goal.returns-then-is_busy-clause-handed
