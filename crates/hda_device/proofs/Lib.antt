@@ -6,3 +6,6 @@ pub mod Sounding
 pub mod Moves
 pub mod Steps
 pub mod Discovery
+pub mod Handing
+-- what proofs of the layers above cite
+pub mod Callers

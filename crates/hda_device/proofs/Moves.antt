@@ -98,7 +98,7 @@ module _ (memory : List ℕ) (old : DeviceState) (world : World) (is : IsWorld m
     sender = record old { codecs = codecs; waiting = waiting }
 
     first_sent : (items : List Waiting) → option_map marked (slice_get items 0) ≡ Some (answer, unasked) → IsWorld memory sender (sent_first address items world)
-    first_sent [] some = (let never : None ≡ Some (answer, unasked) = some in cc)
+    first_sent [] some = cc
     first_sent (item ∷ items) some =
         let first : marked item ≡ (answer, unasked) = ap (λ (o : Option (ℕ × Bool)). unwrap_or o (0, false)) some in
         with_queues memory old world codecs (with_codec address without_first world.codecs) waiting (world.waiting ++ responses_of world.registers address item) is

@@ -1,5 +1,5 @@
 //! The device.
-ghost use Rattle.std.specs.Prelude.{◌≡◌, ◌≤◌, ◌<◌, ◌==◌, ◌++◌, ◌||◌, ℕ, List, [], All, IfOk, false, length, if◌then◌else◌};
+ghost use Rattle.std.specs.Prelude.{◌≡◌, ◌≤◌, ◌<◌, ◌==◌, ◌++◌, ◌||◌, ℕ, List, [], All, IfOk, IfSome, false, length, if◌then◌else◌};
 ghost use Rattle.codec_graph.specs.CodecStates as states;
 ghost use Rattle.codec_graph.specs.declared.waiting.Waiting.{Waiting};
 ghost use Rattle.codec_nodes.specs.Queues as queues;
@@ -127,10 +127,12 @@ impl Device {
 
     /// CORB's engine fetches the next command and hands it to the codec that its word names (HDA 1.0a, 4.4.1), unless that codec is full.
     /// Says which codec took it, and its word. `None` exactly where none did: CRST or CORBRUN is 0, CORBRPRST is 1, the ring has no
-    /// further command, the codec is full, or there is no codec with the address; in the last case the command is gone.
+    /// further command, the codec is full, or there is no codec with the address; in the last case the command is gone. The place is that
+    /// of the word's address among the codecs.
     pub fn corb(&mut self, memory: &[u8]) -> Option<Handed>
         ensures stands { (world : World) → IsWorld memory.now self.old world → IsWorld memory.now self.new (steps.corb_step world) }
         ensures handed { result ≡ spec.handed_now self.old.registers memory.now self.old.codecs }
+        ensures there { IfSome result (λ handed. handed.place < length self.new.codecs) }
         ensures codecs { self.new.codecs ≡ spec.with_handed result self.old.codecs }
         ensures sound { KeepsSound self.old.registers self.new.registers }
     {

@@ -1,4 +1,4 @@
-use Rattle.std.proofs.Common.{◌≡◌, ℕ, List, Option, None, refl, ap, sym, subst, ◌∙◌}
+use Rattle.std.proofs.Common.{◌≡◌, ℕ, List, Option, Some, None, refl, ap, sym, subst, ◌∙◌, length}
 use Rattle.std.specs.Vec.{with_items}
 use Rattle.codec_graph.specs.CodecStates.{CodecState, taken}
 use Rattle.ring_entries.specs.declared.response.Response.{Response}
@@ -9,6 +9,7 @@ use Rattle.hda_device.specs.Codecs.{addresses_of, handed_by, handed_now}
 use Rattle.hda_device.specs.Devices.{DeviceState, IsWorld}
 use Rattle.hda_device.specs.Keeping.{IsDevice}
 use Rattle.hda_device.proofs.Places.{addresses-with_codec, put_back}
+use Rattle.hda_device.proofs.Handing.{handed_within, length-with_codec}
 use Rattle.hda_device.proofs.Standing.{shown_world, shown_is}
 use Rattle.hda_device.proofs.Steps.{step_keeps, corb_handed, corb_still, busy_hands_none}
 use Rattle.hda_device.proofs.device.Device.corb.Goals as goal
@@ -43,3 +44,10 @@ returns-clause-stands c world is =
     let back = put_back (address_of word) (λ codec. taken codec word) c.self.inside.codecs c.hand.new.codecs (c.hand.ensures.codecs ∙ ap (with_codec (address_of word) (λ codec. taken codec word)) c.as_mut_slice.ensures.value) in
     subst (λ (waiting : List Response). IsWorld memory (record before { registers = c.corb-word.new.regs; codecs = (with_items c.self.inside.codecs c.hand.new.codecs).items; waiting = waiting }) (corb_step world)) (sym c.corb-word.ensures.waiting)
     (corb_handed memory before world word c.corb-word.new.regs (with_items c.self.inside.codecs c.hand.new.codecs).items here next free c.corb-word.ensures.registers back)
+
+pub returns-clause-there : goal.returns-clause-there
+returns-clause-there c =
+    let word = c.in-Some.word in
+    let back = put_back (address_of word) (λ codec. taken codec word) c.self.inside.codecs c.hand.new.codecs (c.hand.ensures.codecs ∙ ap (with_codec (address_of word) (λ codec. taken codec word)) c.as_mut_slice.ensures.value) in
+    handed_within c.hand.result word c.self.inside.codecs.items (with_items c.self.inside.codecs c.hand.new.codecs).items (c.hand.ensures.handed ∙ ap (handed_by (Some word)) c.as_mut_slice.ensures.value)
+    (ap length back ∙ length-with_codec (address_of word) (λ codec. taken codec word) c.self.inside.codecs.items)
