@@ -1,5 +1,5 @@
 -- What the discovery of codecs leaves.
-use Rattle.std.proofs.Common.{◌≡◌, ℕ, List, [], ◌∷◌, refl, ap, ◌∙◌}
+use Rattle.std.proofs.Common.{◌≡◌, List, [], ◌∷◌, refl}
 use Rattle.codec_graph.specs.CodecStates.{CodecState}
 use Rattle.hda_registers.specs.Fields.{Fields}
 use Rattle.hda_registers.specs.Moves.{raised}

@@ -1,8 +1,7 @@
 -- That the device goes where the world goes: what waits, and what is plugged in.
-use Rattle.std.proofs.Common.{◌≡◌, ◌≤◌, ◌<◌, ◌&&◌, ◌++◌, ℕ, Bool, true, false, List, [], ◌∷◌, length, take, drop, map, nat_lt, if◌then◌else◌, Option, Some, None, refl, sym, ap, subst, ◌∙◌, arith}
+use Rattle.std.proofs.Common.{◌≡◌, ◌++◌, ℕ, Bool, true, false, List, [], ◌∷◌, if◌then◌else◌, Option, Some, None, refl, sym, ap, subst, ◌∙◌}
 use Rattle.std.specs.Prelude.{slice_get}
 use Rattle.std.specs.Option.{option_map, unwrap_or}
-use Rattle.std.proofs.lemmas.List.{with_items_is}
 use Rattle.codec_graph.specs.declared.raw.RawNode.{RawNode}
 use Rattle.codec_graph.specs.Widget.{node_at, is_pin}
 use Rattle.codec_graph.specs.declared.waiting.Waiting.{Waiting}
@@ -10,8 +9,6 @@ use Rattle.codec_graph.specs.CodecStates.{CodecState, plugged, pin_plugged, node
 use Rattle.codec_nodes.specs.Queues.{marked}
 use Rattle.hda_registers.specs.Fields.{Fields, is_out_of_reset}
 use Rattle.ring_entries.specs.declared.response.Response.{Response}
-use Rattle.ring_entries.specs.declared.response.TheConstants.{MOST_WAITING}
-use Rattle.stream_descriptor.specs.Running.{Playing, StandsFor}
 use Rattle.hda_world.specs.Worlds.{World, codec_at, with_codec}
 use Rattle.hda_world.specs.Steps.{items_of, sent_first, answer_step, responses_of, lost, lose_step, plugged_at}
 use Rattle.hda_device.specs.Codecs.{addresses_of}
@@ -101,7 +98,7 @@ module _ (memory : List ℕ) (old : DeviceState) (world : World) (is : IsWorld m
     sender = record old { codecs = codecs; waiting = waiting }
 
     first_sent : (items : List Waiting) → option_map marked (slice_get items 0) ≡ Some (answer, unasked) → IsWorld memory sender (sent_first address items world)
-    first_sent [] some = (let never : None ≡ Some (answer, unasked) = some in cc)
+    first_sent [] some = cc
     first_sent (item ∷ items) some =
         let first : marked item ≡ (answer, unasked) = ap (λ (o : Option (ℕ × Bool)). unwrap_or o (0, false)) some in
         with_queues memory old world codecs (with_codec address without_first world.codecs) waiting (world.waiting ++ responses_of world.registers address item) is

@@ -1,5 +1,5 @@
 -- That a device stands for a world at all times, so that what it keeps follows from what the world keeps.
-use Rattle.std.proofs.Common.{◌≡◌, ◌≤◌, ◌+◌, ◌-◌, ◌%◌, ◌==◌, ◌&&◌, ℕ, zero, suc, Bool, true, false, List, [], ◌++◌, length, drop, replicate, nat_le, refl, sym, ap, subst, ◌∙◌, arith, inl}
+use Rattle.std.proofs.Common.{◌≡◌, ◌+◌, ◌%◌, ◌==◌, ◌&&◌, ℕ, zero, suc, false, List, [], ◌++◌, length, drop, replicate, nat_le, refl, sym, ap, subst, ◌∙◌, arith, inl}
 use Rattle.std.proofs.Math.Nat.{mod-mod}
 use Rattle.std.proofs.lemmas.List.{length-append, length-drop, length-replicate}
 use Rattle.hda_registers.specs.Fields.{Descriptor, Fields, is_out_of_reset, is_running, stream_of}
@@ -8,7 +8,7 @@ use Rattle.hda_registers.specs.Status.{worth}
 use Rattle.stream_format.specs.Layouts.{layout_of}
 use Rattle.stream_fetch.specs.Fetching as fetching
 use Rattle.stream_moves.specs.Streams.{StreamState, most_by, has_format, held}
-use Rattle.stream_descriptor.specs.Running.{Playing, StandsFor, Runs, stream_at}
+use Rattle.stream_descriptor.specs.Running.{Playing, StandsFor, Runs}
 use Rattle.hda_world.specs.Worlds.{World}
 use Rattle.hda_device.specs.Codecs.{AreAddresses, addresses_of}
 use Rattle.hda_device.specs.Devices.{DeviceState, IsWorld}

@@ -1,19 +1,19 @@
 -- That the device goes where the world goes: the engines of the rings, and the bytes that streams fetch.
-use Rattle.std.proofs.Common.{◌≡◌, ◌==◌, ◌&&◌, ◌++◌, ℕ, Bool, true, false, List, [], ◌∷◌, length, drop, get_or, Option, Some, None, if◌then◌else◌, refl, sym, ap, subst, ◌∙◌}
+use Rattle.std.proofs.Common.{◌≡◌, ◌==◌, ◌&&◌, ℕ, Bool, true, false, List, [], ◌∷◌, length, drop, get_or, Option, Some, None, if◌then◌else◌, refl, sym, ap, subst, ◌∙◌}
 use Rattle.std.specs.Prelude.{slice_get}
 use Rattle.codec_graph.specs.CodecStates.{CodecState, taken, is_full}
 use Rattle.hda_registers.specs.Fields.{Fields, Global, Descriptor, is_out_of_reset, is_running, stream_of}
 use Rattle.hda_registers.specs.declared.shapes.Shape.{Shape}
 use Rattle.ring_entries.specs.declared.response.Response.{Response}
-use Rattle.ring_entries.specs.Engines.{can_fetch, next_word, after_corb, can_respond, batch, after_batch, after_rirb}
+use Rattle.ring_entries.specs.Engines.{can_fetch, next_word, after_corb, batch, after_batch, after_rirb}
 use Rattle.ring_entries.specs.Entries.{fetched, next_command, responses_stored}
 use Rattle.stream_moves.specs.Streams.{StreamState, Stream}
 use Rattle.stream_moves.specs.Output.{fetch}
-use Rattle.stream_descriptor.specs.Running.{Playing, StandsFor, Runs, LeadsTo, stream_at, with_descriptor, fetched_at}
+use Rattle.stream_descriptor.specs.Running.{Playing, StandsFor, Runs, LeadsTo, with_descriptor, fetched_at}
 use Rattle.device_steps.specs.declared.Step.{Step}
 use Rattle.device_steps.specs.declared.Step.TheVariants as step
-use Rattle.hda_world.specs.Worlds.{World, output_of, with_output, codec_at, with_codec}
-use Rattle.hda_world.specs.Steps.{after_step, address_of, is_busy, handed, handed_next, corb_step, rirb_step, responded, fetch_step, output_fetched}
+use Rattle.hda_world.specs.Worlds.{World, output_of, codec_at, with_codec}
+use Rattle.hda_world.specs.Steps.{after_step, address_of, is_busy, handed, handed_next, corb_step, rirb_step, fetch_step, output_fetched}
 use Rattle.hda_world.specs.Leaving.{NamesNoStream, StepsLeave}
 use Rattle.hda_world.proofs.Callers.{steps_leave, step_leaves_streams}
 use Rattle.hda_device.specs.Codecs.{addresses_of, place_of, taken_by, taken_there, handed_by}

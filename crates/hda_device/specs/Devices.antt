@@ -1,5 +1,5 @@
 -- A device as contracts see it, and the worlds that it is. This project's own.
-use Rattle.std.specs.Prelude.{◌≡◌, ◌≤◌, ◌⊎◌, ◌&&◌, ℕ, Bool, nat_lt, List, [], length}
+use Rattle.std.specs.Prelude.{◌≡◌, ◌≤◌, ◌⊎◌, ◌&&◌, ◌+◌, ℕ, Bool, if◌then◌else◌, nat_lt, List, [], length}
 use Rattle.hda_registers.specs.declared.shapes.Shape.{Shape}
 use Rattle.hda_registers.specs.Fields.{Fields, opening, is_out_of_reset}
 use Rattle.codec_graph.specs.CodecStates.{CodecState}
@@ -9,6 +9,7 @@ use Rattle.stream_moves.specs.Streams.{begun}
 use Rattle.stream_descriptor.specs.Running.{Playing, StandsFor}
 use Rattle.hda_world.specs.declared.step.TheConstants.{FRAMES_TO_DISCOVERY}
 use Rattle.hda_world.specs.Worlds.{World}
+use Rattle.hda_world.specs.Steps.{discovered_at}
 
 pub record DeviceState : Type 0 where
   pub registers : Fields
@@ -58,3 +59,15 @@ pub record KeepsSound (old new : Fields) : Type 0 where
 -- whether the controller takes an item of a codec
 abbrev pub can_receive_now : Fields → List Response → Bool
 can_receive_now fields waiting = is_out_of_reset fields.global && nat_lt (length waiting) MOST_WAITING
+
+-- whether a link frame is counted: CRST is 1 and the codecs are not discovered yet
+abbrev pub is_counted : Fields → ℕ → Bool
+is_counted fields frames = is_out_of_reset fields.global && nat_lt frames FRAMES_TO_DISCOVERY
+
+-- the count of link frames after one more
+abbrev pub counted_on : Fields → ℕ → ℕ
+counted_on fields frames = if is_counted fields frames then frames + 1 else frames
+
+-- the registers after one more, in which the codecs may be discovered
+abbrev pub discovered_next : ℕ → List CodecState → Fields → Fields
+discovered_next frames codecs fields = if is_counted fields frames then discovered_at (frames + 1) codecs fields else fields

@@ -1,6 +1,6 @@
 -- What holds of a device at all times. This project's own.
 use Rattle.std.specs.Prelude.{◌≡◌, ℕ, ◌++◌, replicate}
-use Rattle.hda_registers.specs.Fields.{Fields, Descriptor, stream_of}
+use Rattle.hda_registers.specs.Fields.{Fields, stream_of}
 use Rattle.hda_registers.specs.Laws.{IsHeldInReset}
 use Rattle.stream_moves.specs.Streams.{StreamState}
 use Rattle.stream_descriptor.specs.Running.{Playing, StandsFor}

@@ -1,5 +1,5 @@
 //! The codecs of a device, ascending by address.
-ghost use Rattle.std.specs.Prelude.{◌≡◌, ◌≤◌, ◌<◌, ◌==◌, All, IfSome, Some, None, false, map, IsTrue, slice_get};
+ghost use Rattle.std.specs.Prelude.{◌≡◌, ◌≤◌, ◌<◌, ◌==◌, All, IfSome, Some, None, false, map, IsTrue, slice_get, if◌then◌else◌};
 ghost use Rattle.std.specs.Option.{option_map};
 ghost use Rattle.codec_graph.specs.CodecStates as states;
 ghost use Rattle.codec_nodes.specs.Queues as queues;
@@ -10,6 +10,7 @@ ghost use Rattle.hda_device.specs.Codecs as spec;
 
 use codec_nodes::Codec;
 use hda_registers::{Raise, Registers};
+use hda_world::FRAMES_TO_DISCOVERY;
 
 /// A command that a codec took.
 #[derive(Clone, Copy, Debug, PartialEq, Eq)]
@@ -50,8 +51,28 @@ pub(crate) fn discover(codecs: &[Codec], regs: &mut Registers)
     }
 }
 
+/// Discovers the codecs where this is the link frame in which they are (HDA 1.0a, 4.3).
+pub(crate) fn discover_at(frame: u32, codecs: &[Codec], regs: &mut Registers)
+    requires out { IsTrue (is_out_of_reset regs.old.global) }
+    requires few { All (λ address. address ≤ 14) (spec.addresses_of codecs.now) }
+    ensures { regs.new ≡ steps.discovered_at frame codecs.now regs.old }
+{
+    if frame == FRAMES_TO_DISCOVERY {
+        discover(codecs, regs);
+    }
+}
+
+/// Drops all that waits at the codecs, where the controller was reset (HDA 1.0a, 5.5.1).
+pub(crate) fn clear_if(reset: bool, codecs: &mut [Codec])
+    ensures { codecs.new ≡ (if reset then map states.cleared codecs.old else codecs.old) }
+{
+    if reset {
+        clear_all(codecs);
+    }
+}
+
 /// Drops all that waits at the codecs.
-pub(crate) fn clear_all(codecs: &mut [Codec])
+fn clear_all(codecs: &mut [Codec])
     ensures { codecs.new ≡ map states.cleared codecs.old }
 {
     for place in 0..codecs.len() {

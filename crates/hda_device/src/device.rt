@@ -1,5 +1,5 @@
 //! The device.
-ghost use Rattle.std.specs.Prelude.{◌≡◌, ◌≤◌, ◌<◌, ◌==◌, ◌++◌, ℕ, List, All, IfOk, false, length};
+ghost use Rattle.std.specs.Prelude.{◌≡◌, ◌≤◌, ◌<◌, ◌==◌, ◌++◌, ◌||◌, ℕ, List, [], All, IfOk, IfSome, false, length, if◌then◌else◌};
 ghost use Rattle.codec_graph.specs.CodecStates as states;
 ghost use Rattle.codec_graph.specs.declared.waiting.Waiting.{Waiting};
 ghost use Rattle.codec_nodes.specs.Queues as queues;
@@ -9,16 +9,20 @@ ghost use Rattle.hda_registers.specs.Fields.{opening};
 ghost use Rattle.hda_world.specs.Worlds.{World, with_codec, output_of};
 ghost use Rattle.hda_world.specs.Steps as steps;
 ghost use Rattle.hda_world.specs.Events.{after_write};
+ghost use Rattle.stream_descriptor.specs.Running.{found_at};
+ghost use Rattle.stream_descriptor.specs.Frames.{IsAnswer};
 ghost use Rattle.hda_device.specs.Codecs as spec;
-ghost use Rattle.hda_device.specs.Devices.{IsWorld, new_world, KeepsSound, can_receive_now};
+ghost use Rattle.hda_device.specs.Sound.{touches_sound};
+ghost use Rattle.hda_device.specs.Devices.{IsWorld, new_world, KeepsSound, can_receive_now, counted_on, discovered_next, is_counted as is_counted_now};
 
 use crate::codecs::{self, Handed};
 use codec_nodes::Codec;
 use command_rings::Rings;
 use hda_registers::{Registers, Shape, Width};
+use hda_world::FRAMES_TO_DISCOVERY;
 use std::alloc::{AllocError, Global};
 use std::marker::Model;
-use stream_descriptor::Stream;
+use stream_descriptor::{Frame, MOST_FRAME_BYTES, Stream};
 
 /// A controller with its codecs: its registers, the engines of CORB and RIRB, an input and an output stream, and the codecs on its link.
 /// Contracts see a `DeviceState`, and of each call the move of the world (this project's own) that it makes.
@@ -101,12 +105,34 @@ impl Device {
         &self.registers
     }
 
+    /// Writes a register (HDA 1.0a, 3.3). The streams whose RUN rose or fell begin anew or stop. Where CRST was written 0 all that waits
+    /// at the codecs and in the controller is dropped (HDA 1.0a, 5.5.1), and where CRST was written 0 or rose the link frames are
+    /// counted anew.
+    pub fn write(&mut self, at: u16, width: Width, value: u32)
+        ensures stands { (memory : List ℕ) (world : World) → IsWorld memory self.old world → IsWorld memory self.new (after_write at width value world) }
+        ensures codecs { spec.KeepCodecs self.old.codecs self.new.codecs }
+        ensures sound { touches_sound at width ≡ false → KeepsSound self.old.registers self.new.registers }
+    {
+        let effects = self.registers.write(at, width, value);
+        let [input_started, output_started] = effects.started;
+        let [input_stopped, output_stopped] = effects.stopped;
+        self.input
+            .settle(&mut self.registers, input_started, input_stopped);
+        self.output
+            .settle(&mut self.registers, output_started, output_stopped);
+        codecs::clear_if(effects.reset, self.codecs.as_mut_slice());
+        clear_if(effects.reset, &mut self.rings);
+        self.frames = counted_anew(self.frames, effects.reset, effects.left_reset);
+    }
+
     /// CORB's engine fetches the next command and hands it to the codec that its word names (HDA 1.0a, 4.4.1), unless that codec is full.
     /// Says which codec took it, and its word. `None` exactly where none did: CRST or CORBRUN is 0, CORBRPRST is 1, the ring has no
-    /// further command, the codec is full, or there is no codec with the address; in the last case the command is gone.
+    /// further command, the codec is full, or there is no codec with the address; in the last case the command is gone. The place is that
+    /// of the word's address among the codecs.
     pub fn corb(&mut self, memory: &[u8]) -> Option<Handed>
         ensures stands { (world : World) → IsWorld memory.now self.old world → IsWorld memory.now self.new (steps.corb_step world) }
         ensures handed { result ≡ spec.handed_now self.old.registers memory.now self.old.codecs }
+        ensures there { IfSome result (λ handed. handed.place < length self.new.codecs) }
         ensures codecs { self.new.codecs ≡ spec.with_handed result self.old.codecs }
         ensures sound { KeepsSound self.old.registers self.new.registers }
     {
@@ -167,6 +193,21 @@ impl Device {
         let _written = self.rings.rirb(&mut self.registers, memory);
     }
 
+    /// Lets a link frame pass (HDA 1.0a, 4.3, 4.5 and 5.3): the wall clock goes on, in the frame of number `FRAMES_TO_DISCOVERY` after CRST
+    /// rose the codecs' bits of STATESTS are set, and the output stream sends the blocks that are due, which then stand at the front of
+    /// `into`. Nothing happens while CRST is 0. Says what the frame carried.
+    pub fn frame(&mut self, into: &mut [u8; MOST_FRAME_BYTES]) -> Frame
+        ensures stands { (memory : List ℕ) (world : World) → IsWorld memory self.old world → IsWorld memory self.new (steps.frame_step world) }
+        ensures answer { (memory : List ℕ) (world : World) → IsWorld memory self.old world
+            → IsAnswer (output_of world) (found_at 1 world.registers world.output) into.old into.new result }
+        ensures codecs { self.new.codecs ≡ self.old.codecs }
+        ensures sound { KeepsSound self.old.registers self.new.registers }
+    {
+        self.registers.frame();
+        self.frames = count_frame(self.frames, self.codecs.as_slice(), &mut self.registers);
+        self.output.frame(&mut self.registers, into)
+    }
+
     /// A stream fetches at most so many bytes of its buffers: the output stream, of descriptor 1. That of descriptor 0 does not move
     /// (HDA 1.0a, 4.5).
     pub fn fetch(&mut self, memory: &[u8], stream: u8, most: u16)
@@ -180,6 +221,42 @@ impl Device {
                 .fetch(&mut self.registers, memory, u32::from(most));
         }
     }
+}
+
+/// Drops all that waits in the controller, where it was reset (HDA 1.0a, 5.5.1).
+fn clear_if(reset: bool, rings: &mut Rings)
+    ensures { rings.new ≡ (if reset then [] else rings.old) }
+{
+    if reset {
+        rings.clear();
+    }
+}
+
+/// The count of link frames, which begins anew where the controller was reset or left its reset.
+fn counted_anew(frames: u32, reset: bool, left_reset: bool) -> u32
+    ensures { result ≡ (if reset || left_reset then 0 else frames) }
+{
+    if reset || left_reset { 0 } else { frames }
+}
+
+/// Counts a link frame after which the codecs may be discovered, and discovers them in theirs. Later ones are not counted.
+fn count_frame(frames: u32, codecs: &[Codec], regs: &mut Registers) -> u32
+    requires few { All (λ address. address ≤ 14) (spec.addresses_of codecs.now) }
+    ensures frames { result ≡ counted_on regs.old frames }
+    ensures registers { regs.new ≡ discovered_next frames codecs.now regs.old }
+{
+    if !is_counted(frames, regs) {
+        return frames;
+    }
+    codecs::discover_at(frames + 1, codecs, regs);
+    frames + 1
+}
+
+/// Whether a link frame is counted: CRST is 1, and the codecs are not discovered yet.
+fn is_counted(frames: u32, regs: &Registers) -> bool
+    ensures { result ≡ is_counted_now regs.now frames }
+{
+    regs.is_out_of_reset() && frames < FRAMES_TO_DISCOVERY
 }
 
 /// Whether the controller takes an item of a codec: CRST is 1, and fewer responses wait than can.

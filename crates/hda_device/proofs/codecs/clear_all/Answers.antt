@@ -1,4 +1,4 @@
-use Rattle.std.proofs.Common.{◌≡◌, set, sym, ap, ◌∙◌}
+use Rattle.std.proofs.Common.{set, sym, ap, ◌∙◌}
 use Rattle.std.proofs.lemmas.List.Edits.{map_over_more}
 use Rattle.codec_graph.specs.CodecStates.{CodecState, cleared}
 use Rattle.hda_device.proofs.codecs.clear_all.Goals as goal

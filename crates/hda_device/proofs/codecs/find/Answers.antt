@@ -1,4 +1,4 @@
-use Rattle.std.proofs.Common.{◌≡◌, ◌==◌, ℕ, true, length, sym, ap, eq-eqb, ◌∙◌, arith}
+use Rattle.std.proofs.Common.{◌≡◌, length, sym, ap, eq-eqb, ◌∙◌, arith}
 use Rattle.codec_graph.specs.CodecStates.{CodecState}
 use Rattle.hda_device.proofs.Places.{found_is, none_is_found}
 use Rattle.hda_device.proofs.codecs.find.Goals as goal

@@ -1,4 +1,4 @@
-use Rattle.std.proofs.Common.{◌≡◌, set, sym, ap, ◌∙◌}
+use Rattle.std.proofs.Common.{set, sym, ap, ◌∙◌}
 use Rattle.codec_graph.specs.CodecStates.{CodecState, plugged}
 use Rattle.hda_device.proofs.Places.{changed_none, changed_here}
 use Rattle.hda_device.proofs.codecs.plug.Goals as goal

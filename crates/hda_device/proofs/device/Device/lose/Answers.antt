@@ -1,14 +1,10 @@
-use Rattle.std.proofs.Common.{◌≡◌, ℕ, Bool, true, false, List, Option, Some, None, refl, ap, sym, subst, ◌∙◌}
-use Rattle.std.specs.Prelude.{slice_get}
+use Rattle.std.proofs.Common.{List, refl, ap, sym, subst, ◌∙◌}
 use Rattle.std.specs.Vec.{with_items}
-use Rattle.std.specs.Option.{option_map}
-use Rattle.codec_graph.specs.CodecStates.{CodecState, without_first, without_answer, plugged}
-use Rattle.codec_nodes.specs.Queues.{marked}
-use Rattle.hda_world.specs.Worlds.{codec_at, with_codec}
-use Rattle.hda_world.specs.Steps.{items_of}
+use Rattle.codec_graph.specs.CodecStates.{CodecState, without_answer}
+use Rattle.hda_world.specs.Worlds.{with_codec}
 use Rattle.hda_device.specs.Codecs.{KeepCodecs, addresses_of}
 use Rattle.hda_device.specs.Devices.{DeviceState, IsWorld}
-use Rattle.hda_device.proofs.Moves.{keeps_queues, lose_lost, plug_plugged, answer_refused, answer_none, answer_sent, graph_plugged, settings_plugged}
+use Rattle.hda_device.proofs.Moves.{keeps_queues, lose_lost}
 use Rattle.hda_device.proofs.Places.{keeps-with_codec, addresses-with_codec, put_back}
 use Rattle.hda_device.proofs.device.Device.lose.Goals as goal
 

@@ -1,6 +1,5 @@
-use Rattle.std.proofs.Common.{◌≡◌, List, refl, ap, sym, subst, ◌∙◌}
+use Rattle.std.proofs.Common.{refl, sym, subst}
 use Rattle.device_steps.specs.declared.Step.TheVariants as step
-use Rattle.hda_registers.specs.Fields.{Fields}
 use Rattle.hda_device.specs.Devices.{DeviceState, IsWorld, KeepsSound}
 use Rattle.hda_device.proofs.Standing.{shown_world, shown_is}
 use Rattle.hda_device.proofs.Steps.{step_keeps, step_keeps_sound, rirb_moved, rirb_still}
