@@ -31,10 +31,16 @@ entry_uses entry = outcome_uses entry.pair entry.outcome
 abbrev pub uses_of : List PinPlan → Uses
 uses_of entries = flat_map entry_uses entries
 
+-- the first of two roles, unless it is unused
+abbrev pub first_role : Role → Role → Role
+first_role Unused other = other
+first_role (Passed index) other = Passed index
+first_role (Source pair) other = Source pair
+
 -- what the first of some routes that has the node makes of it
 abbrev pub role_among : Uses → ℕ → Role
 role_among [] nid = Unused
-role_among (used ∷ uses) nid = if used.0 == nid then used.1 else role_among uses nid
+role_among (used ∷ uses) nid = first_role (if used.0 == nid then used.1 else Unused) (role_among uses nid)
 
 -- what the routes of a plan make of a node: in the plan of a well-formed graph all routes that have it make the same of it
 unfoldable pub role_of : Plan → ℕ → Role

@@ -1,0 +1,2 @@
+pub mod RoleLists
+pub mod Lists
