@@ -1,2 +1,5 @@
 pub mod RoleLists
 pub mod Lists
+pub mod Faultless
+pub mod RoleFacts
+pub mod Fitting
