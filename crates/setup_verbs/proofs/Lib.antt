@@ -3,3 +3,4 @@ pub mod Lists
 pub mod Faultless
 pub mod RoleFacts
 pub mod Fitting
+mod Worked
