@@ -23,7 +23,6 @@ use Rattle.route_planner.specs.Plans.{IsPlan}
 use Rattle.setup_verbs.specs.declared.roles.Role.{Role}
 use Rattle.setup_verbs.specs.declared.roles.Role.TheVariants.{Unused, Passed, Source}
 use Rattle.setup_verbs.specs.Roles.{role_of}
-use Rattle.setup_verbs.specs.SetUp.{KeepsRule}
 use Rattle.setup_verbs.specs.Steps.{FitsRole, FitsVerbs}
 use Rattle.setup_verbs.proofs.Faultless.{faultless_at, places, IsApart, apart_at}
 use Rattle.setup_verbs.proofs.RoleFacts.{IsUsedWell, role_well}
@@ -94,12 +93,12 @@ fits_role codec channels nid node (Passed index) few there well = λ is.
     selected_fits codec index node (subst (λ (o : Option RawNode). passes (can_be_left codec index) o ≡ true) there well.left_well) is
 fits_role codec channels nid node (Source pair) few there well = let z = well.pair_fits in omega arith
 
-pub fits_verbs : (codec : RawCodec) (format : Format) (plan : Plan) → IsWellFormed codec → KeepsRule format → IsPlan codec format plan → FitsVerbs codec plan
+pub fits_verbs : (codec : RawCodec) (format : Format) (plan : Plan) → IsWellFormed codec → IsPlan codec format plan → FitsVerbs codec plan
 unfolding pins_of
-fits_verbs codec format plan well rule is = record {
+fits_verbs codec format plan well is = record {
   at = λ nid node there. record {
     pins = subst (λ n. n ≤ 126) (length-map plan.pins (λ (entry : PinPlan). entry.pin)) (few_pins codec (pins_of plan) well is.pins.in_order);
     inputs = (faultless_at codec nid node well there).inputs;
-    argument = fits_role codec format.channels nid node (role_of plan nid) rule.few there (role_well codec format plan nid rule is);
+    argument = fits_role codec format.channels nid node (role_of plan nid) format.few there (role_well codec format plan nid is);
   };
 }

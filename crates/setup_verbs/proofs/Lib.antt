@@ -3,4 +3,9 @@ pub mod Lists
 pub mod Faultless
 pub mod RoleFacts
 pub mod Fitting
+pub mod Settling
+pub mod Wanted
+pub mod Members
+pub mod Steady
+pub mod Sharing
 mod Worked

@@ -21,7 +21,6 @@ use Rattle.route_planner.specs.Plans.{IsOutcome, HaveOutcomes, IsPlan, IsAdmissi
 use Rattle.setup_verbs.specs.declared.roles.Role.{Role}
 use Rattle.setup_verbs.specs.declared.roles.Role.TheVariants.{Unused, Passed, Source}
 use Rattle.setup_verbs.specs.Roles.{Uses, hop_uses, outcome_uses, entry_uses, uses_of, first_role, role_among, role_of}
-use Rattle.setup_verbs.specs.SetUp.{KeepsRule}
 
 -- a fact of all uses is one of each node's role
 pub role_all : (P : ℕ → Role → Type 0) → ((nid : ℕ) → P nid Unused) → (uses : Uses) (nid : ℕ) → All (λ (used : ℕ × Role). P used.0 used.1) uses → P nid (role_among uses nid)
@@ -99,12 +98,12 @@ small rank channels pair even some is =
 pub pair_within : (codec : RawCodec) (channels pin pair : ℕ) → channels % 2 ≡ 0 → 2 ≤ channels → pair ≡ pair_of codec channels pin → 2 * pair + 1 < channels
 pair_within codec channels pin pair even some is = small _ channels pair even some is
 
-pub entry_well : (codec : RawCodec) (format : Format) (plan : Plan) → KeepsRule format → IsPlan codec format plan → All (λ (used : ℕ × Role). IsUsedWell codec format.channels used.0 used.1) (uses_of plan.pins)
-entry_well codec format plan rule is =
+pub entry_well : (codec : RawCodec) (format : Format) (plan : Plan) → IsPlan codec format plan → All (λ (used : ℕ × Role). IsUsedWell codec format.channels used.0 used.1) (uses_of plan.pins)
+entry_well codec format plan is =
     all_uses (λ (used : ℕ × Role). IsUsedWell codec format.channels used.0 used.1) plan.pins
     (λ k d within. let entry = get_or plan.pins k d in
-      outcome_well codec format entry.pin entry.pair entry.outcome (admissible_entries codec format [] plan.pins is.outcomes k d within) (pair_within codec format.channels entry.pin entry.pair rule.even rule.some (is.pins.pairs k d within)))
+      outcome_well codec format entry.pin entry.pair entry.outcome (admissible_entries codec format [] plan.pins is.outcomes k d within) (pair_within codec format.channels entry.pin entry.pair format.even format.some (is.pins.pairs k d within)))
 
-pub role_well : (codec : RawCodec) (format : Format) (plan : Plan) (nid : ℕ) → KeepsRule format → IsPlan codec format plan → IsUsedWell codec format.channels nid (role_of plan nid)
+pub role_well : (codec : RawCodec) (format : Format) (plan : Plan) (nid : ℕ) → IsPlan codec format plan → IsUsedWell codec format.channels nid (role_of plan nid)
 unfolding role_of
-role_well codec format plan nid rule is = role_all (λ n r. IsUsedWell codec format.channels n r) (λ n. tt) (uses_of plan.pins) nid (entry_well codec format plan rule is)
+role_well codec format plan nid is = role_all (λ n r. IsUsedWell codec format.channels n r) (λ n. tt) (uses_of plan.pins) nid (entry_well codec format plan is)

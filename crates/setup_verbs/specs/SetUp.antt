@@ -1,10 +1,9 @@
 -- What the set-up verbs are for: routes that are open under some settings, and codecs that are set up for a plan. This project's own.
-use Rattle.std.specs.Prelude.{◌≡◌, ◌≢◌, ◌≤◌, ◌<◌, ◌%◌, ℕ, true, List, length, fold, All, Some}
+use Rattle.std.specs.Prelude.{◌≡◌, ◌≢◌, ◌≤◌, ◌<◌, ℕ, true, List, length, fold, All, Some}
 use Rattle.codec_graph.specs.declared.raw.RawNode.{RawNode}
 use Rattle.codec_graph.specs.declared.raw.RawCodec.{RawCodec}
 use Rattle.codec_graph.specs.declared.controls.Control.TheVariants.{Select, InLeft, InRight}
 use Rattle.codec_graph.specs.Widget.{node_at, is_mixer, is_pin}
-use Rattle.codec_graph.specs.Cycles.{IsWellFormed}
 use Rattle.codec_graph.specs.Settings.{Entries, setting_of, IsSettingsOf}
 use Rattle.codec_graph.specs.VerbMeaning.{after}
 use Rattle.codec_sound.specs.declared.signals.Signal.TheVariants.{Silence, Pair}
@@ -76,9 +75,3 @@ LeadToSetUp codec plan format tag commands =
 pub record IsCommandOf (codec : RawCodec) (command : Command) : Type 0 where
   pub address : command.codec ≡ codec.address
   pub in_range : codec.address ≤ 14 → IsInRange command
-
--- what holds of every format, also of one that a variable of a law stands for
-pub record KeepsRule (format : Format) : Type 0 where
-  pub even : format.channels % 2 ≡ 0
-  pub some : 2 ≤ format.channels
-  pub few : format.channels ≤ 8

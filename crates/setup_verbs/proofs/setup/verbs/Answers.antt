@@ -9,13 +9,12 @@ use Rattle.setup_verbs.specs.declared.steps.Step.TheVariants.{Power, Silence, Re
 use Rattle.setup_verbs.specs.VerbList.{setup_verbs, command_to}
 use Rattle.stream_format.specs.declared.format.Format.{Format}
 use Rattle.route_planner.specs.declared.routes.Plan.{Plan}
-use Rattle.setup_verbs.specs.SetUp.{KeepsRule}
 use Rattle.setup_verbs.proofs.Fitting.{fits_verbs}
 use Rattle.setup_verbs.proofs.Lists.{five_lists}
 use Rattle.setup_verbs.proofs.setup.verbs.Goals as goal
 
-fitting : (graph codec : RawCodec) (format : Format) (plan : Plan) → codec ≡ graph → IsWellFormed graph → KeepsRule format → IsPlan graph format plan → FitsVerbs codec plan
-fitting graph codec format plan same well rule is = subst (λ g. FitsVerbs g plan) (sym same) (fits_verbs graph format plan well rule is)
+fitting : (graph codec : RawCodec) (format : Format) (plan : Plan) → codec ≡ graph → IsWellFormed graph → IsPlan graph format plan → FitsVerbs codec plan
+fitting graph codec format plan same well is = subst (λ g. FitsVerbs g plan) (sym same) (fits_verbs graph format plan well is)
 
 pub send_step-requires-clause-roles : goal.send_step-requires-clause-roles
 unfolding role_of
@@ -34,16 +33,16 @@ unfolding role_of
 send_step-requires-4-clause-roles c = λ nid below. c.roles_of-roles.ensures nid below ∙ ap (λ (pins : List PinPlan). role_among (uses_of pins) nid) c.as_slice.ensures
 
 pub send_step-requires-clause-fits : goal.send_step-requires-clause-fits
-send_step-requires-clause-fits c = fitting c.args.graph.now c.raw-codec.result.now c.args.format c.args.plan.now c.raw-codec.ensures.value c.raw-codec.ensures.well_formed (record { even = c.args.format.even; some = c.args.format.some; few = c.args.format.few }) c.requires.plan
+send_step-requires-clause-fits c = fitting c.args.graph.now c.raw-codec.result.now c.args.format c.args.plan.now c.raw-codec.ensures.value c.raw-codec.ensures.well_formed c.requires.plan
 
 pub send_step-requires-2-clause-fits : goal.send_step-requires-2-clause-fits
-send_step-requires-2-clause-fits c = fitting c.args.graph.now c.raw-codec.result.now c.args.format c.args.plan.now c.raw-codec.ensures.value c.raw-codec.ensures.well_formed (record { even = c.args.format.even; some = c.args.format.some; few = c.args.format.few }) c.requires.plan
+send_step-requires-2-clause-fits c = fitting c.args.graph.now c.raw-codec.result.now c.args.format c.args.plan.now c.raw-codec.ensures.value c.raw-codec.ensures.well_formed c.requires.plan
 
 pub send_step-requires-3-clause-fits : goal.send_step-requires-3-clause-fits
-send_step-requires-3-clause-fits c = fitting c.args.graph.now c.raw-codec.result.now c.args.format c.args.plan.now c.raw-codec.ensures.value c.raw-codec.ensures.well_formed (record { even = c.args.format.even; some = c.args.format.some; few = c.args.format.few }) c.requires.plan
+send_step-requires-3-clause-fits c = fitting c.args.graph.now c.raw-codec.result.now c.args.format c.args.plan.now c.raw-codec.ensures.value c.raw-codec.ensures.well_formed c.requires.plan
 
 pub send_step-requires-4-clause-fits : goal.send_step-requires-4-clause-fits
-send_step-requires-4-clause-fits c = fitting c.args.graph.now c.raw-codec.result.now c.args.format c.args.plan.now c.raw-codec.ensures.value c.raw-codec.ensures.well_formed (record { even = c.args.format.even; some = c.args.format.some; few = c.args.format.few }) c.requires.plan
+send_step-requires-4-clause-fits c = fitting c.args.graph.now c.raw-codec.result.now c.args.format c.args.plan.now c.raw-codec.ensures.value c.raw-codec.ensures.well_formed c.requires.plan
 
 pub returns : goal.returns
 unfolding setup_verbs
