@@ -8,4 +8,5 @@ pub mod Wanted
 pub mod Members
 pub mod Steady
 pub mod Sharing
+pub mod Agreeing
 mod Worked

@@ -121,7 +121,7 @@ inner_alike codec (hop ∷ hops) from to (suc i) (suc j) d well leads inner with
     inner_alike codec hops next.0 to i j d well next.2 (All-tail (λ (h : Hop). passes is_inner (node_at codec h.nid) ≡ true) hop hops inner) (omega arith) (omega arith) same
 
 -- the hops of a pin's path: the pin's, and those of mixers and selectors
-path_alike : (codec : RawCodec) (hops : List Hop) (pin to i j : ℕ) (d : Hop) → IsWellFormed codec → passes is_pin (node_at codec pin) ≡ true → LeadsTo codec pin hops to → AreInner codec (drop 1 hops) → i < length hops → j < length hops
+pub path_alike : (codec : RawCodec) (hops : List Hop) (pin to i j : ℕ) (d : Hop) → IsWellFormed codec → passes is_pin (node_at codec pin) ≡ true → LeadsTo codec pin hops to → AreInner codec (drop 1 hops) → i < length hops → j < length hops
     → (get_or hops i d).nid ≡ (get_or hops j d).nid → (get_or hops i d).index ≡ (get_or hops j d).index
 path_alike codec [] pin to i j d well is leads inner within within' same = absurd (omega arith)
 path_alike codec (hop ∷ hops) pin to zero zero d well is leads inner within within' same = refl
