@@ -9,4 +9,5 @@ pub mod Members
 pub mod Steady
 pub mod Sharing
 pub mod Agreeing
+pub mod Passing
 mod Worked
