@@ -10,4 +10,5 @@ pub mod Steady
 pub mod Sharing
 pub mod Agreeing
 pub mod Passing
+pub mod Opened
 mod Worked
