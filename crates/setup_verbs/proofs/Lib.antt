@@ -11,4 +11,6 @@ pub mod Sharing
 pub mod Agreeing
 pub mod Passing
 pub mod Opened
+pub mod Heard
+pub mod Final
 mod Worked

@@ -74,7 +74,7 @@ offset_small : (word : ℕ) → amplifier_offset word < 128
 offset_small word = mod_below (word / 2 ^ 0) (2 ^ 7) (lit< tt)
 
 -- the output passes
-output_passes : (codec : RawCodec) (settings : Entries) (nid : ℕ) (node : RawNode) (s : Signal) → amplifier_offset (output_amplifier_word codec node) ≤ amplifier_steps (output_amplifier_word codec node)
+pub output_passes : (codec : RawCodec) (settings : Entries) (nid : ℕ) (node : RawNode) (s : Signal) → amplifier_offset (output_amplifier_word codec node) ≤ amplifier_steps (output_amplifier_word codec node)
     → (has_output_amplifier node ≡ true → setting_of settings nid control.OutLeft ≡ output_wanted codec node) → (has_output_amplifier node ≡ true → setting_of settings nid control.OutRight ≡ output_wanted codec node)
     → after_output codec settings nid node s ≡ s
 output_passes codec settings nid node s fits left right = by (has_output_amplifier node) refl
@@ -84,7 +84,7 @@ output_passes codec settings nid node s fits left right = by (has_output_amplifi
     by false e = refl
 
 -- an input that the routes take passes
-input_passes : (codec : RawCodec) (settings : Entries) (nid : ℕ) (node : RawNode) (index place : ℕ) (s : Signal) → amplifier_offset (input_amplifier_word codec node) ≤ amplifier_steps (input_amplifier_word codec node) → place ≡ index
+pub input_passes : (codec : RawCodec) (settings : Entries) (nid : ℕ) (node : RawNode) (index place : ℕ) (s : Signal) → amplifier_offset (input_amplifier_word codec node) ≤ amplifier_steps (input_amplifier_word codec node) → place ≡ index
     → (has_input_amplifier node ≡ true → place < 16)
     → (has_input_amplifier node ≡ true → setting_of settings nid (control.InLeft place) ≡ input_wanted codec node index place) → (has_input_amplifier node ≡ true → setting_of settings nid (control.InRight place) ≡ input_wanted codec node index place)
     → after_input codec settings nid node place s ≡ s
@@ -101,7 +101,7 @@ input_passes codec settings nid node index place s fits same low left right = by
     by false e = refl
 
 -- a muted input gives nothing
-input_muted : (codec : RawCodec) (settings : Entries) (nid : ℕ) (node : RawNode) (place : ℕ) (s : Signal) → has_input_amplifier node ≡ true → place < 16
+pub input_muted : (codec : RawCodec) (settings : Entries) (nid : ℕ) (node : RawNode) (place : ℕ) (s : Signal) → has_input_amplifier node ≡ true → place < 16
     → is_muted (setting_of settings nid (control.InLeft place)) ≡ true → is_muted (setting_of settings nid (control.InRight place)) ≡ true → after_input codec settings nid node place s ≡ Silence
 input_muted codec settings nid node place s has low left right = by (has_input_amplifier node) (nat_lt place most_amplified) has (lt-ltb place 16 low)
   where
@@ -124,7 +124,7 @@ mixed_silent codec settings out nid node place (from ∷ list) h =
     ap (λ s. sum_of s (mixed codec settings out nid node (place + 1) list)) (h place (out from) (omega arith) (omega arith))
     ∙ mixed_silent codec settings out nid node (place + 1) list (λ j s low high. h j s (omega arith) (omega arith))
 
-mixed_one : (codec : RawCodec) (settings : Entries) (out : ℕ → Signal) (nid : ℕ) (node : RawNode) (place index : ℕ) (list : List ℕ) (k from : ℕ) → slice_get list k ≡ Some from → place + k ≡ index
+pub mixed_one : (codec : RawCodec) (settings : Entries) (out : ℕ → Signal) (nid : ℕ) (node : RawNode) (place index : ℕ) (list : List ℕ) (k from : ℕ) → slice_get list k ≡ Some from → place + k ≡ index
     → ((s : Signal) → after_input codec settings nid node index s ≡ s) → ((j : ℕ) (s : Signal) → place ≤ j → j < place + length list → j ≢ index → after_input codec settings nid node j s ≡ Silence)
     → mixed codec settings out nid node place list ≡ out from
 mixed_one codec settings out nid node place index [] k from there at passes others = absurd (none-some from there)
@@ -141,17 +141,17 @@ mixed_one codec settings out nid node place index (x ∷ list) (suc k) from ther
 
 -- ---- what an opened node makes
 
-made_cases : (n : ℕ) (stereo : Bool) (C M S : Signal) → (n ≡ 2 → stereo ≡ true → cond (n == 0) C (cond (n == 2) (changed_if (not stereo) M) (cond (n == 3) (changed_if (not stereo) S) Silence)) ≡ M)
+pub made_cases : (n : ℕ) (stereo : Bool) (C M S : Signal) → (n ≡ 2 → stereo ≡ true → cond (n == 0) C (cond (n == 2) (changed_if (not stereo) M) (cond (n == 3) (changed_if (not stereo) S) Silence)) ≡ M)
 made_cases n stereo C M S e f = rw (e, f) refl
 
-selector_case : (n : ℕ) (stereo : Bool) (C M S : Signal) → n ≡ 3 → stereo ≡ true → cond (n == 0) C (cond (n == 2) (changed_if (not stereo) M) (cond (n == 3) (changed_if (not stereo) S) Silence)) ≡ S
+pub selector_case : (n : ℕ) (stereo : Bool) (C M S : Signal) → n ≡ 3 → stereo ≡ true → cond (n == 0) C (cond (n == 2) (changed_if (not stereo) M) (cond (n == 3) (changed_if (not stereo) S) Silence)) ≡ S
 selector_case n stereo C M S e f = rw (e, f) refl
 
-converter_case : (n : ℕ) (C X : Signal) → n ≡ 0 → cond (n == 0) C X ≡ C
+pub converter_case : (n : ℕ) (C X : Signal) → n ≡ 0 → cond (n == 0) C X ≡ C
 converter_case n C X e = rw e refl
 
 -- a node that is on gives what it makes through an output that passes
-given_on : (codec : RawCodec) (settings : Entries) (stream : LinkStream) (out : ℕ → Signal) (nid : ℕ) (node : RawNode) (s : Signal) → is_off codec settings nid node ≡ false → after_output codec settings nid node (made codec settings stream out nid node) ≡ s → given codec settings stream out nid node ≡ s
+pub given_on : (codec : RawCodec) (settings : Entries) (stream : LinkStream) (out : ℕ → Signal) (nid : ℕ) (node : RawNode) (s : Signal) → is_off codec settings nid node ≡ false → after_output codec settings nid node (made codec settings stream out nid node) ≡ s → given codec settings stream out nid node ≡ s
 given_on codec settings stream out nid node s on e = by (is_off codec settings nid node) on
   where
     by : (b : Bool) → b ≡ false → cond b Silence (after_output codec settings nid node (made codec settings stream out nid node)) ≡ s
