@@ -1,0 +1,16 @@
+pub mod RoleLists
+pub mod Lists
+pub mod Faultless
+pub mod RoleFacts
+pub mod Fitting
+pub mod Settling
+pub mod Wanted
+pub mod Members
+pub mod Steady
+pub mod Sharing
+pub mod Agreeing
+pub mod Passing
+pub mod Opened
+pub mod Heard
+pub mod Final
+mod Worked

@@ -1,0 +1,102 @@
+-- What holds of all set-up verbs, and which are among them.
+use Rattle.std.proofs.Common.{◌≡◌, ◌≢◌, ◌⊎◌, ◌<◌, ◌≤◌, ◌+◌, ℕ, zero, suc, Bool, true, false, cond, List, [], ◌∷◌, ◌++◌, map, length, get_or, Option, Some, None, refl, sym, ap, subst, ◌∙◌, inl, inr, arith}
+use Rattle.std.specs.Prelude.{All, Contains}
+use Rattle.std.proofs.lemmas.Bool.{cases_eq}
+use Rattle.std.proofs.Math.ListN.{get_or-map}
+use Rattle.std.proofs.lemmas.List.{length-map}
+use Rattle.std.proofs.lemmas.List.Elements.{All-nil, All-cons, All-append, All-map, Contains-append_left, Contains-append_right}
+use Rattle.codec_graph.specs.declared.raw.RawNode.{RawNode}
+use Rattle.codec_graph.specs.declared.raw.RawCodec.{RawCodec}
+use Rattle.codec_graph.specs.Widget.{node_at}
+use Rattle.verb_codes.specs.declared.verbs.Command.{Command}
+use Rattle.verb_codes.specs.declared.verbs.Verb.{Verb}
+use Rattle.verb_codes.specs.declared.verbs.Verb.TheVariants.{SetPower}
+use Rattle.stream_format.specs.declared.format.Format.{Format}
+use Rattle.route_planner.specs.declared.routes.Plan.{Plan}
+use Rattle.setup_verbs.specs.declared.roles.Role.{Role}
+use Rattle.setup_verbs.specs.declared.steps.Step.{Step}
+use Rattle.setup_verbs.specs.declared.steps.Step.TheVariants.{Power, Silence, Release, Route}
+use Rattle.setup_verbs.specs.Roles.{role_of}
+use Rattle.setup_verbs.specs.VerbList.{only_if, command_to, commands_to, to_below, to_all, at_widget, step_at, setup_verbs}
+use Rattle.setup_verbs.specs.Steps.{step_verbs, commands_at, commands_of}
+
+-- ---- all
+
+pub all_if : (P : Verb → Type 0) (b : Bool) (verb : Verb) → (b ≡ true → P verb) → All P (only_if b verb)
+all_if P true verb h = All-cons P verb [] (h refl) (All-nil P)
+all_if P false verb h = All-nil P
+
+all_below : (P : Command → Type 0) (step : ℕ → List Command) (n : ℕ) → ((nid : ℕ) → All P (step nid)) → All P (to_below step n)
+all_below P step zero h = All-nil P
+all_below P step (suc n) h = All-append P (to_below step n) (step n) (all_below P step n h) (h n)
+
+all_all : (P : Command → Type 0) (step : ℕ → List Command) → ((nid : ℕ) → All P (step nid)) → All P (to_all step)
+unfolding to_all
+all_all P step h = all_below P step 128 h
+
+-- a fact of the verbs of each step at each widget
+abbrev pub OfSteps : (Command → Type 0) → RawCodec → Plan → Format → ℕ → Type 0
+OfSteps P codec plan format tag = (s : Step) (nid : ℕ) (node : RawNode) → node_at codec nid ≡ Some node
+    → All (λ (verb : Verb). P (command_to codec nid verb)) (step_verbs codec plan format tag s nid node (role_of plan nid))
+
+all_step : (P : Command → Type 0) (codec : RawCodec) (plan : Plan) (format : Format) (tag : ℕ) (s : Step) → OfSteps P codec plan format tag → All P (commands_of codec plan format tag s)
+all_step P codec plan format tag s of = all_all P (commands_at codec plan format tag s) (λ nid. All-map P (command_to codec nid) (at_widget (step_verbs codec plan format tag s nid) (node_at codec nid) (role_of plan nid)) (at nid (node_at codec nid) refl))
+  where
+    at : (nid : ℕ) (o : Option RawNode) → node_at codec nid ≡ o → All (λ (verb : Verb). P (command_to codec nid verb)) (at_widget (step_verbs codec plan format tag s nid) o (role_of plan nid))
+    at nid None e = All-nil (λ (verb : Verb). P (command_to codec nid verb))
+    at nid (Some node) e = of s nid node e
+
+pub all_verbs : (P : Command → Type 0) (codec : RawCodec) (plan : Plan) (format : Format) (tag : ℕ) → P (command_to codec codec.group (SetPower 0)) → OfSteps P codec plan format tag → All P (setup_verbs codec plan format tag)
+unfolding setup_verbs
+all_verbs P codec plan format tag group of =
+    All-cons P (command_to codec codec.group (SetPower 0)) _ group
+    (All-append P (commands_of codec plan format tag Power) _ (all_step P codec plan format tag Power of)
+    (All-append P (commands_of codec plan format tag Silence) _ (all_step P codec plan format tag Silence of)
+    (All-append P (commands_of codec plan format tag Release) _ (all_step P codec plan format tag Release of) (all_step P codec plan format tag Route of))))
+
+-- ---- members
+
+pub has_if : (b : Bool) (verb : Verb) → b ≡ true → Contains (only_if b verb) verb
+has_if true verb e = (0, omega arith, refl)
+has_if false verb e = cc
+
+pub has_mapped : {X Y : Type 0} (f : X → Y) (xs : List X) (x : X) → Contains xs x → Contains (map f xs) (f x)
+has_mapped f xs x c = (c.0, rw length-map c.1, get_or-map f xs c.0 x ∙ ap f c.2)
+
+has_below : (step : ℕ → List Command) (n nid : ℕ) (command : Command) → nid < n → Contains (step nid) command → Contains (to_below step n) command
+has_below step zero nid command lt has = absurd (omega arith)
+has_below step (suc n) nid command lt has = by (cases_eq nid n) (has_below step n nid command)
+  where
+    by : (nid ≡ n) ⊎ (nid ≢ n) → (nid < n → Contains (step nid) command → Contains (to_below step n) command) → Contains (to_below step (suc n)) command
+    by (inl same) rest = Contains-append_right (to_below step n) (step n) command (subst (λ k. Contains (step k) command) same has)
+    by (inr other) rest = Contains-append_left (to_below step n) (step n) command (rest (omega arith) has)
+
+has_all : (step : ℕ → List Command) (nid : ℕ) (command : Command) → nid < 128 → Contains (step nid) command → Contains (to_all step) command
+unfolding to_all
+has_all step nid command lt has = has_below step 128 nid command lt has
+
+has_step : (codec : RawCodec) (plan : Plan) (format : Format) (tag : ℕ) (s : Step) (nid : ℕ) (node : RawNode) (verb : Verb) → nid < 128 → node_at codec nid ≡ Some node
+    → Contains (step_verbs codec plan format tag s nid node (role_of plan nid)) verb → Contains (commands_of codec plan format tag s) (command_to codec nid verb)
+has_step codec plan format tag s nid node verb lt there has =
+    has_all (commands_at codec plan format tag s) nid (command_to codec nid verb) lt
+    (has_mapped (command_to codec nid) (at_widget (step_verbs codec plan format tag s nid) (node_at codec nid) (role_of plan nid)) verb
+    (subst (λ (o : Option RawNode). Contains (at_widget (step_verbs codec plan format tag s nid) o (role_of plan nid)) verb) (sym there) has))
+
+pub has_group : (codec : RawCodec) (plan : Plan) (format : Format) (tag : ℕ) → Contains (setup_verbs codec plan format tag) (command_to codec codec.group (SetPower 0))
+unfolding setup_verbs
+has_group codec plan format tag = (0, omega arith, refl)
+
+has_cons : {X : Type 0} (x : X) (xs : List X) (y : X) → Contains xs y → Contains (x ∷ xs) y
+has_cons x xs y c = (suc c.0, omega (arith, c.1), c.2)
+
+-- a verb of a step at a widget is among all
+pub has_verb : (codec : RawCodec) (plan : Plan) (format : Format) (tag : ℕ) (s : Step) (nid : ℕ) (node : RawNode) (verb : Verb) → nid < 128 → node_at codec nid ≡ Some node
+    → Contains (step_verbs codec plan format tag s nid node (role_of plan nid)) verb → Contains (setup_verbs codec plan format tag) (command_to codec nid verb)
+unfolding setup_verbs
+has_verb codec plan format tag s nid node verb lt there has = has_cons _ _ _ (by s (has_step codec plan format tag s nid node verb lt there has))
+  where
+    by : (t : Step) → Contains (commands_of codec plan format tag t) (command_to codec nid verb) → Contains (commands_of codec plan format tag Power ++ (commands_of codec plan format tag Silence ++ (commands_of codec plan format tag Release ++ commands_of codec plan format tag Route))) (command_to codec nid verb)
+    by Power c = Contains-append_left (commands_of codec plan format tag Power) _ _ c
+    by Silence c = Contains-append_right (commands_of codec plan format tag Power) _ _ (Contains-append_left (commands_of codec plan format tag Silence) _ _ c)
+    by Release c = Contains-append_right (commands_of codec plan format tag Power) _ _ (Contains-append_right (commands_of codec plan format tag Silence) _ _ (Contains-append_left (commands_of codec plan format tag Release) _ _ c))
+    by Route c = Contains-append_right (commands_of codec plan format tag Power) _ _ (Contains-append_right (commands_of codec plan format tag Silence) _ _ (Contains-append_right (commands_of codec plan format tag Release) _ _ c))

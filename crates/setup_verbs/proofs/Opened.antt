@@ -1,0 +1,224 @@
+-- The settings after the set-up verbs, node by node.
+use Rattle.std.proofs.Common.{◌≡◌, ◌≢◌, ◌<◌, ◌≤◌, ◌+◌, ◌*◌, ◌^◌, ◌==◌, ◌&&◌, ◌||◌, not, ℕ, Bool, true, false, cond, List, [], ◌∷◌, ◌++◌, map, length, get_or, Option, Some, None, zero-add, ◌⊎◌, inl, inr, refl, sym, ap, subst, ◌∙◌, arith, lit<}
+use Rattle.std.specs.Prelude.{All, Contains, nat_lt, nat_le, is_some, bit_and, max, min}
+use Rattle.std.specs.List.{range_with_len}
+use Rattle.std.proofs.lemmas.Bool.{true≢false, and_parts, and_from, eq-eqb, ne_eqb, lt-ltb, cases_eq}
+use Rattle.std.proofs.lemmas.Bool.Decides.{nat_tests}
+use Rattle.std.proofs.lemmas.Nat.{mod_below}
+use Rattle.std.proofs.lemmas.List.Elements.{Contains-append_left, Contains-append_right}
+use Rattle.std.proofs.lemmas.List.FromFn.{get_or-range_with_len, length-range_with_len}
+use Rattle.codec_graph.specs.declared.raw.RawNode.{RawNode}
+use Rattle.codec_graph.specs.declared.raw.RawCodec.{RawCodec}
+use Rattle.codec_graph.specs.declared.controls.Control.{Control}
+use Rattle.codec_graph.specs.declared.controls.Control.TheVariants as control
+use Rattle.codec_graph.specs.Widget.{node_at, is_mixer, is_selector, is_pin, is_output_converter, is_converter, has_power_control, has_input_amplifier, has_output_amplifier, input_amplifier_word, output_amplifier_word, amplifier_offset}
+use Rattle.codec_graph.specs.Settings.{Entries, key, setting_at, setting_of, has_control, group_has, node_has, widget_has, has_eapd, detects_presence, sends_unsolicited, amplified_inputs, IsSettingsOf}
+use Rattle.codec_graph.specs.VerbMeaning.{kept_amplifier, node_connections, verb_writes, written, pin_bits, eapd_bits}
+use Rattle.codec_graph.specs.Cycles.{IsWellFormed}
+use Rattle.codec_graph.proofs.Callers.{node_below}
+use Rattle.codec_graph.proofs.Controlled.{is_some-setting_at}
+use Rattle.verb_codes.specs.declared.verbs.Command.{Command}
+use Rattle.verb_codes.specs.declared.verbs.Verb.{Verb}
+use Rattle.verb_codes.specs.declared.verbs.Verb.TheVariants.{SetSelect, SetPower, SetStream, SetPin, SetUnsol, SetEapd, SetFormat, SetAmp}
+use Rattle.verb_codes.specs.Amplifiers as amplifiers
+use Rattle.verb_codes.specs.Words.{bits_of}
+use Rattle.stream_format.specs.declared.format.Format.{Format}
+use Rattle.stream_format.specs.Words.{format_word}
+use Rattle.route_planner.specs.declared.routes.Plan.{Plan}
+use Rattle.codec_sound.specs.Signals.{is_off}
+use Rattle.setup_verbs.specs.declared.roles.Role.{Role}
+use Rattle.setup_verbs.specs.declared.roles.Role.TheVariants.{Unused, Passed, Source}
+use Rattle.setup_verbs.specs.declared.steps.Step.{Step}
+use Rattle.setup_verbs.specs.declared.steps.Step.TheVariants.{Power, Silence, Release, Route}
+use Rattle.setup_verbs.specs.Roles.{role_of, is_used}
+use Rattle.setup_verbs.specs.Steps.{step_verbs, FitsVerbs, FitsWidget}
+use Rattle.setup_verbs.specs.SetUp.{settings_after}
+use Rattle.setup_verbs.specs.VerbList.{only_if, command_to, input_setting, output_setting, pass_input, mute_input, mixer_input, mixer_verbs, has_choice, select_verbs, selector_verbs, output_verbs, source_verbs, pin_control, event_tag, pin_verbs, passed_verbs, route_verbs, setup_verbs}
+use Rattle.setup_verbs.proofs.Settling.{Sets, settle}
+use Rattle.setup_verbs.proofs.Wanted.{wanted, wanted-widget, wanted-power, widget_wanted, input_wanted, output_wanted, one_sets, left_sets, right_sets, input_writes, output_writes}
+use Rattle.setup_verbs.proofs.Members.{has_if, has_mapped, has_group, has_verb}
+use Rattle.setup_verbs.proofs.Steady.{all_wanted}
+use Rattle.setup_verbs.proofs.Faultless.{IsApart, apart_at}
+
+some_of : (o : Option ℕ) → is_some o ≡ true → (n : ℕ) × (o ≡ Some n)
+some_of None e = absurd (true≢false (sym e))
+some_of (Some n) e = (n, refl)
+
+-- what a pin, mixer or selector that is left by an index is set to, and what a converter with a pair is
+pub record PassedSet (codec : RawCodec) (s : Entries) (nid : ℕ) (node : RawNode) (index : ℕ) : Type 0 where
+  pub on : is_off codec s nid node ≡ false
+  pub out_left : has_output_amplifier node ≡ true → setting_of s nid control.OutLeft ≡ output_wanted codec node
+  pub out_right : has_output_amplifier node ≡ true → setting_of s nid control.OutRight ≡ output_wanted codec node
+  pub select : has_choice node ≡ true → setting_of s nid control.Select ≡ index
+  pub mix_left : (is_mixer node && has_input_amplifier node) ≡ true → (place : ℕ) → place < length node.list → setting_of s nid (control.InLeft place) ≡ input_wanted codec node index place
+  pub mix_right : (is_mixer node && has_input_amplifier node) ≡ true → (place : ℕ) → place < length node.list → setting_of s nid (control.InRight place) ≡ input_wanted codec node index place
+  pub sel_left : (is_selector node && has_input_amplifier node) ≡ true → setting_of s nid (control.InLeft index) ≡ input_wanted codec node index index
+  pub sel_right : (is_selector node && has_input_amplifier node) ≡ true → setting_of s nid (control.InRight index) ≡ input_wanted codec node index index
+  pub eapd : has_eapd node ≡ true → setting_of s nid control.Eapd ≡ bit_and 0x02 eapd_bits
+  pub pin : is_pin node ≡ true → setting_of s nid control.Pin ≡ bit_and (pin_control node) pin_bits
+
+pub record SourceSet (codec : RawCodec) (format : Format) (tag : ℕ) (s : Entries) (nid : ℕ) (node : RawNode) (pair : ℕ) : Type 0 where
+  pub on : is_off codec s nid node ≡ false
+  pub out_left : has_output_amplifier node ≡ true → setting_of s nid control.OutLeft ≡ output_wanted codec node
+  pub out_right : has_output_amplifier node ≡ true → setting_of s nid control.OutRight ≡ output_wanted codec node
+  pub format_set : setting_of s nid control.Format ≡ format_word format
+  pub stream_set : setting_of s nid control.Stream ≡ tag * 2 ^ 4 + 2 * pair
+
+-- a selector or pin with a choice has the control that selects
+choice_has : (node : RawNode) → has_choice node ≡ true → (not (is_mixer node) && nat_le 2 (length node.list)) ≡ true
+choice_has node h = let parts = and_parts _ _ h in and_from _ _ (apart (bits_of node.caps 20 4) parts.0) parts.1
+  where
+    apart : (n : ℕ) → (n == 3 || n == 4) ≡ true → not (n == 2) ≡ true
+    apart n e = by (cases_eq n 2)
+      where
+        by : (n ≡ 2) ⊎ (n ≢ 2) → not (n == 2) ≡ true
+        by (inl same) = let z : (n == 3 || n == 4) ≡ false = rw same refl in absurd (true≢false (sym e ∙ z))
+        by (inr other) = rw (ne_eqb n 2 other) refl
+
+module _ (codec : RawCodec) (plan : Plan) (format : Format) (tag : ℕ) (well : IsWellFormed codec) (fits : FitsVerbs codec plan) (settings : Entries) (of : IsSettingsOf codec settings) where
+  -- a control that some verb sets
+  settled : (nid : ℕ) (c : Control) (command : Command) → has_control codec nid c ≡ true → Contains (setup_verbs codec plan format tag) command → Sets codec command nid c
+      → setting_of (settings_after codec settings (setup_verbs codec plan format tag)) nid c ≡ wanted codec plan format tag (key nid c)
+  settled nid c command has among sets =
+      let there = some_of (setting_at settings nid c) (is_some-setting_at codec settings nid c well of.keys ∙ has) in
+      settle (wanted codec plan format tag) codec (setup_verbs codec plan format tag) settings there.0 nid c command (all_wanted codec plan format tag fits) among sets there.1
+
+  group_power : setting_of (settings_after codec settings (setup_verbs codec plan format tag)) codec.group control.Power ≡ 0
+  group_power =
+      settled codec.group control.Power (command_to codec codec.group (SetPower 0)) has (has_group codec plan format tag)
+      (one_sets codec codec.group (SetPower 0) control.Power 0 (λ s. refl) has)
+      ∙ wanted-power codec plan format tag codec.group
+    where
+      has : has_control codec codec.group control.Power ≡ true
+      has = rw (eq-eqb codec.group codec.group refl) refl
+
+  module _ (nid : ℕ) (node : RawNode) (there : node_at codec nid ≡ Some node) (role : Role) (is : role_of plan nid ≡ role) where
+    below : nid < 128
+    below = node_below codec nid node well there
+
+    -- a control of the widget is one of the codec
+    has_widget : (c : Control) → widget_has node c ≡ true → has_control codec nid c ≡ true
+    has_widget c h = rw (ne_eqb nid codec.group (apart_at codec nid node well there).other, there) h
+
+    -- a control that a verb of a step sets
+    set_by : (s : Step) (c : Control) (verb : Verb) → widget_has node c ≡ true → Contains (step_verbs codec plan format tag s nid node role) verb → (has_control codec nid c ≡ true → Sets codec (command_to codec nid verb) nid c)
+        → setting_of (settings_after codec settings (setup_verbs codec plan format tag)) nid c ≡ widget_wanted codec plan format tag nid node role c
+    set_by s c verb has among sets =
+        settled nid c (command_to codec nid verb) (has_widget c has)
+        (has_verb codec plan format tag s nid node verb below there (subst (λ r. Contains (step_verbs codec plan format tag s nid node r) verb) (sym is) among)) (sets (has_widget c has))
+        ∙ wanted-widget codec plan format tag nid node role c there is
+
+    -- a node of a route is on
+    pub used_on : is_used role ≡ true → is_off codec (settings_after codec settings (setup_verbs codec plan format tag)) nid node ≡ false
+    used_on used = rw group_power (by (has_power_control node) refl)
+      where
+        by : (b : Bool) → has_power_control node ≡ b → (not (0 == 0) || (b && not (setting_of (settings_after codec settings (setup_verbs codec plan format tag)) nid control.Power == 0))) ≡ false
+        by true e = rw (set_by Power control.Power (SetPower 0) e (has_if (is_used role && has_power_control node) (SetPower 0) (and_from _ _ used e)) (λ h. one_sets codec nid (SetPower 0) control.Power 0 (λ s. refl) h)) refl
+        by false e = refl
+
+  -- a pin without a route drives nothing
+  pub unused_pin_set : (nid : ℕ) (node : RawNode) → node_at codec nid ≡ Some node → role_of plan nid ≡ Unused → is_pin node ≡ true → setting_of (settings_after codec settings (setup_verbs codec plan format tag)) nid control.Pin ≡ 0
+  unused_pin_set nid node there is e = set_by nid node there Unused is Silence control.Pin (SetPin 0) e (has_if (is_pin node) (SetPin 0) e) (λ h. one_sets codec nid (SetPin 0) control.Pin (bit_and 0 pin_bits) (λ s. refl) h)
+
+  -- the output of a node of a route
+  out_among : (nid : ℕ) (node : RawNode) (role : Role) → is_used role ≡ true → has_output_amplifier node ≡ true → Contains (step_verbs codec plan format tag Route nid node role) (SetAmp (amplifiers.setting_payload (output_setting (amplifier_offset (output_amplifier_word codec node)))))
+  out_among nid node Unused used has = cc
+  out_among nid node (Passed index) used has =
+      Contains-append_right (mixer_verbs codec node index) _ _ (Contains-append_right (select_verbs node index) _ _ (Contains-append_right (selector_verbs codec node index) _ _ (Contains-append_left (output_verbs codec node) _ _ (has_if (has_output_amplifier node) _ has))))
+  out_among nid node (Source pair) used has = Contains-append_right (source_verbs format tag pair) (output_verbs codec node) _ (has_if (has_output_amplifier node) _ has)
+
+  out_left_set : (nid : ℕ) (node : RawNode) → node_at codec nid ≡ Some node → (role : Role) → role_of plan nid ≡ role → is_used role ≡ true → has_output_amplifier node ≡ true → setting_of (settings_after codec settings (setup_verbs codec plan format tag)) nid control.OutLeft ≡ output_wanted codec node
+  out_left_set nid node there role is used has =
+      set_by nid node there role is Route control.OutLeft _ has (out_among nid node role used has)
+      (λ h. left_sets codec nid _ control.OutLeft control.OutRight (output_wanted codec node) (λ s. output_writes codec nid node (amplifier_offset (output_amplifier_word codec node)) there (mod_below _ (2 ^ 7) (lit< tt)) s) h)
+
+  out_right_set : (nid : ℕ) (node : RawNode) → node_at codec nid ≡ Some node → (role : Role) → role_of plan nid ≡ role → is_used role ≡ true → has_output_amplifier node ≡ true → setting_of (settings_after codec settings (setup_verbs codec plan format tag)) nid control.OutRight ≡ output_wanted codec node
+  out_right_set nid node there role is used has =
+      set_by nid node there role is Route control.OutRight _ has (out_among nid node role used has)
+      (λ h. right_sets codec nid _ control.OutLeft control.OutRight (output_wanted codec node) (λ s. output_writes codec nid node (amplifier_offset (output_amplifier_word codec node)) there (mod_below _ (2 ^ 7) (lit< tt)) s) h)
+
+  -- the converter of a route
+  pub source_set : (nid : ℕ) (node : RawNode) → node_at codec nid ≡ Some node → (pair : ℕ) → role_of plan nid ≡ Source pair → is_output_converter node ≡ true → SourceSet codec format tag (settings_after codec settings (setup_verbs codec plan format tag)) nid node pair
+  source_set nid node there pair is converts = record {
+      on = used_on nid node there (Source pair) is refl;
+      out_left = out_left_set nid node there (Source pair) is refl;
+      out_right = out_right_set nid node there (Source pair) is refl;
+      format_set = set_by nid node there (Source pair) is Route control.Format (SetFormat (format_word format)) has (0, omega arith, refl) (λ h. one_sets codec nid (SetFormat (format_word format)) control.Format (format_word format) (λ s. refl) h);
+      stream_set = set_by nid node there (Source pair) is Route control.Stream (SetStream (tag * 2 ^ 4 + 2 * pair)) has (1, omega arith, refl) (λ h. one_sets codec nid (SetStream (tag * 2 ^ 4 + 2 * pair)) control.Stream (tag * 2 ^ 4 + 2 * pair) (λ s. refl) h);
+    }
+    where
+      has : is_converter node ≡ true
+      has = rw converts refl
+
+  -- ---- pins, mixers and selectors
+
+  input_has : (node : RawNode) (place : ℕ) → has_input_amplifier node ≡ true → place < 16 → place < length node.list → (has_input_amplifier node && nat_lt place (amplified_inputs node)) ≡ true
+  input_has node place has low within = and_from _ _ has (lt-ltb place (amplified_inputs node) (inside place (length node.list) low within))
+    where
+      inside : (p n : ℕ) → p < 16 → p < n → p < min 16 (max 1 n)
+      inside p n a b = omega arith
+
+  mixer_among : (nid : ℕ) (node : RawNode) (index place : ℕ) → (is_mixer node && has_input_amplifier node) ≡ true → place < length node.list → Contains (passed_verbs codec plan nid node index) (mixer_input codec node index place)
+  mixer_among nid node index place has within = Contains-append_left (mixer_verbs codec node index) _ _ (by (is_mixer node && has_input_amplifier node) has)
+    where
+      in_range : Contains (range_with_len 0 (length node.list)) place
+      in_range = (place, rw (length-range_with_len 0 (length node.list)) within, get_or-range_with_len 0 (length node.list) place place within ∙ zero-add place)
+
+      by : (b : Bool) → b ≡ true → Contains (cond b (map (mixer_input codec node index) (range_with_len 0 (length node.list))) []) (mixer_input codec node index place)
+      by true e = has_mapped (mixer_input codec node index) (range_with_len 0 (length node.list)) place in_range
+      by false e = cc
+
+  pass_left : (nid : ℕ) (node : RawNode) (place : ℕ) → node_at codec nid ≡ Some node → place < 16 → has_control codec nid (control.InLeft place) ≡ true → Sets codec (command_to codec nid (pass_input codec node place)) nid (control.InLeft place)
+  pass_left nid node place there low h = left_sets codec nid _ (control.InLeft place) (control.InRight place) (kept_amplifier (input_amplifier_word codec node) (input_setting place false (amplifier_offset (input_amplifier_word codec node)))) (λ s. input_writes codec nid node place (amplifier_offset (input_amplifier_word codec node)) false there low (mod_below _ (2 ^ 7) (lit< tt)) s) h
+
+  pass_right : (nid : ℕ) (node : RawNode) (place : ℕ) → node_at codec nid ≡ Some node → place < 16 → has_control codec nid (control.InRight place) ≡ true → Sets codec (command_to codec nid (pass_input codec node place)) nid (control.InRight place)
+  pass_right nid node place there low h = right_sets codec nid _ (control.InLeft place) (control.InRight place) (kept_amplifier (input_amplifier_word codec node) (input_setting place false (amplifier_offset (input_amplifier_word codec node)))) (λ s. input_writes codec nid node place (amplifier_offset (input_amplifier_word codec node)) false there low (mod_below _ (2 ^ 7) (lit< tt)) s) h
+
+  mixer_left : (nid : ℕ) (node : RawNode) (index place : ℕ) → node_at codec nid ≡ Some node → place < 16 → has_control codec nid (control.InLeft place) ≡ true → Sets codec (command_to codec nid (mixer_input codec node index place)) nid (control.InLeft place)
+  mixer_left nid node index place there low h = by (place == index)
+    where
+      by : (b : Bool) → Sets codec (command_to codec nid (cond b (pass_input codec node place) (mute_input place))) nid (control.InLeft place)
+      by true = pass_left nid node place there low h
+      by false = left_sets codec nid _ (control.InLeft place) (control.InRight place) (kept_amplifier (input_amplifier_word codec node) (input_setting place true 0)) (λ s. input_writes codec nid node place 0 true there low (lit< tt) s) h
+
+  mixer_right : (nid : ℕ) (node : RawNode) (index place : ℕ) → node_at codec nid ≡ Some node → place < 16 → has_control codec nid (control.InRight place) ≡ true → Sets codec (command_to codec nid (mixer_input codec node index place)) nid (control.InRight place)
+  mixer_right nid node index place there low h = by (place == index)
+    where
+      by : (b : Bool) → Sets codec (command_to codec nid (cond b (pass_input codec node place) (mute_input place))) nid (control.InRight place)
+      by true = pass_right nid node place there low h
+      by false = right_sets codec nid _ (control.InLeft place) (control.InRight place) (kept_amplifier (input_amplifier_word codec node) (input_setting place true 0)) (λ s. input_writes codec nid node place 0 true there low (lit< tt) s) h
+
+  -- a pin, mixer or selector of a route
+  pub passed_set : (nid : ℕ) (node : RawNode) → node_at codec nid ≡ Some node → (index : ℕ) → role_of plan nid ≡ Passed index → index < length node.list → PassedSet codec (settings_after codec settings (setup_verbs codec plan format tag)) nid node index
+  passed_set nid node there index is within = record {
+      on = used_on nid node there (Passed index) is refl;
+      out_left = out_left_set nid node there (Passed index) is refl;
+      out_right = out_right_set nid node there (Passed index) is refl;
+      select = λ h. set_by nid node there (Passed index) is Route control.Select (SetSelect index) (choice_has node h)
+        (Contains-append_right (mixer_verbs codec node index) _ _ (Contains-append_left (select_verbs node index) _ _ (has_if (has_choice node) (SetSelect index) h)))
+        (λ has. one_sets codec nid (SetSelect index) control.Select index (λ s. select_writes s) has);
+      mix_left = λ h place low. set_by nid node there (Passed index) is Route (control.InLeft place) (mixer_input codec node index place) (input_has node place (and_parts _ _ h).1 (few h place low) low) (mixer_among nid node index place h low) (mixer_left nid node index place there (few h place low));
+      mix_right = λ h place low. set_by nid node there (Passed index) is Route (control.InRight place) (mixer_input codec node index place) (input_has node place (and_parts _ _ h).1 (few h place low) low) (mixer_among nid node index place h low) (mixer_right nid node index place there (few h place low));
+      sel_left = λ h. set_by nid node there (Passed index) is Route (control.InLeft index) (pass_input codec node index) (input_has node index (and_parts _ _ h).1 (near h) within) (selector_among h) (pass_left nid node index there (near h));
+      sel_right = λ h. set_by nid node there (Passed index) is Route (control.InRight index) (pass_input codec node index) (input_has node index (and_parts _ _ h).1 (near h) within) (selector_among h) (pass_right nid node index there (near h));
+      eapd = λ h. set_by nid node there (Passed index) is Route control.Eapd (SetEapd 0x02) h (at_pin (Contains-append_left (only_if (has_eapd node) (SetEapd 0x02)) _ _ (has_if (has_eapd node) (SetEapd 0x02) h))) (λ has. one_sets codec nid (SetEapd 0x02) control.Eapd (bit_and 0x02 eapd_bits) (λ s. refl) has);
+      pin = λ h. set_by nid node there (Passed index) is Route control.Pin (SetPin (pin_control node)) h (at_pin (Contains-append_right (only_if (has_eapd node) (SetEapd 0x02)) _ _ (Contains-append_right (only_if (detects_presence node && sends_unsolicited node) (SetUnsol (0x80 + event_tag plan nid))) _ _ (has_if (is_pin node) (SetPin (pin_control node)) h)))) (λ has. one_sets codec nid (SetPin (pin_control node)) control.Pin (bit_and (pin_control node) pin_bits) (λ s. refl) has);
+    }
+    where
+      fit : FitsWidget plan node (Passed index)
+      fit = subst (λ r. FitsWidget plan node r) is (fits.at nid node there)
+
+      few : (is_mixer node && has_input_amplifier node) ≡ true → (place : ℕ) → place < length node.list → place < 16
+      few h place low = let z = fit.inputs (and_parts _ _ h).0 in omega arith
+
+      near : (is_selector node && has_input_amplifier node) ≡ true → index < 16
+      near h = fit.argument h
+
+      select_writes : (s : Entries) → verb_writes codec s nid (SetSelect index) ≡ written codec nid control.Select index
+      select_writes s = rw (there, lt-ltb index (length node.list) within) refl
+
+      selector_among : (is_selector node && has_input_amplifier node) ≡ true → Contains (passed_verbs codec plan nid node index) (pass_input codec node index)
+      selector_among h = Contains-append_right (mixer_verbs codec node index) _ _ (Contains-append_right (select_verbs node index) _ _ (Contains-append_left (selector_verbs codec node index) _ _ (has_if (is_selector node && has_input_amplifier node) _ h)))
+
+      at_pin : {verb : Verb} → Contains (pin_verbs plan nid node) verb → Contains (passed_verbs codec plan nid node index) verb
+      at_pin c = Contains-append_right (mixer_verbs codec node index) _ _ (Contains-append_right (select_verbs node index) _ _ (Contains-append_right (selector_verbs codec node index) _ _ (Contains-append_right (output_verbs codec node) _ _ c)))

@@ -1,0 +1,109 @@
+-- What holds of each node of a plan's routes.
+use Rattle.std.proofs.Common.{◌≡◌, ◌<◌, ◌≤◌, ◌+◌, ◌*◌, ◌/◌, ◌%◌, ◌==◌, ℕ, zero, suc, Bool, true, false, cond, List, [], ◌∷◌, ◌++◌, map, length, get_or, refl, sym, ap, subst, ◌∙◌, arith}
+use Rattle.std.specs.Prelude.{All, Contains}
+use Rattle.std.proofs.Math.ListN.{get_or-map}
+use Rattle.std.proofs.lemmas.List.{length-map}
+use Rattle.std.proofs.lemmas.Nat.{mod_below}
+use Rattle.std.proofs.lemmas.Bool.{eqb-true}
+use Rattle.std.proofs.lemmas.List.Elements.{All-nil, All-cons, All-append, All-map, All-head, All-tail, All-contains, Contains-push, Contains-append_left, Contains-append_right, Contains-get_or}
+use Rattle.codec_graph.specs.declared.raw.RawCodec.{RawCodec}
+use Rattle.codec_graph.specs.Widget.{node_at, is_output_converter}
+use Rattle.stream_format.specs.declared.format.Format.{Format}
+use Rattle.route_planner.specs.declared.routes.Hop.{Hop}
+use Rattle.route_planner.specs.declared.routes.Route as declared_route
+use Rattle.route_planner.specs.declared.routes.Outcome.{Outcome}
+use Rattle.route_planner.specs.declared.routes.Outcome.TheVariants as outcome
+use Rattle.route_planner.specs.declared.routes.PinPlan.{PinPlan}
+use Rattle.route_planner.specs.declared.routes.Plan.{Plan}
+use Rattle.route_planner.specs.Order.{pair_of}
+use Rattle.route_planner.specs.Paths.{passes, nodes_of, is_analog_stereo, can_be_left, IsAdmissible}
+use Rattle.route_planner.specs.Plans.{IsOutcome, HaveOutcomes, IsPlan, IsAdmissibleOutcome}
+use Rattle.setup_verbs.specs.declared.roles.Role.{Role}
+use Rattle.setup_verbs.specs.declared.roles.Role.TheVariants.{Unused, Passed, Source}
+use Rattle.setup_verbs.specs.Roles.{Uses, hop_uses, outcome_uses, entry_uses, uses_of, first_role, role_among, role_of}
+
+-- a fact of all uses is one of each node's role
+pub role_all : (P : ℕ → Role → Type 0) → ((nid : ℕ) → P nid Unused) → (uses : Uses) (nid : ℕ) → All (λ (used : ℕ × Role). P used.0 used.1) uses → P nid (role_among uses nid)
+role_all P none [] nid all = none nid
+role_all P none (used ∷ uses) nid all = by (used.0 == nid) refl (role_all P none uses nid (All-tail (λ (u : ℕ × Role). P u.0 u.1) used uses all))
+  where
+    first : (role rest : Role) → P nid role → P nid rest → P nid (first_role role rest)
+    first Unused rest h r = r
+    first (Passed index) rest h r = h
+    first (Source pair) rest h r = h
+
+    by : (b : Bool) → (used.0 == nid) ≡ b → P nid (role_among uses nid) → P nid (first_role (cond b used.1 Unused) (role_among uses nid))
+    by true e rest = first used.1 (role_among uses nid) (subst (λ n. P n used.1) (eqb-true used.0 nid e) (All-head (λ (u : ℕ × Role). P u.0 u.1) used uses all)) rest
+    by false e rest = rest
+
+-- what an admissible path says of a node by its role
+pub record IsPassedWell (codec : RawCodec) (nid index : ℕ) : Type 0 where
+  pub analog_stereo : passes is_analog_stereo (node_at codec nid) ≡ true
+  pub left_well : passes (can_be_left codec index) (node_at codec nid) ≡ true
+
+pub record IsSourceWell (codec : RawCodec) (channels nid pair : ℕ) : Type 0 where
+  pub analog_stereo : passes is_analog_stereo (node_at codec nid) ≡ true
+  pub converts : passes is_output_converter (node_at codec nid) ≡ true
+  pub pair_fits : 2 * pair + 1 < channels
+
+abbrev pub IsUsedWell : RawCodec → ℕ → ℕ → Role → Type 0
+IsUsedWell codec channels nid Unused = Unit {0}
+IsUsedWell codec channels nid (Passed index) = IsPassedWell codec nid index
+IsUsedWell codec channels nid (Source pair) = IsSourceWell codec channels nid pair
+
+route_stereo : (codec : RawCodec) (route : declared_route.Route) → All (λ nid. passes is_analog_stereo (node_at codec nid) ≡ true) (nodes_of route) → (hop : Hop) → Contains route.hops hop → passes is_analog_stereo (node_at codec hop.nid) ≡ true
+route_stereo codec route all hop has = All-contains (λ nid. passes is_analog_stereo (node_at codec nid) ≡ true) (nodes_of route) hop.nid all (Contains-append_left (map (λ (h : Hop). h.nid) route.hops) (route.converter ∷ []) hop.nid (mapped route.hops hop has))
+  where
+    mapped : (hops : List Hop) (h : Hop) → Contains hops h → Contains (map (λ (x : Hop). x.nid) hops) h.nid
+    mapped hops h c = (c.0, rw length-map c.1, get_or-map (λ (x : Hop). x.nid) hops c.0 h ∙ ap (λ (x : Hop). x.nid) c.2)
+
+outcome_well : (codec : RawCodec) (format : Format) (pin pair : ℕ) (o : Outcome) → IsAdmissibleOutcome codec format pin o → 2 * pair + 1 < format.channels → All (λ (used : ℕ × Role). IsUsedWell codec format.channels used.0 used.1) (outcome_uses pair o)
+outcome_well codec format pin pair (outcome.Route route) well fits =
+    All-append (λ (used : ℕ × Role). IsUsedWell codec format.channels used.0 used.1) (hop_uses route.hops) ((route.converter, Source pair) ∷ [])
+    (All-map (λ (used : ℕ × Role). IsUsedWell codec format.channels used.0 used.1) (λ (hop : Hop). (hop.nid, Passed hop.index)) route.hops
+    (λ k d within. record {
+      analog_stereo = route_stereo codec route well.analog_stereo (get_or route.hops k d) (Contains-get_or route.hops k d within);
+      left_well = well.left_well k d within;
+    }))
+    (All-cons (λ (used : ℕ × Role). IsUsedWell codec format.channels used.0 used.1) (route.converter, Source pair) [] (record {
+      analog_stereo = All-contains (λ nid. passes is_analog_stereo (node_at codec nid) ≡ true) (nodes_of route) route.converter well.analog_stereo (Contains-push (map (λ (hop : Hop). hop.nid) route.hops) route.converter);
+      converts = well.path.ends;
+      pair_fits = fits;
+    }) (All-nil (λ (used : ℕ × Role). IsUsedWell codec format.channels used.0 used.1)))
+outcome_well codec format pin pair outcome.Blocked well fits = All-nil (λ (used : ℕ × Role). IsUsedWell codec format.channels used.0 used.1)
+outcome_well codec format pin pair outcome.NoPath well fits = All-nil (λ (used : ℕ × Role). IsUsedWell codec format.channels used.0 used.1)
+
+pub all_uses : (P : ℕ × Role → Type 0) (entries : List PinPlan) → All (λ (entry : PinPlan). All P (entry_uses entry)) entries → All P (uses_of entries)
+all_uses P [] all = All-nil P
+all_uses P (entry ∷ entries) all =
+    All-append P (entry_uses entry) (uses_of entries) (All-head (λ (e : PinPlan). All P (entry_uses e)) entry entries all) (all_uses P entries (All-tail (λ (e : PinPlan). All P (entry_uses e)) entry entries all))
+
+admissible_outcome : (codec : RawCodec) (format : Format) (earlier : List PinPlan) (pair pin : ℕ) (o : Outcome) → IsOutcome codec format earlier pair pin o → IsAdmissibleOutcome codec format pin o
+admissible_outcome codec format earlier pair pin (outcome.Route route) is = is.0.0
+admissible_outcome codec format earlier pair pin outcome.Blocked is = tt
+admissible_outcome codec format earlier pair pin outcome.NoPath is = tt
+
+pub admissible_entries : (codec : RawCodec) (format : Format) (earlier entries : List PinPlan) → HaveOutcomes codec format earlier entries → All (λ (entry : PinPlan). IsAdmissibleOutcome codec format entry.pin entry.outcome) entries
+admissible_entries codec format earlier [] have = All-nil (λ (entry : PinPlan). IsAdmissibleOutcome codec format entry.pin entry.outcome)
+admissible_entries codec format earlier (entry ∷ entries) have =
+    All-cons (λ (e : PinPlan). IsAdmissibleOutcome codec format e.pin e.outcome) entry entries (admissible_outcome codec format earlier entry.pair entry.pin entry.outcome have.0) (admissible_entries codec format (earlier ++ entry ∷ []) entries have.1)
+
+small : (rank channels pair : ℕ) → channels % 2 ≡ 0 → 2 ≤ channels → pair ≡ rank % (channels / 2) → 2 * pair + 1 < channels
+small rank channels pair even some is =
+    let z : rank % (channels / 2) < channels / 2 = mod_below rank (channels / 2) (omega arith) in
+    let y : pair < channels / 2 = rw is z in
+    omega (arith, y)
+
+-- pairs are those of the stream's channels
+pub pair_within : (codec : RawCodec) (channels pin pair : ℕ) → channels % 2 ≡ 0 → 2 ≤ channels → pair ≡ pair_of codec channels pin → 2 * pair + 1 < channels
+pair_within codec channels pin pair even some is = small _ channels pair even some is
+
+pub entry_well : (codec : RawCodec) (format : Format) (plan : Plan) → IsPlan codec format plan → All (λ (used : ℕ × Role). IsUsedWell codec format.channels used.0 used.1) (uses_of plan.pins)
+entry_well codec format plan is =
+    all_uses (λ (used : ℕ × Role). IsUsedWell codec format.channels used.0 used.1) plan.pins
+    (λ k d within. let entry = get_or plan.pins k d in
+      outcome_well codec format entry.pin entry.pair entry.outcome (admissible_entries codec format [] plan.pins is.outcomes k d within) (pair_within codec format.channels entry.pin entry.pair format.even format.some (is.pins.pairs k d within)))
+
+pub role_well : (codec : RawCodec) (format : Format) (plan : Plan) (nid : ℕ) → IsPlan codec format plan → IsUsedWell codec format.channels nid (role_of plan nid)
+unfolding role_of
+role_well codec format plan nid is = role_all (λ n r. IsUsedWell codec format.channels n r) (λ n. tt) (uses_of plan.pins) nid (entry_well codec format plan is)

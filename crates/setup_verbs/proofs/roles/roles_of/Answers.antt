@@ -1,0 +1,12 @@
+use Rattle.std.proofs.Common.{rules, refl}
+use Rattle.setup_verbs.proofs.RoleLists.{entry_more, unused_at}
+use Rattle.setup_verbs.proofs.roles.roles_of.Goals as goal
+
+pub loop-entry-init : goal.loop-entry-init
+loop-entry-init c = record { whole = refl; added = λ nid below. unused_at 256 nid below }
+
+pub loop-entry-preserved : goal.loop-entry-preserved
+loop-entry-preserved c = record {
+  whole = search rules;
+  added = λ nid below. entry_more c.args.pins.now c.loop-entry.entry-index c.entry-item.result nid _ _ c.loop-entry-test.true c.entry-item.is (c.loop-entry.invariant.added nid below) (c.add_entry.ensures nid below);
+}

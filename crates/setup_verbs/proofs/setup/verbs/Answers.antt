@@ -1,0 +1,52 @@
+use Rattle.std.proofs.Common.{◌≡◌, ◌<◌, ℕ, List, ◌∙◌, sym, ap, subst}
+use Rattle.codec_graph.specs.declared.raw.RawCodec.{RawCodec}
+use Rattle.codec_graph.specs.Cycles.{IsWellFormed}
+use Rattle.route_planner.specs.Plans.{IsPlan}
+use Rattle.route_planner.specs.declared.routes.PinPlan.{PinPlan}
+use Rattle.setup_verbs.specs.Roles.{role_of, role_among, uses_of}
+use Rattle.setup_verbs.specs.Steps.{AreRoles, FitsVerbs, role_in, commands_of}
+use Rattle.setup_verbs.specs.declared.steps.Step.TheVariants.{Power, Silence, Release, Route}
+use Rattle.setup_verbs.specs.VerbList.{setup_verbs, command_to}
+use Rattle.stream_format.specs.declared.format.Format.{Format}
+use Rattle.route_planner.specs.declared.routes.Plan.{Plan}
+use Rattle.setup_verbs.proofs.Fitting.{fits_verbs}
+use Rattle.setup_verbs.proofs.Lists.{five_lists}
+use Rattle.setup_verbs.proofs.setup.verbs.Goals as goal
+
+fitting : (graph codec : RawCodec) (format : Format) (plan : Plan) → codec ≡ graph → IsWellFormed graph → IsPlan graph format plan → FitsVerbs codec plan
+fitting graph codec format plan same well is = subst (λ g. FitsVerbs g plan) (sym same) (fits_verbs graph format plan well is)
+
+pub send_step-requires-clause-roles : goal.send_step-requires-clause-roles
+unfolding role_of
+send_step-requires-clause-roles c = λ nid below. c.roles_of-roles.ensures nid below ∙ ap (λ (pins : List PinPlan). role_among (uses_of pins) nid) c.as_slice.ensures
+
+pub send_step-requires-2-clause-roles : goal.send_step-requires-2-clause-roles
+unfolding role_of
+send_step-requires-2-clause-roles c = λ nid below. c.roles_of-roles.ensures nid below ∙ ap (λ (pins : List PinPlan). role_among (uses_of pins) nid) c.as_slice.ensures
+
+pub send_step-requires-3-clause-roles : goal.send_step-requires-3-clause-roles
+unfolding role_of
+send_step-requires-3-clause-roles c = λ nid below. c.roles_of-roles.ensures nid below ∙ ap (λ (pins : List PinPlan). role_among (uses_of pins) nid) c.as_slice.ensures
+
+pub send_step-requires-4-clause-roles : goal.send_step-requires-4-clause-roles
+unfolding role_of
+send_step-requires-4-clause-roles c = λ nid below. c.roles_of-roles.ensures nid below ∙ ap (λ (pins : List PinPlan). role_among (uses_of pins) nid) c.as_slice.ensures
+
+pub send_step-requires-clause-fits : goal.send_step-requires-clause-fits
+send_step-requires-clause-fits c = fitting c.args.graph.now c.raw-codec.result.now c.args.format c.args.plan.now c.raw-codec.ensures.value c.raw-codec.ensures.well_formed c.requires.plan
+
+pub send_step-requires-2-clause-fits : goal.send_step-requires-2-clause-fits
+send_step-requires-2-clause-fits c = fitting c.args.graph.now c.raw-codec.result.now c.args.format c.args.plan.now c.raw-codec.ensures.value c.raw-codec.ensures.well_formed c.requires.plan
+
+pub send_step-requires-3-clause-fits : goal.send_step-requires-3-clause-fits
+send_step-requires-3-clause-fits c = fitting c.args.graph.now c.raw-codec.result.now c.args.format c.args.plan.now c.raw-codec.ensures.value c.raw-codec.ensures.well_formed c.requires.plan
+
+pub send_step-requires-4-clause-fits : goal.send_step-requires-4-clause-fits
+send_step-requires-4-clause-fits c = fitting c.args.graph.now c.raw-codec.result.now c.args.format c.args.plan.now c.raw-codec.ensures.value c.raw-codec.ensures.well_formed c.requires.plan
+
+pub returns : goal.returns
+unfolding setup_verbs
+returns c =
+    five_lists _ c.new-commands.result.items c.send_if.new.commands.items c.send_step.new.commands.items c.send_step-2.new.commands.items c.send_step-3.new.commands.items c.send_step-4.new.commands.items _ _ _ _
+    c.new-commands.ensures.items c.in_ok-send_if.ensures c.in_ok-send_step.ensures c.in_ok-send_step-2.ensures c.in_ok-send_step-3.ensures c.in_ok-send_step-4.ensures
+    ∙ ap (λ (g : RawCodec). setup_verbs g c.args.plan.now c.args.format c.args.tag) c.raw-codec.ensures.value

@@ -1,0 +1,10 @@
+//! The verbs that set a codec up for the plan of its graph: they open every planned route and silence every other pin.
+#![tactic(auto)]
+
+mod openings;
+mod roles;
+mod sending;
+mod setup;
+mod steps;
+
+pub use setup::verbs;

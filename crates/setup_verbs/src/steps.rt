@@ -1,0 +1,132 @@
+//! The steps of set-up, each over all nodes.
+ghost use Rattle.std.specs.Prelude.{◌≡◌, ◌≤◌, ◌<◌, ◌&&◌, ◌++◌, ℕ, true, length, OnOk, Some};
+ghost use Rattle.codec_graph.specs.Widget as widget;
+ghost use Rattle.codec_graph.specs.declared.raw.RawNode.{RawNode};
+ghost use Rattle.setup_verbs.specs.Steps as spec;
+ghost use Rattle.setup_verbs.specs.VerbList as list;
+
+use crate::openings::{open_passed, open_source};
+use crate::roles::Role;
+use crate::sending::send_if;
+use codec_graph::{NODE_IDENTIFIERS, RawCodec, RawNode};
+use route_planner::Plan;
+use std::alloc::AllocError;
+use stream_format::Format;
+use verb_codes::{Command, Verb};
+
+/// A step of set-up.
+#[derive(Clone, Copy, Debug, PartialEq, Eq)]
+pub(crate) enum Step {
+    /// The nodes of routes are powered.
+    Power,
+    /// Pins without a route are silenced.
+    Silence,
+    /// Converters on no route are released from their streams.
+    Release,
+    /// The nodes of routes are opened.
+    Route,
+}
+
+/// The commands of a step to all nodes, ascending.
+///
+/// # Errors
+/// Want of memory.
+pub(crate) fn send_step(
+    commands: &mut Vec<Command>,
+    codec: &RawCodec,
+    plan: &Plan,
+    roles: &[Role; 256],
+    format: Format,
+    tag: u8,
+    step: Step,
+) -> Result<(), AllocError>
+    requires roles { spec.AreRoles plan.now roles.now }
+    requires tag { tag ≤ 15 }
+    requires fits { spec.FitsVerbs codec.now plan.now }
+    ensures { OnOk result (commands.new.items ≡ commands.old.items ++ spec.commands_of codec.now plan.now format tag step) }
+{
+    for nid in 0..NODE_IDENTIFIERS as u8 {
+        send_at(commands, codec, plan, roles, format, tag, step, nid)?;
+    }
+    Ok(())
+}
+
+/// The commands of a step to one node.
+fn send_at(
+    commands: &mut Vec<Command>,
+    codec: &RawCodec,
+    plan: &Plan,
+    roles: &[Role; 256],
+    format: Format,
+    tag: u8,
+    step: Step,
+    nid: u8,
+) -> Result<(), AllocError>
+    requires roles { spec.AreRoles plan.now roles.now }
+    requires tag { tag ≤ 15 }
+    requires fits { spec.FitsVerbs codec.now plan.now }
+    ensures { OnOk result (commands.new.items ≡ commands.old.items ++ spec.commands_at codec.now plan.now format tag step nid) }
+{
+    let role = roles[usize::from(nid)];
+    match codec.node(nid) {
+        Some(node) => send_to_widget(commands, codec, plan, format, tag, step, nid, node, role),
+        None => Ok(()),
+    }
+}
+
+/// The commands of a step to one widget, by what the routes make of it.
+fn send_to_widget(
+    commands: &mut Vec<Command>,
+    codec: &RawCodec,
+    plan: &Plan,
+    format: Format,
+    tag: u8,
+    step: Step,
+    nid: u8,
+    node: &RawNode,
+    role: Role,
+) -> Result<(), AllocError>
+    requires tag { tag ≤ 15 }
+    requires fits { spec.FitsWidget plan.now node.now role }
+    ensures { OnOk result (commands.new.items
+        ≡ commands.old.items ++ list.commands_to codec.now nid (spec.step_verbs codec.now plan.now format tag step nid node.now role)) }
+{
+    match step {
+        Step::Power => {
+            let applies = role.is_used() && node.has_power_control();
+            send_if(commands, codec, nid, applies, Verb::SetPower(0))
+        }
+        Step::Silence => {
+            let applies = !role.is_used() && node.is_pin();
+            send_if(commands, codec, nid, applies, Verb::SetPin(0))
+        }
+        Step::Release => {
+            let applies = !role.is_used() && node.is_output_converter();
+            send_if(commands, codec, nid, applies, Verb::SetStream(0))
+        }
+        Step::Route => send_route(commands, codec, plan, format, tag, nid, node, role),
+    }
+}
+
+/// The verbs of a node by what the routes make of it.
+fn send_route(
+    commands: &mut Vec<Command>,
+    codec: &RawCodec,
+    plan: &Plan,
+    format: Format,
+    tag: u8,
+    nid: u8,
+    node: &RawNode,
+    role: Role,
+) -> Result<(), AllocError>
+    requires tag { tag ≤ 15 }
+    requires fits { spec.FitsWidget plan.now node.now role }
+    ensures { OnOk result (commands.new.items
+        ≡ commands.old.items ++ list.commands_to codec.now nid (list.route_verbs codec.now plan.now format tag nid node.now role)) }
+{
+    match role {
+        Role::Unused => Ok(()),
+        Role::Passed(index) => open_passed(commands, codec, plan, nid, node, index),
+        Role::Source(pair) => open_source(commands, codec, format, tag, nid, node, pair),
+    }
+}
