@@ -70,7 +70,6 @@ same_ready old new state ran on same =
     ∙ ap (λ (word : ℕ). worth (is_ready (record { descriptor = record new { format = word }; state = state })) 0) (sym same.format)
 
 ready_stays : (runs : Bool) (old new : Descriptor) (state : StreamState) → is_running new ≡ runs → rose old new ≡ false → fell old new ≡ false
-
     → (is_running old ≡ true → is_running new ≡ true → SamePlay old new) → (new.fifo_ready ≡ old.fifo_ready) ⊎ (new.fifo_ready ≡ 0)
     → old.fifo_ready ≡ worth (is_ready (record { descriptor = old; state = state })) 0 → new.fifo_ready ≡ worth (is_ready (record { descriptor = new; state = state })) 0
 ready_stays true old new state is no_rise no_fall plays stays shows =

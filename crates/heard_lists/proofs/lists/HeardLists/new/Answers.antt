@@ -19,10 +19,11 @@ loop-codec-preserved c =
     let added : c.add_lists.new.lists.items ≡ c.loop-codec.lists.items ++ empty_lists codec.graph.address pins =
     c.in_ok-add_lists.ensures
     ∙ (ap (λ (graph : RawCodec). c.loop-codec.lists.items ++ empty_lists graph.address c.as_slice.result.now) c.raw.ensures.value
-    ∙ ap (λ (pins : List ℕ). c.loop-codec.lists.items ++ empty_lists codec.graph.address pins) c.as_slice.ensures.value) in
-    (subst (λ (graphs : List RawCodec). AreListsOf graphs c.add_lists.new.lists.items) (sym more)
-    (subst (AreListsOf (graphs_in before ++ codec.graph ∷ [])) (sym added)
-    (AreListsOf-push (graphs_in before) c.loop-codec.lists.items codec.graph pins c.loop-codec.invariant.0 c.in_ok-pins.ensures)),
-    subst AreEmpty (sym added)
-    (All-append (λ (l : Listing). l.list ≡ []) c.loop-codec.lists.items (empty_lists codec.graph.address pins) c.loop-codec.invariant.1
-    (AreEmpty-empty codec.graph.address pins)))
+    ∙ ap (λ (pins : List ℕ). c.loop-codec.lists.items ++ empty_lists codec.graph.address pins) c.as_slice.ensures.value) in (
+      subst (λ (graphs : List RawCodec). AreListsOf graphs c.add_lists.new.lists.items) (sym more)
+          (subst (AreListsOf (graphs_in before ++ codec.graph ∷ [])) (sym added)
+          (AreListsOf-push (graphs_in before) c.loop-codec.lists.items codec.graph pins c.loop-codec.invariant.0 c.in_ok-pins.ensures)),
+      subst AreEmpty (sym added)
+          (All-append (λ (l : Listing). l.list ≡ []) c.loop-codec.lists.items (empty_lists codec.graph.address pins) c.loop-codec.invariant.1
+          (AreEmpty-empty codec.graph.address pins)),
+    )
