@@ -105,6 +105,13 @@ impl Device {
         &self.registers
     }
 
+    /// A law: with any memory a device is some world, so the moves that its calls promise are never promised of nothing. Does nothing.
+    pub fn is_some_world(&self)
+        ensures { (memory : List ℕ) → (world : World) × IsWorld memory self.now world }
+    {
+        let _registers = &self.registers;
+    }
+
     /// Writes a register (HDA 1.0a, 3.3). The streams whose RUN rose or fell begin anew or stop. Where CRST was written 0 all that waits
     /// at the codecs and in the controller is dropped (HDA 1.0a, 5.5.1), and where CRST was written 0 or rose the link frames are
     /// counted anew.
