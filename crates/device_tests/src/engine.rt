@@ -34,20 +34,131 @@ const STARTS: [([u32; 3], u16); 9] = [
     ([0xFFFF_0000, FULL, FULL], 0),
 ];
 
+/// What a start answers where the three registers read so.
+fn started(alloc: Global, reads: &[u32]) -> Result<u16, Fail> {
+    let mut pool = Pool::new(alloc, 24)?;
+    let mut platform = Scripted::new(alloc, reads, 16, 0)?;
+    match Engine::open(alloc, &mut pool) {
+        Ok(mut engine) => {
+            let codecs = engine.start(&mut platform);
+            engine.close(&mut pool);
+            Ok(codecs)
+        }
+        Err(_) => Err(Fail::from("no engine")),
+    }
+}
+
 #[test]
 fn starts_where_codecs_and_sizes_are(rt: HostRuntime) -> Result<(), Fail> {
-    let alloc = rt.alloc();
     for (reads, want) in &STARTS {
-        let mut pool = Pool::new(alloc, 24)?;
-        let Ok(mut engine) = Engine::open(alloc, &mut pool) else {
-            return Err(Fail::from("no engine"));
-        };
-        let mut platform = Scripted::new(alloc, reads.as_slice(), 16, 0)?;
-        let got = engine.start(&mut platform);
+        let got = started(rt.alloc(), reads)?;
         assert!(rt; got == *want, "{reads:?}: {got:x}");
-        assert!(rt; engine.is_started() == (*want != 0));
-        engine.close(&mut pool);
-        assert!(rt; pool.free() == 24);
+    }
+    Ok(())
+}
+
+#[test]
+fn opens_where_both_rings_have_a_run(rt: HostRuntime) -> Result<(), Fail> {
+    let alloc = rt.alloc();
+    let mut pool = Pool::new(alloc, 23)?;
+    match Engine::open(alloc, &mut pool) {
+        Ok(engine) => {
+            engine.close(&mut pool);
+            return Err(Fail::from("no run for RIRB"));
+        }
+        Err(fault) => assert!(rt; fault == OpenFault::NoRun),
+    }
+    assert!(rt; pool.free() == 23);
+    Ok(())
+}
+
+/// The entries of RIRB from 1 on, each as two words, what the write pointer reads, the clock of the poll, and what it answers for a
+/// command to codec 2 that was submitted at 1,000.
+struct Case(&'static [[u32; 2]], u32, u32, Poll);
+
+const POLLS: [Case; 10] = [
+    Case(&[[0x10EC_0889, 2]], 1, 1_500, Poll::Answered(0x10EC_0889)),
+    // nothing new; the limit; a clock that goes back
+    Case(&[], 0, 500_999, Poll::Waiting),
+    Case(
+        &[],
+        0,
+        501_000,
+        Poll::Unanswered {
+            issued: 1_000,
+            noticed: 501_000,
+        },
+    ),
+    Case(&[], 0, 0, Poll::Waiting),
+    // a response of another codec, one that was sent unasked, and both before the answer
+    Case(&[[7, 1]], 1, 1_500, Poll::Waiting),
+    Case(&[[0x0400_0000, 0x12]], 1, 1_500, Poll::Waiting),
+    Case(
+        &[[7, 1], [0x0400_0000, 0x12], [9, 2]],
+        3,
+        1_500,
+        Poll::Answered(9),
+    ),
+    // the first of two
+    Case(&[[8, 2], [9, 2]], 2, 1_500, Poll::Answered(8)),
+    // an answer at the limit counts
+    Case(&[[8, 2]], 1, 501_000, Poll::Answered(8)),
+    // a write pointer past the ring is taken modulo its entries
+    Case(&[[8, 2]], 0x101, 1_500, Poll::Answered(8)),
+];
+
+/// Stores entries of a ring from its entry 1 on.
+fn store_entries(platform: &mut Scripted, ring: usize, entries: &[[u32; 2]])
+    requires { ring ≤ 4096 }
+    ensures accesses { ⟦<Scripted as Platform>⟧.spare_accesses platform.new ≡ ⟦<Scripted as Platform>⟧.spare_accesses platform.old }
+    ensures bytes { ⟦<Scripted as Platform>⟧.spare_bytes platform.new ≡ ⟦<Scripted as Platform>⟧.spare_bytes platform.old }
+{
+    for place in 0..entries.len().min(255) {
+        let [response, source] = entries[place];
+        platform.set_word(ring + 8 * (place + 1), response);
+        platform.set_word(ring + 8 * (place + 1) + 4, source);
+    }
+}
+
+/// Starts the engine for codec 2, submits a command at 1,000 and polls once.
+fn poll_once(engine: &mut Engine, platform: &mut Scripted, case: &Case) -> Option<Poll>
+    requires accesses { 400 ≤ ⟦<Scripted as Platform>⟧.spare_accesses platform.old }
+    requires bytes { 4000 ≤ ⟦<Scripted as Platform>⟧.spare_bytes platform.old }
+    requires events { engine.old.events.items ≡ [] }
+    ensures corb { engine.new.corb ≡ engine.old.corb }
+    ensures rirb { engine.new.rirb ≡ engine.old.rirb }
+{
+    let (_, rirb) = engine.addresses();
+    engine.start(platform);
+    if !engine.is_started() || engine.outstanding().is_some() || rirb > 4_096 {
+        return None;
+    }
+    engine.submit(platform, ask_vendor(2), 1_000);
+    store_entries(platform, rirb as usize, case.0);
+    Some(engine.poll(platform, case.2))
+}
+
+/// What the poll of a case answers.
+fn polled(alloc: Global, case: &Case) -> Result<Option<Poll>, Fail> {
+    let flag = u32::from(case.1 != 0);
+    let reads = [4, FULL, FULL, 0x8000, 0, flag, case.1];
+    let mut pool = Pool::new(alloc, 24)?;
+    let mut platform = Scripted::new(alloc, &reads, 400, 4_000)?;
+    match Engine::open(alloc, &mut pool) {
+        Ok(mut engine) => {
+            let poll = poll_once(&mut engine, &mut platform, case);
+            engine.close(&mut pool);
+            Ok(poll)
+        }
+        Err(_) => Err(Fail::from("no engine")),
+    }
+}
+
+#[test]
+fn polls_find_the_answer(rt: HostRuntime) -> Result<(), Fail> {
+    for case in &POLLS {
+        let got = polled(rt.alloc(), case)?;
+        assert!(rt; got == Some(case.3), "{got:?} in place of {:?}", case.3);
     }
     Ok(())
 }

@@ -20,6 +20,8 @@ mod rings;
 #[cfg(test)]
 mod scripted;
 #[cfg(test)]
+mod setup;
+#[cfg(test)]
 mod sounds;
 #[cfg(test)]
 mod streams;

@@ -38,16 +38,6 @@ impl Scripted {
         })
     }
 
-    /// The four bytes of a word of memory, lowest first.
-    pub fn word(&self, at: usize) -> u32 {
-        let mut word = 0;
-        for place in 0..4 {
-            let byte = self.memory.get(at + 3 - place).copied().unwrap_or(0);
-            word = word << 8 | u32::from(byte);
-        }
-        word
-    }
-
     /// Stores a word, lowest byte first.
     pub fn set_word(&mut self, at: usize, word: u32)
         requires { at + 4 ≤ REGION_BYTES }

@@ -72,9 +72,9 @@ fn hears_the_least_codec(rt: HostRuntime) -> Result<(), Fail> {
     assert!(rt; heard_after(alloc, LEAST, &[], 0x14)? == Signal::Silence);
     assert!(rt; heard_after(alloc, LEAST, &OPEN, 0x14)? == Signal::Pair(0));
     // The amplifier has no steps, so the gain that is kept is 0.
-    let [power, format, stream, _, mute, pin, enable] = OPEN;
-    let gain = [power, format, stream, 0x00C3_7001, mute, pin, enable];
-    assert!(rt; heard_after(alloc, LEAST, &gain, 0x14)? == Signal::Pair(0));
+    let mut louder = Vec::from_slice(alloc, &OPEN)?;
+    louder.push(0x00C3_7001)?;
+    assert!(rt; heard_after(alloc, LEAST, louder.as_slice(), 0x14)? == Signal::Pair(0));
     Ok(())
 }
 
@@ -83,7 +83,7 @@ fn hears_after_three_more_words(rt: HostRuntime) -> Result<(), Fail> {
     let alloc = rt.alloc();
     let cases = [
         (0x14, [VENDOR, VENDOR, VENDOR], Signal::Pair(0)),
-        // An empty list, and a place past the list, which is not selected.
+        // An empty list; a place past the list, which the codec does not select.
         (0x15, [0x0153_B000, 0x0157_0740, VENDOR], Signal::Silence),
         (0x14, [0x0147_0103, VENDOR, VENDOR], Signal::Pair(0)),
         // A mono mixer; two converters at once; the selector's first input and its seventeenth.
@@ -134,5 +134,43 @@ fn keeps_until_renewed(rt: HostRuntime) -> Result<(), Fail> {
     kept.renew(open.graph(), open.settings(), 1, None);
     assert!(rt; kept.hear(0x14) == Signal::Silence);
     assert!(rt; kept.renewals() == 1);
+    Ok(())
+}
+
+/// Twenty layers of six mixers without amplifiers. Each lists all of the layer below it, which has the greater node identifiers, those
+/// of the lowest layer the converter 02; the pin 7B lists the topmost.
+fn layers(alloc: Global) -> Result<String, Fail> {
+    let mut text = String::new(alloc);
+    text.push_str(
+        "[[codec]]\naddress = 0\nvendor = 0x10EC0889\nnode = [\n{nid = 0x02, caps = 0x1},\n",
+    )?;
+    for layer in 0..20_u32 {
+        for mixer in 0..6_u32 {
+            let nid = 3 + 6 * layer + mixer;
+            let below = 9 + 6 * layer;
+            let list = if layer == 19 {
+                format!(in alloc; "2")?
+            } else {
+                let [a, b, c] = [below, below + 1, below + 2];
+                let [d, e, f] = [below + 3, below + 4, below + 5];
+                format!(in alloc; "{a}, {b}, {c}, {d}, {e}, {f}")?
+            };
+            let node = format!(in alloc; "{{nid = {nid}, caps = 0x200101, list = [{list}]}},\n")?;
+            text.push_str(&node)?;
+        }
+    }
+    text.push_str(
+        "{nid = 0x7B, caps = 0x400101, pin_caps = 0x10, default = 0x01014010, list = [3]},\n]\n",
+    )?;
+    Ok(text)
+}
+
+#[test]
+fn follows_many_layers(rt: HostRuntime) -> Result<(), Fail> {
+    let alloc = rt.alloc();
+    let text = layers(alloc)?;
+    assert!(rt; heard_after(alloc, &text, &[], 0x7B)? == Signal::Silence);
+    let open = [0x0022_0011, 0x0027_0610, 0x07B7_0740];
+    assert!(rt; heard_after(alloc, &text, &open, 0x7B)? == Signal::Altered);
     Ok(())
 }
