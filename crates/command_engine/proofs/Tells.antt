@@ -1,6 +1,5 @@
 -- What is told of the accesses of a start, a submission and a poll.
-use Rattle.std.proofs.Common.{◌≡◌, ◌≢◌, ◌<◌, ◌^◌, ℕ, List, length, map, drop, Option, None, Some, refl, sym, ap, subst, ◌∙◌}
-use Rattle.ring_entries.specs.declared.response.Response.{Response}
+use Rattle.std.proofs.Common.{◌≡◌, ◌≢◌, ◌<◌, ◌^◌, ℕ, List, length, Option, None, Some, refl, sym, ap, subst, ◌∙◌}
 use Rattle.ring_entries.proofs.Standing.{each_stands}
 use Rattle.hda_world.specs.Tellings.{Telling, world_of, Between, Makes}
 use Rattle.hda_world.proofs.Callers.{told_map}
@@ -8,13 +7,13 @@ use Rattle.command_engine.specs.declared.rings.Rings.{Rings}
 use Rattle.command_engine.specs.declared.answers.Event.{Event}
 use Rattle.command_engine.specs.declared.answers.Outstanding.{Outstanding}
 use Rattle.command_engine.specs.declared.answers.Poll.{Poll}
-use Rattle.command_engine.specs.Entries.{responses_in, events_of, answer_among}
-use Rattle.command_engine.specs.Polling.{asked_of, found_by, poll_of, rings_polled, Polls}
+use Rattle.command_engine.specs.Entries.{events_of, answer_among}
+use Rattle.command_engine.specs.Polling.{asked_of, found_by, poll_of, Polls}
 use Rattle.command_engine.specs.Submitting.{submit_accesses, rings_submitted}
-use Rattle.command_engine.specs.Starting.{StartReads, codecs_in, codecs_if, rings_if, rings_read, start_accesses, Starts}
-use Rattle.command_engine.specs.Courses.{StandsBy, Stands}
-use Rattle.command_engine.specs.Belonging.{as_held, Belongs, from_after, CanStart, IsBlockAddress, PollLeaves}
-use Rattle.command_engine.specs.Told.{Begins, LeadsOn, found_since, PollTells, PollTellsOf}
+use Rattle.command_engine.specs.Starting.{codecs_if, rings_if, rings_read, Starts}
+use Rattle.command_engine.specs.Courses.{Stands}
+use Rattle.command_engine.specs.Belonging.{Belongs, from_after, IsBlockAddress}
+use Rattle.command_engine.specs.Told.{Begins, LeadsOn, found_since, PollTellsOf}
 use Rattle.command_engine.proofs.Batches.{EachStands}
 use Rattle.command_engine.proofs.PollTellings.{poll_leaves}
 use Rattle.command_engine.proofs.SubmitTellings.{submit_leaves}
@@ -28,15 +27,15 @@ pub poll_tells : (clock corb rirb : ℕ) (rings rings' : Rings) (answer : Poll) 
     → Between (PollTellsOf clock corb rirb rings answer rings' events) old new
 poll_tells clock corb rirb rings rings' answer events old new polls =
     told_map (λ old new made from read holds. (
-        let leaves = poll_leaves from read corb rirb rings responses_apart polls.reads old new polls.new_ones made holds in
-        let found : found_by rings polls.reads ≡ found_since read rings (world_of new) = ap (answer_among (asked_of rings.outstanding)) leaves.responses in
-        record {
-          answer_is = polls.answer_is ∙ ap (λ (f : Option ℕ). poll_of rings.outstanding f clock) found;
-          events_are = polls.events_are ∙ ap events_of leaves.responses;
-          belongs = subst (λ (f : Option ℕ). Belongs from rings.outstanding (world_of new).commands f) found leaves.belongs;
-          stands = subst (λ (f : Option ℕ). Stands (from_after f from (world_of new).commands) (length (world_of new).written) corb rirb rings' (world_of new)) found
+    let leaves = poll_leaves from read corb rirb rings responses_apart polls.reads old new polls.new_ones made holds in
+    let found : found_by rings polls.reads ≡ found_since read rings (world_of new) = ap (answer_among (asked_of rings.outstanding)) leaves.responses in
+    record {
+      answer_is = polls.answer_is ∙ ap (λ (f : Option ℕ). poll_of rings.outstanding f clock) found;
+      events_are = polls.events_are ∙ ap events_of leaves.responses;
+      belongs = subst (λ (f : Option ℕ). Belongs from rings.outstanding (world_of new).commands f) found leaves.belongs;
+      stands = subst (λ (f : Option ℕ). Stands (from_after f from (world_of new).commands) (length (world_of new).written) corb rirb rings' (world_of new)) found
           (subst (λ (r : Rings). Stands (from_after (found_by rings polls.reads) from (world_of new).commands) (length (world_of new).written) corb rirb r (world_of new)) (sym polls.rings_are) leaves.stands);
-        })) polls.made
+    })) polls.made
 
 pub submit_tells : (corb rirb : ℕ) (rings : Rings) (command : Outstanding) (old new : Option Telling) → rings.outstanding ≡ None → command.word < 2 ^ 32
     → Between (Makes (submit_accesses corb rings command.word)) old new → Between (LeadsOn corb rirb rings (rings_submitted rings command)) old new
@@ -51,7 +50,7 @@ pub start_tells : (corb rirb answer : ℕ) (rings rings' : Rings) (old new : Opt
     → Between (Begins corb rirb answer rings') old new
 start_tells corb rirb answer rings rings' old new corb_block rirb_block starts =
     told_map (λ old new made some can. (
-        let begun = some_rings (rings_read starts.reads) starts.reads.status answer starts.answer_is some in
-        let is : rings' ≡ begun.0 = starts.rings_are ∙ ap (λ (found : Option Rings). rings_if found rings) begun.1 in
-        subst (λ (r : Rings). Stands (length (world_of old).commands) (length (world_of old).written) corb rirb r (world_of new)) (sym is)
-        (start_leaves responses_apart corb rirb starts.reads begun.0 old new corb_block rirb_block begun.1 made can))) starts.made
+    let begun = some_rings (rings_read starts.reads) starts.reads.status answer starts.answer_is some in
+    let is : rings' ≡ begun.0 = starts.rings_are ∙ ap (λ (found : Option Rings). rings_if found rings) begun.1 in
+    subst (λ (r : Rings). Stands (length (world_of old).commands) (length (world_of old).written) corb rirb r (world_of new)) (sym is)
+    (start_leaves responses_apart corb rirb starts.reads begun.0 old new corb_block rirb_block begun.1 made can))) starts.made

@@ -1,4 +1,4 @@
-use Rattle.std.proofs.Common.{◌≡◌, ℕ, List, rules, sym, subst}
+use Rattle.std.proofs.Common.{rules, sym, subst}
 use Rattle.hda_world.specs.Tellings.{Between, Makes}
 use Rattle.hda_world.proofs.Callers.{rows}
 use Rattle.command_engine.specs.declared.rings.Rings.{Rings}
