@@ -2,6 +2,8 @@
 
 -- fewer responses than RIRB has entries stand each in an entry of its own: what the lemmas below take
 pub use Rattle.command_engine.proofs.Batches.{EachStands}
+-- and they do
+pub use Rattle.command_engine.proofs.Tells.{responses_apart}
 -- every move of the device keeps how the engine stands
 pub use Rattle.command_engine.proofs.Keeping.{keeps_standing}
 -- and so do steps in a row

@@ -15,3 +15,4 @@ pub mod PollTellings
 pub mod SubmitTellings
 pub mod StartWrites
 pub mod StartTellings
+pub mod Tells

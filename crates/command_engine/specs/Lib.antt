@@ -7,5 +7,6 @@ pub mod Submitting
 pub mod Polling
 pub mod Courses
 pub mod Belonging
+pub mod Told
 -- what private functions promise one another
 pub mod Reading

@@ -44,6 +44,9 @@ pub struct Engine {
 }
 
 impl Engine {
+    ghost use Rattle.hda_world.specs.declared.world.TheConstants.{REGION_BYTES};
+    ghost use Rattle.command_engine.specs.Courses.{HasBlocks};
+
     /// Whether the engine was started.
     pub fn is_started(&self) -> bool
         ensures { result ≡ self.now.rings.started }
@@ -58,9 +61,10 @@ impl Engine {
         self.rings.outstanding
     }
 
-    /// The addresses of CORB and of RIRB.
+    /// The addresses of CORB and of RIRB, whose blocks lie in the region, apart from one another.
     pub fn addresses(&self) -> (u32, u32)
-        ensures { result ≡ (self.now.corb.address, self.now.rirb.address) }
+        ensures value { result ≡ (self.now.corb.address, self.now.rirb.address) }
+        ensures blocks { HasBlocks self.now.corb.address self.now.rirb.address REGION_BYTES }
     {
         (self.corb.address(), self.rirb.address())
     }

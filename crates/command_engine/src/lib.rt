@@ -10,8 +10,5 @@ mod rings;
 
 pub use answers::{ANSWER_LIMIT, Event, Outstanding, Poll};
 pub use engine::{CORB_BYTES, Engine, MOST_EVENTS, OpenFault, RIRB_BYTES};
-pub use laws::{
-    answers_belong_to_their_commands, events_beside_keep_standing, few_responses_are_unread,
-    starts_bring_standing, steps_keep_standing, submissions_keep_standing,
-};
+pub use laws::{events_beside_keep_standing, few_responses_are_unread, steps_keep_standing};
 pub use rings::Rings;

@@ -4,6 +4,8 @@ ghost use Rattle.hda_registers.specs.Fields.{entries_of};
 ghost use Rattle.ring_entries.specs.declared.entries.TheConstants.{RESPONSE_BYTES};
 ghost use Rattle.command_engine.specs.Polling as spec;
 ghost use Rattle.command_engine.specs.Reading as reading;
+ghost use Rattle.command_engine.specs.Told as told;
+ghost use Rattle.hda_world.specs.Tellings.{Between};
 ghost use Rattle.command_engine.specs.Blocks.{rirb_bytes};
 
 use super::Engine;
@@ -26,6 +28,9 @@ impl Engine {
     /// first to a command of the codec that is asked is the answer, other answers are dropped, and what was sent unasked becomes
     /// events, in order. A command that has no answer stays outstanding. No event is left from earlier polls (HDA 1.0a, 4.4.2).
     ///
+    /// On a platform that tells, an answer is that of the outstanding command by its codec as it was when it took it, where the engine
+    /// stood so that at most that could come.
+    ///
     /// A write pointer names fewer new entries than RIRB has, whatever it reads, so at most 255; the queue holds 256 events.
     #[tactic(auto, using(hda_world::proofs::Callers::rows))]
     pub fn poll<P: Platform>(&mut self, platform: &mut P, clock: u32) -> Poll
@@ -33,6 +38,7 @@ impl Engine {
         requires room { 258 ≤ P.spare_accesses platform.old }
         requires bytes_room { 2040 ≤ P.spare_bytes platform.old }
         ensures polls { spec.Polls self.old.rirb.address clock self.old.rings result self.new.rings self.new.events.items (P.told platform.old) (P.told platform.new) }
+        ensures tells { Between (told.PollTellsOf clock self.old.corb.address self.old.rirb.address self.old.rings result self.new.rings self.new.events.items) (P.told platform.old) (P.told platform.new) }
         ensures corb { self.new.corb ≡ self.old.corb }
         ensures rirb { self.new.rirb ≡ self.old.rirb }
         ensures fixed { P.fixed platform.new ≡ P.fixed platform.old }

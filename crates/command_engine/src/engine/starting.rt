@@ -2,6 +2,7 @@
 ghost use Rattle.std.specs.Prelude.{◌≡◌, ◌≤◌, ◌+◌};
 ghost use Rattle.hda_world.specs.Tellings.{Between, Makes};
 ghost use Rattle.command_engine.specs.Starting as spec;
+ghost use Rattle.command_engine.specs.Told as told;
 
 use super::Engine;
 use crate::rings::{codecs_in, half_of, rings_found};
@@ -25,6 +26,7 @@ impl Engine {
     pub fn start<P: Platform>(&mut self, platform: &mut P) -> u16
         requires room { 16 ≤ P.spare_accesses platform.old }
         ensures starts { spec.Starts self.old.corb.address self.old.rirb.address self.old.rings result self.new.rings (P.told platform.old) (P.told platform.new) }
+        ensures tells { Between (told.Begins self.old.corb.address self.old.rirb.address result self.new.rings) (P.told platform.old) (P.told platform.new) }
         ensures corb { self.new.corb ≡ self.old.corb }
         ensures rirb { self.new.rirb ≡ self.old.rirb }
         ensures events { self.new.events ≡ self.old.events }

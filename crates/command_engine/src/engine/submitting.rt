@@ -4,6 +4,7 @@ ghost use Rattle.verb_codes.specs.Verbs.{IsInRange, word_of};
 ghost use Rattle.hda_world.specs.Tellings.{Between, Makes};
 ghost use Rattle.ring_entries.specs.declared.entries.TheConstants.{COMMAND_BYTES};
 ghost use Rattle.command_engine.specs.Submitting as spec;
+ghost use Rattle.command_engine.specs.Told as told;
 
 use super::Engine;
 use crate::answers::Outstanding;
@@ -25,6 +26,7 @@ impl Engine {
         requires bytes_room { COMMAND_BYTES ≤ P.spare_bytes platform.old }
         ensures made { Between (Makes (spec.submit_accesses self.old.corb.address self.old.rings (word_of command))) (P.told platform.old) (P.told platform.new) }
         ensures rings { self.new.rings ≡ spec.rings_submitted self.old.rings (record { codec = command.codec; word = word_of command; issued = clock }) }
+        ensures tells { Between (told.LeadsOn self.old.corb.address self.old.rirb.address self.old.rings self.new.rings) (P.told platform.old) (P.told platform.new) }
         ensures corb { self.new.corb ≡ self.old.corb }
         ensures rirb { self.new.rirb ≡ self.old.rirb }
         ensures events { self.new.events ≡ self.old.events }

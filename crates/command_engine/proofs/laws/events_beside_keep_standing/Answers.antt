@@ -1,5 +1,6 @@
 use Rattle.command_engine.proofs.Beside.{events_keep}
+use Rattle.command_engine.proofs.Tells.{responses_apart}
 use Rattle.command_engine.proofs.laws.events_beside_keep_standing.Goals as goal
 
 pub returns : goal.returns
-returns c = λ from read corb rirb rings events world beside holds. events_keep from read corb rirb rings c.responses_stand.ensures events world beside holds
+returns c = λ from read corb rirb rings events world beside holds. events_keep from read corb rirb rings responses_apart events world beside holds

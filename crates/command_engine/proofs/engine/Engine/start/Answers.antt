@@ -2,7 +2,9 @@ use Rattle.std.proofs.Common.{◌≡◌, ℕ, None, Some, rules, arith, sym, ◌
 use Rattle.hda_world.specs.Tellings.{Between, Makes}
 use Rattle.hda_world.proofs.Callers.{rows}
 use Rattle.command_engine.specs.Starting as spec
+use Rattle.command_engine.specs.Belonging.{IsBlockAddress}
 use Rattle.command_engine.proofs.Starts.{starts_not, starts_so}
+use Rattle.command_engine.proofs.Tells.{start_tells}
 use Rattle.command_engine.proofs.engine.Engine.start.Goals as goal
 
 pub returns-in_default-clause-starts : goal.returns-in_default-clause-starts
@@ -19,3 +21,11 @@ returns-clause-starts g c =
     subst (λ (answer : ℕ). spec.Starts c.args.self.now.corb.address c.args.self.now.rirb.address c.args.self.now.rings answer c.in-Some.rings (g.P.Platform.told c.args.platform.now) (g.P.Platform.told c.set_rirb.new.platform)) (sym c.codecs_in.ensures)
     (starts_so c.args.self.now.corb.address c.args.self.now.rirb.address c.read-status.result c.read-corb_size.result c.read-rirb_size.result corb.pointer_reset corb.pointer_ready c.args.self.now.rings c.in-Some.rings
     (g.P.Platform.told c.args.platform.now) (g.P.Platform.told c.read-rirb_size.new.self) (g.P.Platform.told c.set_corb.new.platform) (g.P.Platform.told c.set_rirb.new.platform) some (search (rules, rows) depth 20) corb.made rirb)
+
+pub returns-clause-tells : goal.returns-clause-tells
+returns-clause-tells g c =
+    let corb = c.args.self.now.corb in
+    let rirb = c.args.self.now.rirb in
+    let corb_block : IsBlockAddress c.args.self.now.corb.address = record { aligned = corb.aligned; narrow = let inside = corb.inside in omega arith } in
+    let rirb_block : IsBlockAddress c.args.self.now.rirb.address = record { aligned = rirb.aligned; narrow = let inside = rirb.inside in omega arith } in
+    start_tells c.args.self.now.corb.address c.args.self.now.rirb.address c.codecs_in.result c.args.self.now.rings c.in-Some.rings (g.P.Platform.told c.args.platform.now) (g.P.Platform.told c.set_rirb.new.platform) corb_block rirb_block (returns-clause-starts g c)
