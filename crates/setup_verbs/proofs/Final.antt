@@ -33,7 +33,7 @@ use Rattle.setup_verbs.specs.declared.roles.Role.TheVariants.{Unused, Passed, So
 use Rattle.setup_verbs.specs.Roles.{role_of}
 use Rattle.setup_verbs.specs.VerbList.{has_choice, setup_verbs}
 use Rattle.setup_verbs.specs.SetUp.{IsSelected, AreOthersMuted, IsOpen, IsOutcomeOpen, HasNoRoute, IsSetUp, settings_after, LeadToSetUp}
-use Rattle.setup_verbs.proofs.RoleFacts.{IsPassedWell, IsSourceWell, IsUsedWell, role_well, admissible_entries}
+use Rattle.setup_verbs.proofs.RoleFacts.{within_list, leads_by, IsPassedWell, IsSourceWell, IsUsedWell, role_well, admissible_entries}
 use Rattle.setup_verbs.proofs.Fitting.{fits_verbs}
 use Rattle.setup_verbs.proofs.Sharing.{AreInner}
 use Rattle.setup_verbs.proofs.Agreeing.{entry_is_pin, all_from, hop_role, end_role, unused_pin}
@@ -53,21 +53,6 @@ passing test (Some node) e = record { node = node; there = refl; passed = e }
 
 passed_at : (test : RawNode → Bool) (o : Option RawNode) (node : RawNode) → o ≡ Some node → passes test o ≡ true → test node ≡ true
 passed_at test o node there e = ap (λ p. passes test p) (sym there) ∙ e
-
-within_list : (xs : List ℕ) (i n : ℕ) → slice_get xs i ≡ Some n → i < length xs
-within_list [] i n e = absurd (none-some n e)
-within_list (x ∷ xs) zero n e = omega arith
-within_list (x ∷ xs) (suc i) n e = omega (arith, within_list xs i n e)
-
--- each hop has its connection
-leads_by : (codec : RawCodec) (hops : List Hop) (from to : ℕ) → LeadsTo codec from hops to → (k : ℕ) (d : Hop) → k < length hops → (next : ℕ) × (connection codec (get_or hops k d).nid (get_or hops k d).index ≡ Some next)
-leads_by codec [] from to leads k d within = absurd (omega arith)
-leads_by codec (hop ∷ hops) from to leads zero d within =
-    let next = match_some (connection codec from hop.index) (λ n. LeadsTo codec n hops to) leads.1 in
-    (next.0, ap (λ n. connection codec n hop.index) leads.0 ∙ next.1)
-leads_by codec (hop ∷ hops) from to leads (suc k) d within =
-    let next = match_some (connection codec from hop.index) (λ n. LeadsTo codec n hops to) leads.1 in
-    leads_by codec hops next.0 to next.2 k d (omega arith)
 
 not_true : (b : Bool) → not b ≡ true → b ≡ false
 not_true true e = cc

@@ -23,13 +23,9 @@ use Rattle.setup_verbs.specs.VerbList.{input_setting, has_choice, drives_headpho
 use Rattle.setup_verbs.specs.SetUp.{AreSidesMuted}
 use Rattle.setup_verbs.proofs.Wanted.{input_wanted}
 use Rattle.setup_verbs.proofs.Faultless.{faultless_at, input_offset, output_offset}
+use Rattle.setup_verbs.proofs.RoleFacts.{within_list}
 use Rattle.setup_verbs.proofs.Passing.{output_passes, input_passes, input_muted, mixed_one, made_cases, selector_case, converter_case, given_on, kept_mute, IsLeft}
 use Rattle.setup_verbs.proofs.Opened.{PassedSet, SourceSet}
-
-within_list : (xs : List ℕ) (i n : ℕ) → slice_get xs i ≡ Some n → i < length xs
-within_list [] i n e = absurd (none-some n e)
-within_list (x ∷ xs) zero n e = omega arith
-within_list (x ∷ xs) (suc i) n e = omega (arith, within_list xs i n e)
 
 module _ (codec : RawCodec) (well : IsWellFormed codec) (s : Entries) (nid : ℕ) (node : RawNode) (there : node_at codec nid ≡ Some node) where
   -- each other input of a mixer is muted
