@@ -74,9 +74,9 @@ hop_no_converter codec pin route nid path is converts hop c same = by (kind_of c
 agree_cross : (codec : RawCodec) (pin : ℕ) (route : declared_route.Route) (pair pin' : ℕ) (other : declared_route.Route) (pair' : ℕ) → IsPath codec pin route → IsPath codec pin' other → passes is_pin (node_at codec pin) ≡ true → passes is_pin (node_at codec pin') ≡ true → pin ≢ pin'
     → IsCompatible codec route pair other pair' → Agree route pair other pair'
 agree_cross codec pin route pair pin' other pair' path path' is is' apart compatible = record {
-    hops = λ hop twin a b same. by hop twin a b same (kind_of codec pin route path hop a) (kind_of codec pin' other path' twin b);
-    ends = compatible.same_pair;
-  }
+  hops = λ hop twin a b same. by hop twin a b same (kind_of codec pin route path hop a) (kind_of codec pin' other path' twin b);
+  ends = compatible.same_pair;
+}
   where
     by : (hop twin : Hop) → Contains route.hops hop → Contains other.hops twin → hop.nid ≡ twin.nid → (hop.nid ≡ pin) ⊎ (passes is_inner (node_at codec hop.nid) ≡ true) → (twin.nid ≡ pin') ⊎ (passes is_inner (node_at codec twin.nid) ≡ true) → hop.index ≡ twin.index
     by hop twin a b same (inl e) (inl f) = absurd (apart (sym e ∙ same ∙ f))
@@ -86,9 +86,9 @@ agree_cross codec pin route pair pin' other pair' path path' is is' apart compat
 -- a route agrees with itself
 agree_self : (codec : RawCodec) (pin : ℕ) (route : declared_route.Route) (pair : ℕ) → IsWellFormed codec → IsPath codec pin route → passes is_pin (node_at codec pin) ≡ true → Agree route pair route pair
 agree_self codec pin route pair well path is = record {
-    hops = λ hop twin a b same. by hop twin a b same;
-    ends = λ e. refl;
-  }
+  hops = λ hop twin a b same. by hop twin a b same;
+  ends = λ e. refl;
+}
   where
     by : (hop twin : Hop) → Contains route.hops hop → Contains route.hops twin → hop.nid ≡ twin.nid → hop.index ≡ twin.index
     by hop twin a b same =
@@ -216,11 +216,11 @@ all_alike : (codec : RawCodec) (format : Format) (plan : Plan) → IsWellFormed 
 all_alike codec format plan well is =
     all_uses (λ (u : ℕ × Role). All (IsLike u) (uses_of plan.pins)) plan.pins
     (λ i d in-i k u within. all_uses (IsLike (get_or (entry_uses (get_or plan.pins i d)) k u)) plan.pins
-      (all_from (λ (e : PinPlan). All (IsLike (get_or (entry_uses (get_or plan.pins i d)) k u)) (entry_uses e)) plan.pins d
-        (λ j in-j. outcomes_alike codec format (get_or plan.pins i d).pin (get_or plan.pins i d).pair (get_or plan.pins i d).outcome (get_or plan.pins j d).pin (get_or plan.pins j d).pair (get_or plan.pins j d).outcome
-          (admissible_entries codec format [] plan.pins is.outcomes i d in-i) (admissible_entries codec format [] plan.pins is.outcomes j d in-j)
-          (entry_is_pin codec format plan is i d in-i) (entry_is_pin codec format plan is j d in-j)
-          (entries_agree codec format plan well is i j d in-i in-j) k u within)))
+    (all_from (λ (e : PinPlan). All (IsLike (get_or (entry_uses (get_or plan.pins i d)) k u)) (entry_uses e)) plan.pins d
+    (λ j in-j. outcomes_alike codec format (get_or plan.pins i d).pin (get_or plan.pins i d).pair (get_or plan.pins i d).outcome (get_or plan.pins j d).pin (get_or plan.pins j d).pair (get_or plan.pins j d).outcome
+    (admissible_entries codec format [] plan.pins is.outcomes i d in-i) (admissible_entries codec format [] plan.pins is.outcomes j d in-j)
+    (entry_is_pin codec format plan is i d in-i) (entry_is_pin codec format plan is j d in-j)
+    (entries_agree codec format plan well is i j d in-i in-j) k u within)))
 
 role_is : (codec : RawCodec) (format : Format) (plan : Plan) (nid : ℕ) (role : Role) → IsWellFormed codec → IsPlan codec format plan → IsSolid role → Contains (uses_of plan.pins) (nid, role) → role_of plan nid ≡ role
 unfolding role_of
@@ -262,7 +262,7 @@ outcome_on : (codec : RawCodec) (format : Format) (plan : Plan) (k : ℕ) (d : P
 outcome_on codec format plan k d (outcome.Route route) within it a =
     All-append (λ (u : ℕ × Role). IsOnRoute codec plan u.0 u.1) (hop_uses route.hops) ((route.converter, Source (get_or plan.pins k d).pair) ∷ [])
     (All-map (λ (u : ℕ × Role). IsOnRoute codec plan u.0 u.1) (λ (h : Hop). (h.nid, Passed h.index)) route.hops
-      (λ i h below is none. by (get_or route.hops i h).nid (kind_of codec (get_or plan.pins k d).pin route a.path (get_or route.hops i h) (Contains-get_or route.hops i h below)) is none))
+    (λ i h below is none. by (get_or route.hops i h).nid (kind_of codec (get_or plan.pins k d).pin route a.path (get_or route.hops i h) (Contains-get_or route.hops i h below)) is none))
     (All-cons (λ (u : ℕ × Role). IsOnRoute codec plan u.0 u.1) (route.converter, Source (get_or plan.pins k d).pair) [] (λ is none. pin_no_converter (node_at codec route.converter) is a.path.ends) (All-nil (λ (u : ℕ × Role). IsOnRoute codec plan u.0 u.1)))
   where
     by : (nid : ℕ) → (nid ≡ (get_or plan.pins k d).pin) ⊎ (passes is_inner (node_at codec nid) ≡ true) → passes is_pin (node_at codec nid) ≡ true → HasNoRoute plan nid → ⊥

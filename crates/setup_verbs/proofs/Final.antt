@@ -113,8 +113,8 @@ module _ (codec : RawCodec) (plan : Plan) (format : Format) (tag : ℕ) (well : 
   way_gives (hop ∷ hops) from to leads inner roles =
       let next = match_some (connection codec from hop.index) (λ n. LeadsTo codec n hops to) leads.1 in
       inner_step from hop.index next.0
-        (ap (λ n. role_of plan n) (sym leads.0) ∙ All-head (λ (h : Hop). role_of plan h.nid ≡ Passed h.index) hop hops roles) next.1
-        (ap (λ n. passes is_inner (node_at codec n)) (sym leads.0) ∙ All-head (λ (h : Hop). passes is_inner (node_at codec h.nid) ≡ true) hop hops inner)
+      (ap (λ n. role_of plan n) (sym leads.0) ∙ All-head (λ (h : Hop). role_of plan h.nid ≡ Passed h.index) hop hops roles) next.1
+      (ap (λ n. passes is_inner (node_at codec n)) (sym leads.0) ∙ All-head (λ (h : Hop). passes is_inner (node_at codec h.nid) ≡ true) hop hops inner)
       ∙ way_gives hops next.0 to next.2 (All-tail (λ (h : Hop). passes is_inner (node_at codec h.nid) ≡ true) hop hops inner) (All-tail (λ (h : Hop). role_of plan h.nid ≡ Passed h.index) hop hops roles)
 
   -- the converter gives the pair
@@ -129,7 +129,7 @@ module _ (codec : RawCodec) (plan : Plan) (format : Format) (tag : ℕ) (well : 
       out-gives codec S (stream_of tag format) well nid
       ∙ ap (λ (o : Option RawNode). given_at codec S (stream_of tag format) (out codec S (stream_of tag format)) nid o) p.there
       ∙ converter_gives codec well S nid p.node p.there format tag pair (out codec S (stream_of tag format)) some few
-        (source_set codec plan format tag well (fits_verbs codec format plan well is) settings of nid p.node p.there pair role converts) converts parts.0 (not_true (is_digital p.node) parts.1) w.pair_fits
+      (source_set codec plan format tag well (fits_verbs codec format plan well is) settings of nid p.node p.there pair role converts) converts parts.0 (not_true (is_digital p.node) parts.1) w.pair_fits
 
   -- what the pin hears
   heard_by : (hops : List Hop) (pin to pair : ℕ) → hops ≢ [] → LeadsTo codec pin hops to → AreInner codec (drop 1 hops) → All (λ (hop : Hop). role_of plan hop.nid ≡ Passed hop.index) hops → passes is_pin (node_at codec pin) ≡ true → is_candidate codec pin ≡ true → role_of plan to ≡ Source pair
@@ -161,15 +161,15 @@ module _ (codec : RawCodec) (plan : Plan) (format : Format) (tag : ℕ) (well : 
   route_open k d outcome.Blocked within it a = tt
   route_open k d outcome.NoPath within it a = tt
   route_open k d (outcome.Route route) within it a = record {
-      selected = λ i h low chooses. let x = hop_at i h low in x.set.select (passed_at has_choice (node_at codec (get_or route.hops i h).nid) x.node x.there chooses);
-      muted = λ i h low node there mixes place inside other.
+    selected = λ i h low chooses. let x = hop_at i h low in x.set.select (passed_at has_choice (node_at codec (get_or route.hops i h).nid) x.node x.there chooses);
+    muted = λ i h low node there mixes place inside other.
         let x = hop_at i h low in
         let same : x.node ≡ node = cc (x.there, there) in
         others_muted codec well (settings_after codec settings (setup_verbs codec plan format tag)) (get_or route.hops i h).nid x.node x.there (get_or route.hops i h).index place x.set x.left
-          (subst (λ (n : RawNode). is_mixer n ≡ true) (sym same) mixes) (within_list x.node.list (get_or route.hops i h).index (next_of i h low) x.leads) (subst (λ (n : RawNode). place < length n.list) (sym same) inside) other;
-      heard = heard_by route.hops (get_or plan.pins k d).pin route.converter (get_or plan.pins k d).pair a.path.leaves_pin a.path.leads a.path.passes_inner roles (entry_is_pin codec format plan is k d within) (candidate_at k d within)
+        (subst (λ (n : RawNode). is_mixer n ≡ true) (sym same) mixes) (within_list x.node.list (get_or route.hops i h).index (next_of i h low) x.leads) (subst (λ (n : RawNode). place < length n.list) (sym same) inside) other;
+    heard = heard_by route.hops (get_or plan.pins k d).pin route.converter (get_or plan.pins k d).pair a.path.leaves_pin a.path.leads a.path.passes_inner roles (entry_is_pin codec format plan is k d within) (candidate_at k d within)
         (end_role codec format plan k d route well is within it);
-    }
+  }
     where
       roles : All (λ (hop : Hop). role_of plan hop.nid ≡ Passed hop.index) route.hops
       roles i h low = hop_role codec format plan k d route (get_or route.hops i h) well is within it (Contains-get_or route.hops i h low)

@@ -68,7 +68,7 @@ few_pins codec pins well order =
     (All-cons (λ y. 0 ≢ y) codec.group pins (λ e. let z : 1 ≤ codec.group = p.some in absurd (omega arith)) (λ k d within e. let z = (apart (get_or pins k d) (Contains-get_or pins k d within)).some in absurd (omega arith)))
     (pairs_cons codec.group pins (λ k d within e. (apart (get_or pins k d) (Contains-get_or pins k d within)).other (sym e)) (pins_apart codec pins order)))
     (λ x has. All-contains (λ y. y < 128) (0 ∷ codec.group ∷ pins) x
-      (All-cons (λ y. y < 128) 0 (codec.group ∷ pins) (omega arith) (All-cons (λ y. y < 128) codec.group pins p.below (λ k d within. below (get_or pins k d) (Contains-get_or pins k d within)))) has)
+    (All-cons (λ y. y < 128) 0 (codec.group ∷ pins) (omega arith) (All-cons (λ y. y < 128) codec.group pins p.below (λ k d within. below (get_or pins k d) (Contains-get_or pins k d within)))) has)
     in omega arith
   where
     there : (pin : ℕ) → Contains pins pin → (node : RawNode) × (node_at codec pin ≡ Some node)

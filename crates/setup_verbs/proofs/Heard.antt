@@ -43,8 +43,8 @@ module _ (codec : RawCodec) (well : IsWellFormed codec) (s : Entries) (nid : ℕ
   mixer_made stream out index from p left is stereo leads =
       made_cases (bits_of node.caps 20 4) (is_stereo node) _ _ _ (eqb-true (bits_of node.caps 20 4) 2 is) stereo
       ∙ mixed_one codec s out nid node 0 index node.list index from leads (omega arith)
-        (λ x. input_passes codec s nid node index index x (input_offset codec nid node well there) refl (λ has. few index within) (λ has. p.mix_left (and_from _ _ is has) index within) (λ has. p.mix_right (and_from _ _ is has) index within))
-        (λ j x low high other. silent j x (omega arith) other)
+      (λ x. input_passes codec s nid node index index x (input_offset codec nid node well there) refl (λ has. few index within) (λ has. p.mix_left (and_from _ _ is has) index within) (λ has. p.mix_right (and_from _ _ is has) index within))
+      (λ j x low high other. silent j x (omega arith) other)
     where
       within : index < length node.list
       within = within_list node.list index from leads

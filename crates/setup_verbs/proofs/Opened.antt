@@ -140,12 +140,12 @@ module _ (codec : RawCodec) (plan : Plan) (format : Format) (tag : ℕ) (well : 
   -- the converter of a route
   pub source_set : (nid : ℕ) (node : RawNode) → node_at codec nid ≡ Some node → (pair : ℕ) → role_of plan nid ≡ Source pair → is_output_converter node ≡ true → SourceSet codec format tag (settings_after codec settings (setup_verbs codec plan format tag)) nid node pair
   source_set nid node there pair is converts = record {
-      on = used_on nid node there (Source pair) is refl;
-      out_left = out_left_set nid node there (Source pair) is refl;
-      out_right = out_right_set nid node there (Source pair) is refl;
-      format_set = set_by nid node there (Source pair) is Route control.Format (SetFormat (format_word format)) has (0, omega arith, refl) (λ h. one_sets codec nid (SetFormat (format_word format)) control.Format (format_word format) (λ s. refl) h);
-      stream_set = set_by nid node there (Source pair) is Route control.Stream (SetStream (tag * 2 ^ 4 + 2 * pair)) has (1, omega arith, refl) (λ h. one_sets codec nid (SetStream (tag * 2 ^ 4 + 2 * pair)) control.Stream (tag * 2 ^ 4 + 2 * pair) (λ s. refl) h);
-    }
+    on = used_on nid node there (Source pair) is refl;
+    out_left = out_left_set nid node there (Source pair) is refl;
+    out_right = out_right_set nid node there (Source pair) is refl;
+    format_set = set_by nid node there (Source pair) is Route control.Format (SetFormat (format_word format)) has (0, omega arith, refl) (λ h. one_sets codec nid (SetFormat (format_word format)) control.Format (format_word format) (λ s. refl) h);
+    stream_set = set_by nid node there (Source pair) is Route control.Stream (SetStream (tag * 2 ^ 4 + 2 * pair)) has (1, omega arith, refl) (λ h. one_sets codec nid (SetStream (tag * 2 ^ 4 + 2 * pair)) control.Stream (tag * 2 ^ 4 + 2 * pair) (λ s. refl) h);
+  }
     where
       has : is_converter node ≡ true
       has = rw converts refl
@@ -191,19 +191,19 @@ module _ (codec : RawCodec) (plan : Plan) (format : Format) (tag : ℕ) (well : 
   -- a pin, mixer or selector of a route
   pub passed_set : (nid : ℕ) (node : RawNode) → node_at codec nid ≡ Some node → (index : ℕ) → role_of plan nid ≡ Passed index → index < length node.list → PassedSet codec (settings_after codec settings (setup_verbs codec plan format tag)) nid node index
   passed_set nid node there index is within = record {
-      on = used_on nid node there (Passed index) is refl;
-      out_left = out_left_set nid node there (Passed index) is refl;
-      out_right = out_right_set nid node there (Passed index) is refl;
-      select = λ h. set_by nid node there (Passed index) is Route control.Select (SetSelect index) (choice_has node h)
+    on = used_on nid node there (Passed index) is refl;
+    out_left = out_left_set nid node there (Passed index) is refl;
+    out_right = out_right_set nid node there (Passed index) is refl;
+    select = λ h. set_by nid node there (Passed index) is Route control.Select (SetSelect index) (choice_has node h)
         (Contains-append_right (mixer_verbs codec node index) _ _ (Contains-append_left (select_verbs node index) _ _ (has_if (has_choice node) (SetSelect index) h)))
         (λ has. one_sets codec nid (SetSelect index) control.Select index (λ s. select_writes s) has);
-      mix_left = λ h place low. set_by nid node there (Passed index) is Route (control.InLeft place) (mixer_input codec node index place) (input_has node place (and_parts _ _ h).1 (few h place low) low) (mixer_among nid node index place h low) (mixer_left nid node index place there (few h place low));
-      mix_right = λ h place low. set_by nid node there (Passed index) is Route (control.InRight place) (mixer_input codec node index place) (input_has node place (and_parts _ _ h).1 (few h place low) low) (mixer_among nid node index place h low) (mixer_right nid node index place there (few h place low));
-      sel_left = λ h. set_by nid node there (Passed index) is Route (control.InLeft index) (pass_input codec node index) (input_has node index (and_parts _ _ h).1 (near h) within) (selector_among h) (pass_left nid node index there (near h));
-      sel_right = λ h. set_by nid node there (Passed index) is Route (control.InRight index) (pass_input codec node index) (input_has node index (and_parts _ _ h).1 (near h) within) (selector_among h) (pass_right nid node index there (near h));
-      eapd = λ h. set_by nid node there (Passed index) is Route control.Eapd (SetEapd 0x02) h (at_pin (Contains-append_left (only_if (has_eapd node) (SetEapd 0x02)) _ _ (has_if (has_eapd node) (SetEapd 0x02) h))) (λ has. one_sets codec nid (SetEapd 0x02) control.Eapd (bit_and 0x02 eapd_bits) (λ s. refl) has);
-      pin = λ h. set_by nid node there (Passed index) is Route control.Pin (SetPin (pin_control node)) h (at_pin (Contains-append_right (only_if (has_eapd node) (SetEapd 0x02)) _ _ (Contains-append_right (only_if (detects_presence node && sends_unsolicited node) (SetUnsol (0x80 + event_tag plan nid))) _ _ (has_if (is_pin node) (SetPin (pin_control node)) h)))) (λ has. one_sets codec nid (SetPin (pin_control node)) control.Pin (bit_and (pin_control node) pin_bits) (λ s. refl) has);
-    }
+    mix_left = λ h place low. set_by nid node there (Passed index) is Route (control.InLeft place) (mixer_input codec node index place) (input_has node place (and_parts _ _ h).1 (few h place low) low) (mixer_among nid node index place h low) (mixer_left nid node index place there (few h place low));
+    mix_right = λ h place low. set_by nid node there (Passed index) is Route (control.InRight place) (mixer_input codec node index place) (input_has node place (and_parts _ _ h).1 (few h place low) low) (mixer_among nid node index place h low) (mixer_right nid node index place there (few h place low));
+    sel_left = λ h. set_by nid node there (Passed index) is Route (control.InLeft index) (pass_input codec node index) (input_has node index (and_parts _ _ h).1 (near h) within) (selector_among h) (pass_left nid node index there (near h));
+    sel_right = λ h. set_by nid node there (Passed index) is Route (control.InRight index) (pass_input codec node index) (input_has node index (and_parts _ _ h).1 (near h) within) (selector_among h) (pass_right nid node index there (near h));
+    eapd = λ h. set_by nid node there (Passed index) is Route control.Eapd (SetEapd 0x02) h (at_pin (Contains-append_left (only_if (has_eapd node) (SetEapd 0x02)) _ _ (has_if (has_eapd node) (SetEapd 0x02) h))) (λ has. one_sets codec nid (SetEapd 0x02) control.Eapd (bit_and 0x02 eapd_bits) (λ s. refl) has);
+    pin = λ h. set_by nid node there (Passed index) is Route control.Pin (SetPin (pin_control node)) h (at_pin (Contains-append_right (only_if (has_eapd node) (SetEapd 0x02)) _ _ (Contains-append_right (only_if (detects_presence node && sends_unsolicited node) (SetUnsol (0x80 + event_tag plan nid))) _ _ (has_if (is_pin node) (SetPin (pin_control node)) h)))) (λ has. one_sets codec nid (SetPin (pin_control node)) control.Pin (bit_and (pin_control node) pin_bits) (λ s. refl) has);
+  }
     where
       fit : FitsWidget plan node (Passed index)
       fit = subst (λ r. FitsWidget plan node r) is (fits.at nid node there)

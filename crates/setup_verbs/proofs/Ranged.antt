@@ -111,7 +111,7 @@ module _ (codec : RawCodec) (plan : Plan) (format : Format) (tag nid : ℕ) (nod
       by true e =
           All-map Fits (mixer_input codec node index) (range_with_len 0 (length node.list))
           (λ k d within. let low : k < length node.list = subst (λ n. k < n) (length-range_with_len 0 (length node.list)) within in
-            subst (λ place. Fits (mixer_input codec node index place)) (sym (get_or-range_with_len 0 (length node.list) k d low ∙ zero-add k)) (input_fits index k (omega (arith, short (and_parts _ _ e).0))))
+          subst (λ place. Fits (mixer_input codec node index place)) (sym (get_or-range_with_len 0 (length node.list) k d low ∙ zero-add k)) (input_fits index k (omega (arith, short (and_parts _ _ e).0))))
       by false e = All-nil Fits
 
   output_fits : All Fits (output_verbs codec node)
@@ -160,4 +160,4 @@ pub all_commands_of : (codec : RawCodec) (plan : Plan) (format : Format) (tag : 
 all_commands_of codec plan format tag well is few =
     all_verbs (IsCommandOf codec) codec plan format tag (command_of codec codec.group (SetPower 0) (places codec well).below refl)
     (λ s nid node there k d within. command_of codec nid (get_or (step_verbs codec plan format tag s nid node (role_of plan nid)) k d) (node_below codec nid node well there)
-      (step_fits codec plan format tag nid node few s (role_of plan nid) ((fits_verbs codec format plan well is).at nid node there) (narrow_role codec format.channels nid (role_of plan nid) well (role_well codec format plan nid is)) k d within))
+    (step_fits codec plan format tag nid node few s (role_of plan nid) ((fits_verbs codec format plan well is).at nid node there) (narrow_role codec format.channels nid (role_of plan nid) well (role_well codec format plan nid is)) k d within))

@@ -122,7 +122,7 @@ pub entry_well : (codec : RawCodec) (format : Format) (plan : Plan) → IsPlan c
 entry_well codec format plan is =
     all_uses (λ (used : ℕ × Role). IsUsedWell codec format.channels used.0 used.1) plan.pins
     (λ k d within. let entry = get_or plan.pins k d in
-      outcome_well codec format entry.pin entry.pair entry.outcome (admissible_entries codec format [] plan.pins is.outcomes k d within) (pair_within codec format.channels entry.pin entry.pair format.even format.some (is.pins.pairs k d within)))
+    outcome_well codec format entry.pin entry.pair entry.outcome (admissible_entries codec format [] plan.pins is.outcomes k d within) (pair_within codec format.channels entry.pin entry.pair format.even format.some (is.pins.pairs k d within)))
 
 pub role_well : (codec : RawCodec) (format : Format) (plan : Plan) (nid : ℕ) → IsPlan codec format plan → IsUsedWell codec format.channels nid (role_of plan nid)
 unfolding role_of

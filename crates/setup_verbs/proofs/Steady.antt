@@ -95,7 +95,7 @@ module _ (codec : RawCodec) (plan : Plan) (format : Format) (tag nid : ℕ) (nod
       by true e =
           All-map Good (mixer_input codec node index) (range_with_len 0 (length node.list))
           (λ k d within. let low : k < length node.list = subst (λ n. k < n) (length-range_with_len 0 (length node.list)) within in
-            subst (λ place. Good (mixer_input codec node index place)) (sym (get_or-range_with_len 0 (length node.list) k d low ∙ zero-add k)) (input_good index k is (omega (arith, few (and_parts _ _ e).0))))
+          subst (λ place. Good (mixer_input codec node index place)) (sym (get_or-range_with_len 0 (length node.list) k d low ∙ zero-add k)) (input_good index k is (omega (arith, few (and_parts _ _ e).0))))
       by false e = All-nil Good
 
   select_good : (index : ℕ) → role_of plan nid ≡ Passed index → All Good (select_verbs node index)

@@ -35,11 +35,13 @@ codec = record {
 }
 
 abbrev plan : Plan
-plan = record { pins = record {
-  pin = 0x14;
-  pair = 0;
-  outcome = outcome.Route (record { hops = record { nid = 0x14; index = 0 } ∷ record { nid = 0x0C; index = 0 } ∷ []; converter = 0x02 });
-} ∷ [] }
+plan = record {
+  pins = record {
+    pin = 0x14;
+    pair = 0;
+    outcome = outcome.Route (record { hops = record { nid = 0x14; index = 0 } ∷ record { nid = 0x0C; index = 0 } ∷ []; converter = 0x02 });
+  } ∷ [];
+}
 
 abbrev format : Format
 format = record { rate = R48; bits = B16; channels = 2; even = refl; some = omega arith; few = omega arith }

@@ -38,8 +38,24 @@ pub fn verbs(
     let mut commands = Vec::new(alloc);
     send_if(&mut commands, codec, codec.group, true, Verb::SetPower(0))?;
     send_step(&mut commands, codec, plan, &roles, format, tag, Step::Power)?;
-    send_step(&mut commands, codec, plan, &roles, format, tag, Step::Silence)?;
-    send_step(&mut commands, codec, plan, &roles, format, tag, Step::Release)?;
+    send_step(
+        &mut commands,
+        codec,
+        plan,
+        &roles,
+        format,
+        tag,
+        Step::Silence,
+    )?;
+    send_step(
+        &mut commands,
+        codec,
+        plan,
+        &roles,
+        format,
+        tag,
+        Step::Release,
+    )?;
     send_step(&mut commands, codec, plan, &roles, format, tag, Step::Route)?;
     Ok(commands)
 }
