@@ -1,5 +1,5 @@
 -- Each set-up verb goes to the codec, and can be encoded where that is one of 0 to 14.
-use Rattle.std.proofs.Common.{◌≡◌, ◌<◌, ◌≤◌, ◌+◌, ◌*◌, ◌^◌, ◌-◌, ◌/◌, ◌==◌, ◌&&◌, ◌||◌, not, ℕ, Bool, true, false, cond, IsTrue, List, [], ◌∷◌, ◌++◌, map, length, get_or, Option, Some, None, zero-add, refl, sym, ap, subst, ◌∙◌, arith, lit<}
+use Rattle.std.proofs.Common.{◌≡◌, ◌<◌, ◌≤◌, ◌+◌, ◌*◌, ◌^◌, ◌-◌, ◌/◌, ◌==◌, ◌&&◌, not, ℕ, Bool, true, false, cond, List, [], ◌∷◌, map, length, get_or, zero-add, refl, sym, subst, ◌∙◌, arith, lit<}
 use Rattle.std.specs.Prelude.{All, nat_lt}
 use Rattle.std.specs.List.{range_with_len}
 use Rattle.std.proofs.lemmas.Bool.{and_parts, lt-ltb}
@@ -8,14 +8,13 @@ use Rattle.std.proofs.lemmas.List.Elements.{All-nil, All-cons, All-append, All-m
 use Rattle.std.proofs.lemmas.List.FromFn.{get_or-range_with_len, length-range_with_len}
 use Rattle.codec_graph.specs.declared.raw.RawNode.{RawNode}
 use Rattle.codec_graph.specs.declared.raw.RawCodec.{RawCodec}
-use Rattle.codec_graph.specs.Widget.{node_at, is_mixer, is_selector, is_pin, is_output_converter, has_power_control, has_input_amplifier, has_output_amplifier, input_amplifier_word, output_amplifier_word, amplifier_offset}
+use Rattle.codec_graph.specs.Widget.{is_mixer, is_selector, is_pin, is_output_converter, has_power_control, has_input_amplifier, has_output_amplifier, input_amplifier_word, output_amplifier_word, amplifier_offset}
 use Rattle.codec_graph.specs.Settings.{has_eapd, detects_presence, sends_unsolicited}
 use Rattle.codec_graph.specs.Cycles.{IsWellFormed}
 use Rattle.codec_graph.proofs.Callers.{node_below}
-use Rattle.verb_codes.specs.declared.verbs.Command.{Command}
 use Rattle.verb_codes.specs.declared.verbs.Verb.{Verb}
-use Rattle.verb_codes.specs.declared.verbs.Verb.TheVariants.{SetSelect, SetPower, SetStream, SetPin, SetUnsol, SetEapd, SetFormat, SetAmp}
-use Rattle.verb_codes.specs.Verbs.{row_of, is_allowed, is_verb_in_range, IsInRange}
+use Rattle.verb_codes.specs.declared.verbs.Verb.TheVariants.{SetPower, SetStream, SetPin, SetUnsol, SetEapd, SetFormat}
+use Rattle.verb_codes.specs.Verbs.{is_verb_in_range}
 use Rattle.verb_codes.specs.Amplifiers as amplifiers
 use Rattle.stream_format.specs.declared.format.Format.{Format}
 use Rattle.stream_format.specs.declared.format.Rate.{Rate}
@@ -31,9 +30,9 @@ use Rattle.setup_verbs.specs.declared.roles.Role.TheVariants.{Unused, Passed, So
 use Rattle.setup_verbs.specs.declared.steps.Step.{Step}
 use Rattle.setup_verbs.specs.declared.steps.Step.TheVariants.{Power, Silence, Release, Route}
 use Rattle.setup_verbs.specs.Roles.{role_of, is_used, place_among}
-use Rattle.setup_verbs.specs.Steps.{step_verbs, FitsRole, FitsWidget, FitsVerbs}
+use Rattle.setup_verbs.specs.Steps.{step_verbs, FitsWidget}
 use Rattle.setup_verbs.specs.SetUp.{IsCommandOf}
-use Rattle.setup_verbs.specs.VerbList.{only_if, command_to, input_setting, output_setting, pass_input, mute_input, mixer_input, mixer_verbs, has_choice, select_verbs, selector_verbs, output_verbs, source_verbs, drives_headphone, pin_control, event_tag, pin_verbs, passed_verbs, setup_verbs}
+use Rattle.setup_verbs.specs.VerbList.{only_if, command_to, input_setting, output_setting, pass_input, mute_input, mixer_input, mixer_verbs, has_choice, select_verbs, selector_verbs, output_verbs, drives_headphone, pin_control, event_tag, setup_verbs}
 use Rattle.setup_verbs.proofs.Members.{all_if, all_verbs}
 use Rattle.setup_verbs.proofs.Faultless.{places}
 use Rattle.route_planner.proofs.Callers.{IsBounded-from_sound}

@@ -1,11 +1,11 @@
 -- What holds of each node of a plan's routes.
-use Rattle.std.proofs.Common.{◌≡◌, ◌<◌, ◌≤◌, ◌+◌, ◌*◌, ◌/◌, ◌%◌, ◌==◌, ℕ, zero, suc, Bool, true, false, cond, List, [], ◌∷◌, ◌++◌, map, length, get_or, Option, Some, None, refl, sym, ap, subst, ◌∙◌, arith}
+use Rattle.std.proofs.Common.{◌≡◌, ◌<◌, ◌≤◌, ◌+◌, ◌*◌, ◌/◌, ◌%◌, ◌==◌, ℕ, zero, suc, Bool, true, false, cond, List, [], ◌∷◌, ◌++◌, map, length, get_or, Some, refl, ap, subst, ◌∙◌, arith}
 use Rattle.std.specs.Prelude.{All, Contains, slice_get}
 use Rattle.std.proofs.Math.ListN.{get_or-map}
 use Rattle.std.proofs.lemmas.List.{length-map}
 use Rattle.std.proofs.lemmas.Nat.{mod_below}
 use Rattle.std.proofs.lemmas.Bool.{eqb-true}
-use Rattle.std.proofs.lemmas.List.Elements.{All-nil, All-cons, All-append, All-map, All-head, All-tail, All-contains, Contains-push, Contains-append_left, Contains-append_right, Contains-get_or}
+use Rattle.std.proofs.lemmas.List.Elements.{All-nil, All-cons, All-append, All-map, All-head, All-tail, All-contains, Contains-push, Contains-append_left, Contains-get_or}
 use Rattle.codec_graph.specs.declared.raw.RawCodec.{RawCodec}
 use Rattle.codec_graph.specs.Widget.{node_at, is_output_converter}
 use Rattle.stream_format.specs.declared.format.Format.{Format}
@@ -16,7 +16,7 @@ use Rattle.route_planner.specs.declared.routes.Outcome.TheVariants as outcome
 use Rattle.route_planner.specs.declared.routes.PinPlan.{PinPlan}
 use Rattle.route_planner.specs.declared.routes.Plan.{Plan}
 use Rattle.route_planner.specs.Order.{pair_of}
-use Rattle.route_planner.specs.Paths.{passes, list_of, connection, LeadsTo, nodes_of, is_analog_stereo, can_be_left, IsAdmissible}
+use Rattle.route_planner.specs.Paths.{passes, list_of, connection, LeadsTo, nodes_of, is_analog_stereo, can_be_left}
 use Rattle.route_planner.specs.Plans.{IsOutcome, HaveOutcomes, IsPlan, IsAdmissibleOutcome}
 use Rattle.std.proofs.lemmas.Option.{none-some}
 use Rattle.route_planner.proofs.Bridge.{match_some}

@@ -1,12 +1,11 @@
-use Rattle.std.proofs.Common.{◌≡◌, ◌<◌, ◌≤◌, ℕ, List, ◌∙◌, sym, ap, subst}
+use Rattle.std.proofs.Common.{◌≡◌, ◌≤◌, ℕ, List, ◌∙◌, sym, ap, subst}
 use Rattle.codec_graph.specs.declared.raw.RawCodec.{RawCodec}
 use Rattle.codec_graph.specs.Cycles.{IsWellFormed}
 use Rattle.route_planner.specs.Plans.{IsPlan}
 use Rattle.route_planner.specs.declared.routes.PinPlan.{PinPlan}
 use Rattle.setup_verbs.specs.Roles.{role_of, role_among, uses_of}
-use Rattle.setup_verbs.specs.Steps.{AreRoles, FitsVerbs, role_in, commands_of}
-use Rattle.setup_verbs.specs.declared.steps.Step.TheVariants.{Power, Silence, Release, Route}
-use Rattle.setup_verbs.specs.VerbList.{setup_verbs, command_to}
+use Rattle.setup_verbs.specs.Steps.{FitsVerbs}
+use Rattle.setup_verbs.specs.VerbList.{setup_verbs}
 use Rattle.stream_format.specs.declared.format.Format.{Format}
 use Rattle.route_planner.specs.declared.routes.Plan.{Plan}
 use Rattle.std.specs.Prelude.{All}
