@@ -1,6 +1,6 @@
 -- All routes of a plan agree, so each of their nodes has its role.
-use Rattle.std.proofs.Common.{◌≡◌, ◌≢◌, ◌<◌, ◌≤◌, ◌+◌, ◌⊎◌, ◌&&◌, ℕ, zero, suc, Bool, true, false, List, [], ◌∷◌, ◌++◌, map, length, get_or, take, drop, Option, Some, None, refl, sym, ap, subst, ◌∙◌, inl, inr, arith}
-use Rattle.std.specs.Prelude.{All, AllPairs, Contains, min}
+use Rattle.std.proofs.Common.{◌≡◌, ◌≢◌, ◌<◌, ◌≤◌, ◌⊎◌, ◌&&◌, ℕ, zero, suc, Bool, true, false, List, [], ◌∷◌, map, length, get_or, take, Option, Some, None, refl, sym, ap, subst, ◌∙◌, inl, inr, arith}
+use Rattle.std.specs.Prelude.{All, Contains, min}
 use Rattle.std.proofs.lemmas.Bool.{true≢false, cases_lt}
 use Rattle.std.proofs.Math.ListN.{get_or-map}
 use Rattle.std.proofs.lemmas.List.{length-map, length-take, get_or-take}
@@ -8,7 +8,7 @@ use Rattle.std.proofs.lemmas.List.Elements.{All-nil, All-cons, All-append, All-m
 use Rattle.codec_graph.specs.declared.raw.RawNode.{RawNode}
 use Rattle.codec_graph.specs.declared.raw.RawCodec.{RawCodec}
 use Rattle.codec_graph.specs.Widget.{node_at, is_inner, is_pin, is_output_converter}
-use Rattle.codec_graph.specs.Candidates.{is_candidate_at, is_candidate_node}
+use Rattle.codec_graph.specs.Candidates.{is_candidate_at}
 use Rattle.codec_graph.specs.Cycles.{IsWellFormed}
 use Rattle.stream_format.specs.declared.format.Format.{Format}
 use Rattle.route_planner.specs.declared.routes.Hop.{Hop}
@@ -17,17 +17,17 @@ use Rattle.route_planner.specs.declared.routes.Outcome.{Outcome}
 use Rattle.route_planner.specs.declared.routes.Outcome.TheVariants as outcome
 use Rattle.route_planner.specs.declared.routes.PinPlan.{PinPlan}
 use Rattle.route_planner.specs.declared.routes.Plan.{Plan}
-use Rattle.route_planner.specs.Paths.{passes, LeadsTo, IsPath, IsAdmissible, IsCompatible}
-use Rattle.route_planner.specs.Plans.{LeavesOpen, IsOpenPath, IsOutcome, HaveOutcomes, IsPlan, IsAdmissibleOutcome}
+use Rattle.route_planner.specs.Paths.{passes, IsPath, IsAdmissible, IsCompatible}
+use Rattle.route_planner.specs.Plans.{LeavesOpen, IsOutcome, IsPlan, IsAdmissibleOutcome}
 use Rattle.route_planner.proofs.Callers.{outcome_at}
 use Rattle.setup_verbs.specs.declared.roles.Role.{Role}
 use Rattle.setup_verbs.specs.declared.roles.Role.TheVariants.{Unused, Passed, Source}
-use Rattle.setup_verbs.specs.Roles.{Uses, hop_uses, outcome_uses, entry_uses, uses_of, first_role, role_among, role_of}
+use Rattle.setup_verbs.specs.Roles.{hop_uses, outcome_uses, entry_uses, uses_of, role_among, role_of}
 use Rattle.setup_verbs.specs.SetUp.{IsNoRoute, HasNoRoute}
 use Rattle.setup_verbs.proofs.Members.{has_mapped}
 use Rattle.setup_verbs.proofs.RoleFacts.{role_all, all_uses, admissible_entries}
-use Rattle.setup_verbs.proofs.Fitting.{pins_apart, pins_of}
-use Rattle.setup_verbs.proofs.Sharing.{IsSolid, role_found, inner_no_pin, inner_no_converter, pin_no_converter, AreInner, path_alike, hop_kind}
+use Rattle.setup_verbs.proofs.Fitting.{pins_apart}
+use Rattle.setup_verbs.proofs.Sharing.{IsSolid, role_found, inner_no_pin, inner_no_converter, pin_no_converter, path_alike, hop_kind}
 
 -- two routes agree on the nodes that they share
 pub record Agree (route : declared_route.Route) (pair : ℕ) (other : declared_route.Route) (other_pair : ℕ) : Type 0 where

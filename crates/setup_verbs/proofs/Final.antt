@@ -1,44 +1,41 @@
 -- After the set-up verbs the codec is set up.
-use Rattle.std.proofs.Common.{◌≡◌, ◌≢◌, ◌<◌, ◌≤◌, ◌+◌, ◌*◌, ◌==◌, ◌&&◌, ◌||◌, ◌⊎◌, not, ℕ, zero, suc, Bool, true, false, cond, List, [], ◌∷◌, ◌++◌, length, get_or, drop, Option, Some, None, refl, sym, ap, subst, ◌∙◌, inl, inr, arith}
-use Rattle.std.specs.Prelude.{All, Contains, slice_get, nat_le}
+use Rattle.std.proofs.Common.{◌≡◌, ◌≢◌, ◌<◌, ◌≤◌, ◌&&◌, ◌||◌, not, ℕ, zero, suc, Bool, true, false, cond, List, [], ◌∷◌, length, get_or, drop, Option, Some, None, refl, sym, ap, subst, ◌∙◌, arith}
+use Rattle.std.specs.Prelude.{All, slice_get}
 use Rattle.std.proofs.lemmas.Bool.{true≢false, and_parts}
 use Rattle.std.proofs.Math.ListN.{get_or-map}
 use Rattle.std.proofs.lemmas.List.{length-map}
-use Rattle.std.proofs.lemmas.Option.{none-some}
-use Rattle.std.proofs.lemmas.List.Elements.{All-nil, All-cons, All-head, All-tail, Contains-get_or}
+use Rattle.std.proofs.lemmas.List.Elements.{All-head, All-tail, Contains-get_or}
 use Rattle.codec_graph.specs.declared.raw.RawNode.{RawNode}
 use Rattle.codec_graph.specs.declared.raw.RawCodec.{RawCodec}
 use Rattle.codec_graph.specs.declared.controls.Control.TheVariants as control
-use Rattle.codec_graph.specs.Widget.{node_at, is_output_converter, is_mixer, is_selector, is_pin, is_inner, is_stereo, is_digital}
-use Rattle.codec_graph.specs.Candidates.{is_candidate, is_candidate_at, is_candidate_node}
+use Rattle.codec_graph.specs.Widget.{node_at, is_output_converter, is_mixer, is_pin, is_inner, is_stereo, is_digital}
+use Rattle.codec_graph.specs.Candidates.{is_candidate, is_candidate_at}
 use Rattle.codec_graph.specs.Settings.{Entries, setting_of, IsSettingsOf}
 use Rattle.codec_graph.specs.Cycles.{IsWellFormed}
 use Rattle.verb_codes.specs.Words.{has_bit}
 use Rattle.stream_format.specs.declared.format.Format.{Format}
 use Rattle.codec_sound.specs.declared.signals.Signal.{Signal}
-use Rattle.codec_sound.specs.declared.signals.Signal.TheVariants.{Silence, Pair, Altered}
-use Rattle.codec_sound.specs.Signals.{stream_of, is_off, is_silent_pin, given, given_at, gives, out, pin_hears, hears, signal_of}
+use Rattle.codec_sound.specs.declared.signals.Signal.TheVariants.{Silence, Pair}
+use Rattle.codec_sound.specs.Signals.{stream_of, is_off, given_at, gives, out, pin_hears, hears, signal_of}
 use Rattle.codec_sound.proofs.Callers.{out-gives}
 use Rattle.route_planner.specs.declared.routes.Hop.{Hop}
-use Rattle.route_planner.specs.declared.routes.Route as declared_route
 use Rattle.route_planner.specs.declared.routes.Outcome.{Outcome}
 use Rattle.route_planner.specs.declared.routes.Outcome.TheVariants as outcome
 use Rattle.route_planner.specs.declared.routes.PinPlan.{PinPlan}
 use Rattle.route_planner.specs.declared.routes.Plan.{Plan}
-use Rattle.route_planner.specs.Paths.{passes, list_of, connection, LeadsTo, is_analog_stereo, can_be_left, IsAdmissible}
+use Rattle.route_planner.specs.Paths.{passes, list_of, connection, LeadsTo, is_analog_stereo, can_be_left}
 use Rattle.route_planner.specs.Plans.{IsPlan, IsAdmissibleOutcome}
 use Rattle.route_planner.proofs.Bridge.{match_some}
-use Rattle.setup_verbs.specs.declared.roles.Role.{Role}
-use Rattle.setup_verbs.specs.declared.roles.Role.TheVariants.{Unused, Passed, Source}
+use Rattle.setup_verbs.specs.declared.roles.Role.TheVariants.{Passed, Source}
 use Rattle.setup_verbs.specs.Roles.{role_of}
 use Rattle.setup_verbs.specs.VerbList.{has_choice, setup_verbs}
-use Rattle.setup_verbs.specs.SetUp.{IsSelected, AreOthersMuted, IsOpen, IsOutcomeOpen, HasNoRoute, IsSetUp, settings_after, LeadToSetUp}
-use Rattle.setup_verbs.proofs.RoleFacts.{IsPassedWell, IsSourceWell, IsUsedWell, role_well, admissible_entries}
+use Rattle.setup_verbs.specs.SetUp.{IsOutcomeOpen, HasNoRoute, IsSetUp, settings_after, LeadToSetUp}
+use Rattle.setup_verbs.proofs.RoleFacts.{within_list, leads_by, IsPassedWell, IsSourceWell, IsUsedWell, role_well, admissible_entries}
 use Rattle.setup_verbs.proofs.Fitting.{fits_verbs}
 use Rattle.setup_verbs.proofs.Sharing.{AreInner}
-use Rattle.setup_verbs.proofs.Agreeing.{entry_is_pin, all_from, hop_role, end_role, unused_pin}
+use Rattle.setup_verbs.proofs.Agreeing.{entry_is_pin, hop_role, end_role, unused_pin}
 use Rattle.setup_verbs.proofs.Passing.{IsLeft, left_from}
-use Rattle.setup_verbs.proofs.Opened.{PassedSet, SourceSet, passed_set, source_set, unused_pin_set}
+use Rattle.setup_verbs.proofs.Opened.{PassedSet, passed_set, source_set, unused_pin_set}
 use Rattle.setup_verbs.proofs.Heard.{others_muted, inner_gives, converter_gives, pin_hears_it}
 
 -- the node that passes a test
@@ -53,21 +50,6 @@ passing test (Some node) e = record { node = node; there = refl; passed = e }
 
 passed_at : (test : RawNode → Bool) (o : Option RawNode) (node : RawNode) → o ≡ Some node → passes test o ≡ true → test node ≡ true
 passed_at test o node there e = ap (λ p. passes test p) (sym there) ∙ e
-
-within_list : (xs : List ℕ) (i n : ℕ) → slice_get xs i ≡ Some n → i < length xs
-within_list [] i n e = absurd (none-some n e)
-within_list (x ∷ xs) zero n e = omega arith
-within_list (x ∷ xs) (suc i) n e = omega (arith, within_list xs i n e)
-
--- each hop has its connection
-leads_by : (codec : RawCodec) (hops : List Hop) (from to : ℕ) → LeadsTo codec from hops to → (k : ℕ) (d : Hop) → k < length hops → (next : ℕ) × (connection codec (get_or hops k d).nid (get_or hops k d).index ≡ Some next)
-leads_by codec [] from to leads k d within = absurd (omega arith)
-leads_by codec (hop ∷ hops) from to leads zero d within =
-    let next = match_some (connection codec from hop.index) (λ n. LeadsTo codec n hops to) leads.1 in
-    (next.0, ap (λ n. connection codec n hop.index) leads.0 ∙ next.1)
-leads_by codec (hop ∷ hops) from to leads (suc k) d within =
-    let next = match_some (connection codec from hop.index) (λ n. LeadsTo codec n hops to) leads.1 in
-    leads_by codec hops next.0 to next.2 k d (omega arith)
 
 not_true : (b : Bool) → not b ≡ true → b ≡ false
 not_true true e = cc

@@ -1,17 +1,17 @@
 -- The arguments of the verbs fit: a graph has few pins, few inputs with an amplifier and few pairs.
-use Rattle.std.proofs.Common.{◌≡◌, ◌≢◌, ◌<◌, ◌≤◌, ◌+◌, ◌*◌, ◌==◌, ◌&&◌, ◌||◌, ℕ, zero, suc, Bool, true, false, cond, List, [], ◌∷◌, ◌++◌, map, length, get_or, Option, Some, None, refl, sym, ap, subst, ◌∙◌, arith}
+use Rattle.std.proofs.Common.{◌≡◌, ◌≢◌, ◌<◌, ◌≤◌, ◌==◌, ◌&&◌, ◌||◌, ℕ, zero, suc, Bool, true, false, cond, List, ◌∷◌, map, length, get_or, Option, Some, None, refl, sym, subst, ◌∙◌, arith}
 use Rattle.std.specs.Prelude.{All, AllPairs, Contains, nat_le, nat_lt}
 use Rattle.std.proofs.lemmas.Bool.{true≢false, and_parts, leb-true, eqb-true}
 use Rattle.std.proofs.lemmas.Bool.Decides.{nat_tests, Decides-eqb}
 use Rattle.std.proofs.lemmas.List.{length-map}
-use Rattle.std.proofs.lemmas.List.Elements.{All-nil, All-cons, All-contains, Contains-get_or, All-contains_itself}
+use Rattle.std.proofs.lemmas.List.Elements.{All-cons, All-contains, Contains-get_or}
 use Rattle.std.proofs.lemmas.Map.Steps.{length-le_from_distinct_below}
 use Rattle.std.proofs.lemmas.Map.Made.{IsDistinct-from_AllPairs}
 use Rattle.std.proofs.lemmas.Map.Views.{Contains-from_any}
 use Rattle.codec_graph.specs.declared.raw.RawNode.{RawNode}
 use Rattle.codec_graph.specs.declared.raw.RawCodec.{RawCodec}
-use Rattle.codec_graph.specs.Widget.{node_at, is_mixer, is_selector, has_input_amplifier, input_amplifier_word, can_mute}
-use Rattle.codec_graph.specs.Candidates.{is_candidate, is_candidate_at}
+use Rattle.codec_graph.specs.Widget.{node_at, is_selector, has_input_amplifier}
+use Rattle.codec_graph.specs.Candidates.{is_candidate_at}
 use Rattle.codec_graph.specs.Cycles.{IsWellFormed}
 use Rattle.codec_graph.proofs.Callers.{node_below}
 use Rattle.stream_format.specs.declared.format.Format.{Format}

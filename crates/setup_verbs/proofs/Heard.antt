@@ -1,15 +1,14 @@
 -- What an opened node gives, and what an opened pin hears.
-use Rattle.std.proofs.Common.{◌≡◌, ◌≢◌, ◌<◌, ◌≤◌, ◌+◌, ◌*◌, ◌/◌, ◌%◌, ◌^◌, ◌==◌, ◌&&◌, ◌||◌, ◌⊎◌, not, ℕ, zero, suc, Bool, true, false, cond, List, [], ◌∷◌, length, Option, Some, None, refl, sym, ap, subst, ◌∙◌, inl, inr, arith, lit<}
-use Rattle.std.specs.Prelude.{slice_get, nat_lt, nat_le, min, bit_and}
-use Rattle.std.proofs.lemmas.Bool.{true≢false, and_parts, and_from, eqb-true, eq-eqb, ne_eqb, lt-ltb, cases_eq}
+use Rattle.std.proofs.Common.{◌≡◌, ◌≢◌, ◌<◌, ◌≤◌, ◌+◌, ◌*◌, ◌/◌, ◌%◌, ◌^◌, ◌==◌, ◌&&◌, ◌||◌, ◌⊎◌, not, ℕ, Bool, true, false, cond, length, Option, Some, refl, ap, ◌∙◌, inl, inr, arith}
+use Rattle.std.specs.Prelude.{slice_get, nat_lt, nat_le, bit_and}
+use Rattle.std.proofs.lemmas.Bool.{and_from, eqb-true, eq-eqb, ne_eqb, lt-ltb, cases_eq}
 use Rattle.std.proofs.lemmas.Bool.Decides.{nat_tests}
-use Rattle.std.proofs.lemmas.Option.{none-some}
 use Rattle.codec_graph.specs.declared.raw.RawNode.{RawNode}
 use Rattle.codec_graph.specs.declared.raw.RawCodec.{RawCodec}
 use Rattle.codec_graph.specs.declared.controls.Control.TheVariants as control
-use Rattle.codec_graph.specs.Widget.{node_at, is_output_converter, is_mixer, is_selector, is_pin, is_stereo, is_digital, has_input_amplifier, has_output_amplifier, input_amplifier_word, output_amplifier_word, amplifier_offset, can_mute}
+use Rattle.codec_graph.specs.Widget.{node_at, is_output_converter, is_mixer, is_selector, is_pin, is_stereo, is_digital, input_amplifier_word}
 use Rattle.codec_graph.specs.Settings.{Entries, setting_of, has_eapd}
-use Rattle.codec_graph.specs.VerbMeaning.{pin_bits, eapd_bits}
+use Rattle.codec_graph.specs.VerbMeaning.{pin_bits}
 use Rattle.codec_graph.specs.Cycles.{IsWellFormed}
 use Rattle.verb_codes.specs.Words.{has_bit, bits_of}
 use Rattle.stream_format.specs.declared.format.Format.{Format}
@@ -18,18 +17,14 @@ use Rattle.codec_sound.specs.declared.signals.Signal.{Signal}
 use Rattle.codec_sound.specs.declared.signals.Signal.TheVariants.{Silence, Pair, Altered}
 use Rattle.codec_sound.specs.declared.streams.LinkStream.{LinkStream}
 use Rattle.codec_sound.specs.Amplifiers.{changed_if, is_muted, after_output, after_input}
-use Rattle.codec_sound.specs.Signals.{stream_of, is_off, takes, converts_otherwise, pair_from, tag_at, channel_at, converted, mixed, selected_place, selected, passed_on, made, given, is_silent_pin, comes_from, pin_hears}
-use Rattle.setup_verbs.specs.VerbList.{input_setting, has_choice, drives_headphone, pin_control}
+use Rattle.codec_sound.specs.Signals.{stream_of, is_off, takes, converts_otherwise, pair_from, tag_at, channel_at, converted, selected_place, selected, passed_on, made, given, is_silent_pin, comes_from, pin_hears}
+use Rattle.setup_verbs.specs.VerbList.{drives_headphone}
 use Rattle.setup_verbs.specs.SetUp.{AreSidesMuted}
 use Rattle.setup_verbs.proofs.Wanted.{input_wanted}
 use Rattle.setup_verbs.proofs.Faultless.{faultless_at, input_offset, output_offset}
+use Rattle.setup_verbs.proofs.RoleFacts.{within_list}
 use Rattle.setup_verbs.proofs.Passing.{output_passes, input_passes, input_muted, mixed_one, made_cases, selector_case, converter_case, given_on, kept_mute, IsLeft}
 use Rattle.setup_verbs.proofs.Opened.{PassedSet, SourceSet}
-
-within_list : (xs : List ℕ) (i n : ℕ) → slice_get xs i ≡ Some n → i < length xs
-within_list [] i n e = absurd (none-some n e)
-within_list (x ∷ xs) zero n e = omega arith
-within_list (x ∷ xs) (suc i) n e = omega (arith, within_list xs i n e)
 
 module _ (codec : RawCodec) (well : IsWellFormed codec) (s : Entries) (nid : ℕ) (node : RawNode) (there : node_at codec nid ≡ Some node) where
   -- each other input of a mixer is muted

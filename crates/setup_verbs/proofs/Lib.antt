@@ -13,4 +13,6 @@ pub mod Passing
 pub mod Opened
 pub mod Heard
 pub mod Final
+pub mod Ranged
+pub mod Callers
 mod Worked

@@ -1,13 +1,12 @@
 -- Lists of commands, joined.
-use Rattle.std.proofs.Common.{◌≡◌, ◌+◌, ℕ, List, [], ◌∷◌, ◌++◌, map, append_assoc, add-one, zero-add, refl, sym, ap, ◌∙◌}
+use Rattle.std.proofs.Common.{◌≡◌, ◌+◌, ℕ, List, [], ◌∷◌, ◌++◌, map, append_assoc, add-one, zero-add, sym, ap, ◌∙◌}
 use Rattle.std.specs.List.{range_with_len}
 use Rattle.std.proofs.lemmas.List.{map-append}
 use Rattle.std.proofs.lemmas.List.FromFn.{map-range_with_len_more}
 use Rattle.codec_graph.specs.declared.raw.RawCodec.{RawCodec}
-use Rattle.codec_graph.specs.declared.raw.RawNode.{RawNode}
 use Rattle.verb_codes.specs.declared.verbs.Command.{Command}
 use Rattle.verb_codes.specs.declared.verbs.Verb.{Verb}
-use Rattle.setup_verbs.specs.VerbList.{command_to, commands_to, mixer_input, to_below, to_all}
+use Rattle.setup_verbs.specs.VerbList.{command_to, commands_to, to_below, to_all}
 
 pub five_lists : (first : Command) (none v0 v1 v2 v3 v4 s1 s2 s3 s4 : List Command) → none ≡ [] → v0 ≡ none ++ first ∷ [] → v1 ≡ v0 ++ s1 → v2 ≡ v1 ++ s2 → v3 ≡ v2 ++ s3 → v4 ≡ v3 ++ s4
     → v4 ≡ first ∷ (s1 ++ (s2 ++ (s3 ++ s4)))

@@ -1,9 +1,8 @@
 -- The settings after the set-up verbs, node by node.
-use Rattle.std.proofs.Common.{◌≡◌, ◌≢◌, ◌<◌, ◌≤◌, ◌+◌, ◌*◌, ◌^◌, ◌==◌, ◌&&◌, ◌||◌, not, ℕ, Bool, true, false, cond, List, [], ◌∷◌, ◌++◌, map, length, get_or, Option, Some, None, zero-add, ◌⊎◌, inl, inr, refl, sym, ap, subst, ◌∙◌, arith, lit<}
-use Rattle.std.specs.Prelude.{All, Contains, nat_lt, nat_le, is_some, bit_and, max, min}
+use Rattle.std.proofs.Common.{◌≡◌, ◌≢◌, ◌<◌, ◌+◌, ◌*◌, ◌^◌, ◌==◌, ◌&&◌, ◌||◌, not, ℕ, Bool, true, false, cond, [], map, length, Option, Some, None, zero-add, ◌⊎◌, inl, inr, refl, sym, subst, ◌∙◌, arith, lit<}
+use Rattle.std.specs.Prelude.{Contains, nat_lt, nat_le, is_some, bit_and, max, min}
 use Rattle.std.specs.List.{range_with_len}
 use Rattle.std.proofs.lemmas.Bool.{true≢false, and_parts, and_from, eq-eqb, ne_eqb, lt-ltb, cases_eq}
-use Rattle.std.proofs.lemmas.Bool.Decides.{nat_tests}
 use Rattle.std.proofs.lemmas.Nat.{mod_below}
 use Rattle.std.proofs.lemmas.List.Elements.{Contains-append_left, Contains-append_right}
 use Rattle.std.proofs.lemmas.List.FromFn.{get_or-range_with_len, length-range_with_len}
@@ -12,8 +11,8 @@ use Rattle.codec_graph.specs.declared.raw.RawCodec.{RawCodec}
 use Rattle.codec_graph.specs.declared.controls.Control.{Control}
 use Rattle.codec_graph.specs.declared.controls.Control.TheVariants as control
 use Rattle.codec_graph.specs.Widget.{node_at, is_mixer, is_selector, is_pin, is_output_converter, is_converter, has_power_control, has_input_amplifier, has_output_amplifier, input_amplifier_word, output_amplifier_word, amplifier_offset}
-use Rattle.codec_graph.specs.Settings.{Entries, key, setting_at, setting_of, has_control, group_has, node_has, widget_has, has_eapd, detects_presence, sends_unsolicited, amplified_inputs, IsSettingsOf}
-use Rattle.codec_graph.specs.VerbMeaning.{kept_amplifier, node_connections, verb_writes, written, pin_bits, eapd_bits}
+use Rattle.codec_graph.specs.Settings.{Entries, key, setting_at, setting_of, has_control, widget_has, has_eapd, detects_presence, sends_unsolicited, amplified_inputs, IsSettingsOf}
+use Rattle.codec_graph.specs.VerbMeaning.{kept_amplifier, verb_writes, written, pin_bits, eapd_bits}
 use Rattle.codec_graph.specs.Cycles.{IsWellFormed}
 use Rattle.codec_graph.proofs.Callers.{node_below}
 use Rattle.codec_graph.proofs.Controlled.{is_some-setting_at}
@@ -29,16 +28,16 @@ use Rattle.codec_sound.specs.Signals.{is_off}
 use Rattle.setup_verbs.specs.declared.roles.Role.{Role}
 use Rattle.setup_verbs.specs.declared.roles.Role.TheVariants.{Unused, Passed, Source}
 use Rattle.setup_verbs.specs.declared.steps.Step.{Step}
-use Rattle.setup_verbs.specs.declared.steps.Step.TheVariants.{Power, Silence, Release, Route}
+use Rattle.setup_verbs.specs.declared.steps.Step.TheVariants.{Power, Silence, Route}
 use Rattle.setup_verbs.specs.Roles.{role_of, is_used}
 use Rattle.setup_verbs.specs.Steps.{step_verbs, FitsVerbs, FitsWidget}
 use Rattle.setup_verbs.specs.SetUp.{settings_after}
-use Rattle.setup_verbs.specs.VerbList.{only_if, command_to, input_setting, output_setting, pass_input, mute_input, mixer_input, mixer_verbs, has_choice, select_verbs, selector_verbs, output_verbs, source_verbs, pin_control, event_tag, pin_verbs, passed_verbs, route_verbs, setup_verbs}
+use Rattle.setup_verbs.specs.VerbList.{only_if, command_to, input_setting, output_setting, pass_input, mute_input, mixer_input, mixer_verbs, has_choice, select_verbs, selector_verbs, output_verbs, source_verbs, pin_control, event_tag, pin_verbs, passed_verbs, setup_verbs}
 use Rattle.setup_verbs.proofs.Settling.{Sets, settle}
 use Rattle.setup_verbs.proofs.Wanted.{wanted, wanted-widget, wanted-power, widget_wanted, input_wanted, output_wanted, one_sets, left_sets, right_sets, input_writes, output_writes}
 use Rattle.setup_verbs.proofs.Members.{has_if, has_mapped, has_group, has_verb}
 use Rattle.setup_verbs.proofs.Steady.{all_wanted}
-use Rattle.setup_verbs.proofs.Faultless.{IsApart, apart_at}
+use Rattle.setup_verbs.proofs.Faultless.{apart_at}
 
 some_of : (o : Option ℕ) → is_some o ≡ true → (n : ℕ) × (o ≡ Some n)
 some_of None e = absurd (true≢false (sym e))

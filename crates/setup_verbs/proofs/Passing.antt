@@ -1,26 +1,24 @@
 -- What an opened node lets pass.
-use Rattle.std.proofs.Common.{◌≡◌, ◌≢◌, ◌<◌, ◌≤◌, ◌+◌, ◌*◌, ◌/◌, ◌%◌, ◌^◌, ◌==◌, ◌&&◌, ◌||◌, ◌⊎◌, not, ℕ, zero, suc, Bool, true, false, cond, List, [], ◌∷◌, length, Option, Some, None, refl, sym, ap, subst, ◌∙◌, inl, inr, arith, lit<}
-use Rattle.std.specs.Prelude.{slice_get, nat_lt, nat_le, min, bit_and}
-use Rattle.std.proofs.lemmas.Bool.{true≢false, and_parts, leb-true, eqb-true, eq-eqb, ne_eqb, lt-ltb, cases_Bool, cases_eq}
+use Rattle.std.proofs.Common.{◌≡◌, ◌≢◌, ◌<◌, ◌≤◌, ◌+◌, ◌/◌, ◌%◌, ◌^◌, ◌==◌, ◌&&◌, not, ℕ, zero, suc, Bool, true, false, cond, List, [], ◌∷◌, length, Some, refl, ap, ◌∙◌, arith, lit<}
+use Rattle.std.specs.Prelude.{slice_get, nat_lt, nat_le, min}
+use Rattle.std.proofs.lemmas.Bool.{and_parts, leb-true, eq-eqb, lt-ltb}
 use Rattle.std.proofs.lemmas.Bool.Decides.{nat_tests}
 use Rattle.std.proofs.lemmas.Nat.{mod_below}
 use Rattle.std.proofs.lemmas.Option.{none-some}
 use Rattle.codec_graph.specs.declared.raw.RawNode.{RawNode}
 use Rattle.codec_graph.specs.declared.raw.RawCodec.{RawCodec}
 use Rattle.codec_graph.specs.declared.controls.Control.TheVariants as control
-use Rattle.codec_graph.specs.Widget.{node_at, is_output_converter, is_mixer, is_selector, is_pin, is_inner, is_stereo, is_digital, has_power_control, has_input_amplifier, has_output_amplifier, input_amplifier_word, output_amplifier_word, amplifier_offset, amplifier_steps, can_mute, most_amplified}
-use Rattle.codec_graph.specs.Settings.{Entries, setting_of, has_eapd, mute}
-use Rattle.codec_graph.specs.VerbMeaning.{kept_amplifier, pin_bits, eapd_bits}
+use Rattle.codec_graph.specs.Widget.{is_mixer, is_selector, has_input_amplifier, has_output_amplifier, input_amplifier_word, output_amplifier_word, amplifier_offset, amplifier_steps, can_mute, most_amplified}
+use Rattle.codec_graph.specs.Settings.{Entries, setting_of}
+use Rattle.codec_graph.specs.VerbMeaning.{kept_amplifier}
 use Rattle.verb_codes.specs.Words.{has_bit, bits_of}
-use Rattle.stream_format.specs.declared.format.Format.{Format}
-use Rattle.stream_format.specs.Words.{format_word}
-use Rattle.route_planner.specs.Paths.{is_analog_stereo, can_be_left}
+use Rattle.route_planner.specs.Paths.{can_be_left}
 use Rattle.codec_sound.specs.declared.signals.Signal.{Signal}
 use Rattle.codec_sound.specs.declared.signals.Signal.TheVariants.{Silence, Pair, Altered}
 use Rattle.codec_sound.specs.declared.streams.LinkStream.{LinkStream}
 use Rattle.codec_sound.specs.Amplifiers.{changed_if, is_muted, is_neutral, amplified, after_output, after_input}
-use Rattle.codec_sound.specs.Signals.{stream_of, is_off, takes, converts_otherwise, pair_from, tag_at, channel_at, converted, sum_of, mixed, selected_place, selected, passed_on, made, given, is_silent_pin, comes_from, pin_hears}
-use Rattle.setup_verbs.specs.VerbList.{input_setting, output_setting, has_choice, drives_headphone, pin_control}
+use Rattle.codec_sound.specs.Signals.{is_off, sum_of, mixed, made, given}
+use Rattle.setup_verbs.specs.VerbList.{input_setting, output_setting}
 use Rattle.setup_verbs.proofs.Wanted.{input_wanted, output_wanted}
 
 -- ---- amplifiers

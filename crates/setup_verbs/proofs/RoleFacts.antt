@@ -1,11 +1,11 @@
 -- What holds of each node of a plan's routes.
-use Rattle.std.proofs.Common.{◌≡◌, ◌<◌, ◌≤◌, ◌+◌, ◌*◌, ◌/◌, ◌%◌, ◌==◌, ℕ, zero, suc, Bool, true, false, cond, List, [], ◌∷◌, ◌++◌, map, length, get_or, refl, sym, ap, subst, ◌∙◌, arith}
-use Rattle.std.specs.Prelude.{All, Contains}
+use Rattle.std.proofs.Common.{◌≡◌, ◌<◌, ◌≤◌, ◌+◌, ◌*◌, ◌/◌, ◌%◌, ◌==◌, ℕ, zero, suc, Bool, true, false, cond, List, [], ◌∷◌, ◌++◌, map, length, get_or, Some, refl, ap, subst, ◌∙◌, arith}
+use Rattle.std.specs.Prelude.{All, Contains, slice_get}
 use Rattle.std.proofs.Math.ListN.{get_or-map}
 use Rattle.std.proofs.lemmas.List.{length-map}
 use Rattle.std.proofs.lemmas.Nat.{mod_below}
 use Rattle.std.proofs.lemmas.Bool.{eqb-true}
-use Rattle.std.proofs.lemmas.List.Elements.{All-nil, All-cons, All-append, All-map, All-head, All-tail, All-contains, Contains-push, Contains-append_left, Contains-append_right, Contains-get_or}
+use Rattle.std.proofs.lemmas.List.Elements.{All-nil, All-cons, All-append, All-map, All-head, All-tail, All-contains, Contains-push, Contains-append_left, Contains-get_or}
 use Rattle.codec_graph.specs.declared.raw.RawCodec.{RawCodec}
 use Rattle.codec_graph.specs.Widget.{node_at, is_output_converter}
 use Rattle.stream_format.specs.declared.format.Format.{Format}
@@ -16,8 +16,10 @@ use Rattle.route_planner.specs.declared.routes.Outcome.TheVariants as outcome
 use Rattle.route_planner.specs.declared.routes.PinPlan.{PinPlan}
 use Rattle.route_planner.specs.declared.routes.Plan.{Plan}
 use Rattle.route_planner.specs.Order.{pair_of}
-use Rattle.route_planner.specs.Paths.{passes, nodes_of, is_analog_stereo, can_be_left, IsAdmissible}
+use Rattle.route_planner.specs.Paths.{passes, list_of, connection, LeadsTo, nodes_of, is_analog_stereo, can_be_left}
 use Rattle.route_planner.specs.Plans.{IsOutcome, HaveOutcomes, IsPlan, IsAdmissibleOutcome}
+use Rattle.std.proofs.lemmas.Option.{none-some}
+use Rattle.route_planner.proofs.Bridge.{match_some}
 use Rattle.setup_verbs.specs.declared.roles.Role.{Role}
 use Rattle.setup_verbs.specs.declared.roles.Role.TheVariants.{Unused, Passed, Source}
 use Rattle.setup_verbs.specs.Roles.{Uses, hop_uses, outcome_uses, entry_uses, uses_of, first_role, role_among, role_of}
@@ -36,10 +38,27 @@ role_all P none (used ∷ uses) nid all = by (used.0 == nid) refl (role_all P no
     by true e rest = first used.1 (role_among uses nid) (subst (λ n. P n used.1) (eqb-true used.0 nid e) (All-head (λ (u : ℕ × Role). P u.0 u.1) used uses all)) rest
     by false e rest = rest
 
+-- a list has what a look-up finds
+pub within_list : (xs : List ℕ) (i n : ℕ) → slice_get xs i ≡ Some n → i < length xs
+within_list [] i n e = absurd (none-some n e)
+within_list (x ∷ xs) zero n e = omega arith
+within_list (x ∷ xs) (suc i) n e = omega (arith, within_list xs i n e)
+
+-- each hop has its connection
+pub leads_by : (codec : RawCodec) (hops : List Hop) (from to : ℕ) → LeadsTo codec from hops to → (k : ℕ) (d : Hop) → k < length hops → (next : ℕ) × (connection codec (get_or hops k d).nid (get_or hops k d).index ≡ Some next)
+leads_by codec [] from to leads k d within = absurd (omega arith)
+leads_by codec (hop ∷ hops) from to leads zero d within =
+    let next = match_some (connection codec from hop.index) (λ n. LeadsTo codec n hops to) leads.1 in
+    (next.0, ap (λ n. connection codec n hop.index) leads.0 ∙ next.1)
+leads_by codec (hop ∷ hops) from to leads (suc k) d within =
+    let next = match_some (connection codec from hop.index) (λ n. LeadsTo codec n hops to) leads.1 in
+    leads_by codec hops next.0 to next.2 k d (omega arith)
+
 -- what an admissible path says of a node by its role
 pub record IsPassedWell (codec : RawCodec) (nid index : ℕ) : Type 0 where
   pub analog_stereo : passes is_analog_stereo (node_at codec nid) ≡ true
   pub left_well : passes (can_be_left codec index) (node_at codec nid) ≡ true
+  pub listed : index < length (list_of (node_at codec nid))
 
 pub record IsSourceWell (codec : RawCodec) (channels nid pair : ℕ) : Type 0 where
   pub analog_stereo : passes is_analog_stereo (node_at codec nid) ≡ true
@@ -64,6 +83,7 @@ outcome_well codec format pin pair (outcome.Route route) well fits =
     (λ k d within. record {
       analog_stereo = route_stereo codec route well.analog_stereo (get_or route.hops k d) (Contains-get_or route.hops k d within);
       left_well = well.left_well k d within;
+      listed = let next = leads_by codec route.hops pin route.converter well.path.leads k d within in within_list (list_of (node_at codec (get_or route.hops k d).nid)) (get_or route.hops k d).index next.0 next.1;
     }))
     (All-cons (λ (used : ℕ × Role). IsUsedWell codec format.channels used.0 used.1) (route.converter, Source pair) [] (record {
       analog_stereo = All-contains (λ nid. passes is_analog_stereo (node_at codec nid) ≡ true) (nodes_of route) route.converter well.analog_stereo (Contains-push (map (λ (hop : Hop). hop.nid) route.hops) route.converter);

@@ -1,28 +1,20 @@
 -- Compatible routes agree at each node that they share, so each hop and converter of a plan has its role.
-use Rattle.std.proofs.Common.{◌≡◌, ◌≢◌, ◌<◌, ◌≤◌, ◌+◌, ◌==◌, ◌&&◌, ◌||◌, ◌⊎◌, ℕ, zero, suc, Bool, true, false, cond, List, [], ◌∷◌, ◌++◌, map, length, get_or, Option, Some, None, append_assoc, append-nil, refl, sym, ap, subst, ◌∙◌, inl, inr, arith}
-use Rattle.std.specs.Prelude.{All, AllPairs, Contains, drop, slice_get}
+use Rattle.std.proofs.Common.{◌≡◌, ◌<◌, ◌==◌, ◌||◌, ◌⊎◌, ℕ, zero, suc, Bool, true, false, cond, List, [], ◌∷◌, length, get_or, Option, Some, None, refl, sym, ap, subst, ◌∙◌, inl, inr, arith}
+use Rattle.std.specs.Prelude.{All, Contains, drop, slice_get}
 use Rattle.std.proofs.lemmas.Bool.{eqb-true, eq-eqb, true≢false}
 use Rattle.std.proofs.lemmas.Option.{none-some}
 use Rattle.verb_codes.specs.Words.{bits_of}
-use Rattle.std.proofs.lemmas.List.Concat.{flat_map-append}
-use Rattle.std.proofs.lemmas.List.Elements.{All-nil, All-cons, All-append, All-map, All-head, All-tail, All-contains, Contains-append_cases, Contains-append_left, Contains-append_right, Contains-get_or}
+use Rattle.std.proofs.lemmas.List.Elements.{All-head, All-tail}
 use Rattle.codec_graph.specs.declared.raw.RawNode.{RawNode}
 use Rattle.codec_graph.specs.declared.raw.RawCodec.{RawCodec}
 use Rattle.codec_graph.specs.Widget.{node_at, is_inner, is_pin, is_output_converter}
 use Rattle.codec_graph.specs.Cycles.{IsWellFormed, inner_list, inner_list_of, Leads, Reaches}
-use Rattle.stream_format.specs.declared.format.Format.{Format}
 use Rattle.route_planner.specs.declared.routes.Hop.{Hop}
-use Rattle.route_planner.specs.declared.routes.Route as declared_route
-use Rattle.route_planner.specs.declared.routes.Outcome.{Outcome}
-use Rattle.route_planner.specs.declared.routes.Outcome.TheVariants as outcome
-use Rattle.route_planner.specs.declared.routes.PinPlan.{PinPlan}
-use Rattle.route_planner.specs.declared.routes.Plan.{Plan}
-use Rattle.route_planner.specs.Paths.{passes, list_of, connection, LeadsTo, IsPath, IsAdmissible, IsCompatible}
-use Rattle.route_planner.specs.Plans.{LeavesOpen, IsOpenPath, IsOutcome, HaveOutcomes, IsPlan}
+use Rattle.route_planner.specs.Paths.{passes, list_of, connection, LeadsTo}
 use Rattle.route_planner.proofs.Bridge.{match_some}
 use Rattle.setup_verbs.specs.declared.roles.Role.{Role}
-use Rattle.setup_verbs.specs.declared.roles.Role.TheVariants.{Unused, Passed, Source}
-use Rattle.setup_verbs.specs.Roles.{Uses, hop_uses, outcome_uses, entry_uses, uses_of, first_role, role_among, role_of}
+use Rattle.setup_verbs.specs.declared.roles.Role.TheVariants.{Unused}
+use Rattle.setup_verbs.specs.Roles.{Uses, first_role, role_among}
 
 -- ---- uses that agree
 

@@ -1,8 +1,8 @@
 -- Each set-up verb sets what is wanted.
-use Rattle.std.proofs.Common.{◌≡◌, ◌<◌, ◌≤◌, ◌+◌, ◌*◌, ◌^◌, ◌==◌, ◌&&◌, ◌||◌, not, ℕ, Bool, true, false, cond, List, [], ◌∷◌, ◌++◌, map, length, get_or, Option, Some, None, zero-add, refl, sym, ap, subst, ◌∙◌, arith, lit<}
+use Rattle.std.proofs.Common.{◌≡◌, ◌<◌, ◌≤◌, ◌+◌, ◌*◌, ◌^◌, ◌==◌, ◌&&◌, ℕ, Bool, true, false, cond, [], ◌∷◌, ◌++◌, map, length, Some, zero-add, refl, sym, subst, ◌∙◌, arith, lit<}
 use Rattle.std.specs.Prelude.{All, nat_lt, bit_and}
 use Rattle.std.specs.List.{range_with_len}
-use Rattle.std.proofs.lemmas.Bool.{cases_Bool, and_parts, true≢false, eq-eqb}
+use Rattle.std.proofs.lemmas.Bool.{and_parts, eq-eqb}
 use Rattle.std.proofs.lemmas.Nat.{mod_below}
 use Rattle.std.proofs.lemmas.List.Elements.{All-nil, All-cons, All-append, All-map}
 use Rattle.std.proofs.lemmas.List.FromFn.{get_or-range_with_len, length-range_with_len}
@@ -10,14 +10,11 @@ use Rattle.codec_graph.specs.declared.raw.RawNode.{RawNode}
 use Rattle.codec_graph.specs.declared.raw.RawCodec.{RawCodec}
 use Rattle.codec_graph.specs.declared.controls.Control.{Control}
 use Rattle.codec_graph.specs.declared.controls.Control.TheVariants as control
-use Rattle.codec_graph.specs.declared.controls.ControlKey.{ControlKey}
 use Rattle.codec_graph.specs.Widget.{node_at, is_mixer, is_selector, is_pin, is_output_converter, has_power_control, has_input_amplifier, has_output_amplifier, input_amplifier_word, output_amplifier_word, amplifier_offset}
-use Rattle.codec_graph.specs.Settings.{Entries, key, has_eapd, detects_presence, sends_unsolicited}
+use Rattle.codec_graph.specs.Settings.{Entries, has_eapd, detects_presence, sends_unsolicited}
 use Rattle.codec_graph.specs.VerbMeaning.{written, kept_amplifier, verb_writes, node_connections, pin_bits, eapd_bits, unsolicited_bits}
-use Rattle.codec_graph.specs.Cycles.{IsWellFormed}
-use Rattle.verb_codes.specs.declared.verbs.Command.{Command}
 use Rattle.verb_codes.specs.declared.verbs.Verb.{Verb}
-use Rattle.verb_codes.specs.declared.verbs.Verb.TheVariants.{SetSelect, SetPower, SetStream, SetPin, SetUnsol, SetEapd, SetFormat, SetAmp}
+use Rattle.verb_codes.specs.declared.verbs.Verb.TheVariants.{SetSelect, SetPower, SetStream, SetPin, SetUnsol, SetEapd, SetFormat}
 use Rattle.stream_format.specs.declared.format.Format.{Format}
 use Rattle.stream_format.specs.Words.{format_word}
 use Rattle.route_planner.specs.declared.routes.Plan.{Plan}
@@ -26,11 +23,11 @@ use Rattle.setup_verbs.specs.declared.roles.Role.TheVariants.{Unused, Passed, So
 use Rattle.setup_verbs.specs.declared.steps.Step.{Step}
 use Rattle.setup_verbs.specs.declared.steps.Step.TheVariants.{Power, Silence, Release, Route}
 use Rattle.setup_verbs.specs.Roles.{role_of, is_used}
-use Rattle.setup_verbs.specs.Steps.{step_verbs, FitsRole, FitsWidget, FitsVerbs}
-use Rattle.setup_verbs.specs.VerbList.{only_if, command_to, input_setting, output_setting, pass_input, mute_input, mixer_input, mixer_verbs, has_choice, select_verbs, selector_verbs, output_verbs, source_verbs, pin_control, event_tag, pin_verbs, passed_verbs, route_verbs, setup_verbs}
+use Rattle.setup_verbs.specs.Steps.{step_verbs, FitsWidget, FitsVerbs}
+use Rattle.setup_verbs.specs.VerbList.{only_if, command_to, input_setting, pass_input, mute_input, mixer_input, mixer_verbs, has_choice, select_verbs, selector_verbs, output_verbs, source_verbs, pin_control, event_tag, passed_verbs, setup_verbs}
 use Rattle.setup_verbs.proofs.Settling.{IsWanted}
-use Rattle.setup_verbs.proofs.Wanted.{widget_wanted, select_wanted, input_wanted, output_wanted, wanted, wanted-widget, one_wanted, two_wanted, if_wanted, wanted-power, input_writes, output_writes}
-use Rattle.setup_verbs.proofs.Members.{all_if, OfSteps, all_verbs}
+use Rattle.setup_verbs.proofs.Wanted.{widget_wanted, input_wanted, output_wanted, wanted, wanted-widget, one_wanted, two_wanted, if_wanted, wanted-power, input_writes, output_writes}
+use Rattle.setup_verbs.proofs.Members.{all_if, all_verbs}
 
 module _ (codec : RawCodec) (plan : Plan) (format : Format) (tag nid : ℕ) (node : RawNode) (there : node_at codec nid ≡ Some node) where
   -- the verb puts what is wanted

@@ -1,8 +1,7 @@
 -- What each control is to be set to, and that each of the verbs sets it so.
-use Rattle.std.proofs.Common.{◌≡◌, ◌<◌, ◌≤◌, ◌+◌, ◌*◌, ◌^◌, ◌%◌, ◌==◌, ◌&&◌, ◌||◌, ℕ, Bool, true, false, cond, List, [], ◌∷◌, ◌++◌, Option, Some, None, append-nil, refl, sym, ap, subst, ◌∙◌, arith}
-use Rattle.std.specs.Prelude.{All, bit_and, nat_lt}
+use Rattle.std.proofs.Common.{◌≡◌, ◌<◌, ◌+◌, ◌*◌, ◌^◌, ◌==◌, ◌||◌, ℕ, Bool, true, false, cond, [], ◌∷◌, ◌++◌, Option, Some, None, append-nil, refl, sym, ap, subst, ◌∙◌, arith}
+use Rattle.std.specs.Prelude.{bit_and}
 use Rattle.std.specs.BTreeMap.{is_at}
-use Rattle.std.proofs.lemmas.Bool.{true≢false}
 use Rattle.std.proofs.lemmas.List.Elements.{All-nil, All-cons, All-append}
 use Rattle.std.proofs.lemmas.List.Folds.{list_any-append}
 use Rattle.codec_graph.specs.declared.raw.RawNode.{RawNode}
@@ -14,7 +13,6 @@ use Rattle.codec_graph.specs.Widget.{node_at, input_amplifier_word, output_ampli
 use Rattle.codec_graph.specs.Settings.{Entries, key, key_cmp, has_control}
 use Rattle.codec_graph.specs.VerbMeaning.{written, kept_amplifier, amplifier_writes, verb_writes, writes_of, node_input_word, node_output_word, pin_bits, eapd_bits, unsolicited_bits}
 use Rattle.codec_graph.proofs.Controlled.{here}
-use Rattle.verb_codes.specs.declared.verbs.Command.{Command}
 use Rattle.verb_codes.specs.declared.verbs.Verb.{Verb}
 use Rattle.verb_codes.specs.declared.verbs.Verb.TheVariants.{SetAmp}
 use Rattle.verb_codes.specs.declared.amplifiers.AmpSetting.{AmpSetting}

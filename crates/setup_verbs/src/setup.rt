@@ -29,7 +29,9 @@ pub fn verbs(
     requires plan { IsPlan graph.now format plan.now }
     requires some { 1 ≤ tag }
     requires few { tag ≤ 15 }
-    ensures { IfOk result (λ commands. commands.items ≡ setup_verbs graph.now plan.now format tag) }
+    ensures list { IfOk result (λ commands. commands.items ≡ setup_verbs graph.now plan.now format tag) }
+    ensures set_up { IfOk result (λ commands. LeadToSetUp graph.now plan.now format tag commands.items) }
+    ensures encodable { IfOk result (λ commands. All (IsCommandOf graph.now) commands.items) }
 {
     let codec = graph.raw();
     let roles = roles_of(plan.pins.as_slice());

@@ -1,4 +1,4 @@
-use Rattle.std.proofs.Common.{◌≡◌, ◌+◌, ℕ, drop, length}
+use Rattle.std.proofs.Common.{◌≡◌, ◌+◌, drop}
 use Rattle.setup_verbs.specs.Roles.{place_among}
 use Rattle.setup_verbs.proofs.openings.event_tag.Given as goal
 

@@ -1,4 +1,4 @@
-use Rattle.std.proofs.Common.{◌≡◌, ◌<◌, ◌∙◌, sym, ap, subst, Some, arith}
+use Rattle.std.proofs.Common.{◌<◌, ◌∙◌, sym, ap, subst, arith}
 use Rattle.setup_verbs.specs.Steps.{role_in, FitsWidget}
 use Rattle.setup_verbs.proofs.steps.send_at.Goals as goal
 
