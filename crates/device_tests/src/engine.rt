@@ -1,5 +1,6 @@
 //! The driver's side of the rings over scripted registers.
-ghost use Rattle.std.specs.Prelude.{◌≡◌, ◌≤◌, ◌+◌, [], None, true};
+ghost use Rattle.std.specs.Prelude.{◌≡◌, ◌≤◌, ◌+◌, []};
+ghost use Rattle.verb_codes.specs.Verbs.{IsInRange};
 
 use crate::scripted::Scripted;
 use command_engine::{Engine, Event, OpenFault, Poll};
@@ -12,10 +13,12 @@ use verb_codes::{Command, Verb};
 /// The sizes of rings of 256 entries, as the size registers read.
 const FULL: u32 = 0x42;
 
-/// The command that asks the codec of this address for its vendor.
-fn ask_vendor(codec: u8) -> Command {
+/// The command that asks codec 2 for its vendor.
+fn ask_vendor() -> Command
+    ensures { IsInRange result }
+{
     Command {
-        codec,
+        codec: 2,
         nid: 0,
         verb: Verb::GetParam(0),
     }
@@ -133,7 +136,7 @@ fn poll_once(engine: &mut Engine, platform: &mut Scripted, case: &Case) -> Optio
     if !engine.is_started() || engine.outstanding().is_some() || rirb > 4_096 {
         return None;
     }
-    engine.submit(platform, ask_vendor(2), 1_000);
+    engine.submit(platform, ask_vendor(), 1_000);
     store_entries(platform, rirb as usize, case.0);
     Some(engine.poll(platform, case.2))
 }

@@ -1,10 +1,10 @@
 //! The verbs that set codecs up.
 use codec_examples::{LEAST, SMALL, read_codec, two_pins};
 use route_planner::{Bits, Format, Rate, plan};
-use setup_verbs::verbs;
+use route_setup::{Analog, Setter, verbs};
 use std::alloc::Global;
 use std::test::Fail;
-use verb_codes::encode;
+use verb_codes::{Command, Verb, encode};
 
 /// A pin with nothing connected to its jack, and so no route.
 const NOWHERE: &str = "
@@ -111,5 +111,28 @@ fn sets_shared_nodes_and_headphones_up(rt: HostRuntime) -> Result<(), Fail> {
         0x2217_07C0,
     ];
     assert!(rt; are_words(alloc, HEADPHONE, &headphone)?);
+    Ok(())
+}
+
+/// The verbs of any setter for the codec of the file.
+fn commands_by<S: Setter>(alloc: Global, setter: &S, text: &str) -> Result<Vec<Command>, Fail> {
+    let format = Format {
+        rate: Rate::R96,
+        bits: Bits::B16,
+        channels: 2,
+    };
+    let codec = read_codec(alloc, text)?;
+    let plan = setter.plan(alloc, &codec.graph, format)?;
+    Ok(setter.verbs(alloc, &codec.graph, &plan, format, 1)?)
+}
+
+#[test]
+fn sets_up_by_a_setter(rt: HostRuntime) -> Result<(), Fail> {
+    // Neither converter takes 96 kHz, so nothing is routed.
+    let text = two_pins(rt.alloc(), "0x02, 0x03", "0x00020040")?;
+    let commands = commands_by(rt.alloc(), &Analog, &text)?;
+    assert!(rt; commands.len() == 5);
+    let last = commands.last().map(|command| command.verb);
+    assert!(rt; last == Some(Verb::SetStream(0)));
     Ok(())
 }

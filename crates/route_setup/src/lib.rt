@@ -6,3 +6,4 @@ mod setter;
 
 pub use analog::Analog;
 pub use setter::Setter;
+pub use setup_verbs::{setup_verbs_set_up, verbs};

@@ -1,7 +1,9 @@
-use Rattle.std.proofs.Common.{◌≡◌, ℕ, subst, sym, inr}
+use Rattle.std.proofs.Common.{◌≡◌, ◌∙◌, ℕ, ap, subst, sym, inr}
+use Rattle.std.specs.Prelude.{Contains}
+use Rattle.dma_pool.specs.declared.runs.Run.{Run}
 use Rattle.dma_pool.specs.Pools.{PoolState, AddsRun, HasNoRun, granules_for}
 use Rattle.dma_pool.specs.Blocks.{run_at}
-use Rattle.command_engine.specs.Blocks.{rirb_bytes}
+use Rattle.command_engine.specs.Blocks.{corb_bytes, rirb_bytes}
 use Rattle.command_engine.proofs.Pools.{given_back}
 use Rattle.command_engine.proofs.engine.Engine.open.Goals as goal
 
@@ -35,3 +37,11 @@ returns-in_default-with_capacity-clause-unchanged c =
     (subst (λ (pool : PoolState). AddsRun second.new.self.taken (run_at c.in-Ok.corb.address c.in-Ok.corb.bytes) pool.taken) same second.ensures.gives)
     c.in-Ok.ensures.granules
     (subst (λ (pool : PoolState). second.new.self.granules ≡ pool.granules) same second.ensures.granules)
+
+-- CORB's run stays taken as RIRB's is
+pub returns-clause-owns_corb : goal.returns-clause-owns_corb
+returns-clause-owns_corb c =
+    let run : Run = run_at c.lend.result.address corb_bytes in
+    let same : run_at c.in-Ok.corb.address c.in-Ok.corb.bytes ≡ run =
+    ap (λ (bytes : ℕ). run_at c.in-Ok.corb.address bytes) c.in-Ok.ensures.bytes ∙ ap (λ (address : ℕ). run_at address corb_bytes) (sym c.lend.ensures.address) in
+    c.take-2.ensures.kept run (subst (Contains c.take.new.self.taken) same c.in-Ok.ensures.owned)
