@@ -77,6 +77,7 @@ fn opens_where_both_rings_have_a_run(rt: HostRuntime) -> Result<(), Fail> {
 
 /// The entries of RIRB from 1 on, each as two words, what the write pointer reads, the clock of the poll, and what it answers for a
 /// command to codec 2 that was submitted at 1,000.
+#[derive(Drop)]
 struct Case(&'static [[u32; 2]], u32, u32, Poll);
 
 const POLLS: [Case; 10] = [
@@ -110,6 +111,14 @@ const POLLS: [Case; 10] = [
     Case(&[[8, 2]], 0x101, 1_500, Poll::Answered(8)),
 ];
 
+/// Two responses that were sent unasked, of codecs 2 and 0, with the answer between them and another response behind.
+const TOLD: [[u32; 2]; 4] = [
+    [0x0400_0000, 0x12],
+    [9, 2],
+    [0x0800_0000, 0x10],
+    [0x0400_0000, 2],
+];
+
 /// Stores entries of a ring from its entry 1 on.
 fn store_entries(platform: &mut Scripted, ring: usize, entries: &[[u32; 2]])
     requires { ring ≤ 4096 }
@@ -141,8 +150,16 @@ fn poll_once(engine: &mut Engine, platform: &mut Scripted, case: &Case) -> Optio
     Some(engine.poll(platform, case.2))
 }
 
-/// What the poll of a case answers.
-fn polled(alloc: Global, case: &Case) -> Result<Option<Poll>, Fail> {
+/// The first two events of a poll.
+fn events_of(engine: &mut Engine) -> [Option<Event>; 2]
+    ensures corb { engine.new.corb ≡ engine.old.corb }
+    ensures rirb { engine.new.rirb ≡ engine.old.rirb }
+{
+    [engine.next_event(), engine.next_event()]
+}
+
+/// What the poll of a case answers, and its first two events.
+fn polled(alloc: Global, case: &Case) -> Result<(Option<Poll>, [Option<Event>; 2]), Fail> {
     let flag = u32::from(case.1 != 0);
     let reads = [4, FULL, FULL, 0x8000, 0, flag, case.1];
     let mut pool = Pool::new(alloc, 24)?;
@@ -150,8 +167,9 @@ fn polled(alloc: Global, case: &Case) -> Result<Option<Poll>, Fail> {
     match Engine::open(alloc, &mut pool) {
         Ok(mut engine) => {
             let poll = poll_once(&mut engine, &mut platform, case);
+            let events = events_of(&mut engine);
             engine.close(&mut pool);
-            Ok(poll)
+            Ok((poll, events))
         }
         Err(_) => Err(Fail::from("no engine")),
     }
@@ -160,8 +178,22 @@ fn polled(alloc: Global, case: &Case) -> Result<Option<Poll>, Fail> {
 #[test]
 fn polls_find_the_answer(rt: HostRuntime) -> Result<(), Fail> {
     for case in &POLLS {
-        let got = polled(rt.alloc(), case)?;
+        let (got, _) = polled(rt.alloc(), case)?;
         assert!(rt; got == Some(case.3), "{got:?} in place of {:?}", case.3);
     }
+    Ok(())
+}
+
+#[test]
+fn polls_find_events(rt: HostRuntime) -> Result<(), Fail> {
+    let case = Case(&[], 0, 1_500, Poll::Waiting);
+    let (_, events) = polled(rt.alloc(), &case)?;
+    assert!(rt; events == [None, None]);
+    let case = Case(&TOLD, 4, 1_500, Poll::Answered(9));
+    let (poll, events) = polled(rt.alloc(), &case)?;
+    assert!(rt; poll == Some(Poll::Answered(9)));
+    let [first, second] = events;
+    assert!(rt; first == Some(Event { codec: 2, tag: 1 }));
+    assert!(rt; second == Some(Event { codec: 0, tag: 2 }));
     Ok(())
 }

@@ -17,7 +17,8 @@ node = [
 ]
 ";
 
-/// The headphone pin 21 with a drive for it, which lists the selector 0E with an amplifier, whose 0 dB step is 3, of the converter 03.
+/// The headphone pin 21 with a drive for it, which lists the selector 0E. That has amplifiers whose 0 dB step is 3, and its second
+/// connection is the converter 03; its first, 05, is an input converter.
 const HEADPHONE: &str = "
 [[codec]]
 address = 2
@@ -26,7 +27,7 @@ node = [
     {nid = 0x03, caps = 0x401, power = 0xF},
     {nid = 0x0E, caps = 0x30010B, amp_in = 0x80000503, list = [0x05, 0x03]},
     {nid = 0x05, caps = 0x100101, list = [0x21]},
-    {nid = 0x21, caps = 0x40010D, amp_out = 0x80000000, pin_caps = 0x18, default = 0x01214010, list = [0x03, 0x0E]},
+    {nid = 0x21, caps = 0x40010D, amp_out = 0x80000000, pin_caps = 0x18, default = 0x01214010, list = [0x0E]},
 ]
 ";
 
@@ -100,13 +101,14 @@ fn sets_shared_nodes_and_headphones_up(rt: HostRuntime) -> Result<(), Fail> {
     ];
     let text = two_pins(alloc, "0x02, 0x03", "0x00020040")?;
     assert!(rt; are_words(alloc, &text, &shared)?);
-    // Straight to the converter, which has power states, and the selector is not used.
+    // The converter has power states.
     let headphone = [
         0x2017_0500,
         0x2037_0500,
         0x2032_0011,
         0x2037_0610,
-        0x2217_0100,
+        0x20E7_0101,
+        0x20E3_7103,
         0x2213_B000,
         0x2217_07C0,
     ];
@@ -128,11 +130,23 @@ fn commands_by<S: Setter>(alloc: Global, setter: &S, text: &str) -> Result<Vec<C
 
 #[test]
 fn sets_up_by_a_setter(rt: HostRuntime) -> Result<(), Fail> {
-    // Neither converter takes 96 kHz, so nothing is routed.
-    let text = two_pins(rt.alloc(), "0x02, 0x03", "0x00020040")?;
+    // Converter 03 alone takes 96 kHz, so both pins leave the selector by index 1.
+    let text = two_pins(rt.alloc(), "0x02, 0x03", "0x00020140")?;
     let commands = commands_by(rt.alloc(), &Analog, &text)?;
-    assert!(rt; commands.len() == 5);
-    let last = commands.last().map(|command| command.verb);
-    assert!(rt; last == Some(Verb::SetStream(0)));
+    let verbs = [
+        Verb::SetPower(0),
+        Verb::SetStream(0),
+        Verb::SetFormat(0x0811),
+        Verb::SetStream(0x10),
+        Verb::SetSelect(1),
+        Verb::SetAmp(0xB000),
+        Verb::SetPin(0x40),
+        Verb::SetAmp(0xB000),
+        Verb::SetPin(0x40),
+    ];
+    assert!(rt; commands.len() == verbs.len());
+    for (command, verb) in commands.iter().zip(&verbs) {
+        assert!(rt; command.verb == *verb, "{command:?} in place of {verb:?}");
+    }
     Ok(())
 }

@@ -1,5 +1,5 @@
 //! The heard lists of a machine.
-ghost use Rattle.std.specs.Prelude.{◌≡◌, ◌≤◌, ◌<◌, ◌+◌, ◌++◌, [], ◌∷◌, IfOk, OnOk, Contains, map, vec_len, vec_capacity};
+ghost use Rattle.std.specs.Prelude.{◌≡◌, ◌≤◌, ◌<◌, ◌+◌, ◌++◌, ℕ, [], ◌∷◌, IfOk, OnOk, Contains, map, vec_len, vec_capacity};
 ghost use Rattle.codec_sound.specs.declared.heard.Heard.TheVariants.{Hole};
 ghost use Rattle.heard_lists.specs.Listings.{HasRoom, AreListsOf, AreEmpty, graphs_in, pins_of, empty_lists, handed_out, list_of, with_items};
 
@@ -51,9 +51,10 @@ impl HeardLists {
     /// Makes room for so many more items in each list.
     ///
     /// # Errors
-    /// Want of memory. The lists stay as they were.
+    /// Want of memory. The lists stay as they were, with at least the room that they had.
     pub fn reserve(&mut self, blocks: u64) -> Result<(), AllocError>
         ensures room { OnOk result (HasRoom blocks self.new) }
+        ensures kept { (items : ℕ) → HasRoom items self.old → HasRoom items self.new }
         ensures lists { map handed_out self.new ≡ map handed_out self.old }
     {
         reserve_all(self.lists.as_mut_slice(), blocks as usize)
@@ -106,6 +107,7 @@ fn add_lists(lists: &mut Vec<PinList>, codec: u8, pins: &[u8]) -> Result<(), All
 /// Makes room for so many more items in each list.
 fn reserve_all(lists: &mut [PinList], items: usize) -> Result<(), AllocError>
     ensures room { OnOk result (HasRoom items lists.new) }
+    ensures kept { (more : ℕ) → HasRoom more lists.old → HasRoom more lists.new }
     ensures lists { map handed_out lists.new ≡ map handed_out lists.old }
 {
     for list in lists.iter_mut() {

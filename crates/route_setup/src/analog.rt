@@ -16,17 +16,17 @@ use verb_codes::Command;
 pub struct Analog;
 
 impl Setter for Analog {
-    ghost IsPlanBy = { IsPlan };
+    ghost IsPlanBy = { λ _. IsPlan };
 
-    ghost verbs_by = { setup_verbs };
+    ghost verbs_by = { λ _. setup_verbs };
 
-    ghost IsOpenBy = { IsSetUp };
+    ghost IsOpenBy = { λ _. IsSetUp };
 
-    ghost one_plan = { one_plan_of };
+    ghost one_plan = { λ _. one_plan_of };
 
-    ghost opens = { λ graph plan format tag settings well is some few of. lead_to_set_up graph plan format tag well is some few settings of };
+    ghost opens = { λ _ graph plan format tag settings well is some few of. lead_to_set_up graph plan format tag well is some few settings of };
 
-    ghost encodable = { all_commands_of };
+    ghost encodable = { λ _. all_commands_of };
 
     fn plan(&self, alloc: Global, graph: &Graph, format: Format) -> Result<Plan, AllocError> {
         route_planner::plan(alloc, graph, format)

@@ -14,23 +14,24 @@ use std::alloc::{AllocError, Global};
 use stream_format::Format;
 use verb_codes::Command;
 
-/// How a codec is set up: the plan of its graph, and the verbs that open the plan's routes. This project's own.
+/// How a codec is set up: the plan of its graph, and the verbs that open the plan's routes. All of it may depend on the setter, as where
+/// it is made for one codec of several. This project's own.
 pub trait Setter {
     /// Which plan is that of a graph for a stream format.
-    ghost IsPlanBy: { RawCodec → Format → Plan → Type 0 };
+    ghost IsPlanBy: { Self → RawCodec → Format → Plan → Type 0 };
 
     /// The verbs of a graph for its plan, a stream format and the stream's tag.
-    ghost verbs_by: { RawCodec → Plan → Format → ℕ → List Command };
+    ghost verbs_by: { Self → RawCodec → Plan → Format → ℕ → List Command };
 
     /// What the verbs are for: whether a codec with this graph and these settings is set up for a plan, a format and a tag.
-    ghost IsOpenBy: { RawCodec → Entries → Plan → Format → ℕ → Type 0 };
+    ghost IsOpenBy: { Self → RawCodec → Entries → Plan → Format → ℕ → Type 0 };
 
     /// The plan of a graph for a stream format.
     ///
     /// # Errors
     /// Want of memory.
     fn plan(&self, alloc: Global, graph: &Graph, format: Format) -> Result<Plan, AllocError>
-        ensures { IfOk result (IsPlanBy graph.now format) };
+        ensures { IfOk result (IsPlanBy self.now graph.now format) };
 
     /// The verbs that set the graph's codec up for its plan, while the stream with this tag, 1 to 15, and format plays.
     ///
@@ -44,21 +45,21 @@ pub trait Setter {
         format: Format,
         tag: u8,
     ) -> Result<Vec<Command>, AllocError>
-        requires plan { IsPlanBy graph.now format plan.now }
+        requires plan { IsPlanBy self.now graph.now format plan.now }
         requires some { 1 ≤ tag }
         requires few { tag ≤ 15 }
-        ensures { IfOk result (λ commands. commands.items ≡ verbs_by graph.now plan.now format tag) };
+        ensures { IfOk result (λ commands. commands.items ≡ verbs_by self.now graph.now plan.now format tag) };
 
     /// A graph has one plan for a format.
-    ghost one_plan: { (graph : RawCodec) (format : Format) (plan other : Plan) → IsPlanBy graph format plan → IsPlanBy graph format other
-        → other ≡ plan };
+    ghost one_plan: { (setter : Self) (graph : RawCodec) (format : Format) (plan other : Plan) → IsPlanBy setter graph format plan
+        → IsPlanBy setter graph format other → other ≡ plan };
 
     /// The verbs of a well-formed graph lead from any settings of the graph to settings for which its codec is set up.
-    ghost opens: { (graph : RawCodec) (plan : Plan) (format : Format) (tag : ℕ) (settings : Entries) → IsWellFormed graph
-        → IsPlanBy graph format plan → 1 ≤ tag → tag ≤ 15 → IsSettingsOf graph settings
-        → IsOpenBy graph (settings_after graph settings (verbs_by graph plan format tag)) plan format tag };
+    ghost opens: { (setter : Self) (graph : RawCodec) (plan : Plan) (format : Format) (tag : ℕ) (settings : Entries) → IsWellFormed graph
+        → IsPlanBy setter graph format plan → 1 ≤ tag → tag ≤ 15 → IsSettingsOf graph settings
+        → IsOpenBy setter graph (settings_after graph settings (verbs_by setter graph plan format tag)) plan format tag };
 
     /// Each of them goes to the graph's codec, and can be encoded where that is one of 0 to 14.
-    ghost encodable: { (graph : RawCodec) (plan : Plan) (format : Format) (tag : ℕ) → IsWellFormed graph → IsPlanBy graph format plan
-        → tag ≤ 15 → All (IsCommandOf graph) (verbs_by graph plan format tag) };
+    ghost encodable: { (setter : Self) (graph : RawCodec) (plan : Plan) (format : Format) (tag : ℕ) → IsWellFormed graph
+        → IsPlanBy setter graph format plan → tag ≤ 15 → All (IsCommandOf graph) (verbs_by setter graph plan format tag) };
 }
