@@ -1,5 +1,5 @@
 -- Lists that grow.
-use Rattle.std.proofs.Common.{◌≡◌, ◌≢◌, ◌≤◌, ◌<◌, ◌+◌, ◌-◌, ℕ, suc, List, [], ◌∷◌, ◌++◌, length, map, get_or, set, drop, nat_eq, Bool, true, false, Some, if◌then◌else◌, tests, rules, refl, sym, ap, subst, ◌∙◌, arith, ◌*◌, length-append}
+use Rattle.std.proofs.Common.{◌≡◌, ◌≢◌, ◌≤◌, ◌<◌, ◌+◌, ◌-◌, ℕ, suc, List, [], ◌∷◌, ◌++◌, length, map, get_or, set, drop, nat_eq, Bool, true, false, Some, if◌then◌else◌, tests, rules, refl, sym, ap, subst, ◌∙◌, arith, ◌*◌, length-append, length-set, Option}
 use Rattle.std.specs.List.{find, range_with_len, AllZip}
 use Rattle.std.proofs.Math.Nat.{suc-mul}
 use Rattle.std.proofs.lemmas.List.{drop_more, get_or-set_other, map-append, append-nil, append_assoc, length-map}
@@ -7,14 +7,16 @@ use Rattle.std.proofs.lemmas.List.FromFn.{length-range_with_len, map-range_with_
 use Rattle.std.proofs.lemmas.Grind.{get_or-set_at}
 use Rattle.std.proofs.lemmas.List.Elements.{All-map}
 use Rattle.codec_graph.specs.declared.raw.RawCodec.{RawCodec}
-use Rattle.stream_format.specs.Layouts.{Layout}
+use Rattle.stream_format.specs.Layouts.{Layout, layout_of}
+use Rattle.stream_moves.specs.Output.{Sent, Missed}
 use Rattle.hda_world.specs.Worlds.{CarriedFrame}
 use Rattle.codec_sound.specs.declared.signals.Signal.{Signal}
 use Rattle.codec_sound.specs.declared.heard.Heard.{Heard}
-use Rattle.codec_sound.specs.HeardLists.{block_at, block_size, item_of, heard}
-use Rattle.codec_sound.proofs.Callers.{heard-append}
+use Rattle.codec_sound.specs.declared.heard.Heard.TheVariants.{Hole}
+use Rattle.codec_sound.specs.HeardLists.{signal_in, items_of, frame_items, block_at, block_size, item_of, heard}
+use Rattle.codec_sound.proofs.Callers.{heard-append, items-missed, items-empty}
 use Rattle.route_planner.specs.Order.{IsOrder}
-use Rattle.heard_lists.specs.Listings.{Listing, AreListsOf, AreEmpty, places_of, places_in, is_of, pins_of, empty_lists, with_items, items_before, grown}
+use Rattle.heard_lists.specs.Listings.{HasRoom, with_blocks, Listing, AreListsOf, AreEmpty, places_of, places_in, is_of, pins_of, empty_lists, with_items, items_before, grown}
 
 -- ---- one list
 
@@ -148,3 +150,49 @@ room-more lists i items new inside some before k d within = by_place (nat_eq k i
 pub AreEmpty-empty : (address : ℕ) (pins : List ℕ) → AreEmpty (empty_lists address pins)
 AreEmpty-empty address pins =
     All-map (λ (listing : Listing). listing.list ≡ []) (λ (pin : ℕ). record { codec = address; pin = pin; list = []; room = 0 }) pins (λ k d within. refl)
+
+-- a list that has no less room than the one that it replaces
+pub room-kept : (lists : List Listing) (i more : ℕ) (new : Listing) → i < length lists → (get_or lists i new).room ≤ new.room → HasRoom more lists → HasRoom more (set lists i new)
+room-kept lists i more new inside no_less holds k d within = by_place (nat_eq k i) refl
+  where
+    by_place : (same : Bool) → nat_eq k i ≡ same → more ≤ (get_or (set lists i new) k d).room
+    by_place true is =
+        let here : k ≡ i = search (rules, tests) in
+        let some : more ≤ (get_or lists i new).room = holds i new inside in
+        subst (λ (l : Listing). more ≤ l.room) (sym (get_or-set_at lists i k new d here inside)) (omega (arith, some, no_less))
+    by_place false is =
+        let apart : k ≢ i = search (rules, tests) in
+        let long : length (set lists i new) ≡ length lists = length-set lists i new in
+        subst (λ (l : Listing). more ≤ l.room) (sym (get_or-set_other lists i k new d apart)) (holds k d (omega (arith, long, within)))
+
+-- ---- one frame
+
+heard-one : (codec pin : ℕ) (frame : CarriedFrame) → heard codec pin (frame ∷ []) ≡ frame_items codec pin frame
+heard-one codec pin frame = append-nil (frame_items codec pin frame)
+
+-- what each list gains by a frame
+grown-by : (items : Listing → List Heard) (frame : CarriedFrame) (lists : List Listing)
+    → ((listing : Listing) → frame_items listing.codec listing.pin frame ≡ items listing) → map (λ (listing : Listing). with_items (items listing) listing) lists ≡ grown (frame ∷ []) lists
+grown-by items frame [] same = refl
+grown-by items frame (listing ∷ lists) same =
+    ap (λ (l : Listing). l ∷ map (λ (listing : Listing). with_items (items listing) listing) lists)
+    (ap (λ (i : List Heard). with_items i listing) (sym (heard-one listing.codec listing.pin frame ∙ same listing)))
+    ∙ ap (λ (rest : List Listing). with_items (heard listing.codec listing.pin (frame ∷ [])) listing ∷ rest) (grown-by items frame lists same)
+
+pub blocks-grow : (frame : CarriedFrame) (layout : Layout) (bytes : List ℕ) (lists : List Listing) → layout_of frame.format ≡ Some layout → frame.carriage ≡ Sent bytes
+    → map (with_blocks (λ codec pin. signal_in codec pin frame) layout bytes) lists ≡ grown (frame ∷ []) lists
+blocks-grow frame layout bytes lists reading carried =
+    grown-by (λ listing. items_of (Some layout) (signal_in listing.codec listing.pin frame) (Sent bytes)) frame lists
+    (λ listing. ap (λ (found : Option Layout). items_of found (signal_in listing.codec listing.pin frame) frame.carriage) reading
+    ∙ ap (items_of (Some layout) (signal_in listing.codec listing.pin frame)) carried)
+
+pub hole-grows : (frame : CarriedFrame) (lists : List Listing) → frame.carriage ≡ Missed → map (with_items (Hole ∷ [])) lists ≡ grown (frame ∷ []) lists
+hole-grows frame lists missed = grown-by (λ listing. Hole ∷ []) frame lists (λ listing. items-missed listing.codec listing.pin frame missed)
+
+pub gap-grows : (frame : CarriedFrame) (lists : List Listing) → frame.carriage ≡ Sent [] → lists ≡ grown (frame ∷ []) lists
+gap-grows frame lists none = sym (grown-nothing lists) ∙ grown-by (λ listing. []) frame lists (λ listing. items-empty listing.codec listing.pin frame none)
+  where
+    grown-nothing : (lists : List Listing) → map (λ (listing : Listing). with_items [] listing) lists ≡ lists
+    grown-nothing [] = refl
+    grown-nothing (listing ∷ lists) =
+        ap (λ (l : Listing). l ∷ map (λ (listing : Listing). with_items [] listing) lists) (with_none listing) ∙ ap (λ (rest : List Listing). listing ∷ rest) (grown-nothing lists)

@@ -2,8 +2,12 @@
 #![tactic(auto)]
 
 mod blocks;
+mod laws;
 mod lists;
 mod pin_list;
+mod sounds;
 
+pub use laws::{frames_grow_lists, lists_grow_on};
 pub use lists::HeardLists;
 pub use pin_list::PinHeard;
+pub use sounds::Sounds;

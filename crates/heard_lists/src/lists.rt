@@ -1,14 +1,19 @@
 //! The heard lists of a machine.
-ghost use Rattle.std.specs.Prelude.{◌≡◌, ◌≤◌, ◌<◌, ◌+◌, ◌++◌, ℕ, [], ◌∷◌, IfOk, OnOk, Contains, map, vec_len, vec_capacity};
+ghost use Rattle.std.specs.Prelude.{◌≡◌, ◌≤◌, ◌<◌, ◌+◌, ◌/◌, ◌++◌, ℕ, All, length, [], ◌∷◌, IfOk, OnOk, Contains, map, vec_len, vec_capacity};
 ghost use Rattle.codec_sound.specs.declared.heard.Heard.TheVariants.{Hole};
-ghost use Rattle.heard_lists.specs.Listings.{HasRoom, AreListsOf, AreEmpty, graphs_in, pins_of, empty_lists, handed_out, list_of, with_items};
+ghost use Rattle.stream_format.specs.Cadence.{block_bytes};
+ghost use Rattle.stream_format.specs.Layouts.{layout};
+ghost use Rattle.codec_sound.specs.Signals.{IsAmong};
+ghost use Rattle.heard_lists.specs.Listings.{with_blocks, HasRoom, AreListsOf, AreEmpty, graphs_in, pins_of, empty_lists, handed_out, list_of, with_items};
 
 use crate::pin_list::{PinHeard, PinList};
+use crate::sounds::Sounds;
 use codec_sound::Heard;
 use hda_files::Machine;
 use route_planner::order;
 use std::alloc::{AllocError, AllocFailed, Global};
 use std::marker::Model;
+use stream_format::Format;
 
 /// What the candidate pins of a machine's codecs hear, a list each. Contracts see the lists, each with the room that was made for it.
 /// This project's own.
@@ -73,8 +78,19 @@ impl HeardLists {
         unreachable!()
     }
 
+    /// Adds to each list what its pin hears of a link frame with these bytes of blocks. There is room for an item a block, each pin's
+    /// signal is known, and the pairs that pins hear are among the format's channels.
+    pub fn hear<S: Sounds>(&mut self, sounds: &S, format: Format, bytes: &[u8])
+        requires room { HasRoom (length bytes.now / block_bytes format) self.old }
+        requires known { All (λ listing. S.IsKnown sounds.now listing.codec listing.pin) self.old }
+        requires pairs { All (λ listing. IsAmong format.channels (S.signal_of sounds.now listing.codec listing.pin)) self.old }
+        ensures { self.new ≡ map (with_blocks (S.signal_of sounds.now) (layout format) bytes.now) self.old }
+    {
+        hear_all(self.lists.as_mut_slice(), sounds, format, bytes);
+    }
+
     /// Adds a hole to each list: a link frame missed its blocks. There is room for it.
-    pub(crate) fn miss(&mut self)
+    pub fn miss(&mut self)
         requires { HasRoom 1 self.old }
         ensures { self.new ≡ map (with_items (Hole ∷ [])) self.old }
     {
@@ -114,6 +130,19 @@ fn reserve_all(lists: &mut [PinList], items: usize) -> Result<(), AllocError>
         list.reserve(items)?;
     }
     Ok(())
+}
+
+/// Adds to each list what its pin hears of a link frame with these bytes of blocks.
+fn hear_all<S: Sounds>(lists: &mut [PinList], sounds: &S, format: Format, bytes: &[u8])
+    requires room { HasRoom (length bytes.now / block_bytes format) lists.old }
+    requires known { All (λ listing. S.IsKnown sounds.now listing.codec listing.pin) lists.old }
+    requires pairs { All (λ listing. IsAmong format.channels (S.signal_of sounds.now listing.codec listing.pin)) lists.old }
+    ensures { lists.new ≡ map (with_blocks (S.signal_of sounds.now) (layout format) bytes.now) lists.old }
+{
+    for list in lists.iter_mut() {
+        let signal = sounds.signal(list.codec(), list.pin());
+        list.hear(signal, format, bytes);
+    }
 }
 
 /// Adds a hole to each list.
