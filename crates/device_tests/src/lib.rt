@@ -10,6 +10,8 @@ mod engine;
 #[cfg(test)]
 mod formats;
 #[cfg(test)]
+mod heard;
+#[cfg(test)]
 mod platform;
 #[cfg(test)]
 mod pool;
