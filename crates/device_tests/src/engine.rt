@@ -119,6 +119,9 @@ const TOLD: [[u32; 2]; 4] = [
     [0x0400_0000, 2],
 ];
 
+/// As many responses as RINTCNT lets stand unread, each sent unasked.
+const BATCH: [[u32; 2]; 128] = [[0xFC00_0000, 0x1E]; 128];
+
 /// Stores entries of a ring from its entry 1 on.
 fn store_entries(platform: &mut Scripted, ring: usize, entries: &[[u32; 2]])
     requires { ring ≤ 4096 }
@@ -132,8 +135,8 @@ fn store_entries(platform: &mut Scripted, ring: usize, entries: &[[u32; 2]])
     }
 }
 
-/// Starts the engine for codec 2, submits a command at 1,000 and polls once.
-fn poll_once(engine: &mut Engine, platform: &mut Scripted, case: &Case) -> Option<Poll>
+/// Starts the engine for codec 2, submits a command at this clock and polls once.
+fn poll_once(engine: &mut Engine, platform: &mut Scripted, issued: u32, case: &Case) -> Option<Poll>
     requires accesses { 400 ≤ ⟦<Scripted as Platform>⟧.spare_accesses platform.old }
     requires bytes { 4000 ≤ ⟦<Scripted as Platform>⟧.spare_bytes platform.old }
     requires events { engine.old.events.items ≡ [] }
@@ -145,31 +148,51 @@ fn poll_once(engine: &mut Engine, platform: &mut Scripted, case: &Case) -> Optio
     if !engine.is_started() || engine.outstanding().is_some() || rirb > 4_096 {
         return None;
     }
-    engine.submit(platform, ask_vendor(), 1_000);
+    engine.submit(platform, ask_vendor(), issued);
     store_entries(platform, rirb as usize, case.0);
     Some(engine.poll(platform, case.2))
 }
 
-/// The first two events of a poll.
-fn events_of(engine: &mut Engine) -> [Option<Event>; 2]
+/// The first two events of a poll, and how many others there are.
+fn events_of(engine: &mut Engine) -> ([Option<Event>; 2], u32)
     ensures corb { engine.new.corb ≡ engine.old.corb }
     ensures rirb { engine.new.rirb ≡ engine.old.rirb }
 {
-    [engine.next_event(), engine.next_event()]
+    let first = [engine.next_event(), engine.next_event()];
+    (first, drain(engine))
 }
 
-/// What the poll of a case answers, and its first two events.
-fn polled(alloc: Global, case: &Case) -> Result<(Option<Poll>, [Option<Event>; 2]), Fail> {
+/// Takes the events that are left, and counts them.
+fn drain(engine: &mut Engine) -> u32
+    ensures corb { engine.new.corb ≡ engine.old.corb }
+    ensures rirb { engine.new.rirb ≡ engine.old.rirb }
+{
+    let mut count = 0;
+    for turn in 0..256_u32 {
+        if engine.next_event().is_none() {
+            return count;
+        }
+        count = turn + 1;
+    }
+    count
+}
+
+/// What a poll answers, its first two events, and how many others there are.
+#[derive(Drop)]
+struct Polled(Option<Poll>, [Option<Event>; 2], u32);
+
+/// What the poll of a case finds, whose command was submitted at this clock.
+fn polled(alloc: Global, issued: u32, case: &Case) -> Result<Polled, Fail> {
     let flag = u32::from(case.1 != 0);
     let reads = [4, FULL, FULL, 0x8000, 0, flag, case.1];
     let mut pool = Pool::new(alloc, 24)?;
     let mut platform = Scripted::new(alloc, &reads, 400, 4_000)?;
     match Engine::open(alloc, &mut pool) {
         Ok(mut engine) => {
-            let poll = poll_once(&mut engine, &mut platform, case);
-            let events = events_of(&mut engine);
+            let poll = poll_once(&mut engine, &mut platform, issued, case);
+            let (events, more) = events_of(&mut engine);
             engine.close(&mut pool);
-            Ok((poll, events))
+            Ok(Polled(poll, events, more))
         }
         Err(_) => Err(Fail::from("no engine")),
     }
@@ -178,22 +201,33 @@ fn polled(alloc: Global, case: &Case) -> Result<(Option<Poll>, [Option<Event>; 2
 #[test]
 fn polls_find_the_answer(rt: HostRuntime) -> Result<(), Fail> {
     for case in &POLLS {
-        let (got, _) = polled(rt.alloc(), case)?;
+        let Polled(got, ..) = polled(rt.alloc(), 1_000, case)?;
         assert!(rt; got == Some(case.3), "{got:?} in place of {:?}", case.3);
     }
     Ok(())
 }
 
 #[test]
+fn times_do_not_wrap(rt: HostRuntime) -> Result<(), Fail> {
+    let case = Case(&[], 0, 600_000, Poll::Waiting);
+    let Polled(got, ..) = polled(rt.alloc(), 0xFFFF_FFF0, &case)?;
+    assert!(rt; got == Some(Poll::Waiting));
+    Ok(())
+}
+
+#[test]
 fn polls_find_events(rt: HostRuntime) -> Result<(), Fail> {
     let case = Case(&[], 0, 1_500, Poll::Waiting);
-    let (_, events) = polled(rt.alloc(), &case)?;
-    assert!(rt; events == [None, None]);
+    let Polled(_, events, more) = polled(rt.alloc(), 1_000, &case)?;
+    assert!(rt; events == [None, None] && more == 0);
     let case = Case(&TOLD, 4, 1_500, Poll::Answered(9));
-    let (poll, events) = polled(rt.alloc(), &case)?;
+    let Polled(poll, [first, second], more) = polled(rt.alloc(), 1_000, &case)?;
     assert!(rt; poll == Some(Poll::Answered(9)));
-    let [first, second] = events;
     assert!(rt; first == Some(Event { codec: 2, tag: 1 }));
-    assert!(rt; second == Some(Event { codec: 0, tag: 2 }));
+    assert!(rt; second == Some(Event { codec: 0, tag: 2 }) && more == 0);
+    let case = Case(&BATCH, 128, 1_500, Poll::Waiting);
+    let Polled(poll, [first, _], more) = polled(rt.alloc(), 1_000, &case)?;
+    assert!(rt; poll == Some(Poll::Waiting) && more == 126);
+    assert!(rt; first == Some(Event { codec: 14, tag: 63 }));
     Ok(())
 }
