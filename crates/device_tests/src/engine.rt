@@ -179,10 +179,10 @@ fn drain(engine: &mut Engine) -> u32
 
 /// What a poll answers, its first two events, and how many others there are.
 #[derive(Drop)]
-struct Polled(Option<Poll>, [Option<Event>; 2], u32);
+struct Found(Option<Poll>, [Option<Event>; 2], u32);
 
 /// What the poll of a case finds, whose command was submitted at this clock.
-fn polled(alloc: Global, issued: u32, case: &Case) -> Result<Polled, Fail> {
+fn polled(alloc: Global, issued: u32, case: &Case) -> Result<Found, Fail> {
     let flag = u32::from(case.1 != 0);
     let reads = [4, FULL, FULL, 0x8000, 0, flag, case.1];
     let mut pool = Pool::new(alloc, 24)?;
@@ -192,7 +192,7 @@ fn polled(alloc: Global, issued: u32, case: &Case) -> Result<Polled, Fail> {
             let poll = poll_once(&mut engine, &mut platform, issued, case);
             let (events, more) = events_of(&mut engine);
             engine.close(&mut pool);
-            Ok(Polled(poll, events, more))
+            Ok(Found(poll, events, more))
         }
         Err(_) => Err(Fail::from("no engine")),
     }
@@ -201,7 +201,7 @@ fn polled(alloc: Global, issued: u32, case: &Case) -> Result<Polled, Fail> {
 #[test]
 fn polls_find_the_answer(rt: HostRuntime) -> Result<(), Fail> {
     for case in &POLLS {
-        let Polled(got, ..) = polled(rt.alloc(), 1_000, case)?;
+        let Found(got, ..) = polled(rt.alloc(), 1_000, case)?;
         assert!(rt; got == Some(case.3), "{got:?} in place of {:?}", case.3);
     }
     Ok(())
@@ -210,7 +210,7 @@ fn polls_find_the_answer(rt: HostRuntime) -> Result<(), Fail> {
 #[test]
 fn times_do_not_wrap(rt: HostRuntime) -> Result<(), Fail> {
     let case = Case(&[], 0, 600_000, Poll::Waiting);
-    let Polled(got, ..) = polled(rt.alloc(), 0xFFFF_FFF0, &case)?;
+    let Found(got, ..) = polled(rt.alloc(), 0xFFFF_FFF0, &case)?;
     assert!(rt; got == Some(Poll::Waiting));
     Ok(())
 }
@@ -218,15 +218,15 @@ fn times_do_not_wrap(rt: HostRuntime) -> Result<(), Fail> {
 #[test]
 fn polls_find_events(rt: HostRuntime) -> Result<(), Fail> {
     let case = Case(&[], 0, 1_500, Poll::Waiting);
-    let Polled(_, events, more) = polled(rt.alloc(), 1_000, &case)?;
+    let Found(_, events, more) = polled(rt.alloc(), 1_000, &case)?;
     assert!(rt; events == [None, None] && more == 0);
     let case = Case(&TOLD, 4, 1_500, Poll::Answered(9));
-    let Polled(poll, [first, second], more) = polled(rt.alloc(), 1_000, &case)?;
+    let Found(poll, [first, second], more) = polled(rt.alloc(), 1_000, &case)?;
     assert!(rt; poll == Some(Poll::Answered(9)));
     assert!(rt; first == Some(Event { codec: 2, tag: 1 }));
     assert!(rt; second == Some(Event { codec: 0, tag: 2 }) && more == 0);
     let case = Case(&BATCH, 128, 1_500, Poll::Waiting);
-    let Polled(poll, [first, _], more) = polled(rt.alloc(), 1_000, &case)?;
+    let Found(poll, [first, _], more) = polled(rt.alloc(), 1_000, &case)?;
     assert!(rt; poll == Some(Poll::Waiting) && more == 126);
     assert!(rt; first == Some(Event { codec: 14, tag: 63 }));
     Ok(())
