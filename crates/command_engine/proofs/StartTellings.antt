@@ -2,6 +2,7 @@
 use Rattle.std.proofs.Common.{◌≡◌, ◌≢◌, ◌≤◌, ◌⊎◌, ◌+◌, ◌-◌, ◌*◌, ◌/◌, ◌%◌, ◌^◌, ◌==◌, ℕ, Bool, true, false, List, [], ◌∷◌, ◌++◌, length, drop, slice_get, Option, None, Some, refl, sym, ap, subst, ◌∙◌, inl, inr, arith, rules, tests, lit<, lit≤, if◌then◌else◌}
 use Rattle.std.proofs.Math.Nat.{mod-eq_of_lt}
 use Rattle.std.proofs.lemmas.List.{drop_all}
+use Rattle.std.proofs.lemmas.List.Elements.{All-nil}
 use Rattle.codec_graph.specs.CodecStates.{CodecState, plugged, without_first, without_answer}
 use Rattle.hda_registers.specs.declared.shapes.RingSize.{RingSize}
 use Rattle.hda_registers.specs.declared.shapes.RingSize.TheVariants as size
@@ -26,7 +27,7 @@ use Rattle.hda_world.proofs.Callers.{accessed_then, plain_write, frames_after}
 use Rattle.command_engine.specs.declared.rings.Rings.{Rings}
 use Rattle.command_engine.specs.Sizes.{largest_size, half_of}
 use Rattle.command_engine.specs.Starting.{StartReads, codecs_in, rings_of, rings_read, settings_if, corb_accesses, rirb_accesses, start_accesses}
-use Rattle.command_engine.specs.Courses.{RingPart, part_of, HasBlocks, AscendByAddress, AreOf, IsOnItsWay, StandsBy, Stands}
+use Rattle.command_engine.specs.Courses.{RingPart, part_of, HasBlocks, AscendByAddress, AreOf, IsOfCodec, AreOfCodecs, graphs_in, IsOnItsWay, StandsBy, Stands}
 use Rattle.command_engine.specs.Belonging.{CanStart, IsBlockAddress}
 use Rattle.command_engine.proofs.Coming.{coming_sent, coming_lost, coming_plugged, graph_plugged}
 use Rattle.command_engine.proofs.Batches.{EachStands, some_entries}
@@ -254,6 +255,7 @@ module _ (from read corb rirb : ℕ) where
             cc;
         from_within = omega arith;
         course = inl (record { pointers = refl; taken = subst (AreOf None) (sym gained) tt });
+        taken_by = subst (AreOfCodecs world.codecs) (sym gained) (All-nil (IsOfCodec (graphs_in world.codecs)));
         on_its_way = subst (λ (gained : List TakenCommand). IsOnItsWay gained (drop read world.written) world.waiting world.codecs) (sym gained)
             (subst (λ (unread : List Response). IsOnItsWay [] unread world.waiting world.codecs) (sym unread) holds.way);
       }))

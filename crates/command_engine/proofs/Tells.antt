@@ -32,7 +32,7 @@ poll_tells clock corb rirb rings rings' answer events old new polls =
     record {
       answer_is = polls.answer_is ∙ ap (λ (f : Option ℕ). poll_of rings.outstanding f clock) found;
       events_are = polls.events_are ∙ ap events_of leaves.responses;
-      belongs = subst (λ (f : Option ℕ). Belongs from rings.outstanding (world_of new).commands f) found leaves.belongs;
+      belongs = subst (λ (f : Option ℕ). Belongs from rings.outstanding (world_of new).codecs (world_of new).commands f) found leaves.belongs;
       stands = subst (λ (f : Option ℕ). Stands (from_after f from (world_of new).commands) (length (world_of new).written) corb rirb rings' (world_of new)) found
           (subst (λ (r : Rings). Stands (from_after (found_by rings polls.reads) from (world_of new).commands) (length (world_of new).written) corb rirb r (world_of new)) (sym polls.rings_are) leaves.stands);
     })) polls.made
