@@ -1,14 +1,13 @@
 -- That an answer belongs to its command, and what a poll and a submission leave. This project's own.
-use Rattle.std.specs.Prelude.{◌≡◌, ◌≤◌, ◌<◌, ℕ, ◌%◌, ◌^◌, true, List, [], ◌∷◌, length, map, drop, Option, None, Some}
+use Rattle.std.specs.Prelude.{◌≡◌, ℕ, ◌%◌, ◌^◌, List, [], ◌∷◌, length, map, drop, Option, None, Some}
 use Rattle.codec_graph.specs.CodecStates.{CodecState, answer_to}
-use Rattle.hda_registers.specs.Fields.{is_out_of_reset}
 use Rattle.ring_entries.specs.declared.response.Response.{Response}
 use Rattle.hda_world.specs.Worlds.{World, TakenCommand}
 use Rattle.command_engine.specs.declared.rings.Rings.{Rings}
 use Rattle.command_engine.specs.declared.answers.Outstanding.{Outstanding}
 use Rattle.command_engine.specs.Entries.{responses_in}
 use Rattle.command_engine.specs.Polling.{PollReads, found_by, rings_polled}
-use Rattle.command_engine.specs.Courses.{HasBlocks, AscendByAddress, graph_at, graphs_in, IsOnItsWay, Stands}
+use Rattle.command_engine.specs.Courses.{graph_at, graphs_in, Stands}
 
 -- a response as an entry of RIRB holds it: 32 bits of the answer
 abbrev pub as_held : Response → Response
@@ -40,19 +39,3 @@ pub record PollLeaves (from read corb rirb : ℕ) (rings : Rings) (reads : PollR
   pub responses : responses_in reads.entries ≡ map as_held (drop read world.written)
   pub belongs : Belongs from rings.outstanding world.codecs world.commands (found_by rings reads)
   pub stands : Stands (from_after (found_by rings reads) from world.commands) (length world.written) corb rirb (rings_polled rings reads) world
-
--- what a start asks of the world: the controller is out of reset and neither ring runs, no answer to a command waits at a codec or in
--- the controller, and both blocks lie in the region. RINTFL is a bit, and codecs stand by address
-pub record CanStart (corb rirb : ℕ) (world : World) : Type 0 where
-  pub out : is_out_of_reset world.registers.global ≡ true
-  pub corb_stopped : world.registers.global.corb_run ≡ 0
-  pub rirb_stopped : world.registers.global.rirb_run ≡ 0
-  pub flag : world.registers.global.response_flag ≤ 1
-  pub blocks : HasBlocks corb rirb (length world.memory)
-  pub ascend : AscendByAddress world.codecs
-  pub nothing_comes : IsOnItsWay [] [] world.waiting world.codecs
-
--- the address of a block: a multiple of 128 of 32 bits
-pub record IsBlockAddress (address : ℕ) : Type 0 where
-  pub aligned : address % 128 ≡ 0
-  pub narrow : address < 2 ^ 32

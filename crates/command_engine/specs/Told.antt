@@ -8,7 +8,8 @@ use Rattle.command_engine.specs.declared.answers.Poll.{Poll}
 use Rattle.command_engine.specs.Entries.{events_of, answer_among}
 use Rattle.command_engine.specs.Polling.{asked_of, poll_of}
 use Rattle.command_engine.specs.Courses.{Stands}
-use Rattle.command_engine.specs.Belonging.{as_held, Belongs, from_after, CanStart}
+use Rattle.command_engine.specs.Belonging.{as_held, Belongs, from_after}
+use Rattle.command_engine.specs.Quiet.{CanStart}
 
 -- a start that gives codecs brings about how the engine stands, from every world that it may start in
 abbrev pub Begins : (corb rirb answer : ℕ) (rings : Rings) → Telling → Telling → Type 0
