@@ -96,6 +96,7 @@ module _ (from read corb rirb : ℕ) (rings : Rings) where
             ∙ holds.standing index response byte is small;
         from_within = holds.from_within;
         course = course_word (part_of world.registers) _ _ (drop from world.commands) same holds.course;
+        taken_by = holds.taken_by;
         on_its_way = holds.on_its_way;
       }
 

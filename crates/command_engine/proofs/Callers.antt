@@ -16,6 +16,14 @@ pub use Rattle.command_engine.proofs.Beside.{event_keeps}
 pub use Rattle.command_engine.proofs.Beside.{events_keep}
 -- a start brings it about
 pub use Rattle.command_engine.proofs.StartTellings.{start_leaves}
+-- while the world is quiet, events that touch neither GCTL nor the rings' registers leave it so
+pub use Rattle.command_engine.proofs.Quiet.{quiet_steps, quiet_events}
+-- and a start possible, once it is
+pub use Rattle.command_engine.proofs.Quiet.{can_start_steps, can_start_events}
+-- a reset quiets the world
+pub use Rattle.command_engine.proofs.Quiet.{reset_quiet}
+-- and once CRST is 1 a start is possible
+pub use Rattle.command_engine.proofs.Quiet.{risen_can_start, reset_can_start}
 -- a submission leads on
 pub use Rattle.command_engine.proofs.SubmitTellings.{submit_leaves}
 -- and so does a poll

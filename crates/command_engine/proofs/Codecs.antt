@@ -3,9 +3,10 @@ use Rattle.std.proofs.Common.{◌≡◌, ◌<◌, ◌+◌, ◌==◌, ℕ, Bool, 
 use Rattle.std.specs.Prelude.{All, sum_by}
 use Rattle.std.proofs.lemmas.List.Elements.{All-cons, All-head, All-tail}
 use Rattle.std.proofs.lemmas.List.Sums.{sum_by-cons}
+use Rattle.codec_graph.specs.declared.raw.RawCodec.{RawCodec}
 use Rattle.codec_graph.specs.CodecStates.{CodecState}
 use Rattle.hda_world.specs.Worlds.{codec_at, with_codec}
-use Rattle.command_engine.specs.Courses.{AscendFrom}
+use Rattle.command_engine.specs.Courses.{AscendFrom, graph_at, graphs_in}
 
 is_address : (codec : CodecState) (address : ℕ) → (codec.graph.address == address) ≡ true → codec.graph.address ≡ address
 is_address codec address is = search (rules, tests)
@@ -19,6 +20,29 @@ found_address address (first ∷ codecs) codec e = by (λ e. found_address addre
     by later true is e =
         let same : first ≡ codec = cc in
         subst (λ (c : CodecState). c.graph.address ≡ address) same (is_address first address is)
+    by later false is e = later e
+
+-- its graph is found among the graphs
+pub graph_there : (address : ℕ) (codecs : List CodecState) (codec : CodecState) → codec_at address codecs ≡ Some codec → graph_at address (graphs_in codecs) ≡ Some codec.graph
+graph_there address [] codec e = cc
+graph_there address (first ∷ codecs) codec e = by (λ e. graph_there address codecs codec e) (first.graph.address == address) e
+  where
+    by : (codec_at address codecs ≡ Some codec → graph_at address (graphs_in codecs) ≡ Some codec.graph) → (b : Bool) → (if b then Some first else codec_at address codecs) ≡ Some codec → (if b then Some first.graph else graph_at address (graphs_in codecs)) ≡ Some codec.graph
+    by later true e = let same : first ≡ codec = cc in ap (λ (c : CodecState). Some c.graph) same
+    by later false e = later e
+
+graph_is : (graph : RawCodec) (address : ℕ) → (graph.address == address) ≡ true → graph.address ≡ address
+graph_is graph address is = search (rules, tests)
+
+-- the graph that is found has the address
+pub graph_address : (address : ℕ) (graphs : List RawCodec) (graph : RawCodec) → graph_at address graphs ≡ Some graph → graph.address ≡ address
+graph_address address [] graph e = cc
+graph_address address (first ∷ graphs) graph e = by (λ e. graph_address address graphs graph e) (first.address == address) refl e
+  where
+    by : (graph_at address graphs ≡ Some graph → graph.address ≡ address) → (b : Bool) → (first.address == address) ≡ b → (if b then Some first else graph_at address graphs) ≡ Some graph → graph.address ≡ address
+    by later true is e =
+        let same : first ≡ graph = cc in
+        subst (λ (g : RawCodec). g.address ≡ address) same (graph_is first address is)
     by later false is e = later e
 
 -- it has what all have

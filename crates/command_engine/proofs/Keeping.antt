@@ -1,8 +1,11 @@
 -- Every move of the device keeps how the engine stands.
 use Rattle.std.proofs.Common.{◌≡◌, ◌<◌, ◌≤◌, ◌+◌, ◌-◌, ◌*◌, ◌%◌, ◌==◌, ℕ, Bool, true, false, List, [], ◌∷◌, ◌++◌, length, drop, Option, None, Some, refl, sym, ap, subst, ◌∙◌, inl, inr, arith, rules, tests, lit≤, length-append, append-nil, if◌then◌else◌}
+use Rattle.std.specs.Prelude.{All}
 use Rattle.std.proofs.Math.Nat.{mod-lt, mod-eq_of_lt}
 use Rattle.std.proofs.Math.Seq.{drop-append_seam}
 use Rattle.std.proofs.lemmas.List.{drop-append-le, drop_all}
+use Rattle.std.proofs.lemmas.List.Elements.{All-cons, All-nil}
+use Rattle.codec_graph.specs.declared.raw.RawCodec.{RawCodec}
 use Rattle.codec_graph.specs.declared.waiting.Waiting.{Waiting}
 use Rattle.codec_graph.specs.CodecStates.{CodecState, taken, plugged, without_first, without_answer}
 use Rattle.hda_registers.specs.declared.shapes.RingSize.{RingSize}
@@ -23,8 +26,8 @@ use Rattle.hda_world.proofs.Callers.{graphs-with_codec, keeps_reading, frames_af
 use Rattle.command_engine.specs.declared.rings.Rings.{Rings}
 use Rattle.command_engine.specs.declared.answers.Outstanding.{Outstanding}
 use Rattle.command_engine.specs.Blocks.{are_apart}
-use Rattle.command_engine.specs.Courses.{RingPart, part_of, HasRings, AscendFrom, AscendByAddress, AreOf, IsWordOf, Course, IsOnItsWay, AreStanding, StandsBy, Stands}
-use Rattle.command_engine.proofs.Codecs.{absent}
+use Rattle.command_engine.specs.Courses.{RingPart, part_of, HasRings, AscendFrom, AscendByAddress, AreOf, IsWordOf, IsOfCodec, AreOfCodecs, graphs_in, Course, IsOnItsWay, AreStanding, StandsBy, Stands}
+use Rattle.command_engine.proofs.Codecs.{absent, graph_there}
 use Rattle.command_engine.proofs.Coming.{coming_taken, coming_sent, coming_lost, coming_plugged, graph_plugged, coming_responded}
 use Rattle.command_engine.proofs.Batches.{EachStands, some_entries, few_entries, half_small, part_after, pointer_after, batch_short, batch_first, flag_clear, size_stored, word_stays, standing_written}
 
@@ -32,6 +35,10 @@ use Rattle.command_engine.proofs.Batches.{EachStands, some_entries, few_entries,
 
 pub ascend_with : (address : ℕ) (change : CodecState → CodecState) → ((codec : CodecState) → (change codec).graph ≡ codec.graph) → (codecs : List CodecState) → AscendByAddress codecs → AscendByAddress (with_codec address change codecs)
 ascend_with address change keeps codecs ascend = subst (AscendFrom 0) (sym (graphs-with_codec address change keeps codecs)) ascend
+
+-- and so do the commands that they took stay theirs
+taken_with : (address : ℕ) (change : CodecState → CodecState) → ((codec : CodecState) → (change codec).graph ≡ codec.graph) → (codecs : List CodecState) (gained : List TakenCommand) → AreOfCodecs codecs gained → AreOfCodecs (with_codec address change codecs) gained
+taken_with address change keeps codecs gained all = subst (λ (graphs : List RawCodec). All (IsOfCodec graphs) gained) (sym (graphs-with_codec address change keeps codecs)) all
 
 -- ---- a command is handed over
 
@@ -72,12 +79,14 @@ module _ (from read corb rirb : ℕ) (rings : Rings) where
       → drop from world.commands ≡ [] → from ≤ length world.commands → AscendByAddress world.codecs → IsOnItsWay (drop from world.commands) (drop read world.written) world.waiting world.codecs
       → AreOf rings.outstanding (drop from (world.commands ++ taking word found running carried))
       × IsOnItsWay (drop from (world.commands ++ taking word found running carried)) (drop read world.written) world.waiting (with_codec (address_of word) (λ codec. taken codec word) world.codecs)
+      × AreOfCodecs world.codecs (drop from (world.commands ++ taking word found running carried))
   handed_to None world word carried running there is none within ascend way =
       let same = append-nil world.commands in
       let gained : drop from (world.commands ++ []) ≡ [] = ap (drop from) same ∙ none in (
         subst (AreOf rings.outstanding) (sym gained) tt,
         subst (λ (cs : List CodecState). IsOnItsWay (drop from (world.commands ++ [])) (drop read world.written) world.waiting cs) (sym (absent (address_of word) (λ codec. taken codec word) world.codecs there))
             (subst (λ (commands : List TakenCommand). IsOnItsWay (drop from commands) (drop read world.written) world.waiting world.codecs) (sym same) way),
+        subst (AreOfCodecs world.codecs) (sym gained) (All-nil (IsOfCodec (graphs_in world.codecs))),
       )
   handed_to (Some codec) world word carried running there is none within ascend way =
       let one : TakenCommand = record { word = word; codec = codec; running = running; carried = carried } in
@@ -85,6 +94,7 @@ module _ (from read corb rirb : ℕ) (rings : Rings) where
         subst (AreOf rings.outstanding) (sym gained) (of_one rings.outstanding one is),
         subst (λ (gained : List TakenCommand). IsOnItsWay gained (drop read world.written) world.waiting (with_codec (address_of word) (λ codec. taken codec word) world.codecs)) (sym gained)
             (coming_taken word carried running (drop read world.written) world.waiting world.codecs codec ascend there (subst (λ (gained : List TakenCommand). IsOnItsWay gained (drop read world.written) world.waiting world.codecs) none way)),
+        subst (AreOfCodecs world.codecs) (sym gained) (All-cons (IsOfCodec (graphs_in world.codecs)) one [] (graph_there (address_of word) world.codecs codec there) (All-nil (IsOfCodec (graphs_in world.codecs)))),
       )
     where
       of_one : (outstanding : Option Outstanding) (one : TakenCommand) → IsWordOf outstanding one.word → AreOf outstanding (one ∷ [])
@@ -122,6 +132,7 @@ module _ (from read corb rirb : ℕ) (rings : Rings) where
             standing = holds.standing;
             from_within = within_more world.commands (taking word (codec_at (address_of word) world.codecs) (is_running world.registers.output) (length world.carried)) holds.from_within;
             course = inl (record { pointers = next.pointers; taken = both.0 });
+            taken_by = taken_with (address_of word) (λ codec. taken codec word) (λ codec. refl) world.codecs (drop from (world.commands ++ taking word (codec_at (address_of word) world.codecs) (is_running world.registers.output) (length world.carried))) both.2;
             on_its_way = both.1;
           }
 
@@ -140,6 +151,7 @@ module _ (from read corb rirb : ℕ) (rings : Rings) where
     standing = holds.standing;
     from_within = holds.from_within;
     course = holds.course;
+    taken_by = taken_with address without_first (λ codec. refl) world.codecs (drop from world.commands) holds.taken_by;
     on_its_way = coming_sent (drop from world.commands) world.registers address item rest (drop read world.written) world.waiting world.codecs holds.ascend are holds.on_its_way;
   }
 
@@ -156,6 +168,7 @@ module _ (from read corb rirb : ℕ) (rings : Rings) where
     standing = holds.standing;
     from_within = holds.from_within;
     course = holds.course;
+    taken_by = taken_with address without_answer (λ codec. refl) world.codecs (drop from world.commands) holds.taken_by;
     on_its_way = coming_lost (drop from world.commands) address (drop read world.written) world.waiting world.codecs holds.ascend holds.on_its_way;
   }
 
@@ -172,6 +185,7 @@ module _ (from read corb rirb : ℕ) (rings : Rings) where
     standing = holds.standing;
     from_within = holds.from_within;
     course = holds.course;
+    taken_by = taken_with address (λ codec. plugged codec nid present) (graph_plugged nid present) world.codecs (drop from world.commands) holds.taken_by;
     on_its_way = coming_plugged (drop from world.commands) address nid present (drop read world.written) world.waiting world.codecs holds.ascend holds.on_its_way;
   }
 
@@ -226,6 +240,7 @@ module _ (from read corb rirb : ℕ) (rings : Rings) where
         from_within = holds.from_within;
         course = course_stays (part_of fields) (word_at world.memory (corb + 4 * rings.submitted)) (word_at (responses_stored fields world.memory responses) (corb + 4 * rings.submitted)) _ 1 (drop from world.commands)
             (word_stays responses fields world.memory corb rings.submitted apart (omega arith)) holds.course;
+        taken_by = holds.taken_by;
         on_its_way = subst (λ (unread : List Response). IsOnItsWay (drop from world.commands) unread (drop (length responses) world.waiting) world.codecs) (ap (λ (first : List Response). first ++ responses) none ∙ sym unread) way;
       }
 

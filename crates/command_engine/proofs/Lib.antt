@@ -15,4 +15,5 @@ pub mod PollTellings
 pub mod SubmitTellings
 pub mod StartWrites
 pub mod StartTellings
+pub mod Quiet
 pub mod Tells

@@ -1,5 +1,5 @@
 -- What a poll leaves of a told world.
-use Rattle.std.proofs.Common.{◌≡◌, ◌<◌, ◌≤◌, ◌+◌, ◌*◌, ◌%◌, ◌^◌, ◌&&◌, not, ℕ, Bool, true, false, cond, List, [], ◌∷◌, ◌++◌, length, map, drop, slice_get, Option, None, Some, refl, sym, ap, subst, ◌∙◌, inl, inr, arith, lit≤, if◌then◌else◌}
+use Rattle.std.proofs.Common.{◌≡◌, ◌<◌, ◌≤◌, ◌+◌, ◌*◌, ◌%◌, ◌^◌, ◌&&◌, ◌==◌, not, ℕ, Bool, true, false, cond, List, [], ◌∷◌, ◌++◌, length, map, drop, slice_get, Option, None, Some, refl, sym, ap, subst, ◌∙◌, inl, inr, arith, rules, tests, lit≤, if◌then◌else◌}
 use Rattle.std.specs.Prelude.{All}
 use Rattle.std.specs.List.{find}
 use Rattle.std.specs.Option.{option_map}
@@ -17,24 +17,26 @@ use Rattle.hda_registers.specs.Access.{written, placed, global_written}
 use Rattle.ring_entries.specs.declared.response.Response.{Response}
 use Rattle.ring_entries.specs.Memory.{word_at}
 use Rattle.hda_world.specs.Worlds.{World, TakenCommand}
+use Rattle.hda_world.specs.Steps.{address_of}
 use Rattle.hda_world.specs.Events as happens
 use Rattle.hda_world.specs.Tellings.{Telling, MakesBy}
 use Rattle.command_engine.specs.declared.rings.Rings.{Rings}
 use Rattle.command_engine.specs.declared.answers.Outstanding.{Outstanding}
 use Rattle.command_engine.specs.Entries.{is_from, answers_it, answer_among}
 use Rattle.command_engine.specs.Polling.{asked_of, still_outstanding}
-use Rattle.command_engine.specs.Courses.{RingPart, part_of, HasRings, AreOf, Course, CanCome, ResponseCanCome, ItemCanCome, CodecCanSend, solicited, waiting_answers, IsOnItsWay, StandsBy, Stands}
+use Rattle.command_engine.specs.Courses.{RingPart, part_of, HasRings, AreOf, IsOfCodec, AreOfCodecs, graph_at, graphs_in, Course, CanCome, ResponseCanCome, ItemCanCome, CodecCanSend, solicited, waiting_answers, IsOnItsWay, StandsBy, Stands}
 use Rattle.command_engine.specs.Belonging.{as_held, Belongs, from_after}
+use Rattle.command_engine.proofs.Codecs.{graph_address}
 use Rattle.command_engine.proofs.Batches.{some_entries}
 
 -- ---- the answer among what was read
 
 -- the first response that passes is one of them, and not unasked
 found_first : (gained : List TakenCommand) (asked : Option ℕ) (responses : List Response) (value : ℕ) → All (ResponseCanCome gained) responses
-    → answer_among asked (map as_held responses) ≡ Some value → (address : ℕ) × (answer : ℕ) × CanCome gained address answer × (value ≡ answer % 2 ^ 32) × (1 ≤ solicited responses)
+    → answer_among asked (map as_held responses) ≡ Some value → (address : ℕ) × (answer : ℕ) × CanCome gained address answer × (value ≡ answer % 2 ^ 32) × (1 ≤ solicited responses) × (is_from asked address ≡ true)
 found_first gained asked [] value can e = cc
 found_first gained asked (response ∷ responses) value can e =
-    by (λ e. found_first gained asked responses value (All-tail (ResponseCanCome gained) response responses can) e) response.unsolicited (is_from asked response.codec) refl e
+    by (λ e. found_first gained asked responses value (All-tail (ResponseCanCome gained) response responses can) e) response.unsolicited (is_from asked response.codec) refl refl e
   where
     more : solicited (response ∷ responses) ≡ cond (not response.unsolicited) 1 0 + solicited responses
     more = sum_by-cons (λ (response : Response). cond (not response.unsolicited) 1 0) response responses
@@ -42,24 +44,24 @@ found_first gained asked (response ∷ responses) value can e =
     counted : (told : Bool) → response.unsolicited ≡ told → solicited (response ∷ responses) ≡ cond (not told) 1 0 + solicited responses
     counted told is = more ∙ ap (λ (b : Bool). cond (not b) 1 0 + solicited responses) is
 
-    by : (answer_among asked (map as_held responses) ≡ Some value → (address : ℕ) × (answer : ℕ) × CanCome gained address answer × (value ≡ answer % 2 ^ 32) × (1 ≤ solicited responses))
-        → (told mine : Bool) → response.unsolicited ≡ told
+    by : (answer_among asked (map as_held responses) ≡ Some value → (address : ℕ) × (answer : ℕ) × CanCome gained address answer × (value ≡ answer % 2 ^ 32) × (1 ≤ solicited responses) × (is_from asked address ≡ true))
+        → (told mine : Bool) → response.unsolicited ≡ told → is_from asked response.codec ≡ mine
         → option_map (λ (r : Response). r.answer) (if not told && mine then Some (as_held response) else find (answers_it asked) (map as_held responses)) ≡ Some value
-        → (address : ℕ) × (answer : ℕ) × CanCome gained address answer × (value ≡ answer % 2 ^ 32) × (1 ≤ solicited (response ∷ responses))
-    by later true mine is e =
+        → (address : ℕ) × (answer : ℕ) × CanCome gained address answer × (value ≡ answer % 2 ^ 32) × (1 ≤ solicited (response ∷ responses)) × (is_from asked address ≡ true)
+    by later true mine is asks e =
         let rest = later e in
         let some = rest.4 in
         let count = counted true is in
-        (rest.0, rest.1, rest.2, rest.3, omega arith)
-    by later false false is e =
+        (rest.0, rest.1, rest.2, rest.3, omega arith, rest.5)
+    by later false false is asks e =
         let rest = later e in
         let some = rest.4 in
         let count = counted false is in
-        (rest.0, rest.1, rest.2, rest.3, omega arith)
-    by later false true is e =
+        (rest.0, rest.1, rest.2, rest.3, omega arith, rest.5)
+    by later false true is asks e =
         let same : response.answer % 2 ^ 32 ≡ value = cc in
         let count = counted false is in
-        (response.codec, response.answer, (All-head (ResponseCanCome gained) response responses can).answer is, sym same, omega arith)
+        (response.codec, response.answer, (All-head (ResponseCanCome gained) response responses can).answer is, sym same, omega arith, asks)
 
 pub split_row : (first second : List happens.Event) (old new : Telling) → MakesBy (first ++ second) old new → (middle : Telling) × MakesBy first old middle × MakesBy second middle new
 split_row [] second old new made = (old, refl, made)
@@ -103,6 +105,9 @@ none_codecs gained (codec ∷ codecs) can none =
 
 -- ---- the engine after a poll
 
+is_asked : (address asked : ℕ) → (address == asked) ≡ true → address ≡ asked
+is_asked address asked is = search (rules, tests)
+
 module _ (from read corb rirb : ℕ) (rings : Rings) (world : World) (holds : Stands from read corb rirb rings world) (place : ℕ) (below : place < entries_of rings.rirb) (at : world.registers.global.rirb_write_pointer ≡ place) where
   abbrev cleared_part : RingPart
   cleared_part = record (part_of world.registers) { response_flag = 0 }
@@ -125,9 +130,10 @@ module _ (from read corb rirb : ℕ) (rings : Rings) (world : World) (holds : St
 
   cleared_stands : (from' : ℕ) (outstanding : Option Outstanding) → from' ≤ length world.commands
       → Course outstanding cleared_part (word_at world.memory (corb + 4 * rings.submitted)) (drop from' world.commands)
+      → AreOfCodecs world.codecs (drop from' world.commands)
       → IsOnItsWay (drop from' world.commands) [] world.waiting world.codecs
       → StandsBy from' (length world.written) corb rirb (record rings { read = place; outstanding = outstanding }) cleared_part world.memory world.codecs world.waiting world.commands world.written
-  cleared_stands from' outstanding within course way =
+  cleared_stands from' outstanding within course theirs way =
       let some = some_entries world.registers.shape.rirb in
       record {
         has_rings = cleared_has outstanding;
@@ -143,6 +149,7 @@ module _ (from read corb rirb : ℕ) (rings : Rings) (world : World) (holds : St
             cc;
         from_within = within;
         course = course;
+        taken_by = theirs;
         on_its_way = subst (λ (unread : List Response). IsOnItsWay (drop from' world.commands) unread world.waiting world.codecs) (sym none_unread) way;
       }
 
@@ -151,7 +158,7 @@ module _ (from read corb rirb : ℕ) (rings : Rings) (world : World) (holds : St
   unfound =
       let way = holds.on_its_way in
       let few = way.few in
-      cleared_stands from rings.outstanding holds.from_within (same_course holds.course)
+      cleared_stands from rings.outstanding holds.from_within (same_course holds.course) holds.taken_by
       (record { in_ring = All-nil (ResponseCanCome (drop from world.commands)); in_controller = way.in_controller; at_codecs = way.at_codecs; few = omega arith })
     where
       same_course : Course rings.outstanding (part_of world.registers) (word_at world.memory (corb + 4 * rings.submitted)) (drop from world.commands)
@@ -160,10 +167,10 @@ module _ (from read corb rirb : ℕ) (rings : Rings) (world : World) (holds : St
       same_course (inr next) = inr (record { pointers = next.pointers; is = next.is; none = next.none })
 
   -- the answer was found: it is that of the outstanding command, and nothing more comes
-  answered : (value address answer : ℕ) → CanCome (drop from world.commands) address answer → value ≡ answer % 2 ^ 32 → 1 ≤ solicited (drop read world.written)
-      → Belongs from rings.outstanding world.commands (Some value)
+  answered : (value address answer : ℕ) → is_from (asked_of rings.outstanding) address ≡ true → CanCome (drop from world.commands) address answer → value ≡ answer % 2 ^ 32 → 1 ≤ solicited (drop read world.written)
+      → Belongs from rings.outstanding world.codecs world.commands (Some value)
       × StandsBy (length world.commands) (length world.written) corb rirb (record rings { read = place; outstanding = None }) cleared_part world.memory world.codecs world.waiting world.commands world.written
-  answered value address answer can is some = by (drop from world.commands) refl can holds.course
+  answered value address answer asks can is some = by (drop from world.commands) refl can holds.course
     where
       nothing : drop (length world.commands) world.commands ≡ []
       nothing = drop_all (length world.commands) world.commands (omega arith)
@@ -176,6 +183,7 @@ module _ (from read corb rirb : ℕ) (rings : Rings) (world : World) (holds : St
           let left : solicited world.waiting + waiting_answers world.codecs ≤ 0 = omega arith in
           cleared_stands (length world.commands) None (omega arith)
           (inl (record { pointers = pointers; taken = subst (AreOf None) (sym nothing) tt }))
+          (subst (AreOfCodecs world.codecs) (sym nothing) (All-nil (IsOfCodec (graphs_in world.codecs))))
           (subst (λ (gained : List TakenCommand). IsOnItsWay gained [] world.waiting world.codecs) (sym nothing)
           (record {
             in_ring = All-nil (ResponseCanCome []);
@@ -184,28 +192,38 @@ module _ (from read corb rirb : ℕ) (rings : Rings) (world : World) (holds : St
             few = omega arith;
           }))
 
-      belongs : (outstanding : Option Outstanding) (taken : TakenCommand) (more : List TakenCommand) → drop from world.commands ≡ taken ∷ more → CanCome (taken ∷ more) address answer → AreOf outstanding (taken ∷ more)
-          → Belongs from outstanding world.commands (Some value) × (more ≡ [])
-      belongs None taken more gained can are = absurd are
-      belongs (Some command) taken more gained can are =
-          (record { taken = taken; only = gained ∙ ap (λ (rest : List TakenCommand). taken ∷ rest) are.1; word = are.0; answer = is ∙ ap (λ (n : ℕ). n % 2 ^ 32) can.answer }, are.1)
+      belongs : (outstanding : Option Outstanding) (taken : TakenCommand) (more : List TakenCommand) → drop from world.commands ≡ taken ∷ more → is_from (asked_of outstanding) address ≡ true → IsOfCodec (graphs_in world.codecs) taken → CanCome (taken ∷ more) address answer → AreOf outstanding (taken ∷ more)
+          → Belongs from outstanding world.codecs world.commands (Some value) × (more ≡ [])
+      belongs None taken more gained asks theirs can are = absurd are
+      belongs (Some command) taken more gained asks theirs can are =
+          let named : address_of taken.word ≡ command.codec = sym can.codec ∙ is_asked address command.codec asks in (
+            record {
+              taken = taken;
+              address = graph_address (address_of taken.word) (graphs_in world.codecs) taken.codec.graph theirs ∙ named;
+              graph = subst (λ (at : ℕ). graph_at at (graphs_in world.codecs) ≡ Some taken.codec.graph) named theirs;
+              only = gained ∙ ap (λ (rest : List TakenCommand). taken ∷ rest) are.1;
+              word = are.0;
+              answer = is ∙ ap (λ (n : ℕ). n % 2 ^ 32) can.answer;
+            },
+            are.1,
+          )
 
       by : (gained : List TakenCommand) → drop from world.commands ≡ gained → CanCome gained address answer
           → Course rings.outstanding (part_of world.registers) (word_at world.memory (corb + 4 * rings.submitted)) (drop from world.commands)
-          → Belongs from rings.outstanding world.commands (Some value)
+          → Belongs from rings.outstanding world.codecs world.commands (Some value)
           × StandsBy (length world.commands) (length world.written) corb rirb (record rings { read = place; outstanding = None }) cleared_part world.memory world.codecs world.waiting world.commands world.written
       by [] gained can course = absurd can
       by (taken ∷ more) gained can (inr next) = let z : taken ∷ more ≡ [] = sym gained ∙ next.none in cc
       by (taken ∷ more) gained can (inl all) =
-          let both = belongs rings.outstanding taken more gained can (subst (AreOf rings.outstanding) gained all.taken) in
+          let both = belongs rings.outstanding taken more gained asks (All-head (IsOfCodec (graphs_in world.codecs)) taken more (subst (AreOfCodecs world.codecs) gained holds.taken_by)) can (subst (AreOf rings.outstanding) gained all.taken) in
           let long : length (drop from world.commands) ≡ 1 = ap length gained ∙ ap (λ (rest : List TakenCommand). length (taken ∷ rest)) both.1 in
           (both.0, after all.pointers (omega arith))
 
   -- whatever was found
   pub after_poll : (found : Option ℕ) → found ≡ answer_among (asked_of rings.outstanding) (map as_held (drop read world.written))
-      → Belongs from rings.outstanding world.commands found
+      → Belongs from rings.outstanding world.codecs world.commands found
       × StandsBy (from_after found from world.commands) (length world.written) corb rirb (record rings { read = place; outstanding = still_outstanding rings.outstanding found }) cleared_part world.memory world.codecs world.waiting world.commands world.written
   after_poll None is = (tt, unfound)
   after_poll (Some value) is =
       let first = found_first (drop from world.commands) (asked_of rings.outstanding) (drop read world.written) value holds.on_its_way.in_ring (sym is) in
-      answered value first.0 first.1 first.2 first.3 first.4
+      answered value first.0 first.1 first.5 first.2 first.3 first.4

@@ -2,6 +2,7 @@
 use Rattle.std.proofs.Common.{◌≡◌, ◌≢◌, ◌≤◌, ◌⊎◌, ◌+◌, ◌-◌, ◌*◌, ◌/◌, ◌%◌, ◌^◌, ◌==◌, ℕ, Bool, true, false, List, [], ◌∷◌, ◌++◌, length, drop, slice_get, Option, None, Some, refl, sym, ap, subst, ◌∙◌, inl, inr, arith, rules, tests, lit<, lit≤, if◌then◌else◌}
 use Rattle.std.proofs.Math.Nat.{mod-eq_of_lt}
 use Rattle.std.proofs.lemmas.List.{drop_all}
+use Rattle.std.proofs.lemmas.List.Elements.{All-nil}
 use Rattle.codec_graph.specs.CodecStates.{CodecState, plugged, without_first, without_answer}
 use Rattle.hda_registers.specs.declared.shapes.RingSize.{RingSize}
 use Rattle.hda_registers.specs.declared.shapes.RingSize.TheVariants as size
@@ -26,8 +27,8 @@ use Rattle.hda_world.proofs.Callers.{accessed_then, plain_write, frames_after}
 use Rattle.command_engine.specs.declared.rings.Rings.{Rings}
 use Rattle.command_engine.specs.Sizes.{largest_size, half_of}
 use Rattle.command_engine.specs.Starting.{StartReads, codecs_in, rings_of, rings_read, settings_if, corb_accesses, rirb_accesses, start_accesses}
-use Rattle.command_engine.specs.Courses.{RingPart, part_of, HasBlocks, AscendByAddress, AreOf, IsOnItsWay, StandsBy, Stands}
-use Rattle.command_engine.specs.Belonging.{CanStart, IsBlockAddress}
+use Rattle.command_engine.specs.Courses.{RingPart, part_of, HasBlocks, AscendByAddress, AreOf, IsOfCodec, AreOfCodecs, graphs_in, IsOnItsWay, StandsBy, Stands}
+use Rattle.command_engine.specs.Quiet.{CanStart, IsBlockAddress}
 use Rattle.command_engine.proofs.Coming.{coming_sent, coming_lost, coming_plugged, graph_plugged}
 use Rattle.command_engine.proofs.Batches.{EachStands, some_entries}
 use Rattle.command_engine.proofs.Keeping.{ascend_with, part-passed, keeps_standing}
@@ -37,11 +38,11 @@ use Rattle.command_engine.proofs.StartWrites.{write-state_status, write-corb_bas
 -- ---- while the rings are set, RIRB does not run, and CORB only once its pointers are 0
 
 -- the run bits of both rings
-record Runs : Type 0 where
+pub record Runs : Type 0 where
   pub corb : ℕ
   pub rirb : ℕ
 
-abbrev runs_of : Fields → Runs
+abbrev pub runs_of : Fields → Runs
 runs_of fields = record { corb = fields.global.corb_run; rirb = fields.global.rirb_run }
 
 runs-discovered : (codecs : List CodecState) (old fields : Fields) → runs_of (record old { global = (discovered codecs fields).global }) ≡ runs_of (record old { global = fields.global })
@@ -56,7 +57,7 @@ runs-passed : (world : World) → runs_of (passed world).registers ≡ runs_of w
 runs-passed world = runs-frame (world.frames + 1 == FRAMES_TO_DISCOVERY) world.codecs world.registers (framed world.registers)
 
 -- the rings' registers hold this, CORB runs or not, and nothing comes
-record IsSetBy (from read corb rirb : ℕ) (part : RingPart) (run : ℕ) (now : RingPart) (runs : Runs) (memory : List ℕ) (codecs : List CodecState) (waiting : List Response) (commands : List TakenCommand) (written : List Response) : Type 0 where
+pub record IsSetBy (from read corb rirb : ℕ) (part : RingPart) (run : ℕ) (now : RingPart) (runs : Runs) (memory : List ℕ) (codecs : List CodecState) (waiting : List Response) (commands : List TakenCommand) (written : List Response) : Type 0 where
   pub part_is : now ≡ part
   pub runs_are : runs ≡ record { corb = run; rirb = 0 }
   pub blocks : HasBlocks corb rirb (length memory)
@@ -65,7 +66,7 @@ record IsSetBy (from read corb rirb : ℕ) (part : RingPart) (run : ℕ) (now : 
   pub from_is : length commands ≡ from
   pub read_is : length written ≡ read
 
-abbrev IsSet : (from read corb rirb : ℕ) → RingPart → ℕ → World → Type 0
+abbrev pub IsSet : (from read corb rirb : ℕ) → RingPart → ℕ → World → Type 0
 IsSet from read corb rirb part run world =
     IsSetBy from read corb rirb part run (part_of world.registers) (runs_of world.registers) world.memory world.codecs world.waiting world.commands world.written
 
@@ -105,7 +106,7 @@ module _ (from read corb rirb : ℕ) where
     read_is = holds.read_is;
   }
 
-  set_kept : (part : RingPart) (run : ℕ) → (run ≡ 0) ⊎ (part.corb_read_pointer ≡ part.corb_write_pointer) → Kept (IsSet from read corb rirb part run)
+  pub set_kept : (part : RingPart) (run : ℕ) → (run ≡ 0) ⊎ (part.corb_read_pointer ≡ part.corb_write_pointer) → Kept (IsSet from read corb rirb part run)
   set_kept part run still = record {
     codecs = record {
       hands = λ world holds can free. absurd (no_fetch part run still world holds can);
@@ -254,6 +255,7 @@ module _ (from read corb rirb : ℕ) where
             cc;
         from_within = omega arith;
         course = inl (record { pointers = refl; taken = subst (AreOf None) (sym gained) tt });
+        taken_by = subst (AreOfCodecs world.codecs) (sym gained) (All-nil (IsOfCodec (graphs_in world.codecs)));
         on_its_way = subst (λ (gained : List TakenCommand). IsOnItsWay gained (drop read world.written) world.waiting world.codecs) (sym gained)
             (subst (λ (unread : List Response). IsOnItsWay [] unread world.waiting world.codecs) (sym unread) holds.way);
       }))
@@ -284,7 +286,7 @@ begun_is : (none : Bool) (c r : RingSize) (begun : Rings) → (if none then None
 begun_is true c r begun e = cc
 begun_is false c r begun e = cc
 
-runs_stopped : (corb rirb : ℕ) → corb ≡ 0 → rirb ≡ 0 → let runs : Runs = record { corb = corb; rirb = rirb } in runs ≡ record { corb = 0; rirb = 0 }
+pub runs_stopped : (corb rirb : ℕ) → corb ≡ 0 → rirb ≡ 0 → let runs : Runs = record { corb = corb; rirb = rirb } in runs ≡ record { corb = 0; rirb = 0 }
 runs_stopped corb rirb a b = cc
 
 pub start_leaves : EachStands → (corb rirb : ℕ) (reads : StartReads) (begun : Rings) (old new : Telling) → IsBlockAddress corb → IsBlockAddress rirb → rings_read reads ≡ Some begun
@@ -296,10 +298,10 @@ start_leaves stands corb rirb reads begun old new corb_block rirb_block found ma
     let still : (0 ≡ 0) ⊎ (part.corb_read_pointer ≡ part.corb_write_pointer) = inl refl in
     let s0 : IsSet from read corb rirb part 0 (world_of old) = record {
       part_is = refl;
-      runs_are = runs_stopped _ _ can.corb_stopped can.rirb_stopped;
-      blocks = can.blocks;
-      ascend = can.ascend;
-      way = can.nothing_comes;
+      runs_are = runs_stopped _ _ can.quiet.corb_stopped can.quiet.rirb_stopped;
+      blocks = can.quiet.blocks;
+      ascend = can.quiet.ascend;
+      way = can.quiet.nothing_comes;
       from_is = refl;
       read_is = refl;
     } in
@@ -324,4 +326,4 @@ start_leaves stands corb rirb reads begun old new corb_block rirb_block found ma
     (subst (λ (rings : Option Rings). MakesBy (settings_if rings corb rirb reads) r3.0 new) found r3.2) in
     let set = corb_set from read corb rirb part reads.status reads.pointer_reset reads.pointer_ready part.rirb_size r3.0 new can.out rest s3.0 in
     subst (λ (rings : Rings). Stands from read corb rirb rings (world_of new)) (sym is)
-    (started from read corb rirb stands part set.0 new corb_block rirb_block can.out can.flag set.2 set.1)
+    (started from read corb rirb stands part set.0 new corb_block rirb_block can.out can.quiet.flag set.2 set.1)

@@ -88,6 +88,7 @@ module _ (from read corb rirb : ℕ) (rings : Rings) (stands : EachStands) (idle
             ∙ holds.standing index response byte is small;
         from_within = holds.from_within;
         course = let all = all_fetched world holds in subst (λ (outstanding : Option Outstanding). Course outstanding (part_of world.registers) (word_at (stored world.memory at_entry (little_bytes 4 command.word)) (corb + 4 * rings.submitted)) (drop from world.commands)) (sym idle) (inl all);
+        taken_by = holds.taken_by;
         on_its_way = holds.on_its_way;
       }
 
@@ -143,6 +144,7 @@ module _ (from read corb rirb : ℕ) (rings : Rings) (stands : EachStands) (idle
         standing = way.standing;
         from_within = way.from_within;
         course = inr (record { pointers = next; is = holds.1; none = are_none (drop from world.commands) all.taken });
+        taken_by = way.taken_by;
         on_its_way = way.on_its_way;
       }))
 

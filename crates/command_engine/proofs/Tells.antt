@@ -12,7 +12,8 @@ use Rattle.command_engine.specs.Polling.{asked_of, found_by, poll_of, Polls}
 use Rattle.command_engine.specs.Submitting.{submit_accesses, rings_submitted}
 use Rattle.command_engine.specs.Starting.{codecs_if, rings_if, rings_read, Starts}
 use Rattle.command_engine.specs.Courses.{Stands}
-use Rattle.command_engine.specs.Belonging.{Belongs, from_after, IsBlockAddress}
+use Rattle.command_engine.specs.Belonging.{Belongs, from_after}
+use Rattle.command_engine.specs.Quiet.{IsBlockAddress}
 use Rattle.command_engine.specs.Told.{Begins, LeadsOn, found_since, PollTellsOf}
 use Rattle.command_engine.proofs.Batches.{EachStands}
 use Rattle.command_engine.proofs.PollTellings.{poll_leaves}
@@ -32,7 +33,7 @@ poll_tells clock corb rirb rings rings' answer events old new polls =
     record {
       answer_is = polls.answer_is ∙ ap (λ (f : Option ℕ). poll_of rings.outstanding f clock) found;
       events_are = polls.events_are ∙ ap events_of leaves.responses;
-      belongs = subst (λ (f : Option ℕ). Belongs from rings.outstanding (world_of new).commands f) found leaves.belongs;
+      belongs = subst (λ (f : Option ℕ). Belongs from rings.outstanding (world_of new).codecs (world_of new).commands f) found leaves.belongs;
       stands = subst (λ (f : Option ℕ). Stands (from_after f from (world_of new).commands) (length (world_of new).written) corb rirb rings' (world_of new)) found
           (subst (λ (r : Rings). Stands (from_after (found_by rings polls.reads) from (world_of new).commands) (length (world_of new).written) corb rirb r (world_of new)) (sym polls.rings_are) leaves.stands);
     })) polls.made

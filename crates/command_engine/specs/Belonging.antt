@@ -1,31 +1,32 @@
 -- That an answer belongs to its command, and what a poll and a submission leave. This project's own.
-use Rattle.std.specs.Prelude.{◌≡◌, ◌≤◌, ◌<◌, ℕ, ◌%◌, ◌^◌, true, List, [], ◌∷◌, length, map, drop, Option, None, Some}
-use Rattle.codec_graph.specs.CodecStates.{answer_to}
-use Rattle.hda_registers.specs.Fields.{is_out_of_reset}
+use Rattle.std.specs.Prelude.{◌≡◌, ℕ, ◌%◌, ◌^◌, List, [], ◌∷◌, length, map, drop, Option, None, Some}
+use Rattle.codec_graph.specs.CodecStates.{CodecState, answer_to}
 use Rattle.ring_entries.specs.declared.response.Response.{Response}
 use Rattle.hda_world.specs.Worlds.{World, TakenCommand}
 use Rattle.command_engine.specs.declared.rings.Rings.{Rings}
 use Rattle.command_engine.specs.declared.answers.Outstanding.{Outstanding}
 use Rattle.command_engine.specs.Entries.{responses_in}
 use Rattle.command_engine.specs.Polling.{PollReads, found_by, rings_polled}
-use Rattle.command_engine.specs.Courses.{HasBlocks, AscendByAddress, IsOnItsWay, Stands}
+use Rattle.command_engine.specs.Courses.{graph_at, graphs_in, Stands}
 
 -- a response as an entry of RIRB holds it: 32 bits of the answer
 abbrev pub as_held : Response → Response
 as_held response = record response { answer = response.answer % 2 ^ 32 }
 
--- since the first `from` commands codecs took one more, the outstanding one, and the value is its answer by the codec with the
--- settings and the presence that it had when it took it, as an entry holds it
-pub record IsAnswered (from : ℕ) (command : Outstanding) (commands : List TakenCommand) (value : ℕ) : Type 0 where
+-- since the first `from` commands codecs took one more, the outstanding one. The codec that it asks took it, of these on the link,
+-- and the value is its answer by that codec with the settings and the presence that it had when it took it, as an entry holds it
+pub record IsAnswered (from : ℕ) (command : Outstanding) (codecs : List CodecState) (commands : List TakenCommand) (value : ℕ) : Type 0 where
   pub taken : TakenCommand
   pub only : drop from commands ≡ taken ∷ []
   pub word : taken.word ≡ command.word
+  pub address : taken.codec.graph.address ≡ command.codec
+  pub graph : graph_at command.codec (graphs_in codecs) ≡ Some taken.codec.graph
   pub answer : value ≡ answer_to taken.codec taken.word % 2 ^ 32
 
-abbrev pub Belongs : ℕ → Option Outstanding → List TakenCommand → Option ℕ → Type 0
-Belongs from outstanding commands None = Unit {0}
-Belongs from None commands (Some value) = ⊥
-Belongs from (Some command) commands (Some value) = IsAnswered from command commands value
+abbrev pub Belongs : ℕ → Option Outstanding → List CodecState → List TakenCommand → Option ℕ → Type 0
+Belongs from outstanding codecs commands None = Unit {0}
+Belongs from None codecs commands (Some value) = ⊥
+Belongs from (Some command) codecs commands (Some value) = IsAnswered from command codecs commands value
 
 -- how many commands were taken before the one that is outstanding after a poll
 abbrev pub from_after : Option ℕ → ℕ → List TakenCommand → ℕ
@@ -36,21 +37,5 @@ from_after (Some value) from commands = length commands
 -- and all that was written is read
 pub record PollLeaves (from read corb rirb : ℕ) (rings : Rings) (reads : PollReads) (world : World) : Type 0 where
   pub responses : responses_in reads.entries ≡ map as_held (drop read world.written)
-  pub belongs : Belongs from rings.outstanding world.commands (found_by rings reads)
+  pub belongs : Belongs from rings.outstanding world.codecs world.commands (found_by rings reads)
   pub stands : Stands (from_after (found_by rings reads) from world.commands) (length world.written) corb rirb (rings_polled rings reads) world
-
--- what a start asks of the world: the controller is out of reset and neither ring runs, no answer to a command waits at a codec or in
--- the controller, and both blocks lie in the region. RINTFL is a bit, and codecs stand by address
-pub record CanStart (corb rirb : ℕ) (world : World) : Type 0 where
-  pub out : is_out_of_reset world.registers.global ≡ true
-  pub corb_stopped : world.registers.global.corb_run ≡ 0
-  pub rirb_stopped : world.registers.global.rirb_run ≡ 0
-  pub flag : world.registers.global.response_flag ≤ 1
-  pub blocks : HasBlocks corb rirb (length world.memory)
-  pub ascend : AscendByAddress world.codecs
-  pub nothing_comes : IsOnItsWay [] [] world.waiting world.codecs
-
--- the address of a block: a multiple of 128 of 32 bits
-pub record IsBlockAddress (address : ℕ) : Type 0 where
-  pub aligned : address % 128 ≡ 0
-  pub narrow : address < 2 ^ 32

@@ -1,6 +1,7 @@
 -- That what is on its way to the engine belongs to its outstanding command: at most one answer comes, and it is the answer of that
 -- command by the codec as it was when it took it. This project's own, over the rings of High Definition Audio 1.0a, 4.4.
 use Rattle.std.specs.Prelude.{◌≡◌, ◌≤◌, ◌<◌, ◌⊎◌, ℕ, ◌+◌, ◌-◌, ◌*◌, ◌%◌, ◌==◌, true, false, not, List, [], ◌∷◌, length, map, drop, All, count_by, sum_by, slice_get, slice_index, Option, None, Some}
+use Rattle.std.specs.List.{find}
 use Rattle.codec_graph.specs.declared.raw.RawCodec.{RawCodec}
 use Rattle.codec_graph.specs.declared.waiting.Waiting.{Waiting}
 use Rattle.codec_graph.specs.declared.waiting.Waiting.TheVariants.{Answer, Unsolicited}
@@ -72,8 +73,15 @@ abbrev pub AscendFrom : ℕ → List RawCodec → Type 0
 AscendFrom from [] = Unit {0}
 AscendFrom from (graph ∷ graphs) = (from ≤ graph.address) × (graph.address ≤ 14) × AscendFrom (graph.address + 1) graphs
 
+abbrev pub graphs_in : List CodecState → List RawCodec
+graphs_in codecs = map (λ (codec : CodecState). codec.graph) codecs
+
 abbrev pub AscendByAddress : List CodecState → Type 0
-AscendByAddress codecs = AscendFrom 0 (map (λ (codec : CodecState). codec.graph) codecs)
+AscendByAddress codecs = AscendFrom 0 (graphs_in codecs)
+
+-- the graph with this address, if there is one
+abbrev pub graph_at : ℕ → List RawCodec → Option RawCodec
+graph_at address graphs = find (λ (graph : RawCodec). graph.address == address) graphs
 
 -- ---- what was taken of the outstanding command
 
@@ -82,6 +90,13 @@ abbrev pub AreOf : Option Outstanding → List TakenCommand → Type 0
 AreOf outstanding [] = Unit {0}
 AreOf None (taken ∷ more) = ⊥
 AreOf (Some command) (taken ∷ more) = (taken.word ≡ command.word) × (more ≡ [])
+
+-- the codec that took a command is the one of the address that the word names, among these graphs
+abbrev pub IsOfCodec : List RawCodec → TakenCommand → Type 0
+IsOfCodec graphs taken = graph_at (address_of taken.word) graphs ≡ Some taken.codec.graph
+
+abbrev pub AreOfCodecs : List CodecState → List TakenCommand → Type 0
+AreOfCodecs codecs gained = All (IsOfCodec (graphs_in codecs)) gained
 
 abbrev pub IsWordOf : Option Outstanding → ℕ → Type 0
 IsWordOf None word = ⊥
@@ -158,6 +173,7 @@ pub record StandsBy (from read corb rirb : ℕ) (rings : Rings) (part : RingPart
   pub standing : AreStanding rirb (entries_of rings.rirb) rings.read memory (drop read written)
   pub from_within : from ≤ length commands
   pub course : Course rings.outstanding part (word_at memory (corb + COMMAND_BYTES * rings.submitted)) (drop from commands)
+  pub taken_by : AreOfCodecs codecs (drop from commands)
   pub on_its_way : IsOnItsWay (drop from commands) (drop read written) waiting codecs
 
 abbrev pub Stands : (from read corb rirb : ℕ) → Rings → World → Type 0

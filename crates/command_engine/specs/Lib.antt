@@ -7,6 +7,7 @@ pub mod Submitting
 pub mod Polling
 pub mod Courses
 pub mod Belonging
+pub mod Quiet
 pub mod Told
 -- what private functions promise one another
 pub mod Reading

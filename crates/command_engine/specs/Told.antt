@@ -8,7 +8,8 @@ use Rattle.command_engine.specs.declared.answers.Poll.{Poll}
 use Rattle.command_engine.specs.Entries.{events_of, answer_among}
 use Rattle.command_engine.specs.Polling.{asked_of, poll_of}
 use Rattle.command_engine.specs.Courses.{Stands}
-use Rattle.command_engine.specs.Belonging.{as_held, Belongs, from_after, CanStart}
+use Rattle.command_engine.specs.Belonging.{as_held, Belongs, from_after}
+use Rattle.command_engine.specs.Quiet.{CanStart}
 
 -- a start that gives codecs brings about how the engine stands, from every world that it may start in
 abbrev pub Begins : (corb rirb answer : ℕ) (rings : Rings) → Telling → Telling → Type 0
@@ -30,7 +31,7 @@ found_since read rings world = answer_among (asked_of rings.outstanding) (map as
 pub record PollTells (clock from read corb rirb : ℕ) (rings : Rings) (answer : Poll) (rings' : Rings) (events : List Event) (world : World) : Type 0 where
   pub answer_is : answer ≡ poll_of rings.outstanding (found_since read rings world) clock
   pub events_are : events ≡ events_of (map as_held (drop read world.written))
-  pub belongs : Belongs from rings.outstanding world.commands (found_since read rings world)
+  pub belongs : Belongs from rings.outstanding world.codecs world.commands (found_since read rings world)
   pub stands : Stands (from_after (found_since read rings world) from world.commands) (length world.written) corb rirb rings' world
 
 abbrev pub PollTellsOf : (clock corb rirb : ℕ) (rings : Rings) (answer : Poll) (rings' : Rings) (events : List Event) → Telling → Telling → Type 0

@@ -1,13 +1,16 @@
 //! Laws of the engine, each the contract of a function that does nothing.
-ghost use Rattle.std.specs.Prelude.{◌≤◌, ℕ, List, length, drop};
+ghost use Rattle.std.specs.Prelude.{◌≡◌, ◌≤◌, ◌%◌, ℕ, List, length, drop};
 ghost use Rattle.device_steps.specs.declared.Step.{Step};
+ghost use Rattle.hda_registers.specs.declared.places.TheConstants.{GCTL};
 ghost use Rattle.hda_registers.specs.declared.shapes.RingSize.{RingSize};
+ghost use Rattle.hda_registers.specs.declared.shapes.Width.TheVariants.{Four};
 ghost use Rattle.hda_world.specs.Worlds.{World};
 ghost use Rattle.hda_world.specs.Steps.{after_steps};
-ghost use Rattle.hda_world.specs.Events.{Event, after};
+ghost use Rattle.hda_world.specs.Events.{Event, after_write, after};
 ghost use Rattle.command_engine.specs.declared.rings.Rings.{Rings};
 ghost use Rattle.command_engine.specs.Sizes.{half_of};
-ghost use Rattle.command_engine.specs.Courses.{AreBeside, Stands};
+ghost use Rattle.command_engine.specs.Courses.{HasBlocks, AscendByAddress, AreBeside, Stands};
+ghost use Rattle.command_engine.specs.Quiet.{IsQuiet, CanStart, LeaveRegisters};
 
 /// How an engine stands to the world is kept by every step of the device: at most one answer is on its way to it, and that is the
 /// answer to its outstanding command by the codec as it was when it took it.
@@ -27,4 +30,33 @@ pub fn few_responses_are_unread()
     ensures unread { (from read corb rirb : ℕ) (rings : Rings) (world : World) → Stands from read corb rirb rings world
         → length (drop read world.written) ≤ half_of rings.rirb }
     ensures half { (size : RingSize) → half_of size ≤ 128 }
+{}
+
+/// While neither ring runs and no answer to a command waits, it stays so over steps of the device and over every event that is no
+/// write of GCTL or of a register of CORB or RIRB.
+pub fn the_world_stays_quiet()
+    ensures steps { (corb rirb : ℕ) (steps : List Step) (world : World) → IsQuiet corb rirb world → IsQuiet corb rirb (after_steps steps world) }
+    ensures events { (corb rirb : ℕ) (events : List Event) (world : World) → LeaveRegisters events → IsQuiet corb rirb world
+        → IsQuiet corb rirb (after events world) }
+{}
+
+/// What a start asks of the world is kept by steps of the device and by every event that is no write of GCTL or of a register of CORB
+/// or RIRB. So a driver may reset the controller in one stretch and start the engine in a later one.
+pub fn a_start_stays_possible()
+    ensures steps { (corb rirb : ℕ) (steps : List Step) (world : World) → CanStart corb rirb world → CanStart corb rirb (after_steps steps world) }
+    ensures events { (corb rirb : ℕ) (events : List Event) (world : World) → LeaveRegisters events → CanStart corb rirb world
+        → CanStart corb rirb (after events world) }
+{}
+
+/// A reset leads to a start, from every world whose codecs ascend by address up to 14 and whose region has both blocks: a write of
+/// GCTL whose CRST is 0 quiets it, one whose CRST is 1 then makes a start possible, and so do both with other events before and after
+/// the second (HDA 1.0a, 4.3).
+pub fn a_reset_leads_to_a_start()
+    ensures resets { (corb rirb value : ℕ) (world : World) → value % 2 ≡ 0 → HasBlocks corb rirb (length world.memory)
+        → AscendByAddress world.codecs → IsQuiet corb rirb (after_write GCTL Four value world) }
+    ensures rises { (corb rirb value : ℕ) (world : World) → value % 2 ≡ 1 → IsQuiet corb rirb world
+        → CanStart corb rirb (after_write GCTL Four value world) }
+    ensures leads { (corb rirb : ℕ) (before later : List Event) (world : World) → HasBlocks corb rirb (length world.memory)
+        → AscendByAddress world.codecs → LeaveRegisters before → LeaveRegisters later
+        → CanStart corb rirb (after later (after_write GCTL Four 0x101 (after before (after_write GCTL Four 0 world)))) }
 {}

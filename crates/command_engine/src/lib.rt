@@ -1,5 +1,6 @@
-//! The driver's side of the rings of commands (CORB) and of responses (RIRB): it submits a command, finds its answer, and gives up
-//! after 1,000 link frames (HDA 1.0a, 4.4).
+//! The driver's side of the rings of commands (CORB) and of responses (RIRB): it submits a command and finds its answer
+//! (HDA 1.0a, 4.4). Where none came within 500,000 ticks of the wall clock, 1,000 link frames, it tells so, and the command stays
+//! outstanding.
 #![tactic(auto)]
 
 mod answers;
@@ -10,5 +11,8 @@ mod rings;
 
 pub use answers::{ANSWER_LIMIT, Event, Outstanding, Poll};
 pub use engine::{CORB_BYTES, Engine, MOST_EVENTS, OpenFault, RIRB_BYTES};
-pub use laws::{events_beside_keep_standing, few_responses_are_unread, steps_keep_standing};
+pub use laws::{
+    a_reset_leads_to_a_start, a_start_stays_possible, events_beside_keep_standing,
+    few_responses_are_unread, steps_keep_standing, the_world_stays_quiet,
+};
 pub use rings::Rings;

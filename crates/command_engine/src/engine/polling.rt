@@ -28,8 +28,9 @@ impl Engine {
     /// first to a command of the codec that is asked is the answer, other answers are dropped, and what was sent unasked becomes
     /// events, in order. A command that has no answer stays outstanding. No event is left from earlier polls (HDA 1.0a, 4.4.2).
     ///
-    /// On a platform that tells, an answer is that of the outstanding command by its codec as it was when it took it, where the engine
-    /// stood so that at most that could come.
+    /// On a platform that tells, where the engine stood to the world as a start, a submission or a poll left it: the poll reads just
+    /// the responses that were written since the last one. An answer is that of the outstanding command by the codec that it asks,
+    /// with the settings and the presence at the moment at which it took it. Then no other answer is on its way.
     ///
     /// A write pointer names fewer new entries than RIRB has, whatever it reads, so at most 255; the queue holds 256 events.
     #[tactic(auto, using(hda_world::proofs::Callers::rows))]

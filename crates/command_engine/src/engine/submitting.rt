@@ -17,6 +17,9 @@ use verb_codes::{Command, encode};
 impl Engine {
     /// Submits a command at this clock: writes its word to the next entry of CORB, from 1 on, and moves CORB's write pointer there
     /// (HDA 1.0a, 4.4.1).
+    ///
+    /// On a platform that tells, where the engine stood to the world as a start or a poll left it, the command is the only one that
+    /// codecs can take from then on, and its answer the only one that can come.
     #[tactic(auto, using(hda_world::proofs::Callers::rows))]
     pub fn submit<P: Platform>(&mut self, platform: &mut P, command: Command, clock: u32)
         requires started { self.old.rings.started ≡ true }

@@ -2,7 +2,7 @@ use Rattle.std.proofs.Common.{◌≡◌, ℕ, None, Some, rules, arith, sym, ◌
 use Rattle.hda_world.specs.Tellings.{Between, Makes}
 use Rattle.hda_world.proofs.Callers.{rows}
 use Rattle.command_engine.specs.Starting as spec
-use Rattle.command_engine.specs.Belonging.{IsBlockAddress}
+use Rattle.command_engine.specs.Quiet.{IsBlockAddress}
 use Rattle.command_engine.proofs.Starts.{starts_not, starts_so}
 use Rattle.command_engine.proofs.Tells.{start_tells}
 use Rattle.command_engine.proofs.engine.Engine.start.Goals as goal
