@@ -1,5 +1,5 @@
 //! Heard lists.
-ghost use Rattle.std.specs.Prelude.{ℕ, true};
+ghost use Rattle.codec_sound.specs.declared.signals.Signal.TheVariants.{Pair};
 
 use codec_examples::{LARGE, LEAST};
 use codec_sound::{Heard, Signal};
@@ -13,7 +13,7 @@ use std::test::Fail;
 struct FirstPair;
 
 impl Sounds for FirstPair {
-    ghost signal_of = { λ _ _ _. Signal.Pair 0 };
+    ghost signal_of = { λ _ _ _. Pair 0 };
 
     ghost IsKnown = { λ _ _ _. Unit {0} };
 
