@@ -1,5 +1,7 @@
 -- That an answer belongs to its command, and what a poll and a submission leave. This project's own.
 use Rattle.std.specs.Prelude.{◌≡◌, ℕ, ◌%◌, ◌^◌, List, [], ◌∷◌, length, map, drop, Option, None, Some}
+use Rattle.codec_graph.specs.Cycles.{IsWellFormed}
+use Rattle.codec_graph.specs.Settings.{IsSettingsOf}
 use Rattle.codec_graph.specs.CodecStates.{CodecState, answer_to}
 use Rattle.ring_entries.specs.declared.response.Response.{Response}
 use Rattle.hda_world.specs.Worlds.{World, TakenCommand}
@@ -39,3 +41,12 @@ pub record PollLeaves (from read corb rirb : ℕ) (rings : Rings) (reads : PollR
   pub responses : responses_in reads.entries ≡ map as_held (drop read world.written)
   pub belongs : Belongs from rings.outstanding world.codecs world.commands (found_by rings reads)
   pub stands : Stands (from_after (found_by rings reads) from world.commands) (length world.written) corb rirb (rings_polled rings reads) world
+
+-- a codec's graph is well-formed, and its settings are of that graph
+pub record IsSettled (codec : CodecState) : Type 0 where
+  pub well_formed : IsWellFormed codec.graph
+  pub settings : IsSettingsOf codec.graph codec.settings
+
+-- such a codec took the command
+abbrev pub TookSettled : TakenCommand → Type 0
+TookSettled taken = IsSettled taken.codec
