@@ -7,7 +7,7 @@ mod answers;
 mod engine;
 mod laws;
 mod memory;
-mod rings;
+mod ring_places;
 
 pub use answers::{ANSWER_LIMIT, Event, Outstanding, Poll};
 pub use engine::{CORB_BYTES, Engine, MOST_EVENTS, OpenFault, RIRB_BYTES};
@@ -16,4 +16,4 @@ pub use laws::{
     few_responses_are_unread, settled_codecs_answer_whole, steps_keep_standing,
     the_world_stays_quiet,
 };
-pub use rings::Rings;
+pub use ring_places::RingPlaces;
