@@ -14,7 +14,7 @@ use Rattle.ring_entries.proofs.Callers.{stored_outside}
 use Rattle.hda_world.specs.Worlds.{World}
 use Rattle.hda_world.specs.Events.{Event, Stepped, Begin, End, Read, Write, DmaRead, DmaWrite, after_write, happens, after}
 use Rattle.hda_world.proofs.Callers.{beside_write}
-use Rattle.command_engine.specs.declared.rings.Rings.{Rings}
+use Rattle.command_engine.specs.declared.ring_places.RingPlaces.{RingPlaces}
 use Rattle.command_engine.specs.Sizes.{half_of}
 use Rattle.command_engine.specs.Courses.{RingPart, part_of, HasRings, IsBeside, IsBesideBlock, AreBeside, Course, StandsBy, Stands}
 use Rattle.command_engine.proofs.Batches.{EachStands, some_entries, few_entries, same_word}
@@ -48,7 +48,7 @@ same_part : (a a' : ℕ) (b b' : RingSize) (c c' d d' e e' : ℕ) (f f' : RingSi
     new ≡ old
 same_part a a' b b' c c' d d' e e' f f' g g' h h' i i' j j' p q r s t u v w x y = cc
 
-module _ (from read corb rirb : ℕ) (rings : Rings) where
+module _ (from read corb rirb : ℕ) (rings : RingPlaces) where
   part_beside : (fields : Fields) (at value : ℕ) (width : Width) → IsBesideRings at → HasRings corb rirb rings (part_of fields) → part_of (written fields at width value) ≡ part_of fields
   part_beside fields at value width beside has =
       let leaves = leaves-rings fields at width value beside in

@@ -30,3 +30,9 @@ pub use Rattle.command_engine.proofs.SubmitTellings.{submit_leaves}
 pub use Rattle.command_engine.proofs.PollTellings.{poll_leaves}
 -- where nothing happens, no access is made
 pub use Rattle.command_engine.proofs.Readings.{made_none}
+-- the graph that is found at an address has it, and that of the codec that is found is found
+pub use Rattle.command_engine.proofs.Codecs.{graph_address, graph_there}
+-- codecs take commands with settings of their graphs
+pub use Rattle.command_engine.proofs.Settled.{settled_after}
+-- and then an answer is whole
+pub use Rattle.command_engine.proofs.Settled.{answered_whole}

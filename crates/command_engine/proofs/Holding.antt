@@ -5,12 +5,12 @@ use Rattle.ring_entries.specs.Engines.{can_respond, batch}
 use Rattle.hda_world.specs.Worlds.{World}
 use Rattle.hda_world.specs.Steps.{responded, passed}
 use Rattle.hda_world.specs.Kept.{Kept}
-use Rattle.command_engine.specs.declared.rings.Rings.{Rings}
+use Rattle.command_engine.specs.declared.ring_places.RingPlaces.{RingPlaces}
 use Rattle.command_engine.specs.Courses.{RingPart, Stands}
 use Rattle.command_engine.proofs.Batches.{EachStands}
 use Rattle.command_engine.proofs.Keeping.{keeps_standing, part-passed}
 
-module _ (from read corb rirb : ℕ) (rings : Rings) (stands : EachStands) (Fact : ℕ → List ℕ → List Response → Type 0) where
+module _ (from read corb rirb : ℕ) (rings : RingPlaces) (stands : EachStands) (Fact : ℕ → List ℕ → List Response → Type 0) where
   abbrev pub Holding : World → Type 0
   Holding world = Stands from read corb rirb rings world × Fact world.registers.global.response_flag world.memory world.written
 

@@ -23,7 +23,7 @@ use Rattle.hda_world.specs.Steps.{address_of, taking, items_of, handed, response
 use Rattle.hda_world.specs.Kept.{Kept}
 use Rattle.hda_world.specs.Unread.{IsReadTo}
 use Rattle.hda_world.proofs.Callers.{graphs-with_codec, keeps_reading, frames_after, kept_steps}
-use Rattle.command_engine.specs.declared.rings.Rings.{Rings}
+use Rattle.command_engine.specs.declared.ring_places.RingPlaces.{RingPlaces}
 use Rattle.command_engine.specs.declared.answers.Outstanding.{Outstanding}
 use Rattle.command_engine.specs.Blocks.{are_apart}
 use Rattle.command_engine.specs.Courses.{RingPart, part_of, HasRings, AscendFrom, AscendByAddress, AreOf, IsWordOf, IsOfCodec, AreOfCodecs, graphs_in, Course, IsOnItsWay, AreStanding, StandsBy, Stands}
@@ -56,7 +56,7 @@ pub part-passed : (world : World) → part_of (passed world).registers ≡ part_
 part-passed world = part-frame (world.frames + 1 == FRAMES_TO_DISCOVERY) world.codecs world.registers (framed world.registers)
 
 -- the pointers that the device moves are none of what the engine set
-moved_rings : (corb rirb corb_read rirb_write flag : ℕ) (rings : Rings) (part : RingPart) → HasRings corb rirb rings part
+moved_rings : (corb rirb corb_read rirb_write flag : ℕ) (rings : RingPlaces) (part : RingPart) → HasRings corb rirb rings part
     → HasRings corb rirb rings (record part { corb_read_pointer = corb_read; rirb_write_pointer = rirb_write; response_flag = flag })
 moved_rings corb rirb corb_read rirb_write flag rings part has = record {
   out = has.out;
@@ -70,7 +70,7 @@ moved_rings corb rirb corb_read rirb_write flag rings part has = record {
   read_within = has.read_within;
 }
 
-module _ (from read corb rirb : ℕ) (rings : Rings) where
+module _ (from read corb rirb : ℕ) (rings : RingPlaces) where
   -- CORB's engine fetches where not all is fetched
   fetch_some : (fields : Fields) → can_fetch fields ≡ true → fields.global.corb_read_pointer ≡ fields.global.corb_write_pointer → ⊥
   fetch_some fields can same = search (rules, tests)

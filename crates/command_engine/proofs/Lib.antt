@@ -16,4 +16,5 @@ pub mod SubmitTellings
 pub mod StartWrites
 pub mod StartTellings
 pub mod Quiet
+pub mod Settled
 pub mod Tells

@@ -18,7 +18,7 @@ use Rattle.hda_world.specs.Events as happens
 use Rattle.hda_world.specs.Tellings.{Telling, world_of, MakesBy, Makes}
 use Rattle.hda_world.specs.Kept.{Kept}
 use Rattle.hda_world.proofs.Callers.{accessed_then, plain_write}
-use Rattle.command_engine.specs.declared.rings.Rings.{Rings}
+use Rattle.command_engine.specs.declared.ring_places.RingPlaces.{RingPlaces}
 use Rattle.command_engine.specs.Entries.{response_in, responses_in, answer_among}
 use Rattle.command_engine.specs.Polling.{PollReads, entry_reads, batch_accesses, poll_accesses, new_entries, asked_of, found_by, read_to, still_outstanding, AreNew}
 use Rattle.command_engine.specs.Courses.{RingPart, part_of, ResponseCanCome, StandsBy, Stands}
@@ -43,7 +43,7 @@ all_at P (first ∷ responses) (suc index) response all is = all_at P responses 
 clash : (flag : ℕ) → flag ≡ 1 → (flag == 1) ≡ false → ⊥
 clash flag set clear = let e : (1 == 1) ≡ false = subst (λ (n : ℕ). (n == 1) ≡ false) set clear in cc
 
-module _ (from read corb rirb : ℕ) (rings : Rings) (stands : EachStands) where
+module _ (from read corb rirb : ℕ) (rings : RingPlaces) (stands : EachStands) where
   -- the flag is set, so nothing more is written
   abbrev IsSet : List Response → ℕ → List ℕ → List Response → Type 0
   IsSet all flag memory written = (flag ≡ 1) × (written ≡ all)

@@ -20,7 +20,7 @@ use Rattle.hda_world.specs.Worlds.{World, TakenCommand}
 use Rattle.hda_world.specs.Steps.{address_of}
 use Rattle.hda_world.specs.Events as happens
 use Rattle.hda_world.specs.Tellings.{Telling, MakesBy}
-use Rattle.command_engine.specs.declared.rings.Rings.{Rings}
+use Rattle.command_engine.specs.declared.ring_places.RingPlaces.{RingPlaces}
 use Rattle.command_engine.specs.declared.answers.Outstanding.{Outstanding}
 use Rattle.command_engine.specs.Entries.{is_from, answers_it, answer_among}
 use Rattle.command_engine.specs.Polling.{asked_of, still_outstanding}
@@ -108,7 +108,7 @@ none_codecs gained (codec ∷ codecs) can none =
 is_asked : (address asked : ℕ) → (address == asked) ≡ true → address ≡ asked
 is_asked address asked is = search (rules, tests)
 
-module _ (from read corb rirb : ℕ) (rings : Rings) (world : World) (holds : Stands from read corb rirb rings world) (place : ℕ) (below : place < entries_of rings.rirb) (at : world.registers.global.rirb_write_pointer ≡ place) where
+module _ (from read corb rirb : ℕ) (rings : RingPlaces) (world : World) (holds : Stands from read corb rirb rings world) (place : ℕ) (below : place < entries_of rings.rirb) (at : world.registers.global.rirb_write_pointer ≡ place) where
   abbrev cleared_part : RingPart
   cleared_part = record (part_of world.registers) { response_flag = 0 }
 

@@ -218,9 +218,6 @@ reset_quiet corb rirb value world even blocks ascend =
 
 -- ---- the controller leaves reset
 
-not_even : (value : ℕ) → value % 2 ≡ 1 → (value % 2 == 0) ≡ false
-not_even value odd = rw odd refl
-
 no_reset : (fields : Fields) (value : ℕ) → value % 2 ≡ 1 → (effects_of fields 0x08 Four value).reset ≡ false
 unfolding effects_of
 no_reset fields value odd = rw odd refl

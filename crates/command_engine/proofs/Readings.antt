@@ -15,7 +15,7 @@ use Rattle.command_engine.specs.declared.answers.Event.{Event}
 use Rattle.command_engine.specs.Entries.{response_in, responses_in, event_of, events_of, answers_it, answer_among}
 use Rattle.command_engine.specs.declared.answers.Outstanding.{Outstanding}
 use Rattle.command_engine.specs.declared.answers.Poll.{Poll}
-use Rattle.command_engine.specs.declared.rings.Rings.{Rings}
+use Rattle.command_engine.specs.declared.ring_places.RingPlaces.{RingPlaces}
 use Rattle.verb_codes.specs.Words.{has_bit}
 use Rattle.hda_registers.specs.Fields.{entries_of}
 use Rattle.hda_registers.specs.declared.shapes.Width.TheVariants.{One, Two}
@@ -124,7 +124,7 @@ event_short first before after response count short is =
     omega arith
 
 -- a batch, of its parts
-pub batch_read : (rirb : ℕ) (rings : Rings) (pointer count read : ℕ) (before after : List Event) (found : Option ℕ) (old middle next new : Option Telling)
+pub batch_read : (rirb : ℕ) (rings : RingPlaces) (pointer count read : ℕ) (before after : List Event) (found : Option ℕ) (old middle next new : Option Telling)
     → Between (λ old new. Accessed old new (happens.Read RIRBWP Two pointer)) old middle
     → ReadsEntries rirb (entries_of rings.rirb) (rings.read + 1) count (asked_of rings.outstanding) before after found middle next
     → Between (λ old new. Accessed old new (happens.Write RIRBSTS One 1)) next new
@@ -142,7 +142,7 @@ batch_read rirb rings pointer count read before after found old middle next new 
 }
 
 -- the flag is set, and a batch was read
-pub new_read : (rirb flag : ℕ) (rings rings' : Rings) (found : Option ℕ) (events : List Event) (old new : Option Telling) → has_bit flag 0 ≡ true
+pub new_read : (rirb flag : ℕ) (rings rings' : RingPlaces) (found : Option ℕ) (events : List Event) (old new : Option Telling) → has_bit flag 0 ≡ true
     → ReadsBatch rirb rings found rings' events old new → ReadsNew rirb rings flag found rings' events old new
 new_read rirb flag rings rings' found events old new set batch = record {
   pointer = batch.pointer;
@@ -156,7 +156,7 @@ new_read rirb flag rings rings' found events old new set batch = record {
 }
 
 -- it is not, and nothing was read
-pub none_read : (rirb flag : ℕ) (rings : Rings) (events : List Event) (told : Option Telling) → has_bit flag 0 ≡ false → events ≡ [] → ReadsNew rirb rings flag None rings events told told
+pub none_read : (rirb flag : ℕ) (rings : RingPlaces) (events : List Event) (told : Option Telling) → has_bit flag 0 ≡ false → events ≡ [] → ReadsNew rirb rings flag None rings events told told
 none_read rirb flag rings events told clear none = record {
   pointer = 0;
   entries = [];
@@ -172,19 +172,19 @@ none_read rirb flag rings events told clear none = record {
     no_answer outstanding = refl
 
 -- a poll, of its parts
-pub polled : (rirb clock flag : ℕ) (rings read : Rings) (found : Option ℕ) (answer : Poll) (left : Option Outstanding) (events : List Event) (old middle new : Option Telling)
+pub polled : (rirb clock flag : ℕ) (rings read : RingPlaces) (found : Option ℕ) (answer : Poll) (left : Option Outstanding) (events : List Event) (old middle new : Option Telling)
     → Between (λ old new. Accessed old new (happens.Read RIRBSTS One flag)) old middle
     → ReadsNew rirb rings flag found read events middle new
     → answer ≡ poll_of read.outstanding found clock → left ≡ still_outstanding read.outstanding found
     → Polls rirb clock rings answer (record read { outstanding = left }) events old new
 polled rirb clock flag rings read found answer left events old middle new first reads answers leaves =
-    let stands : read.outstanding ≡ rings.outstanding = ap (λ (r : Rings). r.outstanding) reads.rings_are in
+    let stands : read.outstanding ≡ rings.outstanding = ap (λ (r : RingPlaces). r.outstanding) reads.rings_are in
     record {
       reads = record { flag = flag; pointer = reads.pointer; entries = reads.entries };
       new_ones = record { number = reads.number; whole = reads.whole };
       made = row_more first reads.made;
       answer_is = answers ∙ ap (λ (o : Option Outstanding). poll_of o found clock) stands ∙ ap (λ (f : Option ℕ). poll_of rings.outstanding f clock) reads.found_is;
-      rings_are = ap (λ (r : Rings). record r { outstanding = left }) reads.rings_are ∙ ap (λ (o : Option Outstanding). record rings { read = if has_bit flag 0 then reads.pointer % entries_of rings.rirb else rings.read; outstanding = o })
+      rings_are = ap (λ (r : RingPlaces). record r { outstanding = left }) reads.rings_are ∙ ap (λ (o : Option Outstanding). record rings { read = if has_bit flag 0 then reads.pointer % entries_of rings.rirb else rings.read; outstanding = o })
           (leaves ∙ ap (λ (o : Option Outstanding). still_outstanding o found) stands ∙ ap (λ (f : Option ℕ). still_outstanding rings.outstanding f) reads.found_is);
       events_are = reads.events_are;
     }

@@ -24,7 +24,7 @@ use Rattle.hda_world.specs.Events as happens
 use Rattle.hda_world.specs.Tellings.{Telling, world_of, Accessed, MakesBy, Makes}
 use Rattle.hda_world.specs.Kept.{Kept}
 use Rattle.hda_world.proofs.Callers.{accessed_then, plain_write, frames_after}
-use Rattle.command_engine.specs.declared.rings.Rings.{Rings}
+use Rattle.command_engine.specs.declared.ring_places.RingPlaces.{RingPlaces}
 use Rattle.command_engine.specs.Sizes.{largest_size, half_of}
 use Rattle.command_engine.specs.Starting.{StartReads, codecs_in, rings_of, rings_read, settings_if, corb_accesses, rirb_accesses, start_accesses}
 use Rattle.command_engine.specs.Courses.{RingPart, part_of, HasBlocks, AscendByAddress, AreOf, IsOfCodec, AreOfCodecs, graphs_in, IsOnItsWay, StandsBy, Stands}
@@ -214,7 +214,7 @@ module _ (from read corb rirb : ℕ) where
 
   -- ---- RIRB runs, and so the engine stands
 
-  abbrev fresh : RingSize → RingSize → Rings
+  abbrev fresh : RingSize → RingSize → RingPlaces
   fresh c r = record { corb = c; rirb = r; submitted = 0; read = 0; started = true; outstanding = None }
 
   stands_set : (part : RingPart) (world : World) → IsBlockAddress corb → IsBlockAddress rirb → (part.controller_reset == 1) ≡ true → part.response_flag ≤ 1
@@ -282,14 +282,14 @@ largest size.Two = refl
 largest size.Sixteen = refl
 largest size.Full = refl
 
-begun_is : (none : Bool) (c r : RingSize) (begun : Rings) → (if none then None else rings_of (Some c) (Some r)) ≡ Some begun → begun ≡ record { corb = c; rirb = r; submitted = 0; read = 0; started = true; outstanding = None }
+begun_is : (none : Bool) (c r : RingSize) (begun : RingPlaces) → (if none then None else rings_of (Some c) (Some r)) ≡ Some begun → begun ≡ record { corb = c; rirb = r; submitted = 0; read = 0; started = true; outstanding = None }
 begun_is true c r begun e = cc
 begun_is false c r begun e = cc
 
 pub runs_stopped : (corb rirb : ℕ) → corb ≡ 0 → rirb ≡ 0 → let runs : Runs = record { corb = corb; rirb = rirb } in runs ≡ record { corb = 0; rirb = 0 }
 runs_stopped corb rirb a b = cc
 
-pub start_leaves : EachStands → (corb rirb : ℕ) (reads : StartReads) (begun : Rings) (old new : Telling) → IsBlockAddress corb → IsBlockAddress rirb → rings_read reads ≡ Some begun
+pub start_leaves : EachStands → (corb rirb : ℕ) (reads : StartReads) (begun : RingPlaces) (old new : Telling) → IsBlockAddress corb → IsBlockAddress rirb → rings_read reads ≡ Some begun
     → Makes (start_accesses corb rirb reads) old new → CanStart corb rirb (world_of old) → Stands (length (world_of old).commands) (length (world_of old).written) corb rirb begun (world_of new)
 start_leaves stands corb rirb reads begun old new corb_block rirb_block found makes can =
     let from = length (world_of old).commands in
@@ -322,8 +322,8 @@ start_leaves stands corb rirb reads begun old new corb_block rirb_block found ma
     ∙ ap (λ (c : Option RingSize). if codecs_in reads.status == 0 then None else rings_of c (largest_size reads.rirb_size)) (sym corb_found) ∙ found in
     let is = begun_is (codecs_in reads.status == 0) part.corb_size part.rirb_size begun named in
     let rest : MakesBy (corb_accesses corb reads.status reads.pointer_reset reads.pointer_ready ++ rirb_accesses rirb part.rirb_size) r3.0 new =
-    subst (λ (rings : Rings). MakesBy (corb_accesses corb reads.status reads.pointer_reset reads.pointer_ready ++ rirb_accesses rirb rings.rirb) r3.0 new) is
-    (subst (λ (rings : Option Rings). MakesBy (settings_if rings corb rirb reads) r3.0 new) found r3.2) in
+    subst (λ (rings : RingPlaces). MakesBy (corb_accesses corb reads.status reads.pointer_reset reads.pointer_ready ++ rirb_accesses rirb rings.rirb) r3.0 new) is
+    (subst (λ (rings : Option RingPlaces). MakesBy (settings_if rings corb rirb reads) r3.0 new) found r3.2) in
     let set = corb_set from read corb rirb part reads.status reads.pointer_reset reads.pointer_ready part.rirb_size r3.0 new can.out rest s3.0 in
-    subst (λ (rings : Rings). Stands from read corb rirb rings (world_of new)) (sym is)
+    subst (λ (rings : RingPlaces). Stands from read corb rirb rings (world_of new)) (sym is)
     (started from read corb rirb stands part set.0 new corb_block rirb_block can.out can.quiet.flag set.2 set.1)

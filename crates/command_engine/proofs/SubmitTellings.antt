@@ -16,7 +16,7 @@ use Rattle.hda_world.specs.Events as happens
 use Rattle.hda_world.specs.Tellings.{Telling, world_of, Makes}
 use Rattle.hda_world.specs.Kept.{Kept}
 use Rattle.hda_world.proofs.Callers.{accessed_then, plain_write}
-use Rattle.command_engine.specs.declared.rings.Rings.{Rings}
+use Rattle.command_engine.specs.declared.ring_places.RingPlaces.{RingPlaces}
 use Rattle.command_engine.specs.declared.answers.Outstanding.{Outstanding}
 use Rattle.command_engine.specs.Blocks.{are_apart}
 use Rattle.command_engine.specs.Submitting.{command_place, submit_accesses, rings_submitted}
@@ -49,7 +49,7 @@ beside_entry corb rirb at here apart from to above below = by (nat_le (corb + 10
     by true is e = let first : corb + 1024 ≤ rirb = search (rules, tests) in inr (omega arith)
     by false is e = let first : rirb + 2048 ≤ corb = search (rules, tests) in inl (omega arith)
 
-module _ (from read corb rirb : ℕ) (rings : Rings) (stands : EachStands) (idle : rings.outstanding ≡ None) (command : Outstanding) where
+module _ (from read corb rirb : ℕ) (rings : RingPlaces) (stands : EachStands) (idle : rings.outstanding ≡ None) (command : Outstanding) where
   abbrev at_entry : ℕ
   at_entry = corb + 4 * command_place rings
 

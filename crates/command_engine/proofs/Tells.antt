@@ -3,7 +3,7 @@ use Rattle.std.proofs.Common.{◌≡◌, ◌≢◌, ◌<◌, ◌^◌, ℕ, List,
 use Rattle.ring_entries.proofs.Standing.{each_stands}
 use Rattle.hda_world.specs.Tellings.{Telling, world_of, Between, Makes}
 use Rattle.hda_world.proofs.Callers.{told_map}
-use Rattle.command_engine.specs.declared.rings.Rings.{Rings}
+use Rattle.command_engine.specs.declared.ring_places.RingPlaces.{RingPlaces}
 use Rattle.command_engine.specs.declared.answers.Event.{Event}
 use Rattle.command_engine.specs.declared.answers.Outstanding.{Outstanding}
 use Rattle.command_engine.specs.declared.answers.Poll.{Poll}
@@ -24,7 +24,7 @@ use Rattle.command_engine.proofs.StartTellings.{start_leaves}
 pub responses_apart : EachStands
 responses_apart fields memory responses = each_stands responses fields memory
 
-pub poll_tells : (clock corb rirb : ℕ) (rings rings' : Rings) (answer : Poll) (events : List Event) (old new : Option Telling) → Polls rirb clock rings answer rings' events old new
+pub poll_tells : (clock corb rirb : ℕ) (rings rings' : RingPlaces) (answer : Poll) (events : List Event) (old new : Option Telling) → Polls rirb clock rings answer rings' events old new
     → Between (PollTellsOf clock corb rirb rings answer rings' events) old new
 poll_tells clock corb rirb rings rings' answer events old new polls =
     told_map (λ old new made from read holds. (
@@ -35,23 +35,23 @@ poll_tells clock corb rirb rings rings' answer events old new polls =
       events_are = polls.events_are ∙ ap events_of leaves.responses;
       belongs = subst (λ (f : Option ℕ). Belongs from rings.outstanding (world_of new).codecs (world_of new).commands f) found leaves.belongs;
       stands = subst (λ (f : Option ℕ). Stands (from_after f from (world_of new).commands) (length (world_of new).written) corb rirb rings' (world_of new)) found
-          (subst (λ (r : Rings). Stands (from_after (found_by rings polls.reads) from (world_of new).commands) (length (world_of new).written) corb rirb r (world_of new)) (sym polls.rings_are) leaves.stands);
+          (subst (λ (r : RingPlaces). Stands (from_after (found_by rings polls.reads) from (world_of new).commands) (length (world_of new).written) corb rirb r (world_of new)) (sym polls.rings_are) leaves.stands);
     })) polls.made
 
-pub submit_tells : (corb rirb : ℕ) (rings : Rings) (command : Outstanding) (old new : Option Telling) → rings.outstanding ≡ None → command.word < 2 ^ 32
+pub submit_tells : (corb rirb : ℕ) (rings : RingPlaces) (command : Outstanding) (old new : Option Telling) → rings.outstanding ≡ None → command.word < 2 ^ 32
     → Between (Makes (submit_accesses corb rings command.word)) old new → Between (LeadsOn corb rirb rings (rings_submitted rings command)) old new
 submit_tells corb rirb rings command old new idle narrow made =
     told_map (λ old new made from read holds. submit_leaves from read corb rirb rings responses_apart idle command old new narrow made holds) made
 
-some_rings : (found : Option Rings) (status answer : ℕ) → answer ≡ codecs_if found status → answer ≢ 0 → (begun : Rings) × (found ≡ Some begun)
+some_rings : (found : Option RingPlaces) (status answer : ℕ) → answer ≡ codecs_if found status → answer ≢ 0 → (begun : RingPlaces) × (found ≡ Some begun)
 some_rings None status answer is some = absurd (some is)
 some_rings (Some begun) status answer is some = (begun, refl)
 
-pub start_tells : (corb rirb answer : ℕ) (rings rings' : Rings) (old new : Option Telling) → IsBlockAddress corb → IsBlockAddress rirb → Starts corb rirb rings answer rings' old new
+pub start_tells : (corb rirb answer : ℕ) (rings rings' : RingPlaces) (old new : Option Telling) → IsBlockAddress corb → IsBlockAddress rirb → Starts corb rirb rings answer rings' old new
     → Between (Begins corb rirb answer rings') old new
 start_tells corb rirb answer rings rings' old new corb_block rirb_block starts =
     told_map (λ old new made some can. (
     let begun = some_rings (rings_read starts.reads) starts.reads.status answer starts.answer_is some in
-    let is : rings' ≡ begun.0 = starts.rings_are ∙ ap (λ (found : Option Rings). rings_if found rings) begun.1 in
-    subst (λ (r : Rings). Stands (length (world_of old).commands) (length (world_of old).written) corb rirb r (world_of new)) (sym is)
+    let is : rings' ≡ begun.0 = starts.rings_are ∙ ap (λ (found : Option RingPlaces). rings_if found rings) begun.1 in
+    subst (λ (r : RingPlaces). Stands (length (world_of old).commands) (length (world_of old).written) corb rirb r (world_of new)) (sym is)
     (start_leaves responses_apart corb rirb starts.reads begun.0 old new corb_block rirb_block begun.1 made can))) starts.made

@@ -1,9 +1,11 @@
 -- That an answer belongs to its command, and what a poll and a submission leave. This project's own.
 use Rattle.std.specs.Prelude.{◌≡◌, ℕ, ◌%◌, ◌^◌, List, [], ◌∷◌, length, map, drop, Option, None, Some}
+use Rattle.codec_graph.specs.Cycles.{IsWellFormed}
+use Rattle.codec_graph.specs.Settings.{IsSettingsOf}
 use Rattle.codec_graph.specs.CodecStates.{CodecState, answer_to}
 use Rattle.ring_entries.specs.declared.response.Response.{Response}
 use Rattle.hda_world.specs.Worlds.{World, TakenCommand}
-use Rattle.command_engine.specs.declared.rings.Rings.{Rings}
+use Rattle.command_engine.specs.declared.ring_places.RingPlaces.{RingPlaces}
 use Rattle.command_engine.specs.declared.answers.Outstanding.{Outstanding}
 use Rattle.command_engine.specs.Entries.{responses_in}
 use Rattle.command_engine.specs.Polling.{PollReads, found_by, rings_polled}
@@ -35,7 +37,16 @@ from_after (Some value) from commands = length commands
 
 -- a poll read just the responses that were written since the last one, the answer that it found belongs to the outstanding command,
 -- and all that was written is read
-pub record PollLeaves (from read corb rirb : ℕ) (rings : Rings) (reads : PollReads) (world : World) : Type 0 where
+pub record PollLeaves (from read corb rirb : ℕ) (rings : RingPlaces) (reads : PollReads) (world : World) : Type 0 where
   pub responses : responses_in reads.entries ≡ map as_held (drop read world.written)
   pub belongs : Belongs from rings.outstanding world.codecs world.commands (found_by rings reads)
   pub stands : Stands (from_after (found_by rings reads) from world.commands) (length world.written) corb rirb (rings_polled rings reads) world
+
+-- a codec's graph is well-formed, and its settings are of that graph
+pub record IsSettled (codec : CodecState) : Type 0 where
+  pub well_formed : IsWellFormed codec.graph
+  pub settings : IsSettingsOf codec.graph codec.settings
+
+-- such a codec took the command
+abbrev pub TookSettled : TakenCommand → Type 0
+TookSettled taken = IsSettled taken.codec

@@ -17,7 +17,7 @@ use Rattle.hda_world.specs.Steps.{address_of}
 use Rattle.hda_world.specs.Unread.{IsReadTo}
 use Rattle.hda_registers.specs.Laws.{IsBesideRings}
 use Rattle.hda_world.specs.Events.{Event, Stepped, Begin, End, Read, Write, DmaRead, DmaWrite}
-use Rattle.command_engine.specs.declared.rings.Rings.{Rings}
+use Rattle.command_engine.specs.declared.ring_places.RingPlaces.{RingPlaces}
 use Rattle.command_engine.specs.declared.answers.Outstanding.{Outstanding}
 use Rattle.command_engine.specs.Blocks.{corb_bytes, rirb_bytes, are_apart}
 use Rattle.command_engine.specs.Sizes.{half_of}
@@ -51,7 +51,7 @@ part_of fields = record {
 }
 
 -- the controller is out of reset, both rings lie in these blocks, and CORB's write pointer and RINTCNT are as the engine set them
-pub record HasRings (corb rirb : ℕ) (rings : Rings) (part : RingPart) : Type 0 where
+pub record HasRings (corb rirb : ℕ) (rings : RingPlaces) (part : RingPart) : Type 0 where
   pub out : (part.controller_reset == 1) ≡ true
   pub corb_size : part.corb_size ≡ rings.corb
   pub rirb_size : part.rirb_size ≡ rings.rirb
@@ -162,7 +162,7 @@ AreStanding rirb size place memory unread =
 
 -- how the engine stands to the world: its blocks lie at these addresses, codecs had taken `from` commands before the outstanding one
 -- was submitted, and it read the first `read` of all responses that were written
-pub record StandsBy (from read corb rirb : ℕ) (rings : Rings) (part : RingPart) (memory : List ℕ) (codecs : List CodecState) (waiting : List Response) (commands : List TakenCommand) (written : List Response) : Type 0 where
+pub record StandsBy (from read corb rirb : ℕ) (rings : RingPlaces) (part : RingPart) (memory : List ℕ) (codecs : List CodecState) (waiting : List Response) (commands : List TakenCommand) (written : List Response) : Type 0 where
   pub has_rings : HasRings corb rirb rings part
   pub blocks : HasBlocks corb rirb (length memory)
   pub ascend : AscendByAddress codecs
@@ -176,7 +176,7 @@ pub record StandsBy (from read corb rirb : ℕ) (rings : Rings) (part : RingPart
   pub taken_by : AreOfCodecs codecs (drop from commands)
   pub on_its_way : IsOnItsWay (drop from commands) (drop read written) waiting codecs
 
-abbrev pub Stands : (from read corb rirb : ℕ) → Rings → World → Type 0
+abbrev pub Stands : (from read corb rirb : ℕ) → RingPlaces → World → Type 0
 Stands from read corb rirb rings world =
     StandsBy from read corb rirb rings (part_of world.registers) world.memory world.codecs world.waiting world.commands world.written
 

@@ -5,7 +5,7 @@ use Rattle.dma_pool.specs.declared.runs.Run.{Run}
 use Rattle.dma_pool.specs.Pools.{PoolState, IsFirstFit, HasNoRun, AddsRun, granules_for}
 use Rattle.dma_pool.specs.Blocks.{run_at}
 use Rattle.command_engine.specs.Blocks.{corb_bytes, rirb_bytes}
-use Rattle.command_engine.specs.declared.rings.Rings.{Rings}
+use Rattle.command_engine.specs.declared.ring_places.RingPlaces.{RingPlaces}
 
 -- so many bytes were taken at this address, the lowest place for them
 pub record TakesFirst (granules : ℕ) (taken : List Run) (address bytes : ℕ) (taken' : List Run) : Type 0 where
@@ -39,7 +39,7 @@ abbrev pub HasRuns : PoolState → Type 0
 HasRuns pool = (corb : ℕ) × (rirb : ℕ) × (pool' : PoolState) × Opens pool corb rirb pool'
 
 -- both rings before the engine was started
-abbrev pub rings_opened : Rings
+abbrev pub rings_opened : RingPlaces
 rings_opened = record { corb = Full; rirb = Full; submitted = 0; read = 0; started = false; outstanding = None }
 
 -- both blocks were given back

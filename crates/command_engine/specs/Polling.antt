@@ -7,7 +7,7 @@ use Rattle.hda_registers.specs.Fields.{entries_of}
 use Rattle.ring_entries.specs.declared.entries.TheConstants.{RESPONSE_BYTES}
 use Rattle.hda_world.specs.Events as happens
 use Rattle.hda_world.specs.Tellings.{Telling, Between, Makes}
-use Rattle.command_engine.specs.declared.rings.Rings.{Rings}
+use Rattle.command_engine.specs.declared.ring_places.RingPlaces.{RingPlaces}
 use Rattle.command_engine.specs.declared.answers.Event.{Event}
 use Rattle.command_engine.specs.declared.answers.Outstanding.{Outstanding}
 use Rattle.command_engine.specs.declared.answers.Poll.{Poll}
@@ -28,18 +28,18 @@ entry_reads rirb size place (entry ∷ entries) =
     happens.DmaRead (rirb + RESPONSE_BYTES * (place % size)) entry ∷ entry_reads rirb size (place + 1) entries
 
 -- the accesses of a batch: RIRBWP, its entries from the one after the last that was read on, and RINTFL is cleared
-abbrev pub batch_accesses : ℕ → Rings → ℕ → List (List ℕ) → List happens.Event
+abbrev pub batch_accesses : ℕ → RingPlaces → ℕ → List (List ℕ) → List happens.Event
 batch_accesses rirb rings pointer entries =
     happens.Read RIRBWP Two pointer
     ∷ (entry_reads rirb (entries_of rings.rirb) (rings.read + 1) entries ++ happens.Write RIRBSTS One 1 ∷ [])
 
-abbrev pub poll_accesses : ℕ → Rings → PollReads → List happens.Event
+abbrev pub poll_accesses : ℕ → RingPlaces → PollReads → List happens.Event
 poll_accesses rirb rings reads =
     happens.Read RIRBSTS One reads.flag
     ∷ (if has_bit reads.flag 0 then batch_accesses rirb rings reads.pointer reads.entries else [])
 
 -- how many entries are new
-abbrev pub new_entries : Rings → ℕ → ℕ
+abbrev pub new_entries : RingPlaces → ℕ → ℕ
 new_entries rings pointer = entries_up_to rings.rirb rings.read pointer
 
 -- the codec that is asked
@@ -67,27 +67,27 @@ still_outstanding outstanding None = outstanding
 still_outstanding outstanding (Some value) = None
 
 -- the answer among the entries that were read
-abbrev pub found_by : Rings → PollReads → Option ℕ
+abbrev pub found_by : RingPlaces → PollReads → Option ℕ
 found_by rings reads = answer_among (asked_of rings.outstanding) (responses_in reads.entries)
 
 -- the entry that was read last is the one at the pointer
-abbrev pub read_to : Rings → PollReads → ℕ
+abbrev pub read_to : RingPlaces → PollReads → ℕ
 read_to rings reads = if has_bit reads.flag 0 then reads.pointer % entries_of rings.rirb else rings.read
 
-abbrev pub rings_polled : Rings → PollReads → Rings
+abbrev pub rings_polled : RingPlaces → PollReads → RingPlaces
 rings_polled rings reads = record rings {
   read = read_to rings reads;
   outstanding = still_outstanding rings.outstanding (found_by rings reads);
 }
 
 -- as many entries were read as are new, of 8 bytes each
-pub record AreNew (rings : Rings) (reads : PollReads) : Type 0 where
+pub record AreNew (rings : RingPlaces) (reads : PollReads) : Type 0 where
   pub number : length reads.entries ≡ (if has_bit reads.flag 0 then new_entries rings reads.pointer else 0)
   pub whole : All (λ (entry : List ℕ). length entry ≡ RESPONSE_BYTES) reads.entries
 
 -- a poll at this clock, where RIRB's block lies at this address: what it answers, how the engine stands after it with its events,
 -- and what is told
-pub record Polls (rirb clock : ℕ) (rings : Rings) (answer : Poll) (rings' : Rings) (events : List Event) (old new : Option Telling) : Type 0 where
+pub record Polls (rirb clock : ℕ) (rings : RingPlaces) (answer : Poll) (rings' : RingPlaces) (events : List Event) (old new : Option Telling) : Type 0 where
   pub reads : PollReads
   pub new_ones : AreNew rings reads
   pub made : Between (Makes (poll_accesses rirb rings reads)) old new

@@ -7,7 +7,7 @@ use Rattle.ring_entries.specs.declared.entries.TheConstants.{RESPONSE_BYTES}
 use Rattle.hda_world.specs.Tellings.{Telling, Between, Makes}
 use Rattle.command_engine.specs.declared.answers.Event.{Event}
 use Rattle.command_engine.specs.Entries.{responses_in, event_of, events_of, answers_it, answer_among}
-use Rattle.command_engine.specs.declared.rings.Rings.{Rings}
+use Rattle.command_engine.specs.declared.ring_places.RingPlaces.{RingPlaces}
 use Rattle.command_engine.specs.Polling.{entry_reads, batch_accesses, new_entries, asked_of}
 
 -- an answer that was found stays
@@ -29,7 +29,7 @@ pub record ReadsEntries (rirb size place count : ℕ) (asked : Option ℕ) (befo
   pub answer : found ≡ answer_among asked (responses_in entries)
 
 -- the new entries up to RIRB's write pointer were read, where the flag says that responses were written
-pub record ReadsNew (rirb : ℕ) (rings : Rings) (flag : ℕ) (found : Option ℕ) (rings' : Rings) (events : List Event) (old new : Option Telling) : Type 0 where
+pub record ReadsNew (rirb : ℕ) (rings : RingPlaces) (flag : ℕ) (found : Option ℕ) (rings' : RingPlaces) (events : List Event) (old new : Option Telling) : Type 0 where
   pub pointer : ℕ
   pub entries : List (List ℕ)
   pub number : length entries ≡ (if has_bit flag 0 then new_entries rings pointer else 0)
@@ -40,7 +40,7 @@ pub record ReadsNew (rirb : ℕ) (rings : Rings) (flag : ℕ) (found : Option �
   pub found_is : found ≡ answer_among (asked_of rings.outstanding) (responses_in entries)
 
 -- the new entries up to RIRB's write pointer were read
-pub record ReadsBatch (rirb : ℕ) (rings : Rings) (found : Option ℕ) (rings' : Rings) (events : List Event) (old new : Option Telling) : Type 0 where
+pub record ReadsBatch (rirb : ℕ) (rings : RingPlaces) (found : Option ℕ) (rings' : RingPlaces) (events : List Event) (old new : Option Telling) : Type 0 where
   pub pointer : ℕ
   pub entries : List (List ℕ)
   pub number : length entries ≡ new_entries rings pointer

@@ -6,7 +6,7 @@ use Rattle.hda_registers.specs.declared.shapes.Width.TheVariants.{One, Two, Four
 use Rattle.hda_registers.specs.declared.places.TheConstants.{STATESTS, INTCTL, CORBLBASE, CORBWP, CORBRP, CORBCTL, CORBSIZE, RIRBLBASE, RIRBWP, RINTCNT, RIRBCTL, RIRBSIZE}
 use Rattle.hda_world.specs.Events.{Event, Read, Write}
 use Rattle.hda_world.specs.Tellings.{Telling, Between, Makes}
-use Rattle.command_engine.specs.declared.rings.Rings.{Rings}
+use Rattle.command_engine.specs.declared.ring_places.RingPlaces.{RingPlaces}
 use Rattle.command_engine.specs.Sizes.{largest_size, half_of}
 
 -- what the registers read: the state change status, both sizes, and CORB's read pointer while its reset is asked for and after
@@ -22,26 +22,26 @@ abbrev pub codecs_in : ℕ → ℕ
 codecs_in status = status % 2 ^ 15
 
 -- both rings at their beginning, where a codec is there and both size registers name a size
-abbrev pub rings_of : Option RingSize → Option RingSize → Option Rings
+abbrev pub rings_of : Option RingSize → Option RingSize → Option RingPlaces
 rings_of None rirb = None
 rings_of (Some corb) None = None
 rings_of (Some corb) (Some rirb) =
     Some (record { corb = corb; rirb = rirb; submitted = 0; read = 0; started = true; outstanding = None })
 
-abbrev pub rings_found : ℕ → ℕ → ℕ → Option Rings
+abbrev pub rings_found : ℕ → ℕ → ℕ → Option RingPlaces
 rings_found status corb_size rirb_size =
     if codecs_in status == 0 then None else rings_of (largest_size corb_size) (largest_size rirb_size)
 
-abbrev pub rings_read : StartReads → Option Rings
+abbrev pub rings_read : StartReads → Option RingPlaces
 rings_read reads = rings_found reads.status reads.corb_size reads.rirb_size
 
 -- the codecs, or 0 where the rings can't be set going
-abbrev pub codecs_if : Option Rings → ℕ → ℕ
+abbrev pub codecs_if : Option RingPlaces → ℕ → ℕ
 codecs_if None status = 0
 codecs_if (Some rings) status = codecs_in status
 
 -- the rings at their beginning, or as they were
-abbrev pub rings_if : Option Rings → Rings → Rings
+abbrev pub rings_if : Option RingPlaces → RingPlaces → RingPlaces
 rings_if None rings = rings
 rings_if (Some begun) rings = begun
 
@@ -61,7 +61,7 @@ rirb_accesses rirb size =
     Write RIRBLBASE Four rirb ∷ Write RIRBWP Two 0x8000 ∷ Write RINTCNT Two (half_of size) ∷ Write RIRBCTL One 3
     ∷ Write INTCTL Four 0xC0000000 ∷ []
 
-abbrev pub settings_if : Option Rings → ℕ → ℕ → StartReads → List Event
+abbrev pub settings_if : Option RingPlaces → ℕ → ℕ → StartReads → List Event
 settings_if None corb rirb reads = []
 settings_if (Some rings) corb rirb reads =
     corb_accesses corb reads.status reads.pointer_reset reads.pointer_ready ++ rirb_accesses rirb rings.rirb
@@ -72,7 +72,7 @@ start_accesses corb rirb reads =
     first_reads reads.status reads.corb_size reads.rirb_size ++ settings_if (rings_read reads) corb rirb reads
 
 -- a start, where the rings' blocks lie at these addresses: what it answers, how the engine stands after it, and what is told
-pub record Starts (corb rirb : ℕ) (rings : Rings) (answer : ℕ) (rings' : Rings) (old new : Option Telling) : Type 0 where
+pub record Starts (corb rirb : ℕ) (rings : RingPlaces) (answer : ℕ) (rings' : RingPlaces) (old new : Option Telling) : Type 0 where
   pub reads : StartReads
   pub made : Between (Makes (start_accesses corb rirb reads)) old new
   pub answer_is : answer ≡ codecs_if (rings_read reads) reads.status

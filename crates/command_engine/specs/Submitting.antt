@@ -7,18 +7,18 @@ use Rattle.hda_registers.specs.Fields.{entries_of}
 use Rattle.ring_entries.specs.declared.entries.TheConstants.{COMMAND_BYTES}
 use Rattle.ring_entries.specs.Entries.{next_place}
 use Rattle.hda_world.specs.Events.{Event, Write, DmaWrite}
-use Rattle.command_engine.specs.declared.rings.Rings.{Rings}
+use Rattle.command_engine.specs.declared.ring_places.RingPlaces.{RingPlaces}
 use Rattle.command_engine.specs.declared.answers.Outstanding.{Outstanding}
 
 -- the entry of CORB after the last one that has a command
-abbrev pub command_place : Rings → ℕ
+abbrev pub command_place : RingPlaces → ℕ
 command_place rings = next_place rings.submitted (entries_of rings.corb)
 
 -- the word goes to that entry, and CORB's write pointer moves there
-abbrev pub submit_accesses : ℕ → Rings → ℕ → List Event
+abbrev pub submit_accesses : ℕ → RingPlaces → ℕ → List Event
 submit_accesses corb rings word =
     DmaWrite (corb + COMMAND_BYTES * command_place rings) (little_bytes 4 word) ∷ Write CORBWP Two (command_place rings) ∷ []
 
 -- the command is outstanding, and that entry has the last command
-abbrev pub rings_submitted : Rings → Outstanding → Rings
+abbrev pub rings_submitted : RingPlaces → Outstanding → RingPlaces
 rings_submitted rings command = record rings { submitted = command_place rings; outstanding = Some command }

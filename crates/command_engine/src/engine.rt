@@ -9,7 +9,7 @@ mod starting;
 mod submitting;
 
 use crate::answers::{Event, Outstanding};
-use crate::rings::Rings;
+use crate::ring_places::RingPlaces;
 use circular_buffer::HeapCircularBuffer;
 use dma_pool::Lent;
 
@@ -34,7 +34,7 @@ pub enum OpenFault {
 pub struct Engine {
     corb: Lent,
     rirb: Lent,
-    rings: Rings,
+    rings: RingPlaces,
     events: HeapCircularBuffer<Event>,
     pub ghost corb_bytes: { corb.bytes ≡ corb_bytes },
     pub ghost rirb_bytes: { rirb.bytes ≡ rirb_bytes },

@@ -7,12 +7,13 @@ mod answers;
 mod engine;
 mod laws;
 mod memory;
-mod rings;
+mod ring_places;
 
 pub use answers::{ANSWER_LIMIT, Event, Outstanding, Poll};
 pub use engine::{CORB_BYTES, Engine, MOST_EVENTS, OpenFault, RIRB_BYTES};
 pub use laws::{
     a_reset_leads_to_a_start, a_start_stays_possible, events_beside_keep_standing,
-    few_responses_are_unread, steps_keep_standing, the_world_stays_quiet,
+    few_responses_are_unread, settled_codecs_answer_whole, steps_keep_standing,
+    the_world_stays_quiet,
 };
-pub use rings::Rings;
+pub use ring_places::RingPlaces;

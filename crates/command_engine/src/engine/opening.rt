@@ -5,7 +5,7 @@ ghost use Rattle.command_engine.specs.Blocks.{corb_bytes, rirb_bytes};
 ghost use Rattle.command_engine.specs.Opening as spec;
 
 use super::{CORB_BYTES, Engine, MOST_EVENTS, OpenFault, RIRB_BYTES};
-use crate::rings::Rings;
+use crate::ring_places::RingPlaces;
 use circular_buffer::HeapCircularBuffer;
 use dma_pool::Pool;
 use hda_registers::RingSize;
@@ -38,7 +38,7 @@ impl Engine {
             pool.give(corb);
             return Err(OpenFault::OutOfMemory);
         };
-        let rings = Rings {
+        let rings = RingPlaces {
             corb: RingSize::Full,
             rirb: RingSize::Full,
             submitted: 0,

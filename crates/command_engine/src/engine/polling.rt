@@ -13,7 +13,7 @@ use crate::answers::{
     Event, Poll, asked_of, found_with, note_event, poll_of, response_in, still_outstanding,
 };
 use crate::memory::read_entry;
-use crate::rings::{Rings, new_entries, read_to};
+use crate::ring_places::{RingPlaces, new_entries, read_to};
 use circular_buffer::HeapCircularBuffer;
 use dma_pool::Lent;
 use hda_platform::Platform;
@@ -109,7 +109,7 @@ impl Engine {
 fn read_entries<P: Platform>(
     platform: &mut P,
     rirb: &Lent,
-    rings: Rings,
+    rings: RingPlaces,
     count: u16,
     events: &mut HeapCircularBuffer<Event>,
 ) -> Option<u32>

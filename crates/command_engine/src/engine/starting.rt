@@ -5,7 +5,7 @@ ghost use Rattle.command_engine.specs.Starting as spec;
 ghost use Rattle.command_engine.specs.Told as told;
 
 use super::Engine;
-use crate::rings::{codecs_in, half_of, rings_found};
+use crate::ring_places::{codecs_in, half_of, rings_found};
 use hda_platform::Platform;
 use hda_registers::{RingSize, Width, places};
 

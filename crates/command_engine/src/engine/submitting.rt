@@ -9,7 +9,7 @@ ghost use Rattle.command_engine.specs.Told as told;
 use super::Engine;
 use crate::answers::Outstanding;
 use crate::memory::write_command;
-use crate::rings::{command_place, rings_submitted};
+use crate::ring_places::{command_place, rings_submitted};
 use hda_platform::Platform;
 use hda_registers::{Width, places};
 use verb_codes::{Command, encode};

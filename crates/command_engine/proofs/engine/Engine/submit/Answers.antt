@@ -1,7 +1,7 @@
 use Rattle.std.proofs.Common.{rules, sym, subst}
 use Rattle.hda_world.specs.Tellings.{Between, Makes}
 use Rattle.hda_world.proofs.Callers.{rows}
-use Rattle.command_engine.specs.declared.rings.Rings.{Rings}
+use Rattle.command_engine.specs.declared.ring_places.RingPlaces.{RingPlaces}
 use Rattle.command_engine.specs.declared.answers.Outstanding.{Outstanding}
 use Rattle.command_engine.specs.Submitting.{submit_accesses}
 use Rattle.command_engine.specs.Told as told
@@ -12,5 +12,5 @@ pub returns-clause-tells : goal.returns-clause-tells
 returns-clause-tells g c =
     let command : Outstanding = record { codec = c.args.command.codec; word = c.encode-word.result; issued = c.args.clock } in
     let made : Between (Makes (submit_accesses c.args.self.now.corb.address c.args.self.now.rings c.encode-word.result)) (g.P.Platform.told c.args.platform.now) (g.P.Platform.told c.write.new.self) = search (rules, rows) depth 20 in
-    subst (λ (rings : Rings). Between (told.LeadsOn c.args.self.now.corb.address c.args.self.now.rirb.address c.args.self.now.rings rings) (g.P.Platform.told c.args.platform.now) (g.P.Platform.told c.write.new.self)) (sym c.rings_submitted-self.ensures)
+    subst (λ (rings : RingPlaces). Between (told.LeadsOn c.args.self.now.corb.address c.args.self.now.rirb.address c.args.self.now.rings rings) (g.P.Platform.told c.args.platform.now) (g.P.Platform.told c.write.new.self)) (sym c.rings_submitted-self.ensures)
     (submit_tells c.args.self.now.corb.address c.args.self.now.rirb.address c.args.self.now.rings command (g.P.Platform.told c.args.platform.now) (g.P.Platform.told c.write.new.self) c.requires.idle c.encode-word.type_inv made)

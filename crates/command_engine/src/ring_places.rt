@@ -13,7 +13,7 @@ use verb_codes::has_bit;
 
 /// Where the engine stands in both rings (HDA 1.0a, 4.4.1 and 4.4.2).
 #[derive(Clone, Copy, Debug, PartialEq, Eq)]
-pub struct Rings {
+pub struct RingPlaces {
     /// The size of CORB.
     pub corb: RingSize,
     /// The size of RIRB.
@@ -58,7 +58,7 @@ pub(crate) fn codecs_in(status: u32) -> u16
 }
 
 /// Both rings at their beginning, where a codec is there and both size registers name a size.
-pub(crate) fn rings_found(status: u32, corb_size: u32, rirb_size: u32) -> Option<Rings>
+pub(crate) fn rings_found(status: u32, corb_size: u32, rirb_size: u32) -> Option<RingPlaces>
     ensures { result ≡ starting.rings_found status corb_size rirb_size }
 {
     if codecs_in(status) == 0 {
@@ -66,7 +66,7 @@ pub(crate) fn rings_found(status: u32, corb_size: u32, rirb_size: u32) -> Option
     }
     let corb = largest_size(corb_size)?;
     let rirb = largest_size(rirb_size)?;
-    Some(Rings {
+    Some(RingPlaces {
         corb,
         rirb,
         submitted: 0,
@@ -77,7 +77,7 @@ pub(crate) fn rings_found(status: u32, corb_size: u32, rirb_size: u32) -> Option
 }
 
 /// The entry of CORB after the last one that has a command.
-pub(crate) fn command_place(rings: Rings) -> u8
+pub(crate) fn command_place(rings: RingPlaces) -> u8
     ensures value { result ≡ submitting.command_place rings }
     ensures within { result < entries_of rings.corb }
 {
@@ -85,10 +85,10 @@ pub(crate) fn command_place(rings: Rings) -> u8
 }
 
 /// The rings after a command was written to the next entry.
-pub(crate) fn rings_submitted(rings: Rings, command: Outstanding) -> Rings
+pub(crate) fn rings_submitted(rings: RingPlaces, command: Outstanding) -> RingPlaces
     ensures { result ≡ submitting.rings_submitted rings command }
 {
-    Rings {
+    RingPlaces {
         submitted: command_place(rings),
         outstanding: Some(command),
         ..rings
@@ -96,7 +96,7 @@ pub(crate) fn rings_submitted(rings: Rings, command: Outstanding) -> Rings
 }
 
 /// How many entries of RIRB are new, where its write pointer reads this.
-pub(crate) fn new_entries(rings: Rings, pointer: u32) -> u16
+pub(crate) fn new_entries(rings: RingPlaces, pointer: u32) -> u16
     requires { rings.read < entries_of rings.rirb }
     ensures value { result ≡ polling.new_entries rings pointer }
     ensures few { result < entries_of rings.rirb }
@@ -107,7 +107,7 @@ pub(crate) fn new_entries(rings: Rings, pointer: u32) -> u16
 }
 
 /// The entry of RIRB that was read last, once all up to its write pointer were read.
-pub(crate) fn read_to(rings: Rings, pointer: u32) -> u8
+pub(crate) fn read_to(rings: RingPlaces, pointer: u32) -> u8
     ensures value { result ≡ pointer % entries_of rings.rirb }
     ensures within { result < entries_of rings.rirb }
 {
