@@ -35,9 +35,11 @@ fn stereo() -> Format {
 fn three_frames(alloc: Global, text: &str) -> Result<HeardLists, Fail> {
     let machine = read_machine(alloc, text.as_bytes())?;
     let mut lists = HeardLists::new(alloc, &machine)?;
-    lists.reserve(3)?;
+    lists.reserve(1)?;
     lists.hear(&FirstPair, stereo(), &[1, 0, 2, 0]);
+    lists.reserve(1)?;
     lists.hear(&FirstPair, stereo(), &[3, 0, 0xFF, 0xFF]);
+    lists.reserve(1)?;
     lists.miss();
     Ok(lists)
 }
