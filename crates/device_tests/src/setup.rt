@@ -1,10 +1,10 @@
 //! The verbs that set codecs up.
 use codec_examples::{LEAST, SMALL, read_codec, two_pins};
 use route_planner::{Bits, Format, Rate, plan};
-use route_setup::{Analog, Setter, verbs};
+use route_setup::verbs;
 use std::alloc::Global;
 use std::test::Fail;
-use verb_codes::{Command, Verb, encode};
+use verb_codes::encode;
 
 /// A pin with nothing connected to its jack, and so no route.
 const NOWHERE: &str = "
@@ -113,40 +113,5 @@ fn sets_shared_nodes_and_headphones_up(rt: HostRuntime) -> Result<(), Fail> {
         0x2217_07C0,
     ];
     assert!(rt; are_words(alloc, HEADPHONE, &headphone)?);
-    Ok(())
-}
-
-/// The verbs of any setter for the codec of the file.
-fn commands_by<S: Setter>(alloc: Global, setter: &S, text: &str) -> Result<Vec<Command>, Fail> {
-    let format = Format {
-        rate: Rate::R96,
-        bits: Bits::B16,
-        channels: 2,
-    };
-    let codec = read_codec(alloc, text)?;
-    let plan = setter.plan(alloc, &codec.graph, format)?;
-    Ok(setter.verbs(alloc, &codec.graph, &plan, format, 1)?)
-}
-
-#[test]
-fn sets_up_by_a_setter(rt: HostRuntime) -> Result<(), Fail> {
-    // Converter 03 alone takes 96 kHz, so both pins leave the selector by index 1.
-    let text = two_pins(rt.alloc(), "0x02, 0x03", "0x00020140")?;
-    let commands = commands_by(rt.alloc(), &Analog, &text)?;
-    let verbs = [
-        Verb::SetPower(0),
-        Verb::SetStream(0),
-        Verb::SetFormat(0x0811),
-        Verb::SetStream(0x10),
-        Verb::SetSelect(1),
-        Verb::SetAmp(0xB000),
-        Verb::SetPin(0x40),
-        Verb::SetAmp(0xB000),
-        Verb::SetPin(0x40),
-    ];
-    assert!(rt; commands.len() == verbs.len());
-    for (command, verb) in commands.iter().zip(&verbs) {
-        assert!(rt; command.verb == *verb, "{command:?} in place of {verb:?}");
-    }
     Ok(())
 }
