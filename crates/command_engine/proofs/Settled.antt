@@ -9,8 +9,8 @@ use Rattle.verb_codes.specs.Verbs.{reading_of}
 use Rattle.codec_graph.specs.declared.raw.RawNode.{RawNode}
 use Rattle.codec_graph.specs.Widget.{node_at, is_pin}
 use Rattle.codec_graph.specs.CodecStates.{CodecState, taken, plugged, node_plugged, pin_plugged, without_first, without_answer, cleared, reading_answer, answer_to}
-use Rattle.codec_graph.proofs.Sound.{settings-reading}
-use Rattle.codec_graph.proofs.Narrow.{answer_of-narrow}
+use Rattle.codec_graph.proofs.Callers.{settings-reading}
+use Rattle.codec_graph.proofs.Callers.{answer_of-narrow}
 use Rattle.hda_registers.specs.declared.shapes.Width.{Width}
 use Rattle.hda_registers.specs.Access.{written, effects_of}
 use Rattle.hda_registers.specs.Fields.{is_running}

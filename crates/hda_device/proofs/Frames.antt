@@ -10,12 +10,13 @@ use Rattle.stream_moves.specs.Output as output
 use Rattle.stream_descriptor.specs.declared.frame.Frame.{Frame}
 use Rattle.stream_descriptor.specs.Frames.{IsAnswer}
 use Rattle.stream_descriptor.specs.Running.{Playing, StandsFor, LeadsTo, stream_at, with_descriptor, found_at}
+use Rattle.stream_descriptor.proofs.Callers.{beside_output}
 use Rattle.hda_world.specs.declared.step.TheConstants.{FRAMES_TO_DISCOVERY}
 use Rattle.hda_world.specs.Worlds.{World, output_of}
 use Rattle.hda_world.specs.Steps.{discovered, discovered_at, passed, output_framed, frame_step}
 use Rattle.hda_device.specs.Devices.{DeviceState, AreAlike, IsWorld, is_counted, counted_on, discovered_next}
 use Rattle.hda_device.proofs.Discovery.{discovered_leaves}
-use Rattle.hda_device.proofs.Steps.{beside_output, stands_on}
+use Rattle.hda_device.proofs.Steps.{stands_on}
 
 -- ---- the count of link frames
 

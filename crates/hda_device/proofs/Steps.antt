@@ -10,6 +10,7 @@ use Rattle.ring_entries.specs.Entries.{fetched, next_command, responses_stored}
 use Rattle.stream_moves.specs.Streams.{StreamState, Stream}
 use Rattle.stream_moves.specs.Output.{fetch}
 use Rattle.stream_descriptor.specs.Running.{Playing, StandsFor, Runs, LeadsTo, with_descriptor, fetched_at}
+use Rattle.stream_descriptor.proofs.Callers.{beside_output}
 use Rattle.device_steps.specs.declared.Step.{Step}
 use Rattle.device_steps.specs.declared.Step.TheVariants as step
 use Rattle.hda_world.specs.Worlds.{World, output_of, codec_at, with_codec}
@@ -52,18 +53,6 @@ pub stands_on : (playing : Playing) (old new : Fields) (state : StreamState) →
 stands_on playing old new state stands shape input output =
     let here : stream_of new playing.index ≡ stream_of old playing.index =
     ap (λ (d : Descriptor). if playing.index == 0 then d else new.output) input ∙ ap (λ (d : Descriptor). if playing.index == 0 then old.input else d) output in
-    record {
-      capacity = stands.capacity ∙ ap (λ (s : Shape). s.fifo) (sym shape);
-      stopped = λ off. stands.stopped (ap is_running (sym here) ∙ off);
-      running = λ on. subst (λ (d : Descriptor). Runs playing (record { descriptor = d; state = state })) (sym here) (stands.running (ap is_running (sym here) ∙ on));
-    }
-
--- the input stream stands for its state whatever the output's descriptor is
-pub beside_output : (playing : Playing) (old new : Fields) (state : StreamState) → playing.index ≡ 0 → StandsFor playing old state → new.shape ≡ old.shape → new.input ≡ old.input
-    → StandsFor playing new state
-beside_output playing old new state index stands shape input =
-    let here : stream_of new playing.index ≡ stream_of old playing.index =
-    ap (stream_of new) index ∙ (input ∙ sym (ap (stream_of old) index)) in
     record {
       capacity = stands.capacity ∙ ap (λ (s : Shape). s.fifo) (sym shape);
       stopped = λ off. stands.stopped (ap is_running (sym here) ∙ off);

@@ -347,6 +347,14 @@ impl Registers {
         self.stream(stream).format()
     }
 
+    /// The tag by which codecs know the stream, 0 for none (HDA 1.0a, 3.3.35). A stream is 0 for input and 1 for output.
+    pub fn tag(&self, stream: u8) -> u8
+        requires { stream ≤ 1 }
+        ensures { result ≡ (stream_of self.now stream).tag }
+    {
+        self.stream(stream).tag()
+    }
+
     /// Where the stream's buffer list stands, in bytes (HDA 1.0a, 3.3.42). A stream is 0 for input and 1 for output.
     pub fn list_address(&self, stream: u8) -> u32
         requires { stream ≤ 1 }

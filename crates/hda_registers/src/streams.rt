@@ -236,6 +236,13 @@ impl Stream {
         (self.format >> 16) as u16
     }
 
+    /// The tag.
+    pub(crate) fn tag(&self) -> u8
+        ensures { result ≡ self.now.tag }
+    {
+        (self.control.0 >> 20 & 0xF) as u8
+    }
+
     /// Where the buffer list stands, in bytes.
     pub(crate) fn list_address(&self) -> u32
         ensures { result ≡ list_address self.now }

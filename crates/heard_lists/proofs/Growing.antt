@@ -196,3 +196,14 @@ gap-grows frame lists none = sym (grown-nothing lists) ∙ grown-by (λ listing.
     grown-nothing [] = refl
     grown-nothing (listing ∷ lists) =
         ap (λ (l : Listing). l ∷ map (λ (listing : Listing). with_items [] listing) lists) (with_none listing) ∙ ap (λ (rest : List Listing). listing ∷ rest) (grown-nothing lists)
+
+-- ---- the room that is left
+
+pub room-after : (count more : ℕ) (items : Listing → List Heard) (lists : List Listing) → ((listing : Listing) → length (items listing) ≡ count) → HasRoom (count + more) lists
+    → HasRoom more (map (λ (listing : Listing). with_items (items listing) listing) lists)
+room-after count more items lists size has =
+    All-map (λ (listing : Listing). more ≤ listing.room) (λ (listing : Listing). with_items (items listing) listing) lists
+    (λ k d within. left (get_or lists k d) (has k d within))
+  where
+    left : (listing : Listing) → count + more ≤ listing.room → more ≤ listing.room - length (items listing)
+    left listing fits = let same = size listing in omega (arith, same, fits)

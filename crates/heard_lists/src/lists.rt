@@ -84,7 +84,8 @@ impl HeardLists {
         requires room { HasRoom (length bytes.now / block_bytes format) self.old }
         requires known { All (λ listing. S.IsKnown sounds.now listing.codec listing.pin) self.old }
         requires pairs { All (λ listing. IsAmong format.channels (S.signal_of sounds.now listing.codec listing.pin)) self.old }
-        ensures { self.new ≡ map (with_blocks (S.signal_of sounds.now) (layout format) bytes.now) self.old }
+        ensures lists { self.new ≡ map (with_blocks (S.signal_of sounds.now) (layout format) bytes.now) self.old }
+        ensures room { (more : ℕ) → HasRoom (length bytes.now / block_bytes format + more) self.old → HasRoom more self.new }
     {
         hear_all(self.lists.as_mut_slice(), sounds, format, bytes);
     }
@@ -92,7 +93,8 @@ impl HeardLists {
     /// Adds a hole to each list: a link frame missed its blocks. There is room for it.
     pub fn miss(&mut self)
         requires { HasRoom 1 self.old }
-        ensures { self.new ≡ map (with_items (Hole ∷ [])) self.old }
+        ensures lists { self.new ≡ map (with_items (Hole ∷ [])) self.old }
+        ensures room { (more : ℕ) → HasRoom (1 + more) self.old → HasRoom more self.new }
     {
         miss_all(self.lists.as_mut_slice());
     }

@@ -1,2 +1,3 @@
-pub mod Callers
+pub mod Pieces
 pub mod Standing
+pub mod Callers

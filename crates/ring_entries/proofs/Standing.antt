@@ -9,7 +9,7 @@ use Rattle.ring_entries.specs.declared.response.Response.{Response}
 use Rattle.hda_registers.specs.Fields.{Fields, entries_of, rirb_address}
 use Rattle.ring_entries.specs.Memory.{IsOutside}
 use Rattle.ring_entries.specs.Entries.{response_bytes, response_place, response_stored, responses_stored, after_response}
-use Rattle.ring_entries.proofs.Callers.{stored_outside, piece_is_stored}
+use Rattle.ring_entries.proofs.Pieces.{stored_outside, piece_is_stored}
 use Rattle.ring_entries.specs.Standing.{StandsAt, IsRirbInside}
 
 apart_within : (at more size : ℕ) → at < size → 0 < more → more < size → (at + more < size) ⊎ (size ≤ at + more) → (at + more) % size ≡ at → ⊥

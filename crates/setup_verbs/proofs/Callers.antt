@@ -4,7 +4,7 @@ use Rattle.codec_graph.specs.declared.raw.RawCodec.{RawCodec}
 use Rattle.stream_format.specs.declared.format.Format.{Format}
 use Rattle.route_planner.specs.declared.routes.Plan.{Plan}
 use Rattle.route_planner.specs.Plans.{IsPlan}
-use Rattle.route_planner.proofs.OnlyPlan.{only_plan}
+use Rattle.route_planner.proofs.Callers.{only_plan}
 -- the set-up verbs lead from any settings to ones that are set up
 pub use Rattle.setup_verbs.proofs.Final.{lead_to_set_up}
 -- each goes to the codec, and can be encoded where that is one of 0 to 14

@@ -25,7 +25,7 @@ use Rattle.route_planner.specs.declared.routes.PinPlan.{PinPlan}
 use Rattle.route_planner.specs.declared.routes.Plan.{Plan}
 use Rattle.route_planner.specs.Paths.{passes, list_of, connection, LeadsTo, is_analog_stereo, can_be_left}
 use Rattle.route_planner.specs.Plans.{IsPlan, IsAdmissibleOutcome}
-use Rattle.route_planner.proofs.Bridge.{match_some}
+use Rattle.route_planner.proofs.Callers.{match_some}
 use Rattle.setup_verbs.specs.declared.roles.Role.TheVariants.{Passed, Source}
 use Rattle.setup_verbs.specs.Roles.{role_of}
 use Rattle.setup_verbs.specs.VerbList.{has_choice, setup_verbs}

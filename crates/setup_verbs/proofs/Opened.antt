@@ -15,7 +15,7 @@ use Rattle.codec_graph.specs.Settings.{Entries, key, setting_at, setting_of, has
 use Rattle.codec_graph.specs.VerbMeaning.{kept_amplifier, verb_writes, written, pin_bits, eapd_bits}
 use Rattle.codec_graph.specs.Cycles.{IsWellFormed}
 use Rattle.codec_graph.proofs.Callers.{node_below}
-use Rattle.codec_graph.proofs.Controlled.{is_some-setting_at}
+use Rattle.codec_graph.proofs.Callers.{is_some-setting_at}
 use Rattle.verb_codes.specs.declared.verbs.Command.{Command}
 use Rattle.verb_codes.specs.declared.verbs.Verb.{Verb}
 use Rattle.verb_codes.specs.declared.verbs.Verb.TheVariants.{SetSelect, SetPower, SetStream, SetPin, SetUnsol, SetEapd, SetFormat, SetAmp}

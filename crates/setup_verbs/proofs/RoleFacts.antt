@@ -19,7 +19,7 @@ use Rattle.route_planner.specs.Order.{pair_of}
 use Rattle.route_planner.specs.Paths.{passes, list_of, connection, LeadsTo, nodes_of, is_analog_stereo, can_be_left}
 use Rattle.route_planner.specs.Plans.{IsOutcome, HaveOutcomes, IsPlan, IsAdmissibleOutcome}
 use Rattle.std.proofs.lemmas.Option.{none-some}
-use Rattle.route_planner.proofs.Bridge.{match_some}
+use Rattle.route_planner.proofs.Callers.{match_some}
 use Rattle.setup_verbs.specs.declared.roles.Role.{Role}
 use Rattle.setup_verbs.specs.declared.roles.Role.TheVariants.{Unused, Passed, Source}
 use Rattle.setup_verbs.specs.Roles.{Uses, hop_uses, outcome_uses, entry_uses, uses_of, first_role, role_among, role_of}

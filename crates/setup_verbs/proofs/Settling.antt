@@ -10,8 +10,8 @@ use Rattle.codec_graph.specs.declared.controls.Control.{Control}
 use Rattle.codec_graph.specs.declared.controls.ControlKey.{ControlKey}
 use Rattle.codec_graph.specs.Settings.{Entries, key, key_cmp, setting_at, setting_of, put, put_all}
 use Rattle.codec_graph.specs.VerbMeaning.{writes_of, after}
-use Rattle.codec_graph.proofs.Openings.{same_key}
-use Rattle.codec_graph.proofs.Unchanged.{lookup-put}
+use Rattle.codec_graph.proofs.Callers.{same_key}
+use Rattle.codec_graph.proofs.Callers.{lookup-put}
 use Rattle.verb_codes.specs.declared.verbs.Command.{Command}
 use Rattle.setup_verbs.specs.SetUp.{settings_after}
 

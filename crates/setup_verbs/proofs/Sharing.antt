@@ -11,7 +11,7 @@ use Rattle.codec_graph.specs.Widget.{node_at, is_inner, is_pin, is_output_conver
 use Rattle.codec_graph.specs.Cycles.{IsWellFormed, inner_list, inner_list_of, Leads, Reaches}
 use Rattle.route_planner.specs.declared.routes.Hop.{Hop}
 use Rattle.route_planner.specs.Paths.{passes, list_of, connection, LeadsTo}
-use Rattle.route_planner.proofs.Bridge.{match_some}
+use Rattle.route_planner.proofs.Callers.{match_some}
 use Rattle.setup_verbs.specs.declared.roles.Role.{Role}
 use Rattle.setup_verbs.specs.declared.roles.Role.TheVariants.{Unused}
 use Rattle.setup_verbs.specs.Roles.{Uses, first_role, role_among}

@@ -12,12 +12,12 @@ use Rattle.codec_graph.specs.declared.controls.ControlKey.{ControlKey}
 use Rattle.codec_graph.specs.Widget.{node_at, input_amplifier_word, output_amplifier_word, amplifier_offset}
 use Rattle.codec_graph.specs.Settings.{Entries, key, key_cmp, has_control}
 use Rattle.codec_graph.specs.VerbMeaning.{written, kept_amplifier, amplifier_writes, verb_writes, writes_of, node_input_word, node_output_word, pin_bits, eapd_bits, unsolicited_bits}
-use Rattle.codec_graph.proofs.Controlled.{here}
+use Rattle.codec_graph.proofs.Callers.{here}
 use Rattle.verb_codes.specs.declared.verbs.Verb.{Verb}
 use Rattle.verb_codes.specs.declared.verbs.Verb.TheVariants.{SetAmp}
 use Rattle.verb_codes.specs.declared.amplifiers.AmpSetting.{AmpSetting}
 use Rattle.verb_codes.specs.Amplifiers as amplifiers
-use Rattle.verb_codes.proofs.Payloads.{setting_of-payload}
+use Rattle.verb_codes.proofs.Callers.{setting_of-payload}
 use Rattle.stream_format.specs.declared.format.Format.{Format}
 use Rattle.stream_format.specs.Words.{format_word}
 use Rattle.route_planner.specs.declared.routes.Plan.{Plan}

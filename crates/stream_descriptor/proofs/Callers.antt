@@ -6,3 +6,7 @@ pub use Rattle.stream_descriptor.proofs.Settling.{stood_written}
 pub use Rattle.stream_descriptor.proofs.Placing.{of_with, with_same}
 -- what it leads to
 pub use Rattle.stream_descriptor.proofs.Placing.{leads_to, leads_nowhere}
+-- the input stream stands for its state whatever the output's descriptor is
+pub use Rattle.stream_descriptor.proofs.Written.{beside_output}
+-- both streams after a write of a register that was settled at each
+pub use Rattle.stream_descriptor.proofs.Written.{Settles, Settled, starts_are, streams_settle}

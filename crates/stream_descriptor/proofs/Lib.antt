@@ -2,4 +2,5 @@ mod Placing
 mod Filling
 mod Passing
 mod Settling
+mod Written
 pub mod Callers

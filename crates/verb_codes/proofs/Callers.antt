@@ -35,3 +35,6 @@ expansion_of-small long entries nids e = expansions.expansion_of-small long entr
 -- a set of flags contains the flag of a bit where the bit is 1
 pub contains_bit : (word at : ℕ) → (bit_and word (2 ^ at) == 2 ^ at) ≡ has_bit word at
 contains_bit word at = masks.contains_bit word at
+
+-- the payload of an amplifier's setting in range reads as that setting
+pub use Rattle.verb_codes.proofs.Payloads.{setting_of-payload}

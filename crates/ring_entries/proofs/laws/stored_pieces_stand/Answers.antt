@@ -1,4 +1,4 @@
-use Rattle.ring_entries.proofs.Callers.{stored_outside, piece_is_stored}
+use Rattle.ring_entries.proofs.Pieces.{stored_outside, piece_is_stored}
 use Rattle.ring_entries.proofs.laws.stored_pieces_stand.Goals as goal
 
 pub returns : goal.returns

@@ -10,7 +10,8 @@ use Rattle.hda_world.specs.Events.{after_write}
 use Rattle.hda_device.specs.Codecs.{KeepCodecs, addresses_of}
 use Rattle.hda_device.specs.Devices.{DeviceState, IsWorld, KeepsSound}
 use Rattle.hda_device.proofs.Standing.{shown_world, shown_is, device_from}
-use Rattle.hda_device.proofs.Writes.{Settled, starts_are, streams_settle, write_moved, put_cleared, keeps_cleared, addresses_cleared}
+use Rattle.stream_descriptor.proofs.Callers.{Settled, starts_are, streams_settle}
+use Rattle.hda_device.proofs.Writes.{write_moved, put_cleared, keeps_cleared, addresses_cleared}
 use Rattle.hda_device.proofs.Sounding.{write_keeps_sound}
 use Rattle.hda_device.proofs.device.Device.write.Goals as goal
 
@@ -29,8 +30,8 @@ settled c input output input_stands output_stands =
     let old = c.self.inside.registers in
     let starts = starts_are old c.args.at c.args.value c.args.width c.write-effects.result c.write-effects.ensures.effects in
     let new = c.write-effects.ensures.registers in
-    streams_settle (before c) c.settle.new.self c.settle-2.new.self c.write-effects.new.self c.settle.new.regs c.settle-2.new.regs c.args.at c.args.width c.args.value
-    _ _ _ _ input output c.self.invariant input_stands output_stands new c.settle.ensures.index c.settle-2.ensures.index
+    streams_settle old c.self.inside.input c.self.inside.output c.settle.new.self c.settle-2.new.self c.write-effects.new.self c.settle.new.regs c.settle-2.new.regs c.args.at c.args.width c.args.value
+    _ _ _ _ input output c.self.invariant.held c.self.invariant.input_index c.self.invariant.output_index input_stands output_stands new c.settle.ensures.index c.settle-2.ensures.index
     (starts.0 ∙ ap (λ (f : Fields). rose old.input f.input) (sym new)) (starts.2 ∙ ap (λ (f : Fields). fell old.input f.input) (sym new))
     (starts.1 ∙ ap (λ (f : Fields). rose old.output f.output) (sym new)) (starts.3 ∙ ap (λ (f : Fields). fell old.output f.output) (sym new))
     c.settle.ensures.leads c.settle-2.ensures.leads

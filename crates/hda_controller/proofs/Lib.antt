@@ -1,0 +1,8 @@
+mod Keeping
+mod Renewed
+mod Writing
+mod Taking
+mod Fresh
+mod Bits
+mod Start
+mod Hearing

@@ -1,0 +1,15 @@
+use Rattle.std.proofs.Common.{◌≡◌, ap, sym, subst, refl}
+use Rattle.hda_registers.specs.Fields.{Fields}
+use Rattle.hda_world.specs.Steps.{answer_step}
+use Rattle.hda_device.specs.Devices.{IsWorld}
+use Rattle.hda_controller.specs.Controllers.{ControllerState}
+use Rattle.hda_controller.proofs.Keeping.{device_stays, sound_same}
+use Rattle.hda_controller.proofs.controller.Controller.answer.Goals as goal
+
+pub invariant_of-self : goal.invariant_of-self
+invariant_of-self c =
+    device_stays c.self.inside.device c.answer.new.self c.self.inside.kept.items c.answer.ensures.codecs (sound_same c.self.inside.device.registers c.answer.new.self.registers c.answer.ensures.registers) c.self.invariant
+
+pub returns-clause-stands : goal.returns-clause-stands
+returns-clause-stands c memory world is =
+    c.answer.ensures.stands memory world (subst (λ (state : ControllerState). IsWorld memory state.device world) (sym c.self.view_is) is)

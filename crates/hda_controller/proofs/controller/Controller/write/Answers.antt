@@ -1,0 +1,28 @@
+use Rattle.std.proofs.Common.{◌≡◌, ℕ, Bool, List, map, if◌then◌else◌, ap, sym, subst, refl, ◌∙◌}
+use Rattle.std.specs.Vec.{with_items}
+use Rattle.codec_sound.specs.Keeping.{KeptSignals}
+use Rattle.hda_device.specs.Sound.{touches_sound}
+use Rattle.hda_device.specs.Devices.{IsWorld}
+use Rattle.hda_controller.specs.Controllers.{ControllerState, IsController, renewals_of, renewals_written}
+use Rattle.hda_controller.specs.Renewing.{renewed_if}
+use Rattle.hda_controller.proofs.Writing.{written_fits, written_renewals, kept_back}
+use Rattle.hda_controller.proofs.controller.Controller.write.Goals.{After-self-1}
+use Rattle.hda_controller.proofs.controller.Controller.write.Goals as goal
+
+back : (c : After-self-1) → (with_items c.self.inside.kept c.renew_if.new.kept).items ≡ renewed_if (touches_sound c.args.at c.args.width) c.write.new.self c.self.inside.kept.items
+back c = kept_back c.self.inside.kept c.renew_if.new.kept _ _ c.write.new.self (c.renew_if.ensures ∙ rw (c.touches_sound.ensures, c.as_mut_slice.ensures.value) refl) c.self.invariant.count c.write.ensures.codecs
+
+pub invariant_of-self : goal.invariant_of-self
+invariant_of-self c =
+    subst (λ (kept : List KeptSignals). IsController (record { device = c.write.new.self; kept = kept })) (sym (back c))
+    (written_fits (touches_sound c.args.at c.args.width) c.self.inside.device c.write.new.self c.self.inside.kept.items c.write.ensures.codecs c.write.ensures.sound c.self.invariant)
+
+pub returns-clause-stands : goal.returns-clause-stands
+returns-clause-stands c memory world is =
+    c.write.ensures.stands memory world (subst (λ (state : ControllerState). IsWorld memory state.device world) (sym c.self.view_is) is)
+
+pub returns-clause-renewals : goal.returns-clause-renewals
+returns-clause-renewals c =
+    subst (λ (state : ControllerState). map (λ one. one.renewals) (with_items c.self.inside.kept c.renew_if.new.kept).items ≡ renewals_written c.args.at c.args.width (renewals_of state)) c.self.view_is
+    (ap (map (λ (one : KeptSignals). one.renewals)) (back c)
+    ∙ written_renewals (touches_sound c.args.at c.args.width) c.self.inside.device c.write.new.self c.self.inside.kept.items c.write.ensures.codecs c.self.invariant.count)

@@ -1,0 +1,40 @@
+-- Which commands may change settings of a codec. High Definition Audio 1.0a, 7.3.3.
+use Rattle.std.specs.Prelude.{ℕ, Bool, true, false, Option, Some, None}
+use Rattle.verb_codes.specs.declared.verbs.Command.{Command}
+use Rattle.verb_codes.specs.declared.verbs.Verb.{Verb}
+use Rattle.verb_codes.specs.declared.verbs.Verb.TheVariants.{GetParam, GetSelect, SetSelect, GetList, GetPower, SetPower, GetStream, SetStream, GetPin, SetPin, GetUnsol, SetUnsol, GetSense, GetEapd, SetEapd, GetDigital, SetDigital, GetDefault, SetDefault, GetFormat, SetFormat, GetAmp, SetAmp}
+use Rattle.verb_codes.specs.Verbs.{reading_of}
+
+-- a verb that sets a control
+abbrev pub is_set_verb : Verb → Bool
+is_set_verb (GetParam number) = false
+is_set_verb GetSelect = false
+is_set_verb (SetSelect place) = true
+is_set_verb (GetList place) = false
+is_set_verb GetPower = false
+is_set_verb (SetPower state) = true
+is_set_verb GetStream = false
+is_set_verb (SetStream stream) = true
+is_set_verb GetPin = false
+is_set_verb (SetPin control) = true
+is_set_verb GetUnsol = false
+is_set_verb (SetUnsol control) = true
+is_set_verb GetSense = false
+is_set_verb GetEapd = false
+is_set_verb (SetEapd control) = true
+is_set_verb GetDigital = false
+is_set_verb (SetDigital control) = true
+is_set_verb GetDefault = false
+is_set_verb (SetDefault place byte) = true
+is_set_verb GetFormat = false
+is_set_verb (SetFormat format) = true
+is_set_verb (GetAmp side) = false
+is_set_verb (SetAmp setting) = true
+
+abbrev pub is_set_reading : Option Command → Bool
+is_set_reading None = false
+is_set_reading (Some command) = is_set_verb command.verb
+
+-- the word of a command that sets a control: one without a reading is none
+abbrev pub is_set_command : ℕ → Bool
+is_set_command word = is_set_reading (reading_of word)

@@ -1,0 +1,64 @@
+-- A controller as contracts see it: a device, and the signals that are kept for its codecs. This project's own.
+use Rattle.std.specs.Prelude.{ℕ, Bool, false, List, map, Option, Some, None, slice_get, slice_set, slice_index, if◌then◌else◌}
+use Rattle.codec_graph.specs.Candidates.{is_candidate}
+use Rattle.codec_graph.specs.CodecStates.{CodecState}
+use Rattle.stream_format.specs.Layouts.{layout_of}
+use Rattle.codec_sound.specs.declared.signals.Signal.{Signal}
+use Rattle.codec_sound.specs.HeardLists.{signal_with}
+use Rattle.codec_sound.specs.Keeping.{KeptSignals, counted_on}
+use Rattle.hda_device.specs.declared.codecs.Handed.{Handed}
+use Rattle.hda_device.specs.Codecs.{handed_now}
+use Rattle.hda_device.specs.Devices.{DeviceState, IsWorld}
+use Rattle.hda_registers.specs.declared.shapes.Width.{Width}
+use Rattle.hda_device.specs.Sound.{touches_sound}
+use Rattle.hda_world.specs.Worlds.{World, codec_at}
+use Rattle.hda_controller.specs.Commands.{is_set_command}
+use Rattle.hda_controller.specs.Keeping.{AreKeptFor}
+
+pub record ControllerState : Type 0 where
+  pub device : DeviceState
+  pub kept : List KeptSignals
+
+-- with this memory the controller is this world
+abbrev pub StandsFor : List ℕ → ControllerState → World → Type 0
+StandsFor memory controller world = IsWorld memory controller.device world
+
+-- the kept signals are those of the moment
+abbrev pub IsController : ControllerState → Type 0
+IsController controller =
+    AreKeptFor controller.device.registers.output.tag controller.device.registers.output.format controller.device.codecs controller.kept
+
+-- ---- how often signals were renewed
+
+abbrev pub renewals_of : ControllerState → List ℕ
+renewals_of controller = map (λ one. one.renewals) controller.kept
+
+-- the count at a place, if there is one
+abbrev pub renewals_at : Option ℕ → List ℕ → Option ℕ
+renewals_at None counts = None
+renewals_at (Some place) counts = slice_get counts place
+
+-- after a write: once for each codec where it touches what they depend on
+abbrev pub renewals_written : ℕ → Width → List ℕ → List ℕ
+renewals_written at width counts = if touches_sound at width then map counted_on counts else counts
+
+-- after a step of CORB's engine: once for a codec that it hands a command that sets a control
+abbrev pub renewals_handed : Option Handed → List ℕ → List ℕ
+renewals_handed None counts = counts
+renewals_handed (Some handed) counts =
+    if is_set_command handed.word then slice_set counts handed.place (counted_on (slice_index counts handed.place)) else counts
+
+-- ---- signals
+
+abbrev pub is_candidate_in : Option CodecState → ℕ → Bool
+is_candidate_in None pin = false
+is_candidate_in (Some codec) pin = is_candidate codec.graph pin
+
+-- a candidate pin of the codec with this address
+abbrev pub is_candidate_of : List CodecState → ℕ → ℕ → Bool
+is_candidate_of codecs address pin = is_candidate_in (codec_at address codecs) pin
+
+-- the signal of the pin of the codec with this address, by the registers and the settings of a device
+abbrev pub signal_now : DeviceState → ℕ → ℕ → Signal
+signal_now device address pin =
+    signal_with (codec_at address device.codecs) device.registers.output.tag device.registers.output.format (layout_of device.registers.output.format) pin

@@ -1,0 +1,42 @@
+-- What a step of the device adds to heard lists, and whose signals it renews. This project's own.
+use Rattle.std.specs.Prelude.{◌≡◌, ◌*◌, ◌++◌, ℕ, List, All, true}
+use Rattle.codec_graph.specs.CodecStates.{CodecState}
+use Rattle.device_steps.specs.declared.Step.{Step}
+use Rattle.device_steps.specs.declared.Step.TheVariants as step
+use Rattle.hda_device.specs.Codecs.{handed_now}
+use Rattle.hda_world.specs.Worlds.{World, CarriedFrame}
+use Rattle.heard_lists.specs.Listings.{Listing, grown}
+use Rattle.hda_controller.specs.Controllers.{ControllerState, is_candidate_of, renewals_of, renewals_handed}
+
+-- for how many items in each list a step asks room: a link frame has at most four blocks, and one that misses them adds one hole
+abbrev pub most_items : Step → ℕ
+most_items step.Corb = 0
+most_items (step.Answer codec) = 0
+most_items (step.Lose codec) = 0
+most_items step.Rirb = 0
+most_items (step.Fetch stream most) = 0
+most_items (step.Link frames) = 4 * frames
+most_items (step.Plug codec pin) = 0
+most_items (step.Unplug codec pin) = 0
+
+-- each list is that of a candidate pin of a codec that is there
+abbrev pub AreHeard : List CodecState → List Listing → Type 0
+AreHeard codecs lists = All (λ listing. is_candidate_of codecs listing.codec listing.pin ≡ true) lists
+
+-- from one world to another the lists gained the items of the link frames that carried the stream between them
+pub record Grew (before after : World) (old new : List Listing) : Type 0 where
+  pub added : List CarriedFrame
+  pub carried : after.carried ≡ before.carried ++ added
+  pub lists : new ≡ grown added old
+
+-- how often signals were renewed after a step: once for a codec that CORB's engine hands a command that sets a control
+abbrev pub renewals_stepped : Step → List ℕ → ControllerState → List ℕ
+renewals_stepped step.Corb memory controller =
+    renewals_handed (handed_now controller.device.registers memory controller.device.codecs) (renewals_of controller)
+renewals_stepped (step.Answer codec) memory controller = renewals_of controller
+renewals_stepped (step.Lose codec) memory controller = renewals_of controller
+renewals_stepped step.Rirb memory controller = renewals_of controller
+renewals_stepped (step.Fetch stream most) memory controller = renewals_of controller
+renewals_stepped (step.Link frames) memory controller = renewals_of controller
+renewals_stepped (step.Plug codec pin) memory controller = renewals_of controller
+renewals_stepped (step.Unplug codec pin) memory controller = renewals_of controller

@@ -1,0 +1,176 @@
+//! The controller.
+ghost use Rattle.std.specs.Prelude.{◌≡◌, ℕ, List, All, IfOk, Contains, Some, true};
+ghost use Rattle.hda_registers.specs.Access.{value_at};
+ghost use Rattle.hda_world.specs.Worlds.{World, output_of};
+ghost use Rattle.std.specs.Option.{option_map};
+ghost use Rattle.stream_format.specs.Layouts.{layout, layout_of};
+ghost use Rattle.stream_descriptor.specs.Running.{found_at};
+ghost use Rattle.stream_descriptor.specs.Frames.{IsAnswer};
+ghost use Rattle.hda_device.specs.Devices.{KeepsSound};
+ghost use Rattle.hda_world.specs.Steps as steps;
+ghost use Rattle.hda_world.specs.Events.{after_write};
+ghost use Rattle.hda_device.specs.Codecs.{addresses_of, place_of, handed_now};
+ghost use Rattle.hda_files.specs.Machines.{IsSound};
+ghost use Rattle.hda_controller.specs.Controllers.{StandsFor, renewals_of, renewals_written, renewals_handed, renewals_at, is_candidate_of, signal_now};
+ghost use Rattle.hda_controller.specs.Openings.{opening_world};
+
+use crate::opening::{all_signals_of, codecs_of, shape_of};
+use crate::places::place_of;
+use crate::renewing::{renew_handed, renew_if};
+use codec_sound::{Kept, Signal};
+use hda_device::{Device, touches_sound};
+use hda_files::Machine;
+use hda_registers::Width;
+use std::alloc::{AllocError, Global};
+use std::marker::Model;
+use stream_descriptor::{Frame, MOST_FRAME_BYTES};
+use stream_format::Format;
+
+/// A device, with the signals of its codecs' candidate pins as they are at each moment. Contracts see a `ControllerState`, and of
+/// each call the move of the world (this project's own) that it makes.
+#[derive(Drop)]
+pub struct Controller {
+    device: Device,
+    /// One for each codec, at the same place.
+    kept: Vec<Kept>,
+}
+
+impl Model for Controller {
+    ghost use Rattle.hda_controller.specs.Controllers.{ControllerState, IsController};
+
+    ghost Value = { ControllerState };
+
+    ghost view = { λ c. record { device = c.device; kept = c.kept.items } };
+
+    ghost invariant = { λ c. IsController (record { device = c.device; kept = c.kept.items }) };
+}
+
+impl Controller {
+    /// A controller in reset with the codecs of a machine, as its file says that they start. Nothing waits and no stream runs.
+    ///
+    /// # Errors
+    /// Want of memory.
+    pub fn new(alloc: Global, machine: &Machine) -> Result<Controller, AllocError>
+        requires { IsSound machine.now }
+        ensures stands { IfOk result (λ controller. (memory : List ℕ) → StandsFor memory controller (opening_world memory machine.now)) }
+        ensures renewals { IfOk result (λ controller. All (λ count. count ≡ 0) (renewals_of controller)) }
+    {
+        let codecs = codecs_of(alloc, machine.codecs.as_slice())?;
+        let kept = all_signals_of(alloc, machine.codecs.as_slice())?;
+        let shape = shape_of(machine, codecs.as_slice());
+        let device = Device::new(alloc, shape, codecs)?;
+        Ok(Controller { device, kept })
+    }
+
+    /// How often the signals of the codec with this address were worked out anew. At 2^64 - 1 the count stays.
+    pub fn renewals(&self, codec: u8) -> u64
+        requires { Contains (addresses_of self.now.device.codecs) codec }
+        ensures { renewals_at (place_of codec self.now.device.codecs) (renewals_of self.now) ≡ Some result }
+    {
+        let place = place_of(self.device.codecs(), codec);
+        self.kept[place].renewals()
+    }
+
+    /// The signal of a candidate pin of the codec with this address, as it is now.
+    pub(crate) fn signal_at(&self, codec: u8, pin: u8) -> Signal
+        requires { is_candidate_of self.now.device.codecs codec pin ≡ true }
+        ensures { result ≡ signal_now self.now.device codec pin }
+    {
+        let place = place_of(self.device.codecs(), codec);
+        self.kept[place].hear(pin)
+    }
+
+    /// The format of the output stream. `None` where no format has its word (HDA 1.0a, 3.3.41).
+    pub(crate) fn format(&self) -> Option<Format>
+        ensures { option_map layout result ≡ layout_of self.now.device.registers.output.format }
+    {
+        Format::from_word(self.device.registers().format(1))
+    }
+
+    /// Reads a register (HDA 1.0a, 3.3). A place that is no multiple of the width, and one without a register, reads 0.
+    pub fn read(&self, at: u16, width: Width) -> u32
+        ensures { result ≡ value_at self.now.device.registers at width }
+    {
+        self.device.read(at, width)
+    }
+
+    /// Writes a register (HDA 1.0a, 3.3). Where the write touches GCTL or the control or the format of descriptor 1, the signals of all
+    /// codecs are worked out anew.
+    pub fn write(&mut self, at: u16, width: Width, value: u32)
+        ensures stands { (memory : List ℕ) (world : World) → StandsFor memory self.old world → StandsFor memory self.new (after_write at width value world) }
+        ensures renewals { renewals_of self.new ≡ renewals_written at width (renewals_of self.old) }
+    {
+        self.device.write(at, width, value);
+        renew_if(
+            touches_sound(at, width),
+            &self.device,
+            self.kept.as_mut_slice(),
+        );
+    }
+
+    /// CORB's engine fetches the next command and hands it to its codec (HDA 1.0a, 4.4.1). The codec's signals are worked out anew where
+    /// the command sets a control.
+    pub(crate) fn corb(&mut self, memory: &[u8])
+        ensures stands { (world : World) → StandsFor memory.now self.old world → StandsFor memory.now self.new (steps.corb_step world) }
+        ensures renewals { renewals_of self.new
+            ≡ renewals_handed (handed_now self.old.device.registers memory.now self.old.device.codecs) (renewals_of self.old) }
+    {
+        // The addresses of its codecs ascend, so that no other codec takes the command.
+        let _ = self.device.codecs();
+        let handed = self.device.corb(memory);
+        renew_handed(handed, &self.device, self.kept.as_mut_slice());
+    }
+
+    /// A codec sends its first waiting item (HDA 1.0a, 4.4.2).
+    pub(crate) fn answer(&mut self, codec: u8)
+        ensures stands { (memory : List ℕ) (world : World) → StandsFor memory self.old world → StandsFor memory self.new (steps.answer_step codec world) }
+        ensures kept { self.new.kept ≡ self.old.kept }
+    {
+        self.device.answer(codec);
+    }
+
+    /// A codec loses its first waiting answer.
+    pub(crate) fn lose(&mut self, codec: u8)
+        ensures stands { (memory : List ℕ) (world : World) → StandsFor memory self.old world → StandsFor memory self.new (steps.lose_step codec world) }
+        ensures kept { self.new.kept ≡ self.old.kept }
+    {
+        self.device.lose(codec);
+    }
+
+    /// Says whether something is plugged in at a pin (HDA 1.0a, 7.3.3.15).
+    pub(crate) fn plug(&mut self, codec: u8, nid: u8, present: bool)
+        ensures stands { (memory : List ℕ) (world : World) → StandsFor memory self.old world
+            → StandsFor memory self.new (steps.plugged_at codec nid present world) }
+        ensures kept { self.new.kept ≡ self.old.kept }
+    {
+        self.device.plug(codec, nid, present);
+    }
+
+    /// RIRB's engine writes responses that wait (HDA 1.0a, 4.4.2).
+    pub(crate) fn rirb(&mut self, memory: &mut [u8])
+        ensures stands { (world : World) → StandsFor memory.old self.old world → StandsFor memory.new self.new (steps.rirb_step world) }
+        ensures kept { self.new.kept ≡ self.old.kept }
+    {
+        self.device.rirb(memory);
+    }
+
+    /// A stream fetches at most so many bytes of its buffers (HDA 1.0a, 4.5).
+    pub(crate) fn fetch(&mut self, memory: &[u8], stream: u8, most: u16)
+        ensures stands { (world : World) → StandsFor memory.now self.old world → StandsFor memory.now self.new (steps.fetch_step stream most world) }
+        ensures kept { self.new.kept ≡ self.old.kept }
+    {
+        self.device.fetch(memory, stream, most);
+    }
+
+    /// Lets a link frame pass (HDA 1.0a, 4.3, 4.5 and 5.3). Says what it carried; the bytes then stand at the front of `into`.
+    pub(crate) fn frame(&mut self, into: &mut [u8; MOST_FRAME_BYTES]) -> Frame
+        ensures stands { (memory : List ℕ) (world : World) → StandsFor memory self.old world → StandsFor memory self.new (steps.frame_step world) }
+        ensures answer { (memory : List ℕ) (world : World) → StandsFor memory self.old world
+            → IsAnswer (output_of world) (found_at 1 world.registers world.output) into.old into.new result }
+        ensures kept { self.new.kept ≡ self.old.kept }
+        ensures codecs { self.new.device.codecs ≡ self.old.device.codecs }
+        ensures sound { KeepsSound self.old.device.registers self.new.device.registers }
+    {
+        self.device.frame(into)
+    }
+}

@@ -1,0 +1,11 @@
+//! The controller: the device, with the signals of its codecs' candidate pins as they are at each moment. This project's own.
+#![tactic(auto)]
+
+mod commands;
+mod controller;
+mod opening;
+mod places;
+mod renewing;
+
+pub use commands::is_set_command;
+pub use controller::Controller;

@@ -1,0 +1,26 @@
+//! Places of codecs by their addresses.
+ghost use Rattle.std.specs.Prelude.{◌≡◌, ◌<◌, Contains, Some, length};
+ghost use Rattle.hda_device.specs.Codecs as spec;
+
+use codec_nodes::Codec;
+
+/// The place of the codec with this address, which is there.
+pub(crate) fn place_of(codecs: &[Codec], wanted: u8) -> usize
+    requires { Contains (spec.addresses_of codecs.now) wanted }
+    ensures within { result < length codecs.now }
+    ensures place { spec.place_of wanted codecs.now ≡ Some result }
+{
+    for place in 0..codecs.len() {
+        if address(&codecs[place]) == wanted {
+            return place;
+        }
+    }
+    unreachable!()
+}
+
+/// The address of a codec.
+pub(crate) fn address(codec: &Codec) -> u8
+    ensures { result ≡ codec.now.graph.address }
+{
+    codec.graph().raw().address
+}
