@@ -14,6 +14,19 @@ use Rattle.codec_graph.proofs.Narrow as narrow
 use Rattle.codec_graph.proofs.Sound as sound
 use Rattle.codec_graph.proofs.ReadableLists as readable
 
+-- a key stands for itself
+pub use Rattle.codec_graph.proofs.Controlled.{here}
+-- settings of a well-formed graph have a number for each control that is there, and for no other
+pub use Rattle.codec_graph.proofs.Controlled.{is_some-setting_at}
+-- keys that stand for one another are equal
+pub use Rattle.codec_graph.proofs.Openings.{same_key}
+-- what is found after a number was put
+pub use Rattle.codec_graph.proofs.Unchanged.{lookup-put}
+-- a word that is read leaves settings of the graph
+pub use Rattle.codec_graph.proofs.Sound.{settings-reading}
+-- answers have 32 bits
+pub use Rattle.codec_graph.proofs.Narrow.{answer_of-narrow}
+
 -- a widget of a well-formed graph has a node identifier of seven bits
 pub node_below : (codec : RawCodec) (nid : ℕ) (node : RawNode) → IsWellFormed codec → node_at codec nid ≡ Some node → nid < node_identifiers
 node_below codec nid node well there = nodes.node_below codec nid node well there
@@ -61,16 +74,3 @@ readable_listed node has none = readable.readable_listed node has none
 -- and so are those of a codec
 pub readable_codec : (codec : RawCodec) → All HasEntries codec.nodes → ((nid : ℕ) → codec_list_fault codec nid ≡ None) → All HasReadableList (listed codec).nodes
 readable_codec codec has none = readable.readable_codec codec has none
-
--- a key stands for itself
-pub use Rattle.codec_graph.proofs.Controlled.{here}
--- settings of a well-formed graph have a number for each control that is there, and for no other
-pub use Rattle.codec_graph.proofs.Controlled.{is_some-setting_at}
--- keys that stand for one another are equal
-pub use Rattle.codec_graph.proofs.Openings.{same_key}
--- what is found after a number was put
-pub use Rattle.codec_graph.proofs.Unchanged.{lookup-put}
--- a word that is read leaves settings of the graph
-pub use Rattle.codec_graph.proofs.Sound.{settings-reading}
--- answers have 32 bits
-pub use Rattle.codec_graph.proofs.Narrow.{answer_of-narrow}

@@ -12,6 +12,11 @@ use Rattle.route_planner.specs.Search.{IsBounded}
 use Rattle.route_planner.proofs.Bounds as bounds
 use Rattle.route_planner.proofs.PlanParts as parts
 
+-- a graph has one plan
+pub use Rattle.route_planner.proofs.OnlyPlan.{only_plan}
+-- what holds of a number that is there
+pub use Rattle.route_planner.proofs.Bridge.{match_some}
+
 -- in a graph whose tables have no fault, widgets have node identifiers below 128 and at most 64 connections each
 pub IsBounded-from_sound : (codec : RawCodec) → HasSoundTables codec → IsBounded codec
 IsBounded-from_sound codec sound = bounds.IsBounded-from_sound codec sound
@@ -24,8 +29,3 @@ outcome_at codec format plan k d is within = parts.outcome_at codec format [] pl
 -- the hops of a path from a place on lead from some node to the same end
 pub leads_from : (codec : RawCodec) (hops : List Hop) (from to k : ℕ) → LeadsTo codec from hops to → k ≤ length hops → (through : ℕ) × LeadsTo codec through (drop k hops) to
 leads_from codec hops from to k leads within = parts.leads_from codec hops from to k leads within
-
--- a graph has one plan
-pub use Rattle.route_planner.proofs.OnlyPlan.{only_plan}
--- what holds of a number that is there
-pub use Rattle.route_planner.proofs.Bridge.{match_some}

@@ -12,6 +12,9 @@ use Rattle.verb_codes.proofs.Expansions as expansions
 use Rattle.verb_codes.proofs.Masks as masks
 use Rattle.verb_codes.specs.Words.{has_bit}
 
+-- the payload of an amplifier's setting in range reads as that setting
+pub use Rattle.verb_codes.proofs.Payloads.{setting_of-payload}
+
 -- the payload of a verb in range fits its width
 pub payload-lt : (verb : Verb) → IsTrue (is_verb_in_range verb) → (row_of verb).payload < 2 ^ (row_of verb).width
 payload-lt verb h = readings.payload-lt verb h
@@ -35,6 +38,3 @@ expansion_of-small long entries nids e = expansions.expansion_of-small long entr
 -- a set of flags contains the flag of a bit where the bit is 1
 pub contains_bit : (word at : ℕ) → (bit_and word (2 ^ at) == 2 ^ at) ≡ has_bit word at
 contains_bit word at = masks.contains_bit word at
-
--- the payload of an amplifier's setting in range reads as that setting
-pub use Rattle.verb_codes.proofs.Payloads.{setting_of-payload}
