@@ -239,7 +239,8 @@ impl Controller {
         // The controller stands for some world, by which a frame has at most four blocks.
         self.device.is_some_world();
         match self.frame(bytes) {
-            Frame::Idle | Frame::Gap => {}
+            Frame::Idle => {}
+            Frame::Gap => {}
             Frame::Blocks(blocks) => self.hear(blocks, bytes, heard),
             Frame::Hole => heard.miss(),
         }
