@@ -1,28 +1,26 @@
 -- What a step adds to heard lists.
-use Rattle.std.proofs.Common.{◌≡◌, ◌≤◌, ◌-◌, ◌+◌, ◌*◌, ◌&&◌, ◌⊎◌, inl, inr, ℕ, zero, suc, Bool, true, false, nat_le, nat_lt, List, [], ◌∷◌, ◌++◌, length, map, take, drop, Option, Some, None, if◌then◌else◌, refl, sym, ap, subst, ◌∙◌, arith}
-use Rattle.std.specs.Option.{unwrap_or}
+use Rattle.std.proofs.Common.{◌≡◌, ◌≤◌, ◌+◌, ◌*◌, ◌&&◌, ◌⊎◌, inl, inr, ℕ, zero, suc, Bool, true, false, nat_le, nat_lt, List, [], ◌∷◌, ◌++◌, length, map, take, Option, Some, None, if◌then◌else◌, refl, sym, ap, ◌∙◌, arith}
 use Rattle.std.proofs.lemmas.List.{append-nil, append_assoc, take_at, length-take-le, length-drop}
 use Rattle.std.proofs.lemmas.Bool.Decides.{nat_tests}
 use Rattle.codec_graph.specs.declared.waiting.Waiting.{Waiting}
 use Rattle.codec_graph.specs.CodecStates.{CodecState}
-use Rattle.device_steps.specs.declared.Step.{Step}
 use Rattle.hda_registers.specs.Fields.{Fields, is_out_of_reset, is_running}
-use Rattle.ring_entries.specs.Engines.{next_word, batch}
+use Rattle.ring_entries.specs.Engines.{next_word}
 use Rattle.ring_entries.specs.declared.response.TheConstants.{MOST_WAITING}
-use Rattle.stream_format.specs.Layouts.{Layout, layout_of, frame_bytes}
+use Rattle.stream_format.specs.Layouts.{Layout, layout_of}
 use Rattle.stream_format.specs.Cadence.{blocks_of, bytes_of_block}
-use Rattle.stream_moves.specs.Streams.{Stream, StreamState, due, due_by, held, held_bytes, is_usable}
+use Rattle.stream_moves.specs.Streams.{Stream, due, due_by, held, held_bytes, is_usable}
 use Rattle.stream_moves.specs.Output.{Carriage, Sent, Missed, carried_by, frame_of}
 use Rattle.stream_moves.specs.Output as output
 use Rattle.stream_descriptor.specs.Running.{found_at, stream_at}
 use Rattle.stream_descriptor.specs.Frames.{AreDue as AreDueOf}
 use Rattle.codec_sound.specs.declared.signals.Signal.{Signal}
-use Rattle.codec_sound.specs.HeardLists.{signal_with, signal_in}
+use Rattle.codec_sound.specs.HeardLists.{signal_with}
 use Rattle.hda_world.specs.Worlds.{World, CarriedFrame, output_of, codec_at}
 use Rattle.hda_world.specs.Steps as steps
 use Rattle.hda_world.specs.Steps.{frame_carried, frame_step, output_framed, passed, times, items_of, is_busy, address_of}
 use Rattle.hda_device.specs.Devices.{DeviceState, KeepsSound}
-use Rattle.heard_lists.specs.Listings.{Listing, grown, with_blocks, with_items}
+use Rattle.heard_lists.specs.Listings.{Listing, grown, with_blocks}
 use Rattle.heard_lists.proofs.Callers.{grown-append, grown-none, blocks-grow}
 use Rattle.hda_controller.specs.Controllers.{signal_now}
 use Rattle.hda_controller.specs.Hearing.{AreDue, Grew}

@@ -1,6 +1,6 @@
 -- Lists of candidate pins.
-use Rattle.std.proofs.Common.{◌≡◌, ◌≤◌, ◌<◌, ◌==◌, ◌+◌, ℕ, zero, suc, Bool, true, false, List, [], ◌∷◌, ◌++◌, length, map, get_or, Option, Some, None, if◌then◌else◌, refl, sym, ap, subst, ◌∙◌, arith, eq-eqb}
-use Rattle.std.specs.Prelude.{All, AllPairs, Contains, slice_index}
+use Rattle.std.proofs.Common.{◌≡◌, ◌<◌, ◌==◌, ℕ, suc, Bool, true, false, List, [], ◌∷◌, length, map, get_or, Some, if◌then◌else◌, refl, sym, ap, subst, ◌∙◌, arith, eq-eqb}
+use Rattle.std.specs.Prelude.{All, AllPairs, Contains}
 use Rattle.std.specs.List.{AllZip}
 use Rattle.std.specs.List.Sorted.{IsStrictlyIncreasing}
 use Rattle.std.proofs.lemmas.Bool.Decides.{nat_tests}
@@ -15,11 +15,11 @@ use Rattle.device_steps.specs.declared.Step.{Step}
 use Rattle.hda_files.specs.declared.machine.CodecFile.{CodecFile}
 use Rattle.hda_files.specs.declared.machine.Machine.{Machine}
 use Rattle.hda_files.specs.Machines.{IsSound}
-use Rattle.heard_lists.specs.Listings.{Listing, HasRoom, AreListsOf, graphs_in, places_of, places_in, pins_of, grown, with_items, handed_out}
+use Rattle.heard_lists.specs.Listings.{Listing, AreListsOf, graphs_in, places_of, places_in, pins_of, grown, with_items, handed_out}
 use Rattle.heard_lists.specs.declared.pin_list.PinHeard.{PinHeard}
 use Rattle.codec_sound.specs.HeardLists.{heard}
 use Rattle.hda_world.specs.Worlds.{World, CarriedFrame, codec_at}
-use Rattle.hda_world.specs.Steps.{after_step, after_steps}
+use Rattle.hda_world.specs.Steps.{after_step}
 use Rattle.hda_world.proofs.Callers.{steps_leave}
 use Rattle.hda_device.specs.Codecs.{graphs_of_all}
 use Rattle.hda_device.specs.Devices.{DeviceState, IsWorld}

@@ -1,4 +1,4 @@
-use Rattle.std.proofs.Common.{◌≡◌, ◌≤◌, ◌<◌, ◌+◌, ◌*◌, ◌/◌, ℕ, length, take, get_or, rules, arith}
+use Rattle.std.proofs.Common.{◌≡◌, ◌≤◌, ◌+◌, ◌*◌, ◌/◌, length, take, get_or, rules, arith}
 use Rattle.stream_format.specs.Cadence.{block_bytes}
 use Rattle.heard_lists.specs.Listings.{Listing}
 use Rattle.hda_world.specs.Worlds.{codec_at}

@@ -30,20 +30,20 @@ loop-passed-preserved c =
     let left : ℕ = c.args.frames - (passed + 1) in
     let before = c.loop-passed-test.true in
     record {
-  stands = λ memory world is.
-      subst (λ (w : World). StandsFor memory c.link_frame.new.self w) (sym (times-one_more passed frame_step world))
-      (c.link_frame.ensures.stands memory (times passed frame_step world) (c.loop-passed.invariant.stands memory world is));
-  heard = λ memory world is.
-      subst (λ (w : World). Grew world w c.args.heard.now c.link_frame.new.heard) (sym (times-one_more passed frame_step world))
-      (grew_on world (times passed frame_step world) (frame_step (times passed frame_step world)) c.args.heard.now c.loop-passed.heard c.link_frame.new.heard
-      (c.loop-passed.invariant.heard memory world is)
-      (c.link_frame.ensures.heard memory (times passed frame_step world) (c.loop-passed.invariant.stands memory world is)));
-  room = λ more has.
-      c.link_frame.ensures.room (4 * left + more)
-      (HasRoom-fewer (4 + (4 * left + more)) (4 * (c.args.frames - passed) + more) c.loop-passed.heard (omega (arith, before)) (c.loop-passed.invariant.room more has));
-  lists = c.link_frame.ensures.lists;
-  kept = c.link_frame.ensures.kept ∙ c.loop-passed.invariant.kept;
-}
+      stands = λ memory world is.
+          subst (λ (w : World). StandsFor memory c.link_frame.new.self w) (sym (times-one_more passed frame_step world))
+          (c.link_frame.ensures.stands memory (times passed frame_step world) (c.loop-passed.invariant.stands memory world is));
+      heard = λ memory world is.
+          subst (λ (w : World). Grew world w c.args.heard.now c.link_frame.new.heard) (sym (times-one_more passed frame_step world))
+          (grew_on world (times passed frame_step world) (frame_step (times passed frame_step world)) c.args.heard.now c.loop-passed.heard c.link_frame.new.heard
+          (c.loop-passed.invariant.heard memory world is)
+          (c.link_frame.ensures.heard memory (times passed frame_step world) (c.loop-passed.invariant.stands memory world is)));
+      room = λ more has.
+          c.link_frame.ensures.room (4 * left + more)
+          (HasRoom-fewer (4 + (4 * left + more)) (4 * (c.args.frames - passed) + more) c.loop-passed.heard (omega (arith, before)) (c.loop-passed.invariant.room more has));
+      lists = c.link_frame.ensures.lists;
+      kept = c.link_frame.ensures.kept ∙ c.loop-passed.invariant.kept;
+    }
 
 pub returns-clause-stands : goal.returns-clause-stands
 returns-clause-stands c memory world is =

@@ -1,8 +1,8 @@
-use Rattle.std.proofs.Common.{◌≡◌, List, [], ◌∷◌, drop, refl, sym, ap, subst, ◌∙◌}
+use Rattle.std.proofs.Common.{[], drop, refl, sym, ap, subst, ◌∙◌}
 use Rattle.hda_registers.specs.Fields.{Fields}
 use Rattle.stream_moves.specs.Streams.{due}
 use Rattle.stream_moves.specs.Output.{Sent, Missed}
-use Rattle.hda_world.specs.Worlds.{World, output_of}
+use Rattle.hda_world.specs.Worlds.{output_of}
 use Rattle.hda_world.specs.Steps.{frame_carried, frame_step}
 use Rattle.hda_device.specs.Devices.{IsWorld}
 use Rattle.heard_lists.proofs.Callers.{hole-grows, gap-grows}

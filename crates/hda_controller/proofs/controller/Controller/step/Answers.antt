@@ -1,8 +1,8 @@
-use Rattle.std.proofs.Common.{◌≡◌, ◌+◌, ◌*◌, ℕ, refl, sym, ap, subst}
+use Rattle.std.proofs.Common.{◌≡◌, refl, sym, ap, subst}
 use Rattle.device_steps.specs.declared.Step.{Step}
 use Rattle.hda_world.specs.Steps.{after_step}
 use Rattle.hda_controller.specs.Controllers.{ControllerState, StandsFor}
-use Rattle.hda_controller.specs.Hearing.{most_items, Grew}
+use Rattle.hda_controller.specs.Hearing.{Grew}
 use Rattle.hda_controller.proofs.Growth.{grew_still, corb_carries, answer_carries, lose_carries, fetch_carries}
 use Rattle.hda_controller.proofs.Listed.{heard_after}
 use Rattle.hda_controller.proofs.controller.Controller.step.Goals as goal

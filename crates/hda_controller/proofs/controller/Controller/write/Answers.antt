@@ -1,4 +1,4 @@
-use Rattle.std.proofs.Common.{◌≡◌, ℕ, Bool, List, map, if◌then◌else◌, ap, sym, subst, refl, ◌∙◌}
+use Rattle.std.proofs.Common.{◌≡◌, List, map, ap, sym, subst, refl, ◌∙◌}
 use Rattle.std.specs.Vec.{with_items}
 use Rattle.codec_sound.specs.Keeping.{KeptSignals}
 use Rattle.hda_device.specs.Sound.{touches_sound}
