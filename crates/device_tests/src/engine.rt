@@ -3,7 +3,7 @@ ghost use Rattle.std.specs.Prelude.{◌≡◌, ◌≤◌, ◌+◌, []};
 ghost use Rattle.verb_codes.specs.Verbs.{IsInRange};
 
 use crate::scripted::Scripted;
-use command_engine::{Engine, Event, OpenFault, Poll};
+use command_engine::{ANSWER_LIMIT, Engine, Event, OpenFault, Poll};
 use dma_pool::Pool;
 use hda_platform::Platform;
 use std::alloc::Global;
@@ -122,6 +122,28 @@ const TOLD: [[u32; 2]; 4] = [
 /// As many responses as RINTCNT lets stand unread, each sent unasked.
 const BATCH: [[u32; 2]; 128] = [[0xFC00_0000, 0x1E]; 128];
 
+/// How many addresses of codecs there are.
+const CODECS: usize = 15;
+
+/// A response of each codec that was sent unasked, with the address and 1 as its tag.
+const OF_EACH: [[u32; 2]; CODECS] = [
+    [0x0400_0000, 0x10],
+    [0x0800_0000, 0x11],
+    [0x0C00_0000, 0x12],
+    [0x1000_0000, 0x13],
+    [0x1400_0000, 0x14],
+    [0x1800_0000, 0x15],
+    [0x1C00_0000, 0x16],
+    [0x2000_0000, 0x17],
+    [0x2400_0000, 0x18],
+    [0x2800_0000, 0x19],
+    [0x2C00_0000, 0x1A],
+    [0x3000_0000, 0x1B],
+    [0x3400_0000, 0x1C],
+    [0x3800_0000, 0x1D],
+    [0x3C00_0000, 0x1E],
+];
+
 /// Stores entries of a ring from its entry 1 on.
 fn store_entries(platform: &mut Scripted, ring: usize, entries: &[[u32; 2]])
     requires { ring ≤ 4096 }
@@ -153,12 +175,15 @@ fn poll_once(engine: &mut Engine, platform: &mut Scripted, issued: u32, case: &C
     Some(engine.poll(platform, case.2))
 }
 
-/// The first two events of a poll, and how many others there are.
-fn events_of(engine: &mut Engine) -> ([Option<Event>; 2], u32)
+/// The first events of a poll, as many as codecs can be, and how many others there are.
+fn events_of(engine: &mut Engine) -> ([Option<Event>; CODECS], u32)
     ensures corb { engine.new.corb ≡ engine.old.corb }
     ensures rirb { engine.new.rirb ≡ engine.old.rirb }
 {
-    let first = [engine.next_event(), engine.next_event()];
+    let mut first = [None; CODECS];
+    for turn in 0..CODECS {
+        first[turn] = engine.next_event();
+    }
     (first, drain(engine))
 }
 
@@ -177,9 +202,9 @@ fn drain(engine: &mut Engine) -> u32
     count
 }
 
-/// What a poll answers, its first two events, and how many others there are.
+/// What a poll answers, its first events, and how many others there are.
 #[derive(Drop)]
-struct Found(Option<Poll>, [Option<Event>; 2], u32);
+struct Found(Option<Poll>, [Option<Event>; CODECS], u32);
 
 /// What the poll of a case finds, whose command was submitted at this clock.
 fn polled(alloc: Global, issued: u32, case: &Case) -> Result<Found, Fail> {
@@ -219,15 +244,99 @@ fn times_do_not_wrap(rt: HostRuntime) -> Result<(), Fail> {
 fn polls_find_events(rt: HostRuntime) -> Result<(), Fail> {
     let case = Case(&[], 0, 1_500, Poll::Waiting);
     let Found(_, events, more) = polled(rt.alloc(), 1_000, &case)?;
-    assert!(rt; events == [None, None] && more == 0);
+    assert!(rt; events == [None; CODECS] && more == 0);
     let case = Case(&TOLD, 4, 1_500, Poll::Answered(9));
-    let Found(poll, [first, second], more) = polled(rt.alloc(), 1_000, &case)?;
+    let Found(poll, [first, second, third, ..], more) = polled(rt.alloc(), 1_000, &case)?;
     assert!(rt; poll == Some(Poll::Answered(9)));
     assert!(rt; first == Some(Event { codec: 2, tag: 1 }));
-    assert!(rt; second == Some(Event { codec: 0, tag: 2 }) && more == 0);
+    assert!(rt; second == Some(Event { codec: 0, tag: 2 }));
+    assert!(rt; third.is_none() && more == 0);
     let case = Case(&BATCH, 128, 1_500, Poll::Waiting);
-    let Found(poll, [first, _], more) = polled(rt.alloc(), 1_000, &case)?;
-    assert!(rt; poll == Some(Poll::Waiting) && more == 126);
+    let Found(poll, [first, ..], more) = polled(rt.alloc(), 1_000, &case)?;
+    assert!(rt; poll == Some(Poll::Waiting) && more == 113);
     assert!(rt; first == Some(Event { codec: 14, tag: 63 }));
+    Ok(())
+}
+
+#[test]
+fn polls_find_an_event_of_each_codec(rt: HostRuntime) -> Result<(), Fail> {
+    let case = Case(&OF_EACH, 15, 1_500, Poll::Waiting);
+    let Found(poll, events, more) = polled(rt.alloc(), 1_000, &case)?;
+    assert!(rt; poll == Some(Poll::Waiting) && more == 0);
+    for codec in 0..CODECS as u8 {
+        let event = Event {
+            codec,
+            tag: codec + 1,
+        };
+        assert!(rt; events[usize::from(codec)] == Some(event), "{codec}");
+    }
+    Ok(())
+}
+
+/// Polls once more, unless an event is left.
+fn poll_again(engine: &mut Engine, platform: &mut Scripted, clock: u32) -> Option<Poll>
+    requires accesses { 258 ≤ ⟦<Scripted as Platform>⟧.spare_accesses platform.old }
+    requires bytes { 2040 ≤ ⟦<Scripted as Platform>⟧.spare_bytes platform.old }
+    ensures corb { engine.new.corb ≡ engine.old.corb }
+    ensures rirb { engine.new.rirb ≡ engine.old.rirb }
+    ensures accesses { ⟦<Scripted as Platform>⟧.spare_accesses platform.old ≤ ⟦<Scripted as Platform>⟧.spare_accesses platform.new + 258 }
+    ensures bytes { ⟦<Scripted as Platform>⟧.spare_bytes platform.old ≤ ⟦<Scripted as Platform>⟧.spare_bytes platform.new + 2040 }
+{
+    if engine.next_event().is_some() {
+        return None;
+    }
+    Some(engine.poll(platform, clock))
+}
+
+/// What a started engine with an idle codec tells in four polls after a command at this clock: three while the clock stands still,
+/// and the last at the limit of the answer.
+fn poll_standing(
+    engine: &mut Engine,
+    platform: &mut Scripted,
+    clock: u32,
+) -> Option<[Option<Poll>; 4]>
+    requires accesses { 1050 ≤ ⟦<Scripted as Platform>⟧.spare_accesses platform.old }
+    requires bytes { 8164 ≤ ⟦<Scripted as Platform>⟧.spare_bytes platform.old }
+    ensures corb { engine.new.corb ≡ engine.old.corb }
+    ensures rirb { engine.new.rirb ≡ engine.old.rirb }
+{
+    engine.start(platform);
+    if !engine.is_started() || engine.outstanding().is_some() {
+        return None;
+    }
+    engine.submit(platform, ask_vendor(), clock);
+    let first = poll_again(engine, platform, clock);
+    let second = poll_again(engine, platform, clock);
+    let third = poll_again(engine, platform, clock);
+    let last = poll_again(engine, platform, clock.saturating_add(ANSWER_LIMIT));
+    Some([first, second, third, last])
+}
+
+/// What the polls tell of a codec that never answers.
+fn standing(alloc: Global, clock: u32) -> Result<Option<[Option<Poll>; 4]>, Fail> {
+    let mut pool = Pool::new(alloc, 24)?;
+    let mut platform = Scripted::new(alloc, &[4, FULL, FULL, 0x8000], 1_050, 8_164)?;
+    match Engine::open(alloc, &mut pool) {
+        Ok(mut engine) => {
+            let polls = poll_standing(&mut engine, &mut platform, clock);
+            engine.close(&mut pool);
+            Ok(polls)
+        }
+        Err(_) => Err(Fail::from("no engine")),
+    }
+}
+
+#[test]
+fn a_clock_that_stands_still_tells_nothing(rt: HostRuntime) -> Result<(), Fail> {
+    let waiting = Some(Poll::Waiting);
+    let unanswered = Some(Poll::Unanswered {
+        issued: 1_000,
+        noticed: 501_000,
+    });
+    let polls = standing(rt.alloc(), 1_000)?;
+    assert!(rt; polls == Some([waiting, waiting, waiting, unanswered]));
+    // Where the clock ends before the limit, no poll tells more.
+    let polls = standing(rt.alloc(), 0xFFFF_FFFF)?;
+    assert!(rt; polls == Some([waiting; 4]));
     Ok(())
 }

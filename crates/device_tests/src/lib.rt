@@ -12,6 +12,8 @@ mod formats;
 #[cfg(test)]
 mod heard;
 #[cfg(test)]
+mod long_walks;
+#[cfg(test)]
 mod platform;
 #[cfg(test)]
 mod pool;
@@ -19,6 +21,8 @@ mod pool;
 mod registers;
 #[cfg(test)]
 mod rings;
+#[cfg(test)]
+mod routes;
 #[cfg(test)]
 mod scripted;
 #[cfg(test)]
