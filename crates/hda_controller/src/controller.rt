@@ -182,8 +182,9 @@ impl Controller {
         self.device.frame(into)
     }
 
-    /// Lets the device make a step. What link frames carry is heard on the lists, for which they have room; they are those of candidate
-    /// pins of the codecs. Takes no memory.
+    /// Lets the device make a step of a schedule (this project's own); one that names a codec, a pin or a stream that is not there
+    /// changes nothing. Each list is that of a candidate pin of a codec, and hears each block that a link frame carries, and each frame
+    /// that misses its blocks: it has room for four items a link frame. Takes no memory.
     pub fn step(&mut self, memory: &mut [u8], step: &Step, heard: &mut HeardLists)
         requires room { HasRoom (most_items step.now) heard.old }
         requires lists { AreHeard self.old.device.codecs heard.old }
