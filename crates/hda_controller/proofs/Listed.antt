@@ -21,11 +21,14 @@ use Rattle.codec_sound.specs.HeardLists.{heard}
 use Rattle.hda_world.specs.Worlds.{World, CarriedFrame, codec_at}
 use Rattle.hda_world.specs.Steps.{after_step}
 use Rattle.hda_world.proofs.Callers.{steps_leave}
-use Rattle.hda_device.specs.Codecs.{graphs_of_all}
+use Rattle.hda_device.specs.Codecs.{addresses_of, graphs_of_all}
 use Rattle.hda_device.specs.Devices.{DeviceState, IsWorld}
 use Rattle.hda_controller.specs.Controllers.{ControllerState, StandsFor, is_candidate_in, is_candidate_of}
 use Rattle.hda_controller.specs.Openings.{codecs_in}
 use Rattle.hda_controller.specs.Hearing.{AreHeard, Grew}
+
+abbrev graph_addresses : List RawCodec → List ℕ
+graph_addresses graphs = map (λ graph. graph.address) graphs
 
 -- ---- candidates by the graphs alone
 
@@ -73,6 +76,26 @@ heard_after memory after device old new step before lists view some stands heard
     subst (λ (codecs : List CodecState). AreHeard codecs lists) (stands world is).codecs_are
     (heard_stepped step world before lists (heard world is) (subst (λ (codecs : List CodecState). AreHeard codecs before) (sym is.codecs_are) are))
 
+-- ---- the codecs' addresses
+
+addresses-graphs : (codecs : List CodecState) → addresses_of codecs ≡ graph_addresses (graphs_of_all codecs)
+addresses-graphs [] = refl
+addresses-graphs (codec ∷ codecs) = ap (λ (rest : List ℕ). codec.graph.address ∷ rest) (addresses-graphs codecs)
+
+-- stay where their graphs do
+pub addresses_by : (old new : List CodecState) → graphs_of_all new ≡ graphs_of_all old → addresses_of new ≡ addresses_of old
+addresses_by old new graphs = addresses-graphs new ∙ (ap graph_addresses graphs ∙ sym (addresses-graphs old))
+
+-- and over a step
+pub addresses_after : (memory after : List ℕ) (device : DeviceState) (old new : ControllerState) (step : Step) → device ≡ old.device
+    → ((memory : List ℕ) → (world : World) × IsWorld memory device world) → ((world : World) → StandsFor memory old world → StandsFor after new (after_step step world))
+    → addresses_of new.device.codecs ≡ addresses_of old.device.codecs
+addresses_after memory after device old new step view some stands =
+    let world : World = (some memory).0 in
+    let is : StandsFor memory old world = subst (λ (d : DeviceState). IsWorld memory d world) view (some memory).1 in
+    ap addresses_of (sym (stands world is).codecs_are)
+    ∙ (addresses_by world.codecs (after_step step world).codecs (steps_leave (step ∷ []) world).graphs ∙ ap addresses_of is.codecs_are)
+
 -- over a move that keeps the codecs
 pub heard_moved : (old new : List CodecState) (world after : World) (before lists : List Listing) → new ≡ old → Grew world after before lists → AreHeard old before → AreHeard new lists
 heard_moved old new world after before lists same grew are =
@@ -95,9 +118,6 @@ candidate_on : (graph : RawCodec) (graphs : List RawCodec) (address pin : ℕ) (
 unfolding candidate_among
 candidate_on graph graphs address pin true is other there = other (grind (arith, nat_tests)) there
 candidate_on graph graphs address pin false is other there = ap (λ (named : Bool). if named then is_candidate graph pin else candidate_among graphs address pin) is ∙ there
-
-abbrev graph_addresses : List RawCodec → List ℕ
-graph_addresses graphs = map (λ graph. graph.address) graphs
 
 -- where a candidate is there, so is its codec's address
 address_by : (graph : RawCodec) (graphs : List RawCodec) (address pin : ℕ) (named : Bool) → (graph.address == address) ≡ named → (candidate_among graphs address pin ≡ true → Contains (graph_addresses graphs) address)
@@ -135,6 +155,11 @@ places_candidate (graph ∷ graphs) (pins ∷ orders) ordered ascend =
 graphs-in : (files : List CodecFile) → graphs_of_all (codecs_in files) ≡ graphs_in files
 graphs-in [] = refl
 graphs-in (file ∷ files) = ap (λ (rest : List RawCodec). file.graph ∷ rest) (graphs-in files)
+
+-- those of a machine's codecs
+pub addresses_opened : (files : List CodecFile) → addresses_of (codecs_in files) ≡ map (λ file. file.graph.address) files
+addresses_opened [] = refl
+addresses_opened (file ∷ files) = ap (λ (rest : List ℕ). file.graph.address ∷ rest) (addresses_opened files)
 
 addresses-in : (files : List CodecFile) → map (λ file. file.graph.address) files ≡ graph_addresses (graphs_in files)
 addresses-in [] = refl

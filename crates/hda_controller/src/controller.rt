@@ -61,6 +61,7 @@ impl Controller {
         ensures renewals { IfOk result (λ controller. All (λ count. count ≡ 0) (renewals_of controller)) }
         ensures lists { IfOk result (λ controller. (lists : List Listing) → AreListsOf (graphs_in machine.now.codecs) lists
             → AreHeard controller.device.codecs lists) }
+        ensures addresses { IfOk result (λ controller. addresses_of controller.device.codecs ≡ map (λ codec. codec.graph.address) machine.now.codecs) }
     {
         let codecs = codecs_of(alloc, machine.codecs.as_slice())?;
         let kept = all_signals_of(alloc, machine.codecs.as_slice())?;
@@ -107,6 +108,7 @@ impl Controller {
         ensures stands { (memory : List ℕ) (world : World) → StandsFor memory self.old world → StandsFor memory self.new (after_write at width value world) }
         ensures renewals { renewals_of self.new ≡ renewals_written at width (renewals_of self.old) }
         ensures lists { (lists : List Listing) → AreHeard self.old.device.codecs lists → AreHeard self.new.device.codecs lists }
+        ensures addresses { addresses_of self.new.device.codecs ≡ addresses_of self.old.device.codecs }
     {
         self.device.write(at, width, value);
         renew_if(
@@ -193,9 +195,22 @@ impl Controller {
         ensures room { (more : ℕ) → HasRoom (most_items step.now + more) heard.old → HasRoom more heard.new }
         ensures lists { AreHeard self.new.device.codecs heard.new }
         ensures renewals { renewals_of self.new ≡ renewals_stepped step.now memory.old self.old }
+        ensures addresses { addresses_of self.new.device.codecs ≡ addresses_of self.old.device.codecs }
     {
-        // The controller stands for some world, so its lists stay those of candidate pins.
+        // The controller stands for some world, so its codecs stay, and its lists those of candidate pins.
         self.device.is_some_world();
+        self.make(memory, step, heard);
+    }
+
+    /// Makes the step.
+    fn make(&mut self, memory: &mut [u8], step: &Step, heard: &mut HeardLists)
+        requires room { HasRoom (most_items step.now) heard.old }
+        requires lists { AreHeard self.old.device.codecs heard.old }
+        ensures stands { (world : World) → StandsFor memory.old self.old world → StandsFor memory.new self.new (steps.after_step step.now world) }
+        ensures heard { (world : World) → StandsFor memory.old self.old world → Grew world (steps.after_step step.now world) heard.old heard.new }
+        ensures room { (more : ℕ) → HasRoom (most_items step.now + more) heard.old → HasRoom more heard.new }
+        ensures renewals { renewals_of self.new ≡ renewals_stepped step.now memory.old self.old }
+    {
         match *step {
             Step::Corb => self.corb(memory),
             Step::Answer(codec) => self.answer(codec),

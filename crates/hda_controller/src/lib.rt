@@ -6,6 +6,8 @@ mod controller;
 mod opening;
 mod places;
 mod renewing;
+mod room;
 
 pub use commands::is_set_command;
 pub use controller::Controller;
+pub use room::most_items;

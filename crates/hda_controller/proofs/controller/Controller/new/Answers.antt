@@ -10,7 +10,7 @@ use Rattle.hda_device.specs.Devices.{IsWorld, new_world}
 use Rattle.hda_controller.specs.Keeping.{AreKeptFor}
 use Rattle.hda_controller.specs.Hearing.{AreHeard}
 use Rattle.hda_controller.specs.Openings.{codecs_in}
-use Rattle.hda_controller.proofs.Listed.{heard_listed}
+use Rattle.hda_controller.proofs.Listed.{heard_listed, addresses_opened}
 use Rattle.hda_controller.proofs.Start.{addresses_good, nothing_waits}
 use Rattle.hda_controller.proofs.controller.Controller.new.Goals as goal
 
@@ -47,3 +47,8 @@ pub returns-clause-lists : goal.returns-clause-lists
 returns-clause-lists c lists listed =
     subst (λ (codecs : List CodecState). AreHeard codecs lists) (sym (c.in_ok-codecs.ensures ∙ ap codecs_in c.as_slice.ensures) ∙ (c.in_ok-device.ensures.stands []).codecs_are)
     (heard_listed c.args.machine.now lists c.requires listed)
+
+pub returns-clause-addresses : goal.returns-clause-addresses
+returns-clause-addresses c =
+    ap addresses_of (sym (c.in_ok-device.ensures.stands []).codecs_are ∙ (c.in_ok-codecs.ensures ∙ ap codecs_in c.as_slice.ensures))
+    ∙ addresses_opened c.args.machine.now.codecs

@@ -6,7 +6,8 @@ use Rattle.hda_device.specs.Devices.{IsWorld}
 use Rattle.hda_controller.specs.Controllers.{ControllerState, IsController, renewals_of, renewals_written}
 use Rattle.hda_controller.specs.Renewing.{renewed_if}
 use Rattle.hda_controller.specs.Hearing.{AreHeard}
-use Rattle.hda_controller.proofs.Listed.{heard_by}
+use Rattle.hda_device.specs.Codecs.{addresses_of}
+use Rattle.hda_controller.proofs.Listed.{heard_by, addresses_by}
 use Rattle.hda_controller.proofs.Writing.{written_fits, written_renewals, kept_back}
 use Rattle.hda_controller.proofs.controller.Controller.write.Goals.{After-self-1}
 use Rattle.hda_controller.proofs.controller.Controller.write.Goals as goal
@@ -33,3 +34,8 @@ pub returns-clause-lists : goal.returns-clause-lists
 returns-clause-lists c lists are =
     heard_by c.self.inside.device.codecs c.write.new.self.codecs lists c.write.ensures.codecs.graphs
     (subst (λ (state : ControllerState). AreHeard state.device.codecs lists) (sym c.self.view_is) are)
+
+pub returns-clause-addresses : goal.returns-clause-addresses
+returns-clause-addresses c =
+    addresses_by c.self.inside.device.codecs c.write.new.self.codecs c.write.ensures.codecs.graphs
+    ∙ ap (λ (state : ControllerState). addresses_of state.device.codecs) c.self.view_is
