@@ -6,6 +6,8 @@
 #[cfg(test)]
 mod codecs;
 #[cfg(test)]
+mod controller;
+#[cfg(test)]
 mod engine;
 #[cfg(test)]
 mod formats;

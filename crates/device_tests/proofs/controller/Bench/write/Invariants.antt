@@ -1,0 +1,8 @@
+use Rattle.std.specs.Prelude.{Contains}
+use Rattle.hda_device.specs.Codecs.{addresses_of}
+use Rattle.hda_controller.specs.Hearing.{AreHeard}
+use Rattle.device_tests.proofs.controller.Bench.write.Given as goal
+
+-- the lists are those of candidate pins, and the codec is there
+abbrev pub invariant-loop-at : goal.invariant-loop-at
+invariant-loop-at l = AreHeard l.self.controller.device.codecs l.self.lists × Contains (addresses_of l.self.controller.device.codecs) l.self.codec

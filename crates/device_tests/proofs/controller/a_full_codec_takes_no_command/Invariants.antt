@@ -1,0 +1,8 @@
+use Rattle.std.specs.Prelude.{Contains}
+use Rattle.hda_device.specs.Codecs.{addresses_of}
+use Rattle.hda_controller.specs.Hearing.{AreHeard}
+use Rattle.device_tests.proofs.controller.a_full_codec_takes_no_command.Given as goal
+
+-- the lists are those of candidate pins, and the codec is there
+abbrev pub invariant-loop : goal.invariant-loop
+invariant-loop g l = AreHeard l.bench.controller.device.codecs l.bench.lists × Contains (addresses_of l.bench.controller.device.codecs) l.bench.codec
