@@ -282,10 +282,10 @@ fn poll_again(engine: &mut Engine, platform: &mut Scripted, clock: u32) -> Optio
     ensures accesses { ⟦<Scripted as Platform>⟧.spare_accesses platform.old ≤ ⟦<Scripted as Platform>⟧.spare_accesses platform.new + 258 }
     ensures bytes { ⟦<Scripted as Platform>⟧.spare_bytes platform.old ≤ ⟦<Scripted as Platform>⟧.spare_bytes platform.new + 2040 }
 {
-    if engine.next_event().is_some() {
-        return None;
+    match engine.next_event() {
+        Some(_) => None,
+        None => Some(engine.poll(platform, clock)),
     }
-    Some(engine.poll(platform, clock))
 }
 
 /// What a started engine with an idle codec tells in four polls after a command at this clock: three while the clock stands still,
