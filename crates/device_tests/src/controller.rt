@@ -10,8 +10,8 @@ use hda_controller::{Controller, most_items};
 use hda_files::{Machine, read_machine};
 use hda_registers::Width;
 use hda_registers::places::{
-    CORBCTL, CORBRP, CORBWP, GCTL, OUTPUT_DESCRIPTOR, SDBDPL, SDCBL, SDCTL, SDFMT, SDLPIB, SDLVI,
-    STATESTS, WALCLK,
+    CORBCTL, CORBRP, CORBWP, GCTL, OUTPUT_DESCRIPTOR, RINTCNT, RIRBCTL, RIRBLBASE, RIRBWP, SDBDPL,
+    SDCBL, SDCTL, SDFMT, SDLPIB, SDLVI, STATESTS, WALCLK,
 };
 use heard_lists::HeardLists;
 use std::alloc::Global;
@@ -37,7 +37,7 @@ const SOUND: usize = 1152;
 
 /// A controller, its memory, the lists of what its pins hear, and its first codec's address.
 #[derive(Drop)]
-struct Bench {
+struct Desk {
     controller: Controller,
     lists: HeardLists,
     codec: u8,
@@ -55,20 +55,20 @@ fn first_address(machine: &Machine) -> Option<u8>
 }
 
 /// The controller of the file's machine, in reset.
-fn open(alloc: Global, text: &str) -> Result<Bench, Fail>
-    ensures lists { IfOk result (λ bench. AreHeard bench.controller.device.codecs bench.lists) }
-    ensures codec { IfOk result (λ bench. Contains (addresses_of bench.controller.device.codecs) bench.codec) }
+fn open(alloc: Global, text: &str) -> Result<Desk, Fail>
+    ensures lists { IfOk result (λ desk. AreHeard desk.controller.device.codecs desk.lists) }
+    ensures codec { IfOk result (λ desk. Contains (addresses_of desk.controller.device.codecs) desk.codec) }
 {
     let machine = read_machine(alloc, text.as_bytes())?;
     let codec = first_address(&machine).ok_or("a machine has a codec")?;
-    Ok(Bench {
+    Ok(Desk {
         controller: Controller::new(alloc, &machine)?,
         lists: HeardLists::new(alloc, &machine)?,
         codec,
     })
 }
 
-impl Bench {
+impl Desk {
     /// Lets the device make some steps, for which the lists get room.
     #[tactic(auto, using(hda_controller::proofs::Callers::heard_reserved))]
     fn run(&mut self, memory: &mut [u8], steps: &[Step]) -> Result<(), Fail>
@@ -146,21 +146,20 @@ const PLAY: [(u16, Width, u32); 6] = [
 #[test]
 fn a_pin_hears_until_it_is_silenced(rt: HostRuntime) -> Result<(), Fail> {
     let mut memory = memory();
-    let mut bench = open(rt.alloc(), LEAST)?;
-    bench.write(&START);
-    bench.run(&mut memory, &[Step::Corb; 7])?;
-    bench.write(&PLAY);
+    let mut desk = open(rt.alloc(), LEAST)?;
+    desk.write(&START);
+    desk.run(&mut memory, &[Step::Corb; 7])?;
+    desk.write(&PLAY);
     // Three blocks are fetched, and a frame carries one.
-    bench.run(&mut memory, &[Step::Fetch(1, 12), Step::Link(2)])?;
+    desk.run(&mut memory, &[Step::Fetch(1, 12), Step::Link(2)])?;
     assert!(rt;
-        bench
-            .controller
+        desk.controller
             .read(OUTPUT_DESCRIPTOR + SDLPIB, Width::Four)
             == 8
     );
-    bench.write(&[(CORBWP, Width::Two, 8)]);
-    bench.run(&mut memory, &[Step::Corb, Step::Link(2)])?;
-    let lists = bench.lists.into_lists();
+    desk.write(&[(CORBWP, Width::Two, 8)]);
+    desk.run(&mut memory, &[Step::Corb, Step::Link(2)])?;
+    let lists = desk.lists.into_lists();
     let heard = [
         Heard::Sound(1, 2),
         Heard::Sound(3, -1),
@@ -175,83 +174,117 @@ fn a_pin_hears_until_it_is_silenced(rt: HostRuntime) -> Result<(), Fail> {
 #[test]
 fn signals_are_renewed_where_they_can_change(rt: HostRuntime) -> Result<(), Fail> {
     let mut memory = memory();
-    let mut bench = open(rt.alloc(), LEAST)?;
-    assert!(rt; bench.renewals() == 0);
+    let mut desk = open(rt.alloc(), LEAST)?;
+    assert!(rt; desk.renewals() == 0);
     // The write of GCTL, and seven commands that set controls.
-    bench.write(&START);
-    bench.run(&mut memory, &[Step::Corb; 7])?;
-    assert!(rt; bench.renewals() == 8);
+    desk.write(&START);
+    desk.run(&mut memory, &[Step::Corb; 7])?;
+    assert!(rt; desk.renewals() == 8);
     // The format, and the two writes of the control.
-    bench.write(&PLAY);
-    assert!(rt; bench.renewals() == 11);
-    bench.run(&mut memory, &[Step::Fetch(1, 8), Step::Link(1_000)])?;
-    bench.run(
+    desk.write(&PLAY);
+    assert!(rt; desk.renewals() == 11);
+    desk.run(&mut memory, &[Step::Fetch(1, 8)])?;
+    desk.run(&mut memory, &[Step::Link(1); 1_000])?;
+    desk.run(
         &mut memory,
         &[Step::Answer(0), Step::Rirb, Step::Plug(0, 0x14)],
     )?;
-    assert!(rt; bench.renewals() == 11);
+    assert!(rt; desk.renewals() == 11);
     // A command that sets nothing.
     put(&mut memory, 32, 0x000F_0000);
-    bench.write(&[(CORBWP, Width::Two, 8)]);
-    bench.run(&mut memory, &[Step::Corb])?;
-    assert!(rt; bench.renewals() == 11);
+    desk.write(&[(CORBWP, Width::Two, 8)]);
+    desk.run(&mut memory, &[Step::Corb])?;
+    assert!(rt; desk.renewals() == 11);
     Ok(())
 }
 
 #[test]
+fn nothing_moves_in_reset(rt: HostRuntime) -> Result<(), Fail> {
+    let mut memory = memory();
+    let mut desk = open(rt.alloc(), LEAST)?;
+    desk.run(&mut memory, &[Step::Link(30), Step::Corb, Step::Answer(0)])?;
+    assert!(rt; desk.controller.read(WALCLK, Width::Four) == 0);
+    desk.write(&START);
+    desk.run(&mut memory, &[Step::Link(24)])?;
+    assert!(rt; desk.controller.read(STATESTS, Width::Two) == 0);
+    desk.run(&mut memory, &[Step::Link(1)])?;
+    assert!(rt; desk.controller.read(STATESTS, Width::Two) == 1);
+    assert!(rt; desk.controller.read(WALCLK, Width::Four) == 12_500);
+    Ok(())
+}
+
+/// Steps that name a codec, a pin or a stream that is not there.
+const NOWHERE: [Step; 8] = [
+    Step::Answer(9),
+    Step::Lose(15),
+    Step::Plug(3, 0x14),
+    Step::Unplug(0, 0x7F),
+    Step::Fetch(0, 64),
+    Step::Fetch(2, 64),
+    Step::Fetch(255, 64),
+    Step::Link(0),
+];
+
+#[test]
 fn nothing_happens_where_nothing_is(rt: HostRuntime) -> Result<(), Fail> {
     let mut memory = memory();
-    let mut bench = open(rt.alloc(), LEAST)?;
-    // No link frame passes while CRST is 0.
-    bench.run(&mut memory, &[Step::Link(30), Step::Corb, Step::Answer(0)])?;
-    assert!(rt; bench.controller.read(WALCLK, Width::Four) == 0);
-    bench.write(&START);
-    bench.run(
-        &mut memory,
-        &[
-            Step::Answer(9),
-            Step::Lose(15),
-            Step::Plug(3, 0x14),
-            Step::Unplug(0, 0x7F),
-            Step::Fetch(0, 64),
-            Step::Fetch(7, 64),
-            Step::Link(24),
-        ],
-    )?;
-    assert!(rt; bench.controller.read(STATESTS, Width::Two) == 0);
-    bench.run(&mut memory, &[Step::Link(1)])?;
-    assert!(rt; bench.controller.read(STATESTS, Width::Two) == 1);
-    assert!(rt; bench.controller.read(WALCLK, Width::Four) == 12_500);
-    let lists = bench.lists.into_lists();
-    assert!(rt; lists.len() == 1 && lists[0].list.as_slice().is_empty());
+    let mut desk = open(rt.alloc(), LEAST)?;
+    desk.write(&START);
+    desk.run(&mut memory, &[Step::Corb; 7])?;
+    desk.write(&PLAY);
+    // A stream runs with an empty FIFO, and seven answers wait at the codec.
+    desk.run(&mut memory, &NOWHERE)?;
+    desk.write(&[
+        (RIRBLBASE, Width::Four, 1280),
+        (RINTCNT, Width::Two, 8),
+        (RIRBCTL, Width::One, 2),
+    ]);
+    desk.run(&mut memory, &[Step::Rirb])?;
+    assert!(rt; desk.controller.read(RIRBWP, Width::Two) == 0);
+    // They were neither sent nor lost.
+    desk.run(&mut memory, &[Step::Answer(0); 7])?;
+    desk.run(&mut memory, &[Step::Rirb])?;
+    assert!(rt; desk.controller.read(RIRBWP, Width::Two) == 7);
+    // Nothing was fetched.
+    desk.run(&mut memory, &[Step::Link(1)])?;
+    let lists = desk.lists.into_lists();
+    assert!(rt; lists.len() == 1 && lists[0].list.as_slice() == [Heard::Hole].as_slice());
     Ok(())
 }
 
 #[test]
 fn a_full_codec_takes_no_command(rt: HostRuntime) -> Result<(), Fail> {
     let mut memory = [0; 1408];
-    let mut bench = open(rt.alloc(), LEAST)?;
-    bench.write(&START);
-    bench.write(&[(CORBWP, Width::Two, 255)]);
+    let mut desk = open(rt.alloc(), LEAST)?;
+    desk.write(&START);
+    desk.write(&[(CORBWP, Width::Two, 255)]);
     // 64 answers wait at the codec, so the engine waits too.
-    bench.run(&mut memory, &[Step::Corb; 70])?;
-    assert!(rt; bench.controller.read(CORBRP, Width::Two) == 64);
-    // 255 responses come to wait in the controller, and three answers at the codec.
+    desk.run(&mut memory, &[Step::Corb; 70])?;
+    assert!(rt; desk.controller.read(CORBRP, Width::Two) == 64);
+    // All 255 come to wait in the controller.
     for _ in 0..4 {
-        bench.run(&mut memory, &[Step::Answer(0); 64])?;
-        bench.run(&mut memory, &[Step::Corb; 64])?;
+        desk.run(&mut memory, &[Step::Answer(0); 64])?;
+        desk.run(&mut memory, &[Step::Corb; 64])?;
     }
-    assert!(rt; bench.controller.read(CORBRP, Width::Two) == 255);
-    bench.write(&[(CORBWP, Width::Two, 2)]);
-    bench.run(&mut memory, &[Step::Corb; 3])?;
-    assert!(rt; bench.controller.read(CORBRP, Width::Two) == 2);
-    // One of the three is the 256th, and the other two leave room for 62 at the codec.
-    bench.run(&mut memory, &[Step::Answer(0); 3])?;
-    bench.write(&[(CORBWP, Width::Two, 255)]);
-    bench.run(&mut memory, &[Step::Corb; 64])?;
-    assert!(rt; bench.controller.read(CORBRP, Width::Two) == 64);
-    // A reset drops them all.
-    bench.write(&[(GCTL, Width::Four, 0), (GCTL, Width::Four, 1)]);
-    assert!(rt; bench.controller.read(CORBRP, Width::Two) == 0);
+    assert!(rt; desk.controller.read(CORBRP, Width::Two) == 255);
+    desk.write(&[(CORBWP, Width::Two, 2)]);
+    desk.run(&mut memory, &[Step::Corb; 3])?;
+    assert!(rt; desk.controller.read(CORBRP, Width::Two) == 2);
+    // One of the three is the 256th there, and the other two leave room for 62 at the codec.
+    desk.run(&mut memory, &[Step::Answer(0); 3])?;
+    desk.write(&[(CORBWP, Width::Two, 255)]);
+    desk.run(&mut memory, &[Step::Corb; 64])?;
+    assert!(rt; desk.controller.read(CORBRP, Width::Two) == 64);
+    // A reset drops them all: the codec has room for 64 again.
+    desk.write(&[(GCTL, Width::Four, 0)]);
+    desk.write(&START);
+    desk.write(&[(CORBWP, Width::Two, 255)]);
+    desk.run(&mut memory, &[Step::Corb; 70])?;
+    assert!(rt; desk.controller.read(CORBRP, Width::Two) == 64);
     Ok(())
+}
+
+#[test]
+fn an_item_has_twelve_bytes(rt: HostRuntime) {
+    assert!(rt; std::mem::size_of::<Heard>() == 12);
 }

@@ -16,13 +16,13 @@ const TAG: u8 = 15;
 
 /// What each control of a node is set to before set-up, by the verb and payload of a command.
 struct Before {
-    /// All controls but the selected connection and the amplifiers.
+    /// All controls but the selected connection, the amplifiers and the configuration default.
     plain: [u32; 7],
     /// Both sides of both amplifiers, for the place 0.
     amplifiers: u32,
 }
 
-/// Each control has its greatest number: nodes are off, amplifiers muted at their greatest gain.
+/// Each control that is heard has its greatest number: nodes are off, amplifiers muted at their greatest gain.
 const GREATEST: Before = Before {
     plain: [
         0x0007_0503,
@@ -84,7 +84,7 @@ fn give(codec: &mut Codec, word: u32) {
     }
 }
 
-/// Sets all controls of all nodes; each selector and pin selects its last connection.
+/// Sets the controls of all nodes but the configuration default; each selector and pin selects its last connection.
 fn set_all(codec: &mut Codec, before: &Before) {
     for nid in 0..128_u32 {
         let node = nid << 20;

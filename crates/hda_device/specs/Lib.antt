@@ -1,5 +1,5 @@
 pub mod Codecs
 pub mod Devices
 pub mod Sound
--- what private functions promise one another
+-- what holds of a device at all times
 pub mod Keeping

@@ -5,4 +5,4 @@ use Rattle.device_tests.proofs.controller.a_full_codec_takes_no_command.Given as
 
 -- the lists are those of candidate pins, and the codec is there
 abbrev pub invariant-loop : goal.invariant-loop
-invariant-loop g l = AreHeard l.bench.controller.device.codecs l.bench.lists × Contains (addresses_of l.bench.controller.device.codecs) l.bench.codec
+invariant-loop g l = AreHeard l.desk.controller.device.codecs l.desk.lists × Contains (addresses_of l.desk.controller.device.codecs) l.desk.codec

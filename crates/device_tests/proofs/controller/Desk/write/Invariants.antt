@@ -1,7 +1,7 @@
 use Rattle.std.specs.Prelude.{Contains}
 use Rattle.hda_device.specs.Codecs.{addresses_of}
 use Rattle.hda_controller.specs.Hearing.{AreHeard}
-use Rattle.device_tests.proofs.controller.Bench.write.Given as goal
+use Rattle.device_tests.proofs.controller.Desk.write.Given as goal
 
 -- the lists are those of candidate pins, and the codec is there
 abbrev pub invariant-loop-at : goal.invariant-loop-at
