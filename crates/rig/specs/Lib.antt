@@ -3,5 +3,6 @@ pub mod Stretches
 pub mod Follows
 pub mod Rigs
 -- what private functions promise one another
+pub mod Honesty
 pub mod Recordings
 pub mod Rooms

@@ -8,7 +8,7 @@ ghost use Rattle.heard_lists.specs.Listings.{AreListsOf, graphs_in};
 ghost use Rattle.hda_controller.specs.Hearing.{most_items};
 ghost use Rattle.rig.specs.Replays.{start_of};
 ghost use Rattle.rig.specs.Recordings.{IsWhere, HasRoomFor, items_for};
-ghost use Rattle.rig.proofs.Honesty.{AreHonest-prop};
+ghost use Rattle.rig.specs.Honesty.{AreHonest-prop};
 
 mod accesses;
 

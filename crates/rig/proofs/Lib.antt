@@ -1,0 +1,5 @@
+pub mod Noting
+pub mod Weaving
+pub mod Where
+pub mod Rooming
+pub mod Following
