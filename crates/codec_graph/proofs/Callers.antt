@@ -13,7 +13,6 @@ use Rattle.codec_graph.proofs.Nodes as nodes
 use Rattle.codec_graph.proofs.Narrow as narrow
 use Rattle.codec_graph.proofs.Sound as sound
 use Rattle.codec_graph.proofs.ReadableLists as readable
-
 -- a key stands for itself
 pub use Rattle.codec_graph.proofs.Controlled.{here}
 -- settings of a well-formed graph have a number for each control that is there, and for no other

@@ -1,25 +1,22 @@
 -- That the device goes where the world goes over a write of a register.
-use Rattle.std.proofs.Common.{◌≡◌, ◌&&◌, ◌||◌, not, slice_index_or, ℕ, Bool, true, false, List, [], ◌∷◌, length, map, if◌then◌else◌, refl, sym, ap, subst, ◌∙◌, inl}
+use Rattle.std.proofs.Common.{◌≡◌, ◌||◌, ℕ, Bool, true, false, List, [], ◌∷◌, length, map, if◌then◌else◌, refl, sym, ap, subst, ◌∙◌, inl}
 use Rattle.std.specs.Prelude.{Vec}
 use Rattle.std.specs.Vec.{with_items}
 use Rattle.std.proofs.lemmas.List.{length-map, with_items_is}
 use Rattle.hda_registers.specs.declared.shapes.Width.{Width}
 use Rattle.hda_registers.specs.declared.shapes.Effects.{Effects}
-use Rattle.hda_registers.specs.Fields.{Descriptor, Fields, reset_descriptor, is_running, stream_of}
-use Rattle.hda_registers.specs.Access.{written, effects_of, rose, fell}
-use Rattle.hda_registers.specs.Laws.{IsHeldInReset}
-use Rattle.hda_registers.proofs.Callers.{keeps-shape, stays-held}
+use Rattle.hda_registers.specs.Fields.{Fields}
+use Rattle.hda_registers.specs.Access.{written, effects_of}
 use Rattle.codec_graph.specs.CodecStates.{CodecState, cleared}
 use Rattle.ring_entries.specs.declared.response.Response.{Response}
-use Rattle.stream_moves.specs.Streams.{StreamState, settled, settled_state}
-use Rattle.stream_descriptor.specs.Running.{Playing, StandsFor, StoodFor, LeadsTo, with_descriptor}
+use Rattle.stream_moves.specs.Streams.{StreamState, settled_state}
+use Rattle.stream_descriptor.specs.Running.{Playing, StandsFor}
 use Rattle.stream_descriptor.proofs.Callers.{Settled}
 use Rattle.hda_world.specs.Worlds.{World}
 use Rattle.hda_world.specs.Events.{reset_if, counted_anew_if, registers_written, streams_settled, after_write}
 use Rattle.hda_world.proofs.Callers.{write_memory, write_registers, write_states}
 use Rattle.hda_device.specs.Codecs.{KeepCodecs, addresses_of}
 use Rattle.hda_device.specs.Devices.{DeviceState, AreAlike, IsWorld}
-use Rattle.hda_device.specs.Keeping.{IsDevice}
 
 -- ---- what waits
 

@@ -1,17 +1,15 @@
 -- That the device without codecs goes where the world goes.
-use Rattle.std.proofs.Common.{◌≡◌, ◌+◌, ◌==◌, ◌&&◌, ◌||◌, not, slice_index_or, ℕ, zero, suc, Bool, true, false, List, [], length, map, if◌then◌else◌, refl, sym, ap, subst, ◌∙◌}
+use Rattle.std.proofs.Common.{◌≡◌, ◌+◌, ◌==◌, ℕ, zero, suc, Bool, true, false, List, [], length, map, if◌then◌else◌, refl, sym, ap, subst, ◌∙◌}
 use Rattle.std.proofs.lemmas.List.{nil_from_length, length-map}
 use Rattle.hda_registers.specs.declared.shapes.Width.{Width}
-use Rattle.hda_registers.specs.declared.shapes.Effects.{Effects}
-use Rattle.hda_registers.specs.Fields.{Descriptor, Fields, reset_descriptor, is_out_of_reset, is_running, stream_of}
+use Rattle.hda_registers.specs.Fields.{Descriptor, Fields, is_out_of_reset}
 use Rattle.hda_registers.specs.Moves.{framed}
-use Rattle.hda_registers.specs.Access.{written, effects_of, rose, fell}
+use Rattle.hda_registers.specs.Access.{written}
 use Rattle.hda_registers.specs.Laws.{IsHeldInReset}
-use Rattle.hda_registers.proofs.Callers.{keeps-shape, stays-held}
 use Rattle.codec_graph.specs.CodecStates.{CodecState}
-use Rattle.stream_moves.specs.Streams.{StreamState, Stream, settled, settled_state}
+use Rattle.stream_moves.specs.Streams.{StreamState, Stream, settled_state}
 use Rattle.stream_moves.specs.Output.{Stopped, frame_of, after_frame}
-use Rattle.stream_descriptor.specs.Running.{Playing, StandsFor, StoodFor, LeadsTo, Runs, stream_at, with_descriptor, found_at}
+use Rattle.stream_descriptor.specs.Running.{Playing, StandsFor, LeadsTo, stream_at, with_descriptor, found_at}
 use Rattle.stream_descriptor.proofs.Callers.{beside_output, Settled}
 use Rattle.hda_world.specs.Worlds.{World, output_of}
 use Rattle.hda_world.specs.Steps.{discovered, discovered_at, passed, output_framed, frame_step, times}
@@ -114,12 +112,12 @@ module _ (memory : List ℕ) (before : DeviceState) (input output : Playing) (ne
       → Settled old new second input output world.input world.output
       → IsWorld memory (record { registers = second; input = input; output = output }) (after_write at width value world)
   write_settled is new_is input_same output_same done =
-      let states = write_states world at width value in
-      let graphs = (access_leaves world at width value).graphs in
+      let states = write_states world at value width in
+      let graphs = (access_leaves world at value width).graphs in
       record {
         codecs = nil_from_length (after_write at width value world).codecs (no_graphs (after_write at width value world).codecs world.codecs graphs is.codecs);
-        memory_is = write_memory world at width value ∙ is.memory_is;
-        registers_are = write_registers world at width value ∙ (ap (λ (f : Fields). streams_settled f (written f at width value)) is.registers_are ∙ (ap (streams_settled old) (sym new_is) ∙ sym done.registers));
+        memory_is = write_memory world at value width ∙ is.memory_is;
+        registers_are = write_registers world at value width ∙ (ap (λ (f : Fields). streams_settled f (written f at width value)) is.registers_are ∙ (ap (streams_settled old) (sym new_is) ∙ sym done.registers));
         input_stands = subst (λ (state : StreamState). StandsFor input second state)
             (sym (states.0 ∙ (ap (λ (f : Fields). settled_state f.input (written f at width value).input world.input) is.registers_are ∙ ap (λ (f : Fields). settled_state old.input f.input world.input) (sym new_is)))) done.input_stands;
         output_stands = subst (λ (state : StreamState). StandsFor output second state)

@@ -11,7 +11,6 @@ use Rattle.route_planner.specs.Plans.{IsOutcome, IsPlan}
 use Rattle.route_planner.specs.Search.{IsBounded}
 use Rattle.route_planner.proofs.Bounds as bounds
 use Rattle.route_planner.proofs.PlanParts as parts
-
 -- a graph has one plan
 pub use Rattle.route_planner.proofs.OnlyPlan.{only_plan}
 -- what holds of a number that is there

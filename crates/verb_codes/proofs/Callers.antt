@@ -11,7 +11,6 @@ use Rattle.verb_codes.proofs.Packing as packing
 use Rattle.verb_codes.proofs.Expansions as expansions
 use Rattle.verb_codes.proofs.Masks as masks
 use Rattle.verb_codes.specs.Words.{has_bit}
-
 -- the payload of an amplifier's setting in range reads as that setting
 pub use Rattle.verb_codes.proofs.Payloads.{setting_of-payload}
 
