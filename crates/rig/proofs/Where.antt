@@ -37,21 +37,21 @@ leads_on start events more event is = ap (λ (all : List Event). after all start
 
 -- ---- heard lists
 
-lists_go_on : (before after : World) (old new : List Listing) → Grew before after old new → AreHeardIn before old → AreHeardIn after new
-lists_go_on before after old new grew were =
-    subst (AreHeardIn after) (sym grew.lists)
-    (All-map (λ (listing : Listing). listing.list ≡ heard listing.codec listing.pin after.carried)
-    (λ (listing : Listing). with_items (heard listing.codec listing.pin grew.added) listing) old (λ k d within. one (were k d within)))
+lists_go_on : (before later : World) (old new : List Listing) → Grew before later old new → AreHeardIn before old → AreHeardIn later new
+lists_go_on before later old new grew were =
+    subst (AreHeardIn later) (sym grew.lists)
+    (All-map (λ (listing : Listing). listing.list ≡ heard listing.codec listing.pin later.carried)
+    (λ (listing : Listing). with_items (heard listing.codec listing.pin grew.added) listing) old (λ k d within. one _ (were k d within)))
   where
-    one : {listing : Listing} → listing.list ≡ heard listing.codec listing.pin before.carried
-        → listing.list ++ heard listing.codec listing.pin grew.added ≡ heard listing.codec listing.pin after.carried
-    one {listing} was =
+    one : (listing : Listing) → listing.list ≡ heard listing.codec listing.pin before.carried
+        → listing.list ++ heard listing.codec listing.pin grew.added ≡ heard listing.codec listing.pin later.carried
+    one listing was =
         ap (λ (items : List Heard). items ++ heard listing.codec listing.pin grew.added) was
         ∙ (sym (heard-append listing.codec listing.pin before.carried grew.added)
         ∙ ap (heard listing.codec listing.pin) (sym grew.carried))
 
-lists_stay : (before after : World) (lists : List Listing) → after.carried ≡ before.carried → AreHeardIn before lists → AreHeardIn after lists
-lists_stay before after lists same were =
+lists_stay : (before later : World) (lists : List Listing) → later.carried ≡ before.carried → AreHeardIn before lists → AreHeardIn later lists
+lists_stay before later lists same were =
     subst (λ (carried : List CarriedFrame). All (λ listing. listing.list ≡ heard listing.codec listing.pin carried) lists) (sym same) were
 
 -- ---- events
@@ -85,7 +85,7 @@ module _ (start : World) (events more : List Event) (memory : List ℕ) (control
         stands = subst (StandsFor memory moved) leads (stands memory here was.stands);
         known = keeps lists was.known;
         heard = subst (λ (world : World). AreHeardIn world lists) leads
-            (lists_stay here (after_write at width value here) lists (access_leaves here at width value).carried was.heard);
+            (lists_stay here (after_write at width value here) lists (access_leaves here at value width).carried was.heard);
       }
 
   -- a write of a piece of memory
@@ -165,5 +165,5 @@ pub listed_reserved : (graphs : List RawCodec) (old new : List Listing) → map 
 listed_reserved graphs old new same are =
     listed_by graphs old new (pins_handed new ∙ (ap (map (λ (list : PinHeard). (list.codec, list.pin))) same ∙ sym (pins_handed old))) are
 
-pub listed_stepped : (graphs : List RawCodec) (before after : World) (old new : List Listing) → Grew before after old new → AreListsOf graphs old → AreListsOf graphs new
-listed_stepped graphs before after old new grew are = listed_by graphs old new (ap pins_of grew.lists ∙ pins_grown grew.added old) are
+pub listed_stepped : (graphs : List RawCodec) (before later : World) (old new : List Listing) → Grew before later old new → AreListsOf graphs old → AreListsOf graphs new
+listed_stepped graphs before later old new grew are = listed_by graphs old new (ap pins_of grew.lists ∙ pins_grown grew.added old) are

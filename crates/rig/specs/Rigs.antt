@@ -25,7 +25,7 @@ told_by rig = Some (telling_of rig)
 
 -- what no access changes: the machine, whether a run is open, and with which entry and which groups the last one began
 abbrev pub setting_of : Rig → Setting
-setting_of rig = record { machine = rig.recording.machine; open = rig.open; begun = rig.begun; groups = rig.groups }
+setting_of rig = record { machine = rig.recording.machine; in_run = rig.in_run; begun = rig.begun; groups = rig.groups }
 
 -- what its pins heard
 abbrev pub lists_of : Rig → List Listing

@@ -6,6 +6,7 @@ ghost use Rattle.hda_world.specs.JournalEvents.{events_of};
 ghost use Rattle.hda_files.specs.Machines.{IsSound};
 ghost use Rattle.heard_lists.specs.Listings.{AreListsOf, graphs_in};
 ghost use Rattle.hda_controller.specs.Hearing.{most_items};
+ghost use Rattle.hda_platform.specs.Stillness.{zeros};
 ghost use Rattle.rig.specs.Replays.{start_of};
 ghost use Rattle.rig.specs.Recordings.{IsWhere, HasRoomFor, items_for};
 ghost use Rattle.rig.specs.Honesty.{AreHonest-prop};
@@ -131,6 +132,22 @@ impl Recording {
             → HasRoomFor entries bytes items self.new.journal self.new.heard }
     {
         note(&mut self.journal, Entry::End);
+    }
+
+    /// The machine, what its pins heard, and the journal.
+    pub(crate) fn into_parts(self) -> (Machine, HeardLists, Journal)
+        ensures machine { result.0 ≡ self.machine }
+        ensures heard { result.1 ≡ self.heard }
+        ensures journal { result.2 ≡ self.journal }
+    {
+        let Recording {
+            machine,
+            memory: _,
+            controller: _,
+            heard,
+            journal,
+        } = self;
+        (machine, heard, journal)
     }
 }
 

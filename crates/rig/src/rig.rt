@@ -14,6 +14,7 @@ use crate::recording::Recording;
 use crate::rooms::{items_for, room_for};
 use hda_files::Machine;
 use hda_items::Items;
+use hda_platform::Platform;
 use hda_schedule::Group;
 use hda_world::Step;
 use std::alloc::{AllocError, Global};
@@ -25,7 +26,7 @@ use std::alloc::{AllocError, Global};
 pub struct Rig {
     recording: Recording,
     /// Whether a run of the driver is open.
-    open: bool,
+    in_run: bool,
     /// The number of the journal's entry with which the last run began.
     begun: usize,
     /// The groups with which it began.
@@ -35,11 +36,11 @@ pub struct Rig {
     /// How many accesses and how many bytes of pieces of memory it has room to note.
     spare_accesses: u32,
     spare_bytes: u32,
-    pub ghost closed: { open ≡ false → spare_accesses ≡ 0 },
+    pub ghost closed: { in_run ≡ false → spare_accesses ≡ 0 },
     pub ghost counts: { made + spare_accesses < 2 ^ 32 },
-    pub ghost laid: { ∥ (open ≡ true → IsOpenFrom begun groups (events_of recording.journal)) ∥₁ },
-    pub ghost numbered: { open ≡ true → made ≡ length (accesses_of (drop begun (events_of recording.journal))) },
-    pub ghost room: { open ≡ true → HasRoomFor (spare_accesses + 1 + step_count (drop made groups)) spare_bytes (item_count (drop made groups))
+    pub ghost laid: { ∥ (in_run ≡ true → IsOpenFrom begun groups (events_of recording.journal)) ∥₁ },
+    pub ghost numbered: { in_run ≡ true → made ≡ length (accesses_of (drop begun (events_of recording.journal))) },
+    pub ghost room: { in_run ≡ true → HasRoomFor (spare_accesses + 1 + step_count (drop made groups)) spare_bytes (item_count (drop made groups))
         recording.journal recording.heard } by { Prim.hlevel props },
 }
 
@@ -61,11 +62,11 @@ impl Rig {
         requires { IsSound machine }
         ensures told { IfOk result (λ rig. told_by rig ≡ Some (telling_from REGION_BYTES machine [])) }
         ensures machine { IfOk result (λ rig. (setting_of rig).machine ≡ machine) }
-        ensures open { IfOk result (λ rig. (setting_of rig).open ≡ false) }
+        ensures in_run { IfOk result (λ rig. (setting_of rig).in_run ≡ false) }
     {
         Ok(Rig {
             recording: Recording::new(alloc, machine)?,
-            open: false,
+            in_run: false,
             begun: 0,
             groups: Items::new(alloc),
             made: 0,
@@ -79,7 +80,7 @@ impl Rig {
     /// # Errors
     /// Want of memory. Nothing happened then.
     pub fn step(&mut self, step: &Step) -> Result<(), AllocError>
-        requires { (setting_of self.old).open ≡ false }
+        requires { (setting_of self.old).in_run ≡ false }
         ensures told { OnOk result (Between (λ old new. Accessed old new (Stepped step.now)) (told_by self.old) (told_by self.new)) }
         ensures went { OnOk result (Went (telling_of self.old) (telling_of self.new) (Stepped step.now ∷ [])) }
         ensures unchanged { OnErr result (told_by self.new ≡ told_by self.old) }
@@ -101,12 +102,12 @@ impl Rig {
         accesses: u32,
         bytes: u32,
     ) -> Result<(), AllocError>
-        requires { (setting_of self.old).open ≡ false }
+        requires { (setting_of self.old).in_run ≡ false }
         ensures told { OnOk result (Between (λ old new. Accessed old new Begin) (told_by self.old) (told_by self.new)) }
         ensures went { OnOk result (Went (telling_of self.old) (telling_of self.new) (Begin ∷ [])) }
         ensures setting { OnOk result (setting_of self.new ≡ record {
           machine = (setting_of self.old).machine;
-          open = true;
+          in_run = true;
           begun = length (telling_of self.old).journal;
           groups = groups.now;
         }) }
@@ -115,7 +116,7 @@ impl Rig {
         ensures unchanged { OnErr result (told_by self.new ≡ told_by self.old) }
         ensures same_setting { OnErr result (setting_of self.new ≡ setting_of self.old) }
     {
-        let copies = copied(*self.groups.allocator_ref(), groups)?;
+        let copies = copied(self.groups.allocator(), groups)?;
         let Some(room) = room_for(groups, accesses) else {
             return Err(AllocError);
         };
@@ -123,7 +124,7 @@ impl Rig {
             .reserve(room.entries, bytes as usize, room.items)?;
         self.begun = self.recording.journal.entries.len();
         self.recording.begin();
-        self.open = true;
+        self.in_run = true;
         self.groups = copies;
         self.made = 0;
         self.spare_accesses = accesses;
@@ -133,15 +134,15 @@ impl Rig {
 
     /// Ends the run that is open: the steps of the groups that no access took are made last.
     pub fn end(&mut self)
-        requires { (setting_of self.old).open ≡ true }
+        requires { (setting_of self.old).in_run ≡ true }
         ensures told { Between (λ old new. Accessed old new End) (told_by self.old) (told_by self.new) }
         ensures stretch { ∥ IsStretchFrom (setting_of self.old).begun (setting_of self.old).groups (telling_of self.new).journal ∥₁ }
-        ensures setting { setting_of self.new ≡ record (setting_of self.old) { open = false } }
+        ensures setting { setting_of self.new ≡ record (setting_of self.old) { in_run = false } }
     {
         let left = groups_left(self.groups.as_slice(), self.made as usize);
         pass_all(&mut self.recording, left);
         self.recording.end();
-        self.open = false;
+        self.in_run = false;
         self.spare_accesses = 0;
         self.spare_bytes = 0;
     }

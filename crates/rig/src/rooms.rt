@@ -1,5 +1,5 @@
 //! The room that a run of a driver asks.
-ghost use Rattle.std.specs.Prelude.{◌≡◌, ◌+◌, ◌×◌, IfSome};
+ghost use Rattle.std.specs.Prelude.{◌≡◌, ◌+◌, IfSome};
 ghost use Rattle.hda_controller.specs.Hearing.{most_items};
 ghost use Rattle.rig.specs.Recordings as recordings;
 ghost use Rattle.rig.specs.Rooms.{step_count, item_count};

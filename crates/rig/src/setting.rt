@@ -10,7 +10,7 @@ pub struct Setting {
     /// The machine as its file describes it.
     pub machine: Machine,
     /// Whether a run of the driver is open.
-    pub open: bool,
+    pub in_run: bool,
     /// The number of the journal's entry with which the last run began, counted from 0.
     pub begun: usize,
     /// The groups of steps with which it began.

@@ -48,7 +48,7 @@ impl Rig {
     {
         let Rig {
             recording,
-            open: _,
+            in_run: _,
             begun: _,
             groups: _,
             made: _,
