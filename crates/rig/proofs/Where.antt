@@ -1,5 +1,10 @@
 -- Where a journal leads, event by event.
-use Rattle.std.proofs.Common.{◌≡◌, ◌≤◌, ◌<◌, ◌+◌, ℕ, true, List, [], ◌∷◌, ◌++◌, length, map, refl, sym, ap, subst, ◌∙◌, arith, All, append_assoc}
+use Rattle.std.proofs.Common.{◌≡◌, ◌≤◌, ◌<◌, ◌+◌, ℕ, true, List, [], ◌∷◌, ◌++◌, length, map, get_or, take, drop, slice_range, refl, sym, ap, subst, ◌∙◌, arith, All, append_assoc}
+use Rattle.std.specs.Coded.{Coded-set, coded_ℕ, coded_list}
+use Rattle.std.proofs.Math.Logic.{∥∥₁_elim}
+use Rattle.std.proofs.Math.Seq.{take-append_seam}
+use Rattle.hda_registers.specs.Fields.{Fields}
+use Rattle.hda_registers.specs.Access.{value_at}
 use Rattle.std.proofs.lemmas.List.Elements.{All-map}
 use Rattle.std.proofs.lemmas.List.{get_or-map, length-map}
 use Rattle.hda_registers.specs.declared.shapes.Width.{Width}
@@ -10,7 +15,7 @@ use Rattle.codec_sound.proofs.Callers.{heard-append}
 use Rattle.device_steps.specs.declared.Step.{Step}
 use Rattle.hda_world.specs.Worlds.{World, CarriedFrame}
 use Rattle.hda_world.specs.Steps.{after_step}
-use Rattle.hda_world.specs.Events.{Event, Stepped, Write, DmaWrite, after, after_write, happens, IsHonest, AreHonest}
+use Rattle.hda_world.specs.Events.{Event, Stepped, Write, DmaWrite, after, after_write, happens, IsHonest, AreHonest, IsPiece}
 use Rattle.hda_world.specs.Tellings.{Telling, Went, Accessed, world_of}
 use Rattle.hda_world.proofs.Callers.{after-append, AreHonest-append, access_leaves, went_both}
 use Rattle.codec_graph.specs.declared.raw.RawCodec.{RawCodec}
@@ -41,7 +46,7 @@ lists_go_on : (before later : World) (old new : List Listing) → Grew before la
 lists_go_on before later old new grew were =
     subst (AreHeardIn later) (sym grew.lists)
     (All-map (λ (listing : Listing). listing.list ≡ heard listing.codec listing.pin later.carried)
-    (λ (listing : Listing). with_items (heard listing.codec listing.pin grew.added) listing) old (λ k d within. one _ (were k d within)))
+    (λ (listing : Listing). with_items (heard listing.codec listing.pin grew.added) listing) old (λ k d within. one (get_or old k d) (were k d within)))
   where
     one : (listing : Listing) → listing.list ≡ heard listing.codec listing.pin before.carried
         → listing.list ++ heard listing.codec listing.pin grew.added ≡ heard listing.codec listing.pin later.carried
@@ -167,3 +172,30 @@ listed_reserved graphs old new same are =
 
 pub listed_stepped : (graphs : List RawCodec) (before later : World) (old new : List Listing) → Grew before later old new → AreListsOf graphs old → AreListsOf graphs new
 listed_stepped graphs before later old new grew are = listed_by graphs old new (ap pins_of grew.lists ∙ pins_grown grew.added old) are
+
+-- ---- answers of the moment
+
+pub memory_there : {start : World} {events : List Event} {memory : List ℕ} {controller : ControllerState} {lists : List Listing}
+    → ∥ IsWhere start events memory controller lists ∥₁ → (after events start).memory ≡ memory
+memory_there there = ∥∥₁_elim there (Coded-set (coded_list coded_ℕ) _ _) (λ here. here.stands.memory_is)
+
+pub value_there : {start : World} {events : List Event} {memory : List ℕ} {controller : ControllerState} {lists : List Listing} (at : ℕ) (width : Width) (value : ℕ)
+    → ∥ IsWhere start events memory controller lists ∥₁ → value ≡ value_at controller.device.registers at width
+    → value ≡ value_at (after events start).registers at width
+value_there at width value there read =
+    ∥∥₁_elim there (Coded-set coded_ℕ _ _) (λ here. read ∙ ap (λ (fields : Fields). value_at fields at width) (sym here.stands.registers_are))
+
+-- a piece that was read is one of the memory
+pub piece_there : (told memory piece : List ℕ) (at long size : ℕ) → told ≡ memory → piece ≡ slice_range memory at (at + long) → length piece ≡ long
+    → length memory ≡ size → at + long ≤ size → IsPiece told at piece
+piece_there told memory piece at long size same read length_is whole within = record {
+  within = (let e : length told ≡ length memory = ap length same in omega (arith, e, whole, within, length_is));
+  same = read ∙ (ap (λ (n : ℕ). slice_range memory at (at + n)) (sym length_is) ∙ ap (λ (all : List ℕ). slice_range all at (at + length piece)) (sym same));
+}
+
+pub room_there : (told memory : List ℕ) (at long size : ℕ) → told ≡ memory → length memory ≡ size → at + long ≤ size → at + long ≤ length told
+room_there told memory at long size same whole within = (let e : length told ≡ length memory = ap length same in omega (arith, e, whole, within))
+
+-- what a write through the whole of a vector leaves
+pub whole_write : (new old written : List ℕ) (n : ℕ) → new ≡ written → length new ≡ length old → n ≡ length old → take n (new ++ drop (length new) old) ≡ written
+whole_write new old written n is long size = rw (size, ← long) (take-append_seam new (drop (length new) old)) ∙ is

@@ -1,5 +1,8 @@
 -- What a rig tells. This project's own.
 use Rattle.std.specs.Prelude.{◌≡◌, ℕ, List, Option, Some, IfSome, length}
+use Rattle.std.specs.Coded.{Coded-set, coded_ℕ}
+use Rattle.std.proofs.Common.{ap, ◌∙◌}
+use Rattle.std.proofs.Math.Logic.{∥∥₁_elim}
 use Rattle.hda_world.specs.declared.world.TheConstants.{REGION_BYTES}
 use Rattle.hda_world.specs.Worlds.{World}
 use Rattle.hda_world.specs.Events.{Event}
@@ -22,6 +25,10 @@ telling_of rig = told_of rig.recording
 
 abbrev pub told_by : Rig → Option Telling
 told_by rig = Some (telling_of rig)
+
+-- its region has as many bytes at every moment
+pub told_whole : (rig : Rig) → IfSome (told_by rig) (λ telling. length (world_of telling).memory ≡ REGION_BYTES)
+told_whole rig = ∥∥₁_elim rig.recording.stands (Coded-set coded_ℕ _ _) (λ here. ap length here.stands.memory_is ∙ rig.recording.whole)
 
 -- what no access changes: the machine, whether a run is open, and with which entry and which groups the last one began
 abbrev pub setting_of : Rig → Setting
