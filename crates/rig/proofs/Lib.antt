@@ -2,4 +2,5 @@ pub mod Noting
 pub mod Weaving
 pub mod Where
 pub mod Rooming
+pub mod Turns
 pub mod Following

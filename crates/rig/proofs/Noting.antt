@@ -61,3 +61,14 @@ pub last_piece : (bytes piece longer : List ℕ) (from len : ℕ) → longer ≡
     → slice_range longer from (from + len) ≡ piece
 last_piece bytes piece longer from len is begins long =
     ap (λ (all : List ℕ). slice_range all from (from + len)) is ∙ rw (begins, long, drop-append_seam bytes piece) (take_all piece _ (omega arith))
+
+-- an entry with its piece is one event more
+pub pieced : (make : List ℕ → Event) (old middle new : List Event) (bytes piece longer : List ℕ) (from len : ℕ)
+    → new ≡ middle ++ make (slice_range longer from (from + len)) ∷ [] → middle ≡ old → longer ≡ bytes ++ piece → from ≡ length bytes → len ≡ length piece
+    → new ≡ old ++ make piece ∷ []
+pieced make old middle new bytes piece longer from len is same grown begins long =
+    is ∙ (ap (λ (events : List Event). events ++ make (slice_range longer from (from + len)) ∷ []) same
+    ∙ ap (λ (all : List ℕ). old ++ make all ∷ []) (last_piece bytes piece longer from len grown begins long))
+
+pub same_entries : (bytes same : List ℕ) (entries more : List Entry) → same ≡ bytes → more ≡ entries → events_in same more ≡ events_in bytes entries
+same_entries bytes same entries more b e = ap (λ (all : List ℕ). events_in all more) b ∙ ap (events_in bytes) e

@@ -46,3 +46,25 @@ room_pieced entries bytes items piece old middle new lists long holds same longe
       omega (arith, h, a, b, long, holds));
   items_fit = room.items_fit;
 }
+
+-- ---- in turn
+
+-- room after what was done, and then after one more
+pub turn_room : (done one after_entries items item after_items : ℕ) (first middle last : Journal) (before between behind : List Listing)
+    → ((entries bytes more : ℕ) → HasRoomFor (done + entries) bytes (items + more) first before → HasRoomFor entries bytes more middle between)
+    → ((entries bytes more : ℕ) → HasRoomFor (one + entries) bytes (item + more) middle between → HasRoomFor entries bytes more last behind)
+    → after_entries ≡ done + one → after_items ≡ items + item
+    → (entries bytes more : ℕ) → HasRoomFor (after_entries + entries) bytes (after_items + more) first before → HasRoomFor entries bytes more last behind
+turn_room done one after_entries items item after_items first middle last before between behind all next e i entries bytes more room =
+    next entries bytes more (all (one + entries) bytes (item + more)
+    (less_room (after_entries + entries) bytes (after_items + more) (done + (one + entries)) bytes (items + (item + more)) first before (omega (arith, e)) (omega arith) (omega (arith, i)) room))
+
+-- and what one more asks is there, where all was asked
+pub turn_asked : (total done one all_items items item : ℕ) (first middle : Journal) (before between : List Listing)
+    → ((entries bytes more : ℕ) → HasRoomFor (done + entries) bytes (items + more) first before → HasRoomFor entries bytes more middle between)
+    → done + one ≤ total → items + item ≤ all_items → HasRoomFor total 0 all_items first before → HasRoomFor one 0 item middle between
+turn_asked total done one all_items items item first middle before between all e i room =
+    all one 0 item (less_room total 0 all_items (done + one) 0 (items + item) first before e (omega arith) i room)
+
+pub start_room : (entries bytes more : ℕ) (journal : Journal) (lists : List Listing) → HasRoomFor (0 + entries) bytes (0 + more) journal lists → HasRoomFor entries bytes more journal lists
+start_room entries bytes more journal lists room = less_room (0 + entries) bytes (0 + more) entries bytes more journal lists (omega arith) (omega arith) (omega arith) room

@@ -199,3 +199,12 @@ room_there told memory at long size same whole within = (let e : length told ≡
 -- what a write through the whole of a vector leaves
 pub whole_write : (new old written : List ℕ) (n : ℕ) → new ≡ written → length new ≡ length old → n ≡ length old → take n (new ++ drop (length new) old) ≡ written
 whole_write new old written n is long size = rw (size, ← long) (take-append_seam new (drop (length new) old)) ∙ is
+
+-- ---- the same events
+
+pub honest_same : (start : World) (events same : List Event) → same ≡ events → AreHonest events start → AreHonest same start
+honest_same start events same is honest = subst (λ (all : List Event). AreHonest all start) (sym is) honest
+
+pub where_same : (start : World) (events same : List Event) (memory : List ℕ) (controller : ControllerState) (lists : List Listing) → same ≡ events
+    → IsWhere start events memory controller lists → IsWhere start same memory controller lists
+where_same start events same memory controller lists is there = subst (λ (all : List Event). IsWhere start all memory controller lists) (sym is) there

@@ -30,8 +30,18 @@ pub(crate) fn note_bytes(journal: &mut Journal, piece: &[u8]) -> u64
     ensures entries { journal.new.entries ≡ journal.old.entries }
 {
     let place = journal.bytes.len();
-    if journal.bytes.extend_from_slice(piece).is_err() {
+    append(&mut journal.bytes, piece);
+    place as u64
+}
+
+/// Puts bytes last for which there is room.
+fn append(bytes: &mut Vec<u8>, piece: &[u8])
+    requires { vec_len bytes.old + length piece.now ≤ vec_capacity bytes.old }
+    ensures items { bytes.new.items ≡ bytes.old.items ++ piece.now }
+    ensures length { vec_len bytes.new ≡ vec_len bytes.old + length piece.now }
+    ensures capacity { vec_capacity bytes.old ≤ vec_capacity bytes.new }
+{
+    if bytes.extend_from_slice(piece).is_err() {
         unreachable!();
     }
-    place as u64
 }
