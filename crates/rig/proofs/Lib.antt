@@ -3,4 +3,5 @@ pub mod Weaving
 pub mod Where
 pub mod Rooming
 pub mod Turns
+pub mod Opened
 pub mod Following

@@ -1,5 +1,6 @@
 -- Where a journal leads, event by event.
 use Rattle.std.proofs.Common.{◌≡◌, ◌≤◌, ◌<◌, ◌+◌, ℕ, true, List, [], ◌∷◌, ◌++◌, length, map, get_or, take, drop, slice_range, refl, sym, ap, subst, ◌∙◌, arith, All, append_assoc}
+use Rattle.std.proofs.Props.{props}
 use Rattle.std.specs.Coded.{Coded-set, coded_ℕ, coded_list}
 use Rattle.std.proofs.Math.Logic.{∥∥₁_elim}
 use Rattle.std.proofs.Math.Seq.{take-append_seam}
@@ -208,3 +209,9 @@ honest_same start events same is honest = subst (λ (all : List Event). AreHones
 pub where_same : (start : World) (events same : List Event) (memory : List ℕ) (controller : ControllerState) (lists : List Listing) → same ≡ events
     → IsWhere start events memory controller lists → IsWhere start same memory controller lists
 where_same start events same memory controller lists is there = subst (λ (all : List Event). IsWhere start all memory controller lists) (sym is) there
+
+-- ---- lists of the moment
+
+pub heard_there : {start : World} {events : List Event} {memory : List ℕ} {controller : ControllerState} {lists : List Listing}
+    → ∥ IsWhere start events memory controller lists ∥₁ → AreHeardIn (after events start) lists
+heard_there there = ∥∥₁_elim there (Prim.hlevel props) (λ here. here.heard)

@@ -44,4 +44,4 @@ pub record IsReplayed (rig : Rig) : Type 0 where
   pub world : World
   pub replays : Replays (start_of REGION_BYTES (setting_of rig).machine) (telling_of rig).journal world
   pub stands : ∥ StandsFor rig.recording.memory.items rig.recording.controller world ∥₁
-  pub heard : ∥ AreHeardIn world (lists_of rig) ∥₁
+  pub heard : AreHeardIn world (lists_of rig)

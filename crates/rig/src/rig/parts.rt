@@ -42,7 +42,7 @@ impl Rig {
     /// The machine as its file describes it, what its pins heard, and all that happened.
     pub fn parts(self) -> (Machine, HeardLists, Journal)
         ensures machine { result.0 ≡ (setting_of self).machine }
-        ensures heard { ∥ AreHeardIn (world_of (telling_of self)) result.1 ∥₁ }
+        ensures heard { AreHeardIn (world_of (telling_of self)) result.1 }
         ensures pins { ∥ AreListsOf (graphs_in (setting_of self).machine.codecs) result.1 ∥₁ }
         ensures journal { events_of result.2 ≡ (telling_of self).journal }
     {

@@ -1,6 +1,7 @@
 use Rattle.std.proofs.Common.{◌≡◌, ◌+◌, ℕ, List, length, map, sym, ap, subst, ◌∙◌, arith}
 use Rattle.std.proofs.lemmas.Option.{slice_get_past}
 use Rattle.device_steps.specs.declared.Step.{Step}
+use Rattle.hda_schedule.specs.declared.schedule.Group.{Group}
 use Rattle.hda_world.specs.Events.{Stepped}
 use Rattle.hda_world.specs.Tellings.{Went}
 use Rattle.hda_world.proofs.Callers.{went_none}
@@ -13,7 +14,7 @@ use Rattle.rig.proofs.groups.pass.Goals as goal
 pub returns-then-number-groups-clause-room : goal.returns-then-number-groups-clause-room
 returns-then-number-groups-clause-room c entries bytes items room =
     let before : steps_before c.args.number c.args.groups.now ≡ c.as_slice.result.now =
-    ap steps_of (slice_get_here c.args.groups.now c.args.number _ _ c.if-number-groups.true c.index-groups-number.is) ∙ sym c.as_slice.ensures in
+    ap steps_of (slice_get_here c.args.groups.now c.args.number _ _ c.if-number-groups.true c.index-groups-number.is) ∙ (ap (λ (group : Group). group.steps) c.index-groups-number.is ∙ sym c.as_slice.ensures) in
     c.make_steps.ensures.room entries bytes items
     (subst (λ (steps : List Step). HasRoomFor (length steps + entries) bytes (items_for steps + items) c.args.recording.now.journal c.args.recording.now.heard) before room)
 
