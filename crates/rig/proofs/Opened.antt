@@ -32,18 +32,18 @@ pub laid_on : (begun made : ℕ) (groups : List Group) (old new : List Event) (o
     → (on ≡ true → made ≡ length (accesses_of (drop begun old))) → new ≡ old ++ (map Stepped (steps_before made groups) ++ access ∷ []) → is_access access ≡ true
     → ∥ (on ≡ true → IsOpenFrom begun groups new) ∥₁
 laid_on begun made groups old new on access laid numbered is right =
-    ∥∥₁_map laid (λ was yes. accessed_open begun groups old new made access (was yes) (numbered yes) is right)
+    ∥∥₁_map laid (λ was running. accessed_open begun groups old new made access (was running) (numbered running) is right)
 
 pub numbered_on : (begun made : ℕ) (groups : List Group) (old new : List Event) (on : Bool) (access : Event) → ∥ (on ≡ true → IsOpenFrom begun groups old) ∥₁
     → (on ≡ true → made ≡ length (accesses_of (drop begun old))) → new ≡ old ++ (map Stepped (steps_before made groups) ++ access ∷ []) → is_access access ≡ true
     → on ≡ true → made + 1 ≡ length (accesses_of (drop begun new))
-numbered_on begun made groups old new on access laid numbered is right yes =
-    accessed_count begun groups old new made access (∥∥₁_elim laid le_prop (λ was. (was yes).begins)) (numbered yes) is right
+numbered_on begun made groups old new on access laid numbered is right running =
+    accessed_count begun groups old new made access (∥∥₁_elim laid le_prop (λ was. (was running).begins)) (numbered running) is right
 
 pub laid_end : (begun made : ℕ) (groups : List Group) (old new : List Event) (on : Bool) → ∥ (on ≡ true → IsOpenFrom begun groups old) ∥₁
     → (on ≡ true → made ≡ length (accesses_of (drop begun old))) → new ≡ old ++ (all_steps_in (drop made groups) ++ End ∷ []) → on ≡ true
     → ∥ IsStretchFrom begun groups new ∥₁
-laid_end begun made groups old new on laid numbered is yes = ∥∥₁_map laid (λ was. ended begun groups old new made (was yes) (numbered yes) is)
+laid_end begun made groups old new on laid numbered is running = ∥∥₁_map laid (λ was. ended begun groups old new made (was running) (numbered running) is)
 
 -- ---- what is told
 

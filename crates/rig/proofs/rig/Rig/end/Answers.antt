@@ -26,7 +26,7 @@ end-requires c =
     (less_room _ _ _ (step_count (drop rig.made rig.groups) + 1) 0 (item_count (drop rig.made rig.groups) + 0) _ _ (omega arith) (omega arith) (omega arith) (rig.room c.requires)))
 
 pub returns-clause-told : goal.returns-clause-told
-returns-clause-told c = record { is = ended_by _ _ _ _ _ c.pass_all.ensures.told c.end.ensures.told }
+returns-clause-told c = record { is = ended_by _ _ _ c.groups_left-left.result.now _ c.pass_all.ensures.told c.end.ensures.told }
 
 pub returns-clause-stretch : goal.returns-clause-stretch
 returns-clause-stretch c =
