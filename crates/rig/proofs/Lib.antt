@@ -4,4 +4,5 @@ pub mod Where
 pub mod Rooming
 pub mod Turns
 pub mod Opened
+pub mod Listed
 pub mod Following

@@ -86,6 +86,13 @@ impl Recording {
         self.heard.reserve(items)
     }
 
+    /// How many entries its journal has.
+    pub(crate) fn entry_count(&self) -> usize
+        ensures { result ≡ length (events_of self.now.journal) }
+    {
+        self.journal.entries.len()
+    }
+
     /// Makes a step and notes it.
     pub(crate) fn step(&mut self, step: &Step)
         requires { HasRoomFor 1 0 (most_items step.now) self.old.journal self.old.heard }

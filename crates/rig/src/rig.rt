@@ -122,7 +122,7 @@ impl Rig {
         };
         self.recording
             .reserve(room.entries, bytes as usize, room.items)?;
-        self.begun = self.recording.journal.entries.len();
+        self.begun = self.recording.entry_count();
         self.recording.begin();
         self.in_run = true;
         self.groups = copies;

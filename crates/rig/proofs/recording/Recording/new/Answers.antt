@@ -6,9 +6,6 @@ use Rattle.rig.proofs.Noting.{same_entries}
 use Rattle.rig.proofs.Where.{honest_same, where_same, where_started}
 use Rattle.rig.proofs.recording.Recording.new.Goals as goal
 
-pub new-requires-clause-stand_in : goal.new-requires-clause-stand_in
-new-requires-clause-stand_in c = ?
-
 pub invariant_of-result-2 : goal.invariant_of-result-2
 invariant_of-result-2 c =
     let none = same_entries [] _ [] _ c.new-4.ensures.items c.new-3.ensures.items in

@@ -11,9 +11,6 @@ use Rattle.rig.proofs.recording.Recording.step.Goals as goal
 pub step-requires-clause-lists : goal.step-requires-clause-lists
 step-requires-clause-lists c = ∥∥₁_elim c.args.self.now.stands (Prim.hlevel props) (λ was. was.known)
 
-pub step-requires-clause-stand_in : goal.step-requires-clause-stand_in
-step-requires-clause-stand_in c = ?
-
 pub invariant_of-self : goal.invariant_of-self
 invariant_of-self c =
     let memory = whole_write c.step.new.memory c.args.self.now.memory.items c.step.new.memory c.args.self.now.memory.len refl

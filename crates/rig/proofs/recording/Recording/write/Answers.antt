@@ -10,6 +10,3 @@ invariant_of-self c = record {
       where_written _ _ _ _ _ _ c.args.at c.args.width c.args.value c.write.new.self was c.note.ensures.events c.write.ensures.stands c.write.ensures.lists);
   pins = c.args.self.now.pins;
 }
-
-pub write-requires : goal.write-requires
-write-requires c = ?

@@ -1,19 +1,14 @@
-use Rattle.std.proofs.Common.{◌≡◌, ◌+◌, ℕ, List, true, false, length, sym, ap, subst, ◌∙◌, arith, vec_len}
+use Rattle.std.proofs.Common.{◌≡◌, ◌+◌, ℕ, List, true, false, length, sym, ap, subst, ◌∙◌, arith}
 use Rattle.std.proofs.lemmas.Grind.{merely}
 use Rattle.hda_schedule.specs.declared.schedule.Group.{Group}
-use Rattle.hda_world.specs.JournalEvents.{events_of}
 use Rattle.rig.specs.Recordings.{HasRoomFor}
 use Rattle.rig.specs.Rooms.{step_count, item_count}
 use Rattle.rig.proofs.Rooming.{less_room}
-use Rattle.rig.proofs.Opened.{event_count}
 use Rattle.rig.proofs.Weaving.{began, began_count}
 use Rattle.rig.proofs.rig.Rig.begin.Goals as goal
 
-pub invariant_of-self-3 : goal.invariant_of-self-3
-invariant_of-self-3 c =
-    let entries = c.reserve.new.self.journal.entries in
-    let begun : c.len-self.result ≡ length (events_of c.reserve.new.self.journal) =
-    c.len-self.ensures ∙ (omega (arith, entries.ok.0) ∙ sym (event_count c.reserve.new.self.journal.bytes.items entries.items)) in
+pub invariant_of-self-2 : goal.invariant_of-self-2
+invariant_of-self-2 c =
     let same : c.in_ok-copies.copies ≡ c.args.groups.now = c.in_ok-copies.ensures in
     let steps : step_count c.in_ok-copies.copies ≡ step_count c.args.groups.now = ap step_count same in
     let items : item_count c.in_ok-copies.copies ≡ item_count c.args.groups.now = ap item_count same in
@@ -22,8 +17,8 @@ invariant_of-self-3 c =
     record {
       closed = λ never. (let no : true ≡ false = never in cc);
       counts = omega (arith, c.ranges.accesses);
-      laid = merely (λ _. began c.len-self.result c.in_ok-copies.copies _ _ begun c.begin.ensures.told.journal);
-      numbered = λ _. began_count c.len-self.result c.in_ok-copies.copies _ _ begun c.begin.ensures.told.journal;
+      laid = merely (λ _. began c.entry_count-self.result c.in_ok-copies.copies _ _ c.entry_count-self.ensures c.begin.ensures.told.journal);
+      numbered = λ _. began_count c.entry_count-self.result c.in_ok-copies.copies _ _ c.entry_count-self.ensures c.begin.ensures.told.journal;
       room = λ _. c.begin.ensures.room _ _ _ (less_room _ _ _ (1 + (c.args.accesses + 1 + step_count c.in_ok-copies.copies)) c.args.bytes (item_count c.in_ok-copies.copies) _ _
           (omega (arith, steps, asked)) (omega arith) (omega (arith, items, heard)) c.in_ok-reserve.ensures.room);
     }
