@@ -1,6 +1,6 @@
 -- The signals of a codec that were never renewed.
-use Rattle.std.proofs.Common.{◌≡◌, ◌<◌, ◌==◌, ◌||◌, ◌↔◌, ◌+◌, ℕ, zero, suc, Bool, true, false, List, [], ◌∷◌, ◌++◌, length, map, take, get_or, Option, Some, None, refl, sym, ap, subst, ◌∙◌, arith, eq-eqb, pred}
-use Rattle.std.specs.Prelude.{Contains, All, slice_get, MatchOption, option_map}
+use Rattle.std.proofs.Common.{◌≡◌, ◌<◌, ◌==◌, ◌||◌, ◌↔◌, ◌+◌, ℕ, zero, suc, Bool, true, false, List, [], ◌∷◌, ◌++◌, length, get_or, Option, Some, None, refl, sym, ap, subst, ◌∙◌, arith, eq-eqb, pred}
+use Rattle.std.specs.Prelude.{Contains, slice_get, MatchOption, option_map}
 use Rattle.std.specs.Option.{unwrap_or}
 use Rattle.std.specs.List.{list_any}
 use Rattle.std.proofs.lemmas.Map.Views.{Contains-from_any}
@@ -13,10 +13,9 @@ use Rattle.route_planner.specs.Order.{IsOrder}
 use Rattle.stream_format.specs.declared.format.Format.{Format}
 use Rattle.stream_format.specs.Layouts.{layout, layout_of}
 use Rattle.stream_format.specs.Words.{format_word, HasNoFormat}
-use Rattle.codec_sound.specs.declared.signals.Signal.{Signal}
-use Rattle.codec_sound.specs.Keeping.{KeptSignals, AreKept, signal_by, with_signals, kept_pins}
+use Rattle.codec_sound.specs.Keeping.{KeptSignals, AreKept, signal_by, with_signals}
 use Rattle.codec_sound.proofs.Callers.{AreKept-with_signals, kept_pins-with_signals}
-use Rattle.hda_controller.specs.Keeping.{signal_set, IsKeptFor, AreKeptFor}
+use Rattle.hda_controller.specs.Keeping.{signal_set, IsKeptFor}
 use Rattle.hda_controller.specs.Openings.{IsFresh, AreFresh}
 use Rattle.hda_controller.proofs.Renewed.{by-set, with-agree}
 

@@ -1,5 +1,5 @@
 -- The kept signal of a pin is its signal now.
-use Rattle.std.proofs.Common.{◌≡◌, ◌<◌, ◌==◌, ◌⊎◌, inl, inr, ℕ, Bool, true, List, length, get_or, Option, Some, None, refl, sym, ap, subst, ◌∙◌, arith}
+use Rattle.std.proofs.Common.{◌≡◌, ◌<◌, ◌==◌, inl, inr, ℕ, true, List, length, Option, Some, sym, ap, ◌∙◌, arith}
 use Rattle.std.specs.Prelude.{Contains, slice_get}
 use Rattle.std.proofs.lemmas.Bool.{eqb-true}
 use Rattle.std.proofs.lemmas.Map.Views.{Contains-from_any}

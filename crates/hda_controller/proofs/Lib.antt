@@ -6,3 +6,7 @@ mod Fresh
 mod Bits
 mod Start
 mod Hearing
+mod Due
+mod Growth
+mod Listed
+pub mod Callers

@@ -1,5 +1,5 @@
 -- Kept signals that are worked out anew are those of the moment.
-use Rattle.std.proofs.Common.{◌≡◌, ◌≢◌, ◌<◌, ◌+◌, ◌==◌, ◌||◌, ◌⊎◌, inl, inr, ℕ, zero, suc, pred, Bool, true, false, List, [], ◌∷◌, length, map, take, set, get_or, Option, Some, None, refl, sym, ap, subst, ◌∙◌, arith}
+use Rattle.std.proofs.Common.{◌≡◌, ◌≢◌, ◌<◌, ◌==◌, ◌⊎◌, inl, inr, ℕ, zero, suc, pred, List, [], ◌∷◌, length, map, take, set, get_or, Option, Some, None, refl, sym, ap, ◌∙◌, arith}
 use Rattle.std.specs.Prelude.{slice_get, slice_index, MatchOption, option_map}
 use Rattle.std.specs.Option.{unwrap_or}
 use Rattle.std.specs.List.{list_any}
@@ -10,9 +10,9 @@ use Rattle.stream_format.specs.Layouts.{Layout, layout, layout_of}
 use Rattle.stream_format.specs.Words.{format_word, HasNoFormat}
 use Rattle.codec_sound.specs.declared.signals.Signal.{Signal}
 use Rattle.codec_sound.specs.HeardLists.{signal_with}
-use Rattle.codec_sound.specs.Keeping.{KeptSignals, signal_by, with_signals, kept_pins, renewed, counted_on}
-use Rattle.codec_sound.proofs.Callers.{AreKept-renewed, AreKept-with_signals, kept_pins-with_signals, pins_of_renewed, signal_by-word}
-use Rattle.hda_controller.specs.Keeping.{signal_laid, signal_set, IsKeptFor, AreKeptFor}
+use Rattle.codec_sound.specs.Keeping.{KeptSignals, signal_by, with_signals, renewed, counted_on}
+use Rattle.codec_sound.proofs.Callers.{AreKept-renewed, pins_of_renewed, signal_by-word}
+use Rattle.hda_controller.specs.Keeping.{signal_laid, signal_set, IsKeptFor}
 use Rattle.hda_controller.specs.Renewing.{renewed_for, all_renewed, one_renewed}
 
 -- ---- signals

@@ -1,9 +1,8 @@
 -- Kept signals after a step of CORB's engine.
-use Rattle.std.proofs.Common.{◌≡◌, ◌≢◌, ◌⊎◌, inl, inr, ℕ, zero, suc, pred, Bool, true, false, List, [], ◌∷◌, length, map, set, get_or, Option, Some, None, if◌then◌else◌, refl, sym, ap, subst, ◌∙◌, arith}
+use Rattle.std.proofs.Common.{◌≡◌, ◌≢◌, inl, inr, ℕ, zero, suc, Bool, true, false, List, [], ◌∷◌, length, map, set, get_or, Option, Some, None, if◌then◌else◌, refl, sym, ap, subst, ◌∙◌}
 use Rattle.std.specs.Prelude.{Vec, IfSome, slice_get, slice_index, slice_set}
 use Rattle.std.specs.Vec.{with_items}
 use Rattle.std.proofs.lemmas.List.{with_items_is}
-use Rattle.codec_graph.specs.declared.raw.RawCodec.{RawCodec}
 use Rattle.codec_graph.specs.Settings.{put_all}
 use Rattle.codec_graph.specs.CodecStates.{CodecState, taken, reading_settings}
 use Rattle.codec_graph.specs.VerbMeaning.{after, writes_of, verb_writes}
@@ -20,7 +19,7 @@ use Rattle.hda_device.specs.Devices.{DeviceState, KeepsSound}
 use Rattle.hda_device.proofs.Callers.{changed_here, keeps-with_codec, parts-with_codec, IsThere, handed_there}
 use Rattle.hda_controller.specs.Commands.{is_set_verb, is_set_reading, is_set_command}
 use Rattle.hda_controller.specs.Keeping.{IsKeptFor, AreKeptFor}
-use Rattle.hda_controller.specs.Renewing.{renewed_for, one_renewed, renewed_after}
+use Rattle.hda_controller.specs.Renewing.{one_renewed, renewed_after}
 use Rattle.hda_controller.specs.Controllers.{renewals_handed}
 use Rattle.hda_controller.proofs.Keeping.{part_there, same_count, device_stays, keeps_same}
 use Rattle.hda_controller.proofs.Renewed.{renewed_fits, length-one, renewals-one, one_there}

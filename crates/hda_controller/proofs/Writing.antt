@@ -1,6 +1,6 @@
 -- Kept signals after a write of a register, and how often they were renewed.
 use Rattle.std.proofs.Common.{◌≡◌, ℕ, Bool, true, false, List, length, map, if◌then◌else◌, ap, sym, subst, refl, ◌∙◌}
-use Rattle.std.specs.Prelude.{Vec, slice_get}
+use Rattle.std.specs.Prelude.{Vec}
 use Rattle.std.specs.Vec.{with_items}
 use Rattle.std.proofs.lemmas.List.{with_items_is}
 use Rattle.codec_graph.specs.CodecStates.{CodecState}
@@ -8,7 +8,7 @@ use Rattle.codec_sound.specs.Keeping.{KeptSignals, counted_on}
 use Rattle.hda_device.specs.Codecs.{KeepCodecs}
 use Rattle.hda_device.specs.Devices.{DeviceState, KeepsSound}
 use Rattle.hda_controller.specs.Keeping.{IsKeptFor, AreKeptFor}
-use Rattle.hda_controller.specs.Renewing.{renewed_for, all_renewed, renewed_if}
+use Rattle.hda_controller.specs.Renewing.{all_renewed, renewed_if}
 use Rattle.hda_controller.proofs.Keeping.{part_there, same_count, device_stays}
 use Rattle.hda_controller.proofs.Renewed.{renewed_fits, length-all, all_there, renewals-all}
 

@@ -7,7 +7,6 @@ use Rattle.codec_sound.specs.declared.signals.Signal.{Signal}
 use Rattle.codec_sound.specs.HeardLists.{signal_with}
 use Rattle.codec_sound.specs.Keeping.{KeptSignals, counted_on}
 use Rattle.hda_device.specs.declared.codecs.Handed.{Handed}
-use Rattle.hda_device.specs.Codecs.{handed_now}
 use Rattle.hda_device.specs.Devices.{DeviceState, IsWorld}
 use Rattle.hda_registers.specs.declared.shapes.Width.{Width}
 use Rattle.hda_device.specs.Sound.{touches_sound}

@@ -1,8 +1,10 @@
 -- What a step of the device adds to heard lists, and whose signals it renews. This project's own.
-use Rattle.std.specs.Prelude.{◌≡◌, ◌*◌, ◌++◌, ℕ, List, All, true}
+use Rattle.std.specs.Prelude.{◌≡◌, ◌*◌, ◌++◌, ℕ, List, All, true, Some}
 use Rattle.codec_graph.specs.CodecStates.{CodecState}
 use Rattle.device_steps.specs.declared.Step.{Step}
 use Rattle.device_steps.specs.declared.Step.TheVariants as step
+use Rattle.stream_format.specs.Cadence.{blocks_of}
+use Rattle.stream_format.specs.Layouts.{Layout, layout_of}
 use Rattle.hda_device.specs.Codecs.{handed_now}
 use Rattle.hda_world.specs.Worlds.{World, CarriedFrame}
 use Rattle.heard_lists.specs.Listings.{Listing, grown}
@@ -40,3 +42,10 @@ renewals_stepped (step.Fetch stream most) memory controller = renewals_of contro
 renewals_stepped (step.Link frames) memory controller = renewals_of controller
 renewals_stepped (step.Plug codec pin) memory controller = renewals_of controller
 renewals_stepped (step.Unplug codec pin) memory controller = renewals_of controller
+
+-- what private functions promise one another: so many blocks are due in some link frame of a stream with this format word
+pub record AreDue (word blocks : ℕ) : Type 0 where
+  pub layout : Layout
+  pub frame : ℕ
+  pub format_is : layout_of word ≡ Some layout
+  pub blocks_are : blocks ≡ blocks_of layout.rate frame

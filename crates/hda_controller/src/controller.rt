@@ -1,9 +1,10 @@
 //! The controller.
-ghost use Rattle.std.specs.Prelude.{◌≡◌, ℕ, List, All, IfOk, Contains, Some, true};
+ghost use Rattle.std.specs.Prelude.{◌≡◌, ◌+◌, ◌*◌, ℕ, List, All, IfOk, Contains, Some, true, map, take};
 ghost use Rattle.hda_registers.specs.Access.{value_at};
 ghost use Rattle.hda_world.specs.Worlds.{World, output_of};
 ghost use Rattle.std.specs.Option.{option_map};
-ghost use Rattle.stream_format.specs.Layouts.{layout, layout_of};
+ghost use Rattle.stream_format.specs.Cadence.{bytes_of_block};
+ghost use Rattle.stream_format.specs.Layouts.{Layout, layout, layout_of};
 ghost use Rattle.stream_descriptor.specs.Running.{found_at};
 ghost use Rattle.stream_descriptor.specs.Frames.{IsAnswer};
 ghost use Rattle.hda_device.specs.Devices.{KeepsSound};
@@ -11,16 +12,20 @@ ghost use Rattle.hda_world.specs.Steps as steps;
 ghost use Rattle.hda_world.specs.Events.{after_write};
 ghost use Rattle.hda_device.specs.Codecs.{addresses_of, place_of, handed_now};
 ghost use Rattle.hda_files.specs.Machines.{IsSound};
+ghost use Rattle.heard_lists.specs.Listings.{Listing, HasRoom, AreListsOf, graphs_in, with_blocks};
 ghost use Rattle.hda_controller.specs.Controllers.{StandsFor, renewals_of, renewals_written, renewals_handed, renewals_at, is_candidate_of, signal_now};
+ghost use Rattle.hda_controller.specs.Hearing.{most_items, AreHeard, AreDue, Grew, renewals_stepped};
 ghost use Rattle.hda_controller.specs.Openings.{opening_world};
 
 use crate::opening::{all_signals_of, codecs_of, shape_of};
 use crate::places::place_of;
 use crate::renewing::{renew_handed, renew_if};
 use codec_sound::{Kept, Signal};
+use device_steps::Step;
 use hda_device::{Device, touches_sound};
 use hda_files::Machine;
 use hda_registers::Width;
+use heard_lists::{HeardLists, Sounds};
 use std::alloc::{AllocError, Global};
 use std::marker::Model;
 use stream_descriptor::{Frame, MOST_FRAME_BYTES};
@@ -54,6 +59,8 @@ impl Controller {
         requires { IsSound machine.now }
         ensures stands { IfOk result (λ controller. (memory : List ℕ) → StandsFor memory controller (opening_world memory machine.now)) }
         ensures renewals { IfOk result (λ controller. All (λ count. count ≡ 0) (renewals_of controller)) }
+        ensures lists { IfOk result (λ controller. (lists : List Listing) → AreListsOf (graphs_in machine.now.codecs) lists
+            → AreHeard controller.device.codecs lists) }
     {
         let codecs = codecs_of(alloc, machine.codecs.as_slice())?;
         let kept = all_signals_of(alloc, machine.codecs.as_slice())?;
@@ -99,6 +106,7 @@ impl Controller {
     pub fn write(&mut self, at: u16, width: Width, value: u32)
         ensures stands { (memory : List ℕ) (world : World) → StandsFor memory self.old world → StandsFor memory self.new (after_write at width value world) }
         ensures renewals { renewals_of self.new ≡ renewals_written at width (renewals_of self.old) }
+        ensures lists { (lists : List Listing) → AreHeard self.old.device.codecs lists → AreHeard self.new.device.codecs lists }
     {
         self.device.write(at, width, value);
         renew_if(
@@ -172,5 +180,96 @@ impl Controller {
         ensures sound { KeepsSound self.old.device.registers self.new.device.registers }
     {
         self.device.frame(into)
+    }
+
+    /// Lets the device make a step of a schedule (this project's own); one that names a codec, a pin or a stream that is not there
+    /// changes nothing. Each list is that of a candidate pin of a codec, and hears each block that a link frame carries, and each frame
+    /// that misses its blocks: it has room for four items a link frame. Takes no memory.
+    pub fn step(&mut self, memory: &mut [u8], step: &Step, heard: &mut HeardLists)
+        requires room { HasRoom (most_items step.now) heard.old }
+        requires lists { AreHeard self.old.device.codecs heard.old }
+        ensures stands { (world : World) → StandsFor memory.old self.old world → StandsFor memory.new self.new (steps.after_step step.now world) }
+        ensures heard { (world : World) → StandsFor memory.old self.old world → Grew world (steps.after_step step.now world) heard.old heard.new }
+        ensures room { (more : ℕ) → HasRoom (most_items step.now + more) heard.old → HasRoom more heard.new }
+        ensures lists { AreHeard self.new.device.codecs heard.new }
+        ensures renewals { renewals_of self.new ≡ renewals_stepped step.now memory.old self.old }
+    {
+        // The controller stands for some world, so its lists stay those of candidate pins.
+        self.device.is_some_world();
+        match *step {
+            Step::Corb => self.corb(memory),
+            Step::Answer(codec) => self.answer(codec),
+            Step::Lose(codec) => self.lose(codec),
+            Step::Rirb => self.rirb(memory),
+            Step::Fetch(stream, most) => self.fetch(memory, stream, most),
+            Step::Link(frames) => self.link(frames, heard),
+            Step::Plug(codec, pin) => self.plug(codec, pin, true),
+            Step::Unplug(codec, pin) => self.plug(codec, pin, false),
+        }
+    }
+
+    /// Lets so many link frames pass.
+    fn link(&mut self, frames: u32, heard: &mut HeardLists)
+        requires room { HasRoom (4 * frames) heard.old }
+        requires lists { AreHeard self.old.device.codecs heard.old }
+        ensures stands { (memory : List ℕ) (world : World) → StandsFor memory self.old world
+            → StandsFor memory self.new (steps.times frames steps.frame_step world) }
+        ensures heard { (memory : List ℕ) (world : World) → StandsFor memory self.old world
+            → Grew world (steps.times frames steps.frame_step world) heard.old heard.new }
+        ensures room { (more : ℕ) → HasRoom (4 * frames + more) heard.old → HasRoom more heard.new }
+        ensures kept { self.new.kept ≡ self.old.kept }
+    {
+        let mut bytes = [0; MOST_FRAME_BYTES];
+        for _passed in 0..frames {
+            self.link_frame(&mut bytes, heard);
+        }
+    }
+
+    /// Lets a link frame pass. What it carries is heard on the lists, and its bytes stand at the front of `bytes`.
+    fn link_frame(&mut self, bytes: &mut [u8; MOST_FRAME_BYTES], heard: &mut HeardLists)
+        requires room { HasRoom 4 heard.old }
+        requires lists { AreHeard self.old.device.codecs heard.old }
+        ensures stands { (memory : List ℕ) (world : World) → StandsFor memory self.old world
+            → StandsFor memory self.new (steps.frame_step world) }
+        ensures heard { (memory : List ℕ) (world : World) → StandsFor memory self.old world
+            → Grew world (steps.frame_step world) heard.old heard.new }
+        ensures room { (more : ℕ) → HasRoom (4 + more) heard.old → HasRoom more heard.new }
+        ensures lists { AreHeard self.new.device.codecs heard.new }
+        ensures kept { self.new.kept ≡ self.old.kept }
+    {
+        // The controller stands for some world, by which a frame has at most four blocks.
+        self.device.is_some_world();
+        match self.frame(bytes) {
+            Frame::Idle => {}
+            Frame::Gap => {}
+            Frame::Blocks(blocks) => self.hear(blocks, bytes, heard),
+            Frame::Hole => heard.miss(),
+        }
+    }
+
+    /// Lets the lists hear so many blocks, which were due and stand at the front of `bytes`.
+    fn hear(&self, blocks: u32, bytes: &[u8; MOST_FRAME_BYTES], heard: &mut HeardLists)
+        requires due { AreDue self.now.device.registers.output.format blocks }
+        requires room { HasRoom 4 heard.old }
+        requires lists { AreHeard self.now.device.codecs heard.old }
+        ensures heard { (layout : Layout) → layout_of self.now.device.registers.output.format ≡ Some layout
+            → heard.new ≡ map (with_blocks (signal_now self.now.device) layout (take (blocks * bytes_of_block layout.channels layout.bits) bytes.now)) heard.old }
+        ensures room { (more : ℕ) → HasRoom (4 + more) heard.old → HasRoom more heard.new }
+    {
+        let Some(format) = self.format() else {
+            unreachable!()
+        };
+        let size = (blocks * format.block_bytes()) as usize;
+        heard.hear(self, format, &bytes[..size]);
+    }
+}
+
+impl Sounds for Controller {
+    ghost signal_of = { λ controller. signal_now controller.device };
+
+    ghost IsKnown = { λ controller codec pin. is_candidate_of controller.device.codecs codec pin ≡ true };
+
+    fn signal(&self, codec: u8, pin: u8) -> Signal {
+        self.signal_at(codec, pin)
     }
 }

@@ -1,4 +1,4 @@
-use Rattle.std.proofs.Common.{◌≡◌, ◌++◌, ◌∷◌, ◌+◌, [], ℕ, List, take, get_or, sym, ap, subst, ◌∙◌}
+use Rattle.std.proofs.Common.{◌++◌, ◌∷◌, ◌+◌, [], List, take, get_or, sym, subst}
 use Rattle.std.proofs.lemmas.List.{map_more}
 use Rattle.codec_graph.specs.CodecStates.{CodecState}
 use Rattle.codec_sound.specs.Keeping.{KeptSignals}

@@ -1,4 +1,4 @@
-use Rattle.std.proofs.Common.{refl, sym, ap, ◌∙◌}
+use Rattle.std.proofs.Common.{refl, ◌∙◌}
 use Rattle.hda_controller.proofs.Renewed.{renewed_by_word}
 use Rattle.hda_controller.proofs.renewing.renew.Goals as goal
 

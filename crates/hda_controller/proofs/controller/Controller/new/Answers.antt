@@ -1,4 +1,4 @@
-use Rattle.std.proofs.Common.{◌≡◌, ◌≤◌, ℕ, List, [], map, sym, ap, subst, ◌∙◌}
+use Rattle.std.proofs.Common.{◌≡◌, ◌≤◌, ℕ, List, [], sym, ap, subst, ◌∙◌}
 use Rattle.std.specs.Prelude.{All}
 use Rattle.std.proofs.lemmas.List.Elements.{All-map}
 use Rattle.codec_graph.specs.CodecStates.{CodecState}
@@ -8,7 +8,9 @@ use Rattle.hda_registers.specs.declared.shapes.Shape.{Shape}
 use Rattle.hda_device.specs.Codecs.{AreAddresses, AreIdle, addresses_of}
 use Rattle.hda_device.specs.Devices.{IsWorld, new_world}
 use Rattle.hda_controller.specs.Keeping.{AreKeptFor}
+use Rattle.hda_controller.specs.Hearing.{AreHeard}
 use Rattle.hda_controller.specs.Openings.{codecs_in}
+use Rattle.hda_controller.proofs.Listed.{heard_listed}
 use Rattle.hda_controller.proofs.Start.{addresses_good, nothing_waits}
 use Rattle.hda_controller.proofs.controller.Controller.new.Goals as goal
 
@@ -40,3 +42,8 @@ returns-clause-stands c memory =
 
 pub returns-clause-renewals : goal.returns-clause-renewals
 returns-clause-renewals c = All-map (λ (count : ℕ). count ≡ 0) (λ (one : KeptSignals). one.renewals) c.in_ok-kept.kept.items c.in_ok-kept.ensures.counts
+
+pub returns-clause-lists : goal.returns-clause-lists
+returns-clause-lists c lists listed =
+    subst (λ (codecs : List CodecState). AreHeard codecs lists) (sym (c.in_ok-codecs.ensures ∙ ap codecs_in c.as_slice.ensures) ∙ (c.in_ok-device.ensures.stands []).codecs_are)
+    (heard_listed c.args.machine.now lists c.requires listed)

@@ -1,6 +1,4 @@
-use Rattle.std.proofs.Common.{◌≡◌, ap, sym, subst, refl}
-use Rattle.hda_registers.specs.Fields.{Fields}
-use Rattle.hda_world.specs.Steps.{plugged_at}
+use Rattle.std.proofs.Common.{sym, subst}
 use Rattle.hda_device.specs.Devices.{IsWorld}
 use Rattle.hda_controller.specs.Controllers.{ControllerState}
 use Rattle.hda_controller.proofs.Keeping.{device_stays, sound_same}

@@ -1,9 +1,9 @@
 use Rattle.std.proofs.Common.{◌≡◌, ◌<◌, ℕ, List, Option, Some, map, length, refl, sym, ap, subst, ◌∙◌, arith}
-use Rattle.std.specs.Prelude.{Contains, option_map}
+use Rattle.std.specs.Prelude.{option_map}
 use Rattle.std.proofs.lemmas.Option.{slice_get-map, slice_get_read}
 use Rattle.codec_graph.specs.CodecStates.{CodecState}
 use Rattle.codec_sound.specs.Keeping.{KeptSignals}
-use Rattle.hda_device.specs.Codecs.{addresses_of, place_of}
+use Rattle.hda_device.specs.Codecs.{place_of}
 use Rattle.hda_controller.specs.Controllers.{ControllerState, renewals_of, renewals_at}
 use Rattle.hda_controller.proofs.controller.Controller.renewals.Goals as goal
 

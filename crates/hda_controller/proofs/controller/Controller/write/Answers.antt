@@ -1,10 +1,12 @@
-use Rattle.std.proofs.Common.{◌≡◌, ℕ, Bool, List, map, if◌then◌else◌, ap, sym, subst, refl, ◌∙◌}
+use Rattle.std.proofs.Common.{◌≡◌, List, map, ap, sym, subst, refl, ◌∙◌}
 use Rattle.std.specs.Vec.{with_items}
 use Rattle.codec_sound.specs.Keeping.{KeptSignals}
 use Rattle.hda_device.specs.Sound.{touches_sound}
 use Rattle.hda_device.specs.Devices.{IsWorld}
 use Rattle.hda_controller.specs.Controllers.{ControllerState, IsController, renewals_of, renewals_written}
 use Rattle.hda_controller.specs.Renewing.{renewed_if}
+use Rattle.hda_controller.specs.Hearing.{AreHeard}
+use Rattle.hda_controller.proofs.Listed.{heard_by}
 use Rattle.hda_controller.proofs.Writing.{written_fits, written_renewals, kept_back}
 use Rattle.hda_controller.proofs.controller.Controller.write.Goals.{After-self-1}
 use Rattle.hda_controller.proofs.controller.Controller.write.Goals as goal
@@ -26,3 +28,8 @@ returns-clause-renewals c =
     subst (λ (state : ControllerState). map (λ one. one.renewals) (with_items c.self.inside.kept c.renew_if.new.kept).items ≡ renewals_written c.args.at c.args.width (renewals_of state)) c.self.view_is
     (ap (map (λ (one : KeptSignals). one.renewals)) (back c)
     ∙ written_renewals (touches_sound c.args.at c.args.width) c.self.inside.device c.write.new.self c.self.inside.kept.items c.write.ensures.codecs c.self.invariant.count)
+
+pub returns-clause-lists : goal.returns-clause-lists
+returns-clause-lists c lists are =
+    heard_by c.self.inside.device.codecs c.write.new.self.codecs lists c.write.ensures.codecs.graphs
+    (subst (λ (state : ControllerState). AreHeard state.device.codecs lists) (sym c.self.view_is) are)

@@ -1,0 +1,112 @@
+use Rattle.std.proofs.Common.{◌≡◌, refl, sym, ap, subst}
+use Rattle.device_steps.specs.declared.Step.{Step}
+use Rattle.hda_world.specs.Steps.{after_step}
+use Rattle.hda_controller.specs.Controllers.{ControllerState, StandsFor}
+use Rattle.hda_controller.specs.Hearing.{Grew}
+use Rattle.hda_controller.proofs.Growth.{grew_still, corb_carries, answer_carries, lose_carries, fetch_carries}
+use Rattle.hda_controller.proofs.Listed.{heard_after}
+use Rattle.hda_controller.proofs.controller.Controller.step.Goals as goal
+
+pub returns-in-Corb-clause-stands : goal.returns-in-Corb-clause-stands
+returns-in-Corb-clause-stands c world is =
+    subst (λ (s : Step). StandsFor c.args.memory.now c.corb.new.self (after_step s world)) (sym c.in-Corb.is) (c.corb.ensures.stands world is)
+
+pub returns-in-Corb-clause-heard : goal.returns-in-Corb-clause-heard
+returns-in-Corb-clause-heard c world is =
+    grew_still world (after_step c.args.step.now world) c.args.heard.now (subst (λ (s : Step). (after_step s world).carried ≡ world.carried) (sym c.in-Corb.is) (corb_carries world))
+
+pub returns-in-Corb-clause-lists : goal.returns-in-Corb-clause-lists
+returns-in-Corb-clause-lists c =
+    heard_after c.args.memory.now c.args.memory.now c.self.inside.device c.args.self.now c.corb.new.self c.args.step.now c.args.heard.now c.args.heard.now
+    (ap (λ (state : ControllerState). state.device) c.self.view_is) c.is_some_world.ensures (returns-in-Corb-clause-stands c) (returns-in-Corb-clause-heard c) c.requires.lists
+
+pub returns-in-Answer-clause-stands : goal.returns-in-Answer-clause-stands
+returns-in-Answer-clause-stands c world is =
+    subst (λ (s : Step). StandsFor c.args.memory.now c.answer.new.self (after_step s world)) (sym c.in-Answer.is) (c.answer.ensures.stands c.args.memory.now world is)
+
+pub returns-in-Answer-clause-heard : goal.returns-in-Answer-clause-heard
+returns-in-Answer-clause-heard c world is =
+    grew_still world (after_step c.args.step.now world) c.args.heard.now (subst (λ (s : Step). (after_step s world).carried ≡ world.carried) (sym c.in-Answer.is) (answer_carries c.in-Answer.codec world))
+
+pub returns-in-Answer-clause-lists : goal.returns-in-Answer-clause-lists
+returns-in-Answer-clause-lists c =
+    heard_after c.args.memory.now c.args.memory.now c.self.inside.device c.args.self.now c.answer.new.self c.args.step.now c.args.heard.now c.args.heard.now
+    (ap (λ (state : ControllerState). state.device) c.self.view_is) c.is_some_world.ensures (returns-in-Answer-clause-stands c) (returns-in-Answer-clause-heard c) c.requires.lists
+
+pub returns-in-Lose-clause-stands : goal.returns-in-Lose-clause-stands
+returns-in-Lose-clause-stands c world is =
+    subst (λ (s : Step). StandsFor c.args.memory.now c.lose.new.self (after_step s world)) (sym c.in-Lose.is) (c.lose.ensures.stands c.args.memory.now world is)
+
+pub returns-in-Lose-clause-heard : goal.returns-in-Lose-clause-heard
+returns-in-Lose-clause-heard c world is =
+    grew_still world (after_step c.args.step.now world) c.args.heard.now (subst (λ (s : Step). (after_step s world).carried ≡ world.carried) (sym c.in-Lose.is) (lose_carries c.in-Lose.codec world))
+
+pub returns-in-Lose-clause-lists : goal.returns-in-Lose-clause-lists
+returns-in-Lose-clause-lists c =
+    heard_after c.args.memory.now c.args.memory.now c.self.inside.device c.args.self.now c.lose.new.self c.args.step.now c.args.heard.now c.args.heard.now
+    (ap (λ (state : ControllerState). state.device) c.self.view_is) c.is_some_world.ensures (returns-in-Lose-clause-stands c) (returns-in-Lose-clause-heard c) c.requires.lists
+
+pub returns-in-Rirb-clause-stands : goal.returns-in-Rirb-clause-stands
+returns-in-Rirb-clause-stands c world is =
+    subst (λ (s : Step). StandsFor c.rirb.new.memory c.rirb.new.self (after_step s world)) (sym c.in-Rirb.is) (c.rirb.ensures.stands world is)
+
+pub returns-in-Rirb-clause-heard : goal.returns-in-Rirb-clause-heard
+returns-in-Rirb-clause-heard c world is =
+    grew_still world (after_step c.args.step.now world) c.args.heard.now (subst (λ (s : Step). (after_step s world).carried ≡ world.carried) (sym c.in-Rirb.is) refl)
+
+pub returns-in-Rirb-clause-lists : goal.returns-in-Rirb-clause-lists
+returns-in-Rirb-clause-lists c =
+    heard_after c.args.memory.now c.rirb.new.memory c.self.inside.device c.args.self.now c.rirb.new.self c.args.step.now c.args.heard.now c.args.heard.now
+    (ap (λ (state : ControllerState). state.device) c.self.view_is) c.is_some_world.ensures (returns-in-Rirb-clause-stands c) (returns-in-Rirb-clause-heard c) c.requires.lists
+
+pub returns-in-Fetch-clause-stands : goal.returns-in-Fetch-clause-stands
+returns-in-Fetch-clause-stands c world is =
+    subst (λ (s : Step). StandsFor c.args.memory.now c.fetch.new.self (after_step s world)) (sym c.in-Fetch.is) (c.fetch.ensures.stands world is)
+
+pub returns-in-Fetch-clause-heard : goal.returns-in-Fetch-clause-heard
+returns-in-Fetch-clause-heard c world is =
+    grew_still world (after_step c.args.step.now world) c.args.heard.now (subst (λ (s : Step). (after_step s world).carried ≡ world.carried) (sym c.in-Fetch.is) (fetch_carries c.in-Fetch.stream c.in-Fetch.most world))
+
+pub returns-in-Fetch-clause-lists : goal.returns-in-Fetch-clause-lists
+returns-in-Fetch-clause-lists c =
+    heard_after c.args.memory.now c.args.memory.now c.self.inside.device c.args.self.now c.fetch.new.self c.args.step.now c.args.heard.now c.args.heard.now
+    (ap (λ (state : ControllerState). state.device) c.self.view_is) c.is_some_world.ensures (returns-in-Fetch-clause-stands c) (returns-in-Fetch-clause-heard c) c.requires.lists
+
+pub returns-in-Plug-clause-stands : goal.returns-in-Plug-clause-stands
+returns-in-Plug-clause-stands c world is =
+    subst (λ (s : Step). StandsFor c.args.memory.now c.plug.new.self (after_step s world)) (sym c.in-Plug.is) (c.plug.ensures.stands c.args.memory.now world is)
+
+pub returns-in-Plug-clause-heard : goal.returns-in-Plug-clause-heard
+returns-in-Plug-clause-heard c world is =
+    grew_still world (after_step c.args.step.now world) c.args.heard.now (subst (λ (s : Step). (after_step s world).carried ≡ world.carried) (sym c.in-Plug.is) refl)
+
+pub returns-in-Plug-clause-lists : goal.returns-in-Plug-clause-lists
+returns-in-Plug-clause-lists c =
+    heard_after c.args.memory.now c.args.memory.now c.self.inside.device c.args.self.now c.plug.new.self c.args.step.now c.args.heard.now c.args.heard.now
+    (ap (λ (state : ControllerState). state.device) c.self.view_is) c.is_some_world.ensures (returns-in-Plug-clause-stands c) (returns-in-Plug-clause-heard c) c.requires.lists
+
+pub returns-in-Unplug-clause-stands : goal.returns-in-Unplug-clause-stands
+returns-in-Unplug-clause-stands c world is =
+    subst (λ (s : Step). StandsFor c.args.memory.now c.plug-in-Unplug.new.self (after_step s world)) (sym c.in-Unplug.is) (c.plug-in-Unplug.ensures.stands c.args.memory.now world is)
+
+pub returns-in-Unplug-clause-heard : goal.returns-in-Unplug-clause-heard
+returns-in-Unplug-clause-heard c world is =
+    grew_still world (after_step c.args.step.now world) c.args.heard.now (subst (λ (s : Step). (after_step s world).carried ≡ world.carried) (sym c.in-Unplug.is) refl)
+
+pub returns-in-Unplug-clause-lists : goal.returns-in-Unplug-clause-lists
+returns-in-Unplug-clause-lists c =
+    heard_after c.args.memory.now c.args.memory.now c.self.inside.device c.args.self.now c.plug-in-Unplug.new.self c.args.step.now c.args.heard.now c.args.heard.now
+    (ap (λ (state : ControllerState). state.device) c.self.view_is) c.is_some_world.ensures (returns-in-Unplug-clause-stands c) (returns-in-Unplug-clause-heard c) c.requires.lists
+
+pub returns-in-Link-clause-stands : goal.returns-in-Link-clause-stands
+returns-in-Link-clause-stands c world is =
+    subst (λ (s : Step). StandsFor c.args.memory.now c.link.new.self (after_step s world)) (sym c.in-Link.is) (c.link.ensures.stands c.args.memory.now world is)
+
+pub returns-in-Link-clause-heard : goal.returns-in-Link-clause-heard
+returns-in-Link-clause-heard c world is =
+    subst (λ (s : Step). Grew world (after_step s world) c.args.heard.now c.link.new.heard) (sym c.in-Link.is) (c.link.ensures.heard c.args.memory.now world is)
+
+pub returns-in-Link-clause-lists : goal.returns-in-Link-clause-lists
+returns-in-Link-clause-lists c =
+    heard_after c.args.memory.now c.args.memory.now c.self.inside.device c.args.self.now c.link.new.self c.args.step.now c.args.heard.now c.link.new.heard
+    (ap (λ (state : ControllerState). state.device) c.self.view_is) c.is_some_world.ensures (returns-in-Link-clause-stands c) (returns-in-Link-clause-heard c) c.requires.lists
