@@ -1,5 +1,9 @@
 -- Items that events follow, one after another.
-use Rattle.std.proofs.Common.{◌≡◌, List, [], ◌∷◌, ◌++◌, map, refl, sym, ap, ◌∙◌, append-nil, true, ℕ}
+use Rattle.std.proofs.Common.{◌≡◌, List, [], ◌∷◌, ◌++◌, length, map, drop, refl, sym, ap, subst, ◌∙◌, append-nil, true, ℕ}
+use Rattle.std.proofs.Props.{props}
+use Rattle.std.proofs.Math.Seq.{drop-append_seam}
+use Rattle.std.proofs.lemmas.List.Elements.{filter_passes}
+use Rattle.hda_schedule.specs.declared.schedule.Group.{Group}
 use Rattle.std.specs.Prelude.{All, flat_map}
 use Rattle.std.proofs.lemmas.List.{map-append}
 use Rattle.std.proofs.lemmas.List.Concat.{flat_map-append}
@@ -9,7 +13,7 @@ use Rattle.hda_schedule.specs.declared.schedule.Item.{Item}
 use Rattle.hda_schedule.specs.declared.schedule.Item.TheVariants.{Device, Drive}
 use Rattle.hda_schedule.specs.declared.schedule.DriverLine.{DriverLine}
 use Rattle.hda_world.specs.Events.{Event, Stepped}
-use Rattle.rig.specs.Stretches.{stretch}
+use Rattle.rig.specs.Stretches.{is_access, accesses_of, stretch, IsStretchFrom}
 use Rattle.rig.specs.Follows.{Piece, laid_out, AreAccesses, FollowItems}
 
 abbrev events_of_piece : Piece → List Event
@@ -52,3 +56,21 @@ follow_run line accesses are = record {
   accesses = one_piece (record { item = Drive line; accesses = accesses }) are;
   laid = append-nil (stretch line.groups accesses);
 }
+
+-- ---- a run that was made
+
+pub all_accesses : (events : List Event) → AreAccesses (accesses_of events)
+all_accesses events = filter_passes is_access events
+
+-- what a run added to a journal is the run with its accesses
+pub run_more : (groups : List Group) (old more : List Event) → IsStretchFrom (length old) groups (old ++ more) → more ≡ stretch groups (accesses_of more)
+run_more groups old more is =
+    let added : drop (length old) (old ++ more) ≡ more = drop-append_seam old more in
+    sym added ∙ (is.laid ∙ ap (λ (events : List Event). stretch groups (accesses_of events)) added)
+
+pub follow_more : (line : DriverLine) (old more : List Event) → IsStretchFrom (length old) line.groups (old ++ more) → FollowItems (Drive line ∷ []) more
+follow_more line old more is =
+    subst (FollowItems (Drive line ∷ [])) (sym (run_more line.groups old more is)) (follow_run line (accesses_of more) (all_accesses more))
+
+try : (one other : List Event) → IsProp (one ≡ other)
+try one other = Prim.hlevel props
