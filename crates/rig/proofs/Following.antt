@@ -1,6 +1,5 @@
 -- Items that events follow, one after another.
 use Rattle.std.proofs.Common.{◌≡◌, List, [], ◌∷◌, ◌++◌, length, map, drop, refl, sym, ap, subst, ◌∙◌, append-nil, true, ℕ}
-use Rattle.std.proofs.Props.{props}
 use Rattle.std.proofs.Math.Seq.{drop-append_seam}
 use Rattle.std.proofs.lemmas.List.Elements.{filter_passes}
 use Rattle.hda_schedule.specs.declared.schedule.Group.{Group}
@@ -71,6 +70,3 @@ run_more groups old more is =
 pub follow_more : (line : DriverLine) (old more : List Event) → IsStretchFrom (length old) line.groups (old ++ more) → FollowItems (Drive line ∷ []) more
 follow_more line old more is =
     subst (FollowItems (Drive line ∷ [])) (sym (run_more line.groups old more is)) (follow_run line (accesses_of more) (all_accesses more))
-
-try : (one other : List Event) → IsProp (one ≡ other)
-try one other = Prim.hlevel props

@@ -1,7 +1,5 @@
 -- What an open run keeps over its accesses.
 use Rattle.std.proofs.Common.{◌≡◌, ◌≤◌, ◌<◌, ◌+◌, ◌-◌, ℕ, Bool, true, false, List, [], ◌∷◌, ◌++◌, length, map, drop, refl, sym, ap, subst, ◌∙◌, arith, flat_map, sum_by}
-use Rattle.std.specs.Coded.{le_prop}
-use Rattle.std.proofs.Math.Logic.{∥∥₁_map, ∥∥₁_elim}
 use Rattle.std.proofs.lemmas.List.{map-append, length-map}
 use Rattle.device_steps.specs.declared.Step.{Step}
 use Rattle.hda_schedule.specs.declared.schedule.Group.{Group}
@@ -28,22 +26,21 @@ stays_closed on spare closed off = (let none : spare ≡ 0 = closed off in omega
 
 -- ---- what is laid
 
-pub laid_on : (begun made : ℕ) (groups : List Group) (old new : List Event) (on : Bool) (access : Event) → ∥ (on ≡ true → IsOpenFrom begun groups old) ∥₁
+pub laid_on : (begun made : ℕ) (groups : List Group) (old new : List Event) (on : Bool) (access : Event) → (on ≡ true → IsOpenFrom begun groups old)
     → (on ≡ true → made ≡ length (accesses_of (drop begun old))) → new ≡ old ++ (map Stepped (steps_before made groups) ++ access ∷ []) → is_access access ≡ true
-    → ∥ (on ≡ true → IsOpenFrom begun groups new) ∥₁
-laid_on begun made groups old new on access laid numbered is right =
-    ∥∥₁_map laid (λ was running. accessed_open begun groups old new made access (was running) (numbered running) is right)
+    → on ≡ true → IsOpenFrom begun groups new
+laid_on begun made groups old new on access laid numbered is right running = accessed_open begun groups old new made access (laid running) (numbered running) is right
 
-pub numbered_on : (begun made : ℕ) (groups : List Group) (old new : List Event) (on : Bool) (access : Event) → ∥ (on ≡ true → IsOpenFrom begun groups old) ∥₁
+pub numbered_on : (begun made : ℕ) (groups : List Group) (old new : List Event) (on : Bool) (access : Event) → (on ≡ true → IsOpenFrom begun groups old)
     → (on ≡ true → made ≡ length (accesses_of (drop begun old))) → new ≡ old ++ (map Stepped (steps_before made groups) ++ access ∷ []) → is_access access ≡ true
     → on ≡ true → made + 1 ≡ length (accesses_of (drop begun new))
 numbered_on begun made groups old new on access laid numbered is right running =
-    accessed_count begun groups old new made access (∥∥₁_elim laid le_prop (λ was. (was running).begins)) (numbered running) is right
+    accessed_count begun groups old new made access (laid running).begins (numbered running) is right
 
-pub laid_end : (begun made : ℕ) (groups : List Group) (old new : List Event) (on : Bool) → ∥ (on ≡ true → IsOpenFrom begun groups old) ∥₁
+pub laid_end : (begun made : ℕ) (groups : List Group) (old new : List Event) (on : Bool) → (on ≡ true → IsOpenFrom begun groups old)
     → (on ≡ true → made ≡ length (accesses_of (drop begun old))) → new ≡ old ++ (all_steps_in (drop made groups) ++ End ∷ []) → on ≡ true
-    → ∥ IsStretchFrom begun groups new ∥₁
-laid_end begun made groups old new on laid numbered is running = ∥∥₁_map laid (λ was. ended begun groups old new made (was running) (numbered running) is)
+    → IsStretchFrom begun groups new
+laid_end begun made groups old new on laid numbered is running = ended begun groups old new made (laid running) (numbered running) is
 
 -- ---- what is told
 

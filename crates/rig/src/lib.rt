@@ -10,6 +10,6 @@ mod rig;
 mod rooms;
 mod setting;
 
-pub use laws::{pieces_follow, rigs_replay};
+pub use laws::{pieces_follow, rigs_replay, runs_follow};
 pub use rig::Rig;
 pub use setting::Setting;

@@ -38,7 +38,7 @@ pub struct Rig {
     spare_bytes: u32,
     pub ghost closed: { in_run ≡ false → spare_accesses ≡ 0 },
     pub ghost counts: { made + spare_accesses < 2 ^ 32 },
-    pub ghost laid: { ∥ (in_run ≡ true → IsOpenFrom begun groups (events_of recording.journal)) ∥₁ },
+    pub ghost laid: { in_run ≡ true → IsOpenFrom begun groups (events_of recording.journal) } by { Prim.hlevel props },
     pub ghost numbered: { in_run ≡ true → made ≡ length (accesses_of (drop begun (events_of recording.journal))) },
     pub ghost room: { in_run ≡ true → HasRoomFor (spare_accesses + 1 + step_count (drop made groups)) spare_bytes (item_count (drop made groups))
         recording.journal recording.heard } by { Prim.hlevel props },
@@ -136,7 +136,7 @@ impl Rig {
     pub fn end(&mut self)
         requires { (setting_of self.old).in_run ≡ true }
         ensures told { Between (λ old new. Accessed old new End) (told_by self.old) (told_by self.new) }
-        ensures stretch { ∥ IsStretchFrom (setting_of self.old).begun (setting_of self.old).groups (telling_of self.new).journal ∥₁ }
+        ensures stretch { IsStretchFrom (setting_of self.old).begun (setting_of self.old).groups (telling_of self.new).journal }
         ensures setting { setting_of self.new ≡ record (setting_of self.old) { in_run = false } }
     {
         let left = groups_left(self.groups.as_slice(), self.made as usize);

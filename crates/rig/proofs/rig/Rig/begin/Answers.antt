@@ -1,5 +1,4 @@
 use Rattle.std.proofs.Common.{◌≡◌, ◌+◌, ℕ, List, true, false, length, sym, ap, subst, ◌∙◌, arith}
-use Rattle.std.proofs.lemmas.Grind.{merely}
 use Rattle.hda_schedule.specs.declared.schedule.Group.{Group}
 use Rattle.rig.specs.Recordings.{HasRoomFor}
 use Rattle.rig.specs.Rooms.{step_count, item_count}
@@ -17,7 +16,7 @@ invariant_of-self-2 c =
     record {
       closed = λ never. (let no : true ≡ false = never in cc);
       counts = omega (arith, c.ranges.accesses);
-      laid = merely (λ _. began c.entry_count-self.result c.in_ok-copies.copies _ _ c.entry_count-self.ensures c.begin.ensures.told.journal);
+      laid = λ _. began c.entry_count-self.result c.in_ok-copies.copies _ _ c.entry_count-self.ensures c.begin.ensures.told.journal;
       numbered = λ _. began_count c.entry_count-self.result c.in_ok-copies.copies _ _ c.entry_count-self.ensures c.begin.ensures.told.journal;
       room = λ _. c.begin.ensures.room _ _ _ (less_room _ _ _ (1 + (c.args.accesses + 1 + step_count c.in_ok-copies.copies)) c.args.bytes (item_count c.in_ok-copies.copies) _ _
           (omega (arith, steps, asked)) (omega arith) (omega (arith, items, heard)) c.in_ok-reserve.ensures.room);
