@@ -1,3 +1,4 @@
+pub mod Callers
 pub mod Noting
 pub mod Weaving
 pub mod Where

@@ -1,16 +1,13 @@
 -- The list of a candidate pin is among those of its machine, and has what the pin heard.
-use Rattle.std.proofs.Common.{◌≡◌, ◌<◌, ◌==◌, ◌&&◌, ◌||◌, ◌+◌, ℕ, zero, suc, Bool, true, false, List, [], ◌∷◌, ◌++◌, length, map, get_or, Option, Some, None, if◌then◌else◌, refl, sym, ap, subst, ◌∙◌, arith, eq-eqb, rules, tests}
+use Rattle.std.proofs.Common.{◌≡◌, ◌==◌, ◌&&◌, ◌||◌, ℕ, zero, suc, Bool, true, false, List, [], ◌∷◌, Some, if◌then◌else◌, refl, sym, ap, subst, ◌∙◌, arith, eq-eqb, rules, tests}
 use Rattle.std.specs.Prelude.{All, Contains}
 use Rattle.std.specs.List.{find, AllZip, AllByRecursion}
 use Rattle.std.specs.Coded.{Coded-set, coded_bool}
 use Rattle.std.proofs.Math.Logic.{∥∥₁_elim}
 use Rattle.std.proofs.lemmas.List.Elements.{Contains-append_left, Contains-append_right, recursion_from_All}
-use Rattle.codec_graph.specs.declared.raw.RawCodec.{RawCodec}
-use Rattle.codec_graph.specs.Candidates.{is_candidate}
-use Rattle.codec_sound.specs.declared.heard.Heard.{Heard}
 use Rattle.codec_sound.specs.HeardLists.{heard}
 use Rattle.route_planner.specs.Order.{IsOrder}
-use Rattle.hda_world.specs.Worlds.{World, CarriedFrame, codec_at}
+use Rattle.hda_world.specs.Worlds.{CarriedFrame, codec_at}
 use Rattle.hda_files.specs.declared.machine.CodecFile.{CodecFile}
 use Rattle.heard_lists.specs.Listings.{Listing, AreListsOf, graphs_in, places_of, places_in, pins_of, is_of, items_in, list_of}
 use Rattle.hda_controller.specs.Controllers.{is_candidate_in, is_candidate_of}

@@ -1,13 +1,13 @@
 -- Entries that are noted in a journal, as events.
-use Rattle.std.proofs.Common.{◌≡◌, ◌≤◌, ◌+◌, ℕ, List, [], ◌∷◌, ◌++◌, length, map, take, drop, slice_range, refl, sym, ap, subst, ◌∙◌, arith, All}
+use Rattle.std.proofs.Common.{◌≡◌, ◌≤◌, ◌+◌, ℕ, List, [], ◌∷◌, ◌++◌, length, take, drop, slice_range, refl, sym, ap, subst, ◌∙◌, arith, All}
 use Rattle.std.proofs.lemmas.List.{take-append-le, map-append, length-append}
-use Rattle.std.proofs.Math.Seq.{take-length, take-append_seam, drop-append_seam}
+use Rattle.std.proofs.Math.Seq.{take-length, drop-append_seam}
 use Rattle.std.specs.List.{AllByRecursion}
 use Rattle.std.proofs.lemmas.Slice.{between_is}
 use Rattle.std.proofs.lemmas.List.Elements.{recursion_from_All, All-push}
 use Rattle.hda_world.specs.declared.entry.Entry.{Entry}
 use Rattle.hda_world.specs.declared.entry.Entry.TheVariants as entry
-use Rattle.hda_world.specs.Events.{Event, DmaRead, DmaWrite, IsPiece}
+use Rattle.hda_world.specs.Events.{Event, DmaRead, DmaWrite}
 use Rattle.hda_world.specs.Journals.{event_of, events_in, piece_end}
 
 -- an entry more is an event more

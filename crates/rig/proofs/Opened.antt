@@ -1,5 +1,5 @@
 -- What an open run keeps over its accesses.
-use Rattle.std.proofs.Common.{◌≡◌, ◌≤◌, ◌<◌, ◌+◌, ◌-◌, ℕ, Bool, true, false, List, [], ◌∷◌, ◌++◌, length, map, drop, refl, sym, ap, subst, ◌∙◌, arith, flat_map, sum_by}
+use Rattle.std.proofs.Common.{◌≡◌, ◌≤◌, ◌+◌, ◌-◌, ℕ, Bool, true, false, List, [], ◌∷◌, ◌++◌, length, map, drop, refl, sym, ap, subst, ◌∙◌, arith, flat_map}
 use Rattle.std.proofs.lemmas.List.{map-append, length-map}
 use Rattle.device_steps.specs.declared.Step.{Step}
 use Rattle.hda_schedule.specs.declared.schedule.Group.{Group}

@@ -1,5 +1,5 @@
 -- Room that is left.
-use Rattle.std.proofs.Common.{◌≡◌, ◌≤◌, ◌+◌, ℕ, List, length, vec_len, vec_capacity, refl, sym, ap, subst, ◌∙◌, arith, All}
+use Rattle.std.proofs.Common.{◌≡◌, ◌≤◌, ◌+◌, ℕ, List, vec_len, vec_capacity, sym, ap, subst, arith}
 use Rattle.std.specs.Global.{Vec}
 use Rattle.hda_world.specs.declared.entry.Entry.{Entry}
 use Rattle.hda_world.specs.declared.journal.Journal.{Journal}

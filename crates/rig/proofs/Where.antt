@@ -1,5 +1,5 @@
 -- Where a journal leads, event by event.
-use Rattle.std.proofs.Common.{◌≡◌, ◌≤◌, ◌<◌, ◌+◌, ℕ, true, List, [], ◌∷◌, ◌++◌, length, map, get_or, take, drop, slice_range, refl, sym, ap, subst, ◌∙◌, arith, All, append_assoc}
+use Rattle.std.proofs.Common.{◌≡◌, ◌≤◌, ◌<◌, ◌+◌, ℕ, true, List, [], ◌∷◌, ◌++◌, length, map, get_or, take, drop, slice_range, refl, sym, ap, subst, ◌∙◌, arith, All}
 use Rattle.std.proofs.Props.{props}
 use Rattle.std.specs.Coded.{Coded-set, coded_ℕ, coded_list}
 use Rattle.std.proofs.Math.Logic.{∥∥₁_elim}
@@ -17,8 +17,8 @@ use Rattle.device_steps.specs.declared.Step.{Step}
 use Rattle.hda_world.specs.Worlds.{World, CarriedFrame}
 use Rattle.hda_world.specs.Steps.{after_step}
 use Rattle.hda_world.specs.Events.{Event, Stepped, Write, DmaWrite, after, after_write, happens, IsHonest, AreHonest, IsPiece}
-use Rattle.hda_world.specs.Tellings.{Telling, Went, Accessed, world_of}
-use Rattle.hda_world.proofs.Callers.{after-append, AreHonest-append, access_leaves, went_both}
+use Rattle.hda_world.specs.Tellings.{Went}
+use Rattle.hda_world.proofs.Callers.{after-append, AreHonest-append, access_leaves}
 use Rattle.codec_graph.specs.declared.raw.RawCodec.{RawCodec}
 use Rattle.heard_lists.specs.declared.pin_list.PinHeard.{PinHeard}
 use Rattle.heard_lists.specs.Listings.{Listing, with_items, grown, handed_out, pins_of, AreListsOf, AreEmpty}

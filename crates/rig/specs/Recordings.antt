@@ -1,6 +1,5 @@
 -- A machine in motion whose journal is kept, and what is told of it. This project's own.
-use Rattle.std.specs.Prelude.{◌≡◌, ◌≤◌, ◌+◌, ℕ, List, length, vec_len, vec_capacity, sum_by}
-use Rattle.codec_graph.specs.CodecStates.{CodecState}
+use Rattle.std.specs.Prelude.{◌≤◌, ◌+◌, ℕ, List, vec_len, vec_capacity, sum_by}
 use Rattle.device_steps.specs.declared.Step.{Step}
 use Rattle.hda_world.specs.Worlds.{World}
 use Rattle.hda_world.specs.Events.{Event, after}

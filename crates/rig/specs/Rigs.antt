@@ -1,14 +1,12 @@
 -- What a rig tells. This project's own.
-use Rattle.std.specs.Prelude.{◌≡◌, ℕ, List, Option, Some, IfSome, length}
+use Rattle.std.specs.Prelude.{◌≡◌, List, Option, Some, IfSome, length}
 use Rattle.std.specs.Coded.{Coded-set, coded_ℕ}
 use Rattle.std.proofs.Common.{ap, ◌∙◌}
 use Rattle.std.proofs.Math.Logic.{∥∥₁_elim}
 use Rattle.hda_world.specs.declared.world.TheConstants.{REGION_BYTES}
 use Rattle.hda_world.specs.Worlds.{World}
-use Rattle.hda_world.specs.Events.{Event}
 use Rattle.hda_world.specs.JournalEvents.{events_of}
 use Rattle.hda_world.specs.Tellings.{Telling, world_of}
-use Rattle.hda_files.specs.declared.machine.Machine.{Machine}
 use Rattle.heard_lists.specs.Listings.{Listing}
 use Rattle.rig.specs.declared.recording.Recording.{Recording}
 use Rattle.rig.specs.declared.rig.Rig.{Rig}

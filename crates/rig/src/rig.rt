@@ -96,12 +96,7 @@ impl Rig {
     ///
     /// # Errors
     /// Want of memory. Nothing happened then.
-    pub fn begin(
-        &mut self,
-        groups: &[Group],
-        accesses: u32,
-        bytes: u32,
-    ) -> Result<(), AllocError>
+    pub fn begin(&mut self, groups: &[Group], accesses: u32, bytes: u32) -> Result<(), AllocError>
         requires { (setting_of self.old).in_run ≡ false }
         ensures told { OnOk result (Between (λ old new. Accessed old new Begin) (told_by self.old) (told_by self.new)) }
         ensures went { OnOk result (Went (telling_of self.old) (telling_of self.new) (Begin ∷ [])) }

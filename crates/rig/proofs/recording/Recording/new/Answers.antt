@@ -1,4 +1,4 @@
-use Rattle.std.proofs.Common.{◌≡◌, ℕ, List, [], refl, sym, subst}
+use Rattle.std.proofs.Common.{ℕ, List, [], refl, sym, subst}
 use Rattle.std.proofs.lemmas.Grind.{merely}
 use Rattle.hda_controller.specs.Controllers.{StandsFor}
 use Rattle.rig.specs.Replays.{start_of}

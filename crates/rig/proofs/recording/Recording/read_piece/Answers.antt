@@ -1,10 +1,9 @@
-use Rattle.std.proofs.Common.{◌≡◌, ◌+◌, ℕ, List, length, refl, sym, ap, ◌∙◌, arith, slice_range}
+use Rattle.std.proofs.Common.{◌+◌, ℕ, List, length, refl, ap, ◌∙◌, slice_range}
 use Rattle.std.proofs.Math.Logic.{∥∥₁_map}
 use Rattle.hda_world.specs.Events.{DmaRead}
 use Rattle.rig.proofs.Noting.{pieced}
 use Rattle.rig.proofs.Where.{honest_more, where_seen, went_one, memory_there, piece_there}
 use Rattle.rig.proofs.recording.Recording.read_piece.Goals as goal
-
 
 pub returns-clause-told : goal.returns-clause-told
 returns-clause-told c =

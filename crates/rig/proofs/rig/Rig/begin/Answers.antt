@@ -1,6 +1,4 @@
-use Rattle.std.proofs.Common.{◌≡◌, ◌+◌, ℕ, List, true, false, length, sym, ap, subst, ◌∙◌, arith}
-use Rattle.hda_schedule.specs.declared.schedule.Group.{Group}
-use Rattle.rig.specs.Recordings.{HasRoomFor}
+use Rattle.std.proofs.Common.{◌≡◌, ◌+◌, true, false, ap, arith}
 use Rattle.rig.specs.Rooms.{step_count, item_count}
 use Rattle.rig.proofs.Rooming.{less_room}
 use Rattle.rig.proofs.Weaving.{began, began_count}

@@ -1,11 +1,9 @@
-use Rattle.std.proofs.Common.{◌≡◌, ◌≤◌, ◌+◌, ◌-◌, ℕ, List, [], ◌∷◌, length, map, drop, refl, sym, ap, subst, ◌∙◌, arith}
+use Rattle.std.proofs.Common.{◌+◌, ◌-◌, List, length, refl, sym, subst, arith}
 use Rattle.hda_schedule.specs.declared.schedule.Group.{Group}
 use Rattle.hda_world.specs.Events.{Write}
-use Rattle.hda_world.specs.Tellings.{Went, Accessed}
 use Rattle.hda_world.proofs.Callers.{went_both}
 use Rattle.rig.specs.Recordings.{HasRoomFor, items_for}
-use Rattle.rig.specs.Rigs.{told_of}
-use Rattle.rig.specs.Rooms.{steps_before, step_count, item_count}
+use Rattle.rig.specs.Rooms.{steps_before}
 use Rattle.rig.proofs.Opened.{is_open, stays_closed, laid_on, numbered_on, accessed_by, steps_room, passed_room, passed_told, one_entry, fewer_bytes}
 use Rattle.rig.proofs.rig.accesses.RigPlatform.write.Goals as goal
 
