@@ -1,0 +1,217 @@
+-- Where a journal leads, event by event.
+use Rattle.std.proofs.Common.{◌≡◌, ◌≤◌, ◌<◌, ◌+◌, ℕ, true, List, [], ◌∷◌, ◌++◌, length, map, get_or, take, drop, slice_range, refl, sym, ap, subst, ◌∙◌, arith, All}
+use Rattle.std.proofs.Props.{props}
+use Rattle.std.specs.Coded.{Coded-set, coded_ℕ, coded_list}
+use Rattle.std.proofs.Math.Logic.{∥∥₁_elim}
+use Rattle.std.proofs.Math.Seq.{take-append_seam}
+use Rattle.hda_registers.specs.Fields.{Fields}
+use Rattle.hda_registers.specs.Access.{value_at}
+use Rattle.std.proofs.lemmas.List.Elements.{All-map}
+use Rattle.std.proofs.lemmas.List.{get_or-map, length-map}
+use Rattle.hda_registers.specs.declared.shapes.Width.{Width}
+use Rattle.ring_entries.specs.Memory.{stored}
+use Rattle.codec_sound.specs.declared.heard.Heard.{Heard}
+use Rattle.codec_sound.specs.HeardLists.{heard}
+use Rattle.codec_sound.proofs.Callers.{heard-append}
+use Rattle.device_steps.specs.declared.Step.{Step}
+use Rattle.hda_world.specs.Worlds.{World, CarriedFrame}
+use Rattle.hda_world.specs.Steps.{after_step}
+use Rattle.hda_world.specs.Events.{Event, Stepped, Write, DmaWrite, after, after_write, happens, IsHonest, AreHonest, IsPiece}
+use Rattle.hda_world.specs.Tellings.{Went}
+use Rattle.hda_world.proofs.Callers.{after-append, AreHonest-append, access_leaves}
+use Rattle.codec_graph.specs.declared.raw.RawCodec.{RawCodec}
+use Rattle.heard_lists.specs.declared.pin_list.PinHeard.{PinHeard}
+use Rattle.heard_lists.specs.Listings.{Listing, with_items, grown, handed_out, pins_of, AreListsOf, AreEmpty}
+use Rattle.hda_controller.specs.Controllers.{ControllerState, StandsFor, is_candidate_of}
+use Rattle.hda_controller.specs.Hearing.{AreHeard, Grew}
+use Rattle.rig.specs.Replays.{AreHeardIn}
+use Rattle.rig.specs.Recordings.{IsWhere}
+
+-- ---- what is told
+
+pub honest_more : (start : World) (events more : List Event) (event : Event) → AreHonest events start → more ≡ events ++ event ∷ []
+    → IsHonest (after events start) event → AreHonest more start
+honest_more start events more event before is here =
+    subst (λ (all : List Event). AreHonest all start) (sym is) (AreHonest-append events (event ∷ []) start before (here, tt))
+
+pub went_one : (start : World) (events more : List Event) (event : Event) → more ≡ events ++ event ∷ [] → IsHonest (after events start) event
+    → Went (record { start = start; journal = events }) (record { start = start; journal = more }) (event ∷ [])
+went_one start events more event is here = record { start = refl; journal = is; honest = (here, tt) }
+
+pub leads_on : (start : World) (events more : List Event) (event : Event) → more ≡ events ++ event ∷ [] → after more start ≡ happens (after events start) event
+leads_on start events more event is = ap (λ (all : List Event). after all start) is ∙ after-append events (event ∷ []) start
+
+-- ---- heard lists
+
+lists_go_on : (before later : World) (old new : List Listing) → Grew before later old new → AreHeardIn before old → AreHeardIn later new
+lists_go_on before later old new grew were =
+    subst (AreHeardIn later) (sym grew.lists)
+    (All-map (λ (listing : Listing). listing.list ≡ heard listing.codec listing.pin later.carried)
+    (λ (listing : Listing). with_items (heard listing.codec listing.pin grew.added) listing) old (λ k d within. one (get_or old k d) (were k d within)))
+  where
+    one : (listing : Listing) → listing.list ≡ heard listing.codec listing.pin before.carried
+        → listing.list ++ heard listing.codec listing.pin grew.added ≡ heard listing.codec listing.pin later.carried
+    one listing was =
+        ap (λ (items : List Heard). items ++ heard listing.codec listing.pin grew.added) was
+        ∙ (sym (heard-append listing.codec listing.pin before.carried grew.added)
+        ∙ ap (heard listing.codec listing.pin) (sym grew.carried))
+
+lists_stay : (before later : World) (lists : List Listing) → later.carried ≡ before.carried → AreHeardIn before lists → AreHeardIn later lists
+lists_stay before later lists same were =
+    subst (λ (carried : List CarriedFrame). All (λ listing. listing.list ≡ heard listing.codec listing.pin carried) lists) (sym same) were
+
+-- ---- events
+
+module _ (start : World) (events more : List Event) (memory : List ℕ) (controller : ControllerState) (lists : List Listing) where
+  abbrev here : World
+  here = after events start
+
+  -- a step
+  pub where_stepped : (step : Step) (left : List ℕ) (moved : ControllerState) (grew : List Listing) → IsWhere start events memory controller lists
+      → more ≡ events ++ Stepped step ∷ [] → ((world : World) → StandsFor memory controller world → StandsFor left moved (after_step step world))
+      → ((world : World) → StandsFor memory controller world → Grew world (after_step step world) lists grew) → AreHeard moved.device.codecs grew
+      → IsWhere start more left moved grew
+  where_stepped step left moved grew was is stands goes known =
+      let leads : after_step step here ≡ after more start = sym (leads_on start events more (Stepped step) is) in
+      record {
+        stands = subst (StandsFor left moved) leads (stands here was.stands);
+        known = known;
+        heard = subst (λ (world : World). AreHeardIn world grew) leads (lists_go_on here (after_step step here) lists grew (goes here was.stands) was.heard);
+      }
+
+  -- a write of a register
+  pub where_written : (at : ℕ) (width : Width) (value : ℕ) (moved : ControllerState) → IsWhere start events memory controller lists
+      → more ≡ events ++ Write at width value ∷ []
+      → ((memory : List ℕ) (world : World) → StandsFor memory controller world → StandsFor memory moved (after_write at width value world))
+      → ((some : List Listing) → AreHeard controller.device.codecs some → AreHeard moved.device.codecs some)
+      → IsWhere start more memory moved lists
+  where_written at width value moved was is stands keeps =
+      let leads : after_write at width value here ≡ after more start = sym (leads_on start events more (Write at width value) is) in
+      record {
+        stands = subst (StandsFor memory moved) leads (stands memory here was.stands);
+        known = keeps lists was.known;
+        heard = subst (λ (world : World). AreHeardIn world lists) leads
+            (lists_stay here (after_write at width value here) lists (access_leaves here at value width).carried was.heard);
+      }
+
+  -- a write of a piece of memory
+  pub where_stored : (at : ℕ) (piece left : List ℕ) → IsWhere start events memory controller lists → more ≡ events ++ DmaWrite at piece ∷ []
+      → left ≡ stored memory at piece → IsWhere start more left controller lists
+  where_stored at piece left was is stores =
+      let leads : happens here (DmaWrite at piece) ≡ after more start = sym (leads_on start events more (DmaWrite at piece) is) in
+      record {
+        stands = subst (StandsFor left controller) leads (record {
+          memory_is = ap (λ (bytes : List ℕ). stored bytes at piece) was.stands.memory_is ∙ sym stores;
+          registers_are = was.stands.registers_are;
+          codecs_are = was.stands.codecs_are;
+          waiting_is = was.stands.waiting_is;
+          frames_are = was.stands.frames_are;
+          input_stands = was.stands.input_stands;
+          output_stands = was.stands.output_stands;
+        });
+        known = was.known;
+        heard = subst (λ (world : World). AreHeardIn world lists) leads was.heard;
+      }
+
+  -- an event that changes nothing
+  pub where_seen : (event : Event) → IsWhere start events memory controller lists → more ≡ events ++ event ∷ [] → happens here event ≡ here
+      → IsWhere start more memory controller lists
+  where_seen event was is nothing =
+      let leads : here ≡ after more start = sym (leads_on start events more event is ∙ nothing) in
+      record {
+        stands = subst (StandsFor memory controller) leads was.stands;
+        known = was.known;
+        heard = subst (λ (world : World). AreHeardIn world lists) leads was.heard;
+      }
+
+-- ---- at the start
+
+pub where_started : (start : World) (memory : List ℕ) (controller : ControllerState) (lists : List Listing) → StandsFor memory controller start
+    → AreHeard controller.device.codecs lists → AreEmpty lists → start.carried ≡ [] → IsWhere start [] memory controller lists
+where_started start memory controller lists stands known empty none = record {
+  stands = stands;
+  known = known;
+  heard = subst (λ (carried : List CarriedFrame). All (λ listing. listing.list ≡ heard listing.codec listing.pin carried) lists) (sym none) empty;
+}
+
+-- ---- lists with other room
+
+unmapped : (P : PinHeard → Type 0) (lists : List Listing) → All P (map handed_out lists) → All (λ (listing : Listing). P (handed_out listing)) lists
+unmapped P lists all k d within =
+    subst P (get_or-map handed_out lists k d (handed_out d) within)
+    (all k (handed_out d) (subst (λ (n : ℕ). k < n) (sym (length-map lists handed_out)) within))
+
+-- what holds of lists as they are handed out holds whatever room they have
+alike : (P : PinHeard → Type 0) (old new : List Listing) → map handed_out new ≡ map handed_out old → All (λ (listing : Listing). P (handed_out listing)) old
+    → All (λ (listing : Listing). P (handed_out listing)) new
+alike P old new same were = unmapped P new (subst (All P) (sym same) (All-map P handed_out old were))
+
+pub where_reserved : (start : World) (events : List Event) (memory : List ℕ) (controller : ControllerState) (old new : List Listing)
+    → map handed_out new ≡ map handed_out old → IsWhere start events memory controller old → IsWhere start events memory controller new
+where_reserved start events memory controller old new same was = record {
+  stands = was.stands;
+  known = alike (λ (list : PinHeard). is_candidate_of controller.device.codecs list.codec list.pin ≡ true) old new same was.known;
+  heard = alike (λ (list : PinHeard). list.list ≡ heard list.codec list.pin (after events start).carried) old new same was.heard;
+}
+
+-- ---- of which pins they are
+
+pins_handed : (lists : List Listing) → pins_of lists ≡ map (λ (list : PinHeard). (list.codec, list.pin)) (map handed_out lists)
+pins_handed [] = refl
+pins_handed (listing ∷ lists) = ap (λ (pins : List (ℕ × ℕ)). (listing.codec, listing.pin) ∷ pins) (pins_handed lists)
+
+pins_grown : (frames : List CarriedFrame) (lists : List Listing) → pins_of (grown frames lists) ≡ pins_of lists
+pins_grown frames [] = refl
+pins_grown frames (listing ∷ lists) = ap (λ (pins : List (ℕ × ℕ)). (listing.codec, listing.pin) ∷ pins) (pins_grown frames lists)
+
+pub listed_by : (graphs : List RawCodec) (old new : List Listing) → pins_of new ≡ pins_of old → AreListsOf graphs old → AreListsOf graphs new
+listed_by graphs old new same are = record { orders = are.orders; ordered = are.ordered; pins = same ∙ are.pins }
+
+pub listed_reserved : (graphs : List RawCodec) (old new : List Listing) → map handed_out new ≡ map handed_out old → AreListsOf graphs old → AreListsOf graphs new
+listed_reserved graphs old new same are =
+    listed_by graphs old new (pins_handed new ∙ (ap (map (λ (list : PinHeard). (list.codec, list.pin))) same ∙ sym (pins_handed old))) are
+
+pub listed_stepped : (graphs : List RawCodec) (before later : World) (old new : List Listing) → Grew before later old new → AreListsOf graphs old → AreListsOf graphs new
+listed_stepped graphs before later old new grew are = listed_by graphs old new (ap pins_of grew.lists ∙ pins_grown grew.added old) are
+
+-- ---- answers of the moment
+
+pub memory_there : {start : World} {events : List Event} {memory : List ℕ} {controller : ControllerState} {lists : List Listing}
+    → ∥ IsWhere start events memory controller lists ∥₁ → (after events start).memory ≡ memory
+memory_there there = ∥∥₁_elim there (Coded-set (coded_list coded_ℕ) _ _) (λ here. here.stands.memory_is)
+
+pub value_there : {start : World} {events : List Event} {memory : List ℕ} {controller : ControllerState} {lists : List Listing} (at : ℕ) (width : Width) (value : ℕ)
+    → ∥ IsWhere start events memory controller lists ∥₁ → value ≡ value_at controller.device.registers at width
+    → value ≡ value_at (after events start).registers at width
+value_there at width value there read =
+    ∥∥₁_elim there (Coded-set coded_ℕ _ _) (λ here. read ∙ ap (λ (fields : Fields). value_at fields at width) (sym here.stands.registers_are))
+
+-- a piece that was read is one of the memory
+pub piece_there : (told memory piece : List ℕ) (at long size : ℕ) → told ≡ memory → piece ≡ slice_range memory at (at + long) → length piece ≡ long
+    → length memory ≡ size → at + long ≤ size → IsPiece told at piece
+piece_there told memory piece at long size same read length_is whole within = record {
+  within = (let e : length told ≡ length memory = ap length same in omega (arith, e, whole, within, length_is));
+  same = read ∙ (ap (λ (n : ℕ). slice_range memory at (at + n)) (sym length_is) ∙ ap (λ (all : List ℕ). slice_range all at (at + length piece)) (sym same));
+}
+
+pub room_there : (told memory : List ℕ) (at long size : ℕ) → told ≡ memory → length memory ≡ size → at + long ≤ size → at + long ≤ length told
+room_there told memory at long size same whole within = (let e : length told ≡ length memory = ap length same in omega (arith, e, whole, within))
+
+-- what a write through the whole of a vector leaves
+pub whole_write : (new old written : List ℕ) (n : ℕ) → new ≡ written → length new ≡ length old → n ≡ length old → take n (new ++ drop (length new) old) ≡ written
+whole_write new old written n is long size = rw (size, ← long) (take-append_seam new (drop (length new) old)) ∙ is
+
+-- ---- the same events
+
+pub honest_same : (start : World) (events same : List Event) → same ≡ events → AreHonest events start → AreHonest same start
+honest_same start events same is honest = subst (λ (all : List Event). AreHonest all start) (sym is) honest
+
+pub where_same : (start : World) (events same : List Event) (memory : List ℕ) (controller : ControllerState) (lists : List Listing) → same ≡ events
+    → IsWhere start events memory controller lists → IsWhere start same memory controller lists
+where_same start events same memory controller lists is there = subst (λ (all : List Event). IsWhere start all memory controller lists) (sym is) there
+
+-- ---- lists of the moment
+
+pub heard_there : {start : World} {events : List Event} {memory : List ℕ} {controller : ControllerState} {lists : List Listing}
+    → ∥ IsWhere start events memory controller lists ∥₁ → AreHeardIn (after events start) lists
+heard_there there = ∥∥₁_elim there (Prim.hlevel props) (λ here. here.heard)

@@ -1,0 +1,42 @@
+use Rattle.std.proofs.Common.{◌+◌, ◌-◌, List, length, refl, sym, subst, arith}
+use Rattle.hda_schedule.specs.declared.schedule.Group.{Group}
+use Rattle.hda_world.specs.Events.{Write}
+use Rattle.hda_world.proofs.Callers.{went_both}
+use Rattle.rig.specs.Recordings.{HasRoomFor, items_for}
+use Rattle.rig.specs.Rooms.{steps_before}
+use Rattle.rig.proofs.Opened.{is_open, stays_closed, laid_on, numbered_on, accessed_by, steps_room, passed_room, passed_told, one_entry, fewer_bytes}
+use Rattle.rig.proofs.rig.accesses.RigPlatform.write.Goals as goal
+
+pub pass-requires : goal.pass-requires
+pass-requires c =
+    let rig = c.args.self.now in
+    let running = is_open rig.in_run rig.spare_accesses rig.closed c.requires.room in
+    subst (λ (groups : List Group). HasRoomFor (length (steps_before rig.made groups)) 0 (items_for (steps_before rig.made groups)) rig.recording.journal rig.recording.heard)
+    (sym c.as_slice.ensures) (steps_room rig.made rig.spare_accesses rig.spare_bytes rig.groups _ _ (rig.room running))
+
+pub write-requires : goal.write-requires
+write-requires c =
+    let rig = c.args.self.now in
+    let running = is_open rig.in_run rig.spare_accesses rig.closed c.requires.room in
+    let passed = passed_room rig.made rig.spare_accesses rig.spare_bytes (0) rig.groups c.as_slice.result.now _ _ _ _ c.as_slice.ensures c.requires.room (omega arith) (rig.room running) c.pass.ensures.room in
+    one_entry _ (0) _ _ _ _ passed
+
+pub returns-clause-told : goal.returns-clause-told
+returns-clause-told c =
+    let rig = c.args.self.now in
+    let before = passed_told rig.made rig.groups c.as_slice.result.now _ _ c.as_slice.ensures c.pass.ensures.told in
+    record { is = accessed_by _ _ _ _ _ before c.write.ensures.told }
+
+pub invariant_of-self : goal.invariant_of-self
+invariant_of-self c =
+    let rig = c.args.self.now in
+    let before = passed_told rig.made rig.groups c.as_slice.result.now _ _ c.as_slice.ensures c.pass.ensures.told in
+    let went = went_both _ _ _ _ _ before c.write.ensures.told in
+    record {
+      closed = stays_closed rig.in_run rig.spare_accesses rig.closed;
+      counts = (let b = rig.counts in omega (arith, b, c.requires.room));
+      laid = laid_on rig.begun rig.made rig.groups _ _ rig.in_run (Write c.args.at c.args.width c.args.value) rig.laid rig.numbered went.journal refl;
+      numbered = numbered_on rig.begun rig.made rig.groups _ _ rig.in_run (Write c.args.at c.args.width c.args.value) rig.laid rig.numbered went.journal refl;
+      room = λ running. fewer_bytes _ _ _ _ _ _ (omega arith) (c.write.ensures.room _ (rig.spare_bytes - (0)) _
+          (fewer_bytes _ (0 + (rig.spare_bytes - 0)) (rig.spare_bytes - 0) _ _ _ (omega arith) (passed_room rig.made rig.spare_accesses rig.spare_bytes (0) rig.groups c.as_slice.result.now _ _ _ _ c.as_slice.ensures c.requires.room (omega arith) (rig.room running) c.pass.ensures.room)));
+    }

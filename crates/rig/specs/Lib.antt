@@ -1,0 +1,8 @@
+pub mod Replays
+pub mod Stretches
+pub mod Follows
+pub mod Rigs
+-- what private functions promise one another
+pub mod Honesty
+pub mod Recordings
+pub mod Rooms

@@ -1,0 +1,28 @@
+-- Replay of a journal: where its events lead from the start of a machine. This project's own.
+use Rattle.std.specs.Prelude.{◌≡◌, ℕ, List, All}
+use Rattle.codec_sound.specs.HeardLists.{heard}
+use Rattle.hda_files.specs.declared.machine.Machine.{Machine}
+use Rattle.hda_platform.specs.Stillness.{zeros}
+use Rattle.hda_world.specs.Worlds.{World}
+use Rattle.hda_world.specs.Events.{Event, after, AreHonest}
+use Rattle.hda_world.specs.Tellings.{Telling}
+use Rattle.heard_lists.specs.Listings.{Listing}
+use Rattle.hda_controller.specs.Openings.{opening_world}
+
+-- the start of a machine: a region of so many bytes that are 0, the controller in reset, and the codecs with the settings and what is
+-- plugged in that its file says
+abbrev pub start_of : ℕ → Machine → World
+start_of size machine = opening_world (zeros size) machine
+
+-- what is told of a machine with this journal
+abbrev pub telling_from : ℕ → Machine → List Event → Telling
+telling_from size machine journal = record { start = start_of size machine; journal = journal }
+
+-- the journal leads to this world, and each of its accesses says what the world answered at its moment
+pub record Replays (start : World) (journal : List Event) (world : World) : Type 0 where
+  pub honest : AreHonest journal start
+  pub leads : world ≡ after journal start
+
+-- each list has what its pin heard of the link frames that the world carried
+abbrev pub AreHeardIn : World → List Listing → Type 0
+AreHeardIn world lists = All (λ listing. listing.list ≡ heard listing.codec listing.pin world.carried) lists

@@ -1,0 +1,45 @@
+-- What a rig tells. This project's own.
+use Rattle.std.specs.Prelude.{◌≡◌, List, Option, Some, IfSome, length}
+use Rattle.std.specs.Coded.{Coded-set, coded_ℕ}
+use Rattle.std.proofs.Common.{ap, ◌∙◌}
+use Rattle.std.proofs.Math.Logic.{∥∥₁_elim}
+use Rattle.hda_world.specs.declared.world.TheConstants.{REGION_BYTES}
+use Rattle.hda_world.specs.Worlds.{World}
+use Rattle.hda_world.specs.JournalEvents.{events_of}
+use Rattle.hda_world.specs.Tellings.{Telling, world_of}
+use Rattle.heard_lists.specs.Listings.{Listing}
+use Rattle.rig.specs.declared.recording.Recording.{Recording}
+use Rattle.rig.specs.declared.rig.Rig.{Rig}
+use Rattle.rig.specs.declared.setting.Setting.{Setting}
+use Rattle.hda_controller.specs.Controllers.{StandsFor}
+use Rattle.rig.specs.Replays.{telling_from, start_of, Replays, AreHeardIn}
+
+abbrev pub told_of : Recording → Telling
+told_of recording = telling_from REGION_BYTES recording.machine (events_of recording.journal)
+
+-- a rig tells the start of its machine and its journal
+abbrev pub telling_of : Rig → Telling
+telling_of rig = told_of rig.recording
+
+abbrev pub told_by : Rig → Option Telling
+told_by rig = Some (telling_of rig)
+
+-- its region has as many bytes at every moment
+pub told_whole : (rig : Rig) → IfSome (told_by rig) (λ telling. length (world_of telling).memory ≡ REGION_BYTES)
+told_whole rig = ∥∥₁_elim rig.recording.stands (Coded-set coded_ℕ _ _) (λ here. ap length here.stands.memory_is ∙ rig.recording.whole)
+
+-- what no access changes: the machine, whether a run is open, and with which entry and which groups the last one began
+abbrev pub setting_of : Rig → Setting
+setting_of rig = record { machine = rig.recording.machine; in_run = rig.in_run; begun = rig.begun; groups = rig.groups }
+
+-- what its pins heard
+abbrev pub lists_of : Rig → List Listing
+lists_of rig = rig.recording.heard
+
+-- the journal replays to a world, and the rig is there: its controller with its memory stands for this world, and the lists have what
+-- their pins heard in it
+pub record IsReplayed (rig : Rig) : Type 0 where
+  pub world : World
+  pub replays : Replays (start_of REGION_BYTES (setting_of rig).machine) (telling_of rig).journal world
+  pub stands : ∥ StandsFor rig.recording.memory.items rig.recording.controller world ∥₁
+  pub heard : AreHeardIn world (lists_of rig)

@@ -1,0 +1,167 @@
+//! A machine in motion whose journal is kept.
+ghost use Rattle.std.specs.Prelude.{◌≡◌, ◌≤◌, ◌+◌, [], ◌∷◌, IfOk, OnOk, ℕ, length, map, All};
+ghost use Rattle.hda_world.specs.declared.world.TheConstants.{REGION_BYTES};
+ghost use Rattle.hda_world.specs.Events.{AreHonest, Stepped, Begin, End, Read, Write, DmaRead, DmaWrite};
+ghost use Rattle.hda_world.specs.JournalEvents.{events_of};
+ghost use Rattle.hda_files.specs.Machines.{IsSound};
+ghost use Rattle.heard_lists.specs.Listings.{AreListsOf, graphs_in};
+ghost use Rattle.hda_controller.specs.Hearing.{most_items};
+ghost use Rattle.hda_platform.specs.Stillness.{zeros};
+ghost use Rattle.rig.specs.Replays.{start_of};
+ghost use Rattle.rig.specs.Recordings.{IsWhere, HasRoomFor, items_for};
+ghost use Rattle.rig.specs.Honesty.{AreHonest-prop};
+
+mod accesses;
+
+use crate::notes::note;
+use hda_controller::Controller;
+use hda_files::Machine;
+use hda_world::{Entry, Journal, REGION_BYTES, Step};
+use heard_lists::HeardLists;
+use std::alloc::{AllocError, Global};
+
+/// A machine in motion, what its pins hear, and the journal of all that happened since its start. It is where its journal leads.
+#[derive(Drop)]
+pub(crate) struct Recording {
+    pub(crate) machine: Machine,
+    memory: Vec<u8>,
+    controller: Controller,
+    pub(crate) heard: HeardLists,
+    pub(crate) journal: Journal,
+    pub ghost whole: { length memory.items ≡ REGION_BYTES },
+    pub ghost honest: { AreHonest (events_of journal) (start_of REGION_BYTES machine) } by { AreHonest-prop _ _ },
+    pub ghost stands: { ∥ IsWhere (start_of REGION_BYTES machine) (events_of journal) memory.items controller heard ∥₁ },
+    pub ghost pins: { ∥ AreListsOf (graphs_in machine.codecs) heard ∥₁ },
+}
+
+impl Recording {
+    ghost use Rattle.std.specs.Prelude.{◌≡◌, ◌≤◌, ◌+◌, [], ◌∷◌, IfOk, OnOk, ℕ, length, map};
+    ghost use Rattle.hda_world.specs.Events.{Stepped, Begin, End};
+    ghost use Rattle.hda_world.specs.Tellings.{Went};
+    ghost use Rattle.hda_world.specs.JournalEvents.{events_of};
+    ghost use Rattle.hda_files.specs.Machines.{IsSound};
+    ghost use Rattle.hda_controller.specs.Hearing.{most_items};
+    ghost use Rattle.rig.specs.Recordings.{HasRoomFor, items_for};
+    ghost use Rattle.rig.specs.Rigs.{told_of};
+
+    /// A machine at its start: memory of zeros, the controller in reset, nothing heard and an empty journal.
+    ///
+    /// # Errors
+    /// Want of memory.
+    pub(crate) fn new(alloc: Global, machine: Machine) -> Result<Recording, AllocError>
+        requires { IsSound machine }
+        ensures machine { IfOk result (λ recording. recording.machine ≡ machine) }
+        ensures journal { IfOk result (λ recording. events_of recording.journal ≡ []) }
+    {
+        let controller = Controller::new(alloc, &machine)?;
+        let heard = HeardLists::new(alloc, &machine)?;
+        Ok(Recording {
+            machine,
+            memory: zeroed(alloc, REGION_BYTES)?,
+            controller,
+            heard,
+            journal: Journal {
+                entries: Vec::new(alloc),
+                bytes: Vec::new(alloc),
+            },
+        })
+    }
+
+    /// Makes room for so many more entries, bytes of pieces of memory, and items in each heard list.
+    ///
+    /// # Errors
+    /// Want of memory. Nothing is told anew then, and there is at least the room that there was.
+    pub(crate) fn reserve(
+        &mut self,
+        entries: usize,
+        bytes: usize,
+        items: u64,
+    ) -> Result<(), AllocError>
+        ensures room { OnOk result (HasRoomFor entries bytes items self.new.journal self.new.heard) }
+        ensures told { told_of self.new ≡ told_of self.old }
+        ensures machine { self.new.machine ≡ self.old.machine }
+    {
+        self.journal.entries.reserve(entries)?;
+        self.journal.bytes.reserve(bytes)?;
+        self.heard.reserve(items)
+    }
+
+    /// How many entries its journal has.
+    pub(crate) fn entry_count(&self) -> usize
+        ensures { result ≡ length (events_of self.now.journal) }
+    {
+        self.journal.entries.len()
+    }
+
+    /// Makes a step and notes it.
+    pub(crate) fn step(&mut self, step: &Step)
+        requires { HasRoomFor 1 0 (most_items step.now) self.old.journal self.old.heard }
+        ensures told { Went (told_of self.old) (told_of self.new) (Stepped step.now ∷ []) }
+        ensures machine { self.new.machine ≡ self.old.machine }
+        ensures room { (entries bytes items : ℕ) → HasRoomFor (1 + entries) bytes (most_items step.now + items) self.old.journal self.old.heard
+            → HasRoomFor entries bytes items self.new.journal self.new.heard }
+    {
+        self.controller
+            .step(self.memory.as_mut_slice(), step, &mut self.heard);
+        note(&mut self.journal, Entry::Step(*step));
+    }
+
+    /// Makes some steps in turn and notes them.
+    pub(crate) fn make_steps(&mut self, steps: &[Step])
+        requires { HasRoomFor (length steps.now) 0 (items_for steps.now) self.old.journal self.old.heard }
+        ensures told { Went (told_of self.old) (told_of self.new) (map Stepped steps.now) }
+        ensures machine { self.new.machine ≡ self.old.machine }
+        ensures room { (entries bytes items : ℕ) → HasRoomFor (length steps.now + entries) bytes (items_for steps.now + items) self.old.journal self.old.heard
+            → HasRoomFor entries bytes items self.new.journal self.new.heard }
+    {
+        for step in steps {
+            self.step(step);
+        }
+    }
+
+    /// Notes that a run of the driver begins.
+    pub(crate) fn begin(&mut self)
+        requires { HasRoomFor 1 0 0 self.old.journal self.old.heard }
+        ensures told { Went (told_of self.old) (told_of self.new) (Begin ∷ []) }
+        ensures machine { self.new.machine ≡ self.old.machine }
+        ensures room { (entries bytes items : ℕ) → HasRoomFor (1 + entries) bytes items self.old.journal self.old.heard
+            → HasRoomFor entries bytes items self.new.journal self.new.heard }
+    {
+        note(&mut self.journal, Entry::Begin);
+    }
+
+    /// Notes that it ends.
+    pub(crate) fn end(&mut self)
+        requires { HasRoomFor 1 0 0 self.old.journal self.old.heard }
+        ensures told { Went (told_of self.old) (told_of self.new) (End ∷ []) }
+        ensures machine { self.new.machine ≡ self.old.machine }
+        ensures room { (entries bytes items : ℕ) → HasRoomFor (1 + entries) bytes items self.old.journal self.old.heard
+            → HasRoomFor entries bytes items self.new.journal self.new.heard }
+    {
+        note(&mut self.journal, Entry::End);
+    }
+
+    /// The machine, what its pins heard, and the journal.
+    pub(crate) fn into_parts(self) -> (Machine, HeardLists, Journal)
+        ensures machine { result.0 ≡ self.machine }
+        ensures heard { result.1 ≡ self.heard }
+        ensures journal { result.2 ≡ self.journal }
+    {
+        let Recording {
+            machine,
+            memory: _,
+            controller: _,
+            heard,
+            journal,
+        } = self;
+        (machine, heard, journal)
+    }
+}
+
+/// So many bytes that are 0.
+fn zeroed(alloc: Global, size: usize) -> Result<Vec<u8>, AllocError>
+    ensures items { IfOk result (λ bytes. bytes.items ≡ zeros size) }
+    ensures length { IfOk result (λ bytes. length bytes.items ≡ size) }
+{
+    vec![in alloc; 0; size]
+}

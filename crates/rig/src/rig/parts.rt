@@ -1,0 +1,60 @@
+//! What a rig has.
+ghost use Rattle.std.specs.Prelude.{◌≡◌, true};
+ghost use Rattle.codec_sound.specs.HeardLists.{heard};
+ghost use Rattle.hda_world.specs.JournalEvents.{events_of};
+ghost use Rattle.hda_world.specs.Tellings.{world_of};
+ghost use Rattle.heard_lists.specs.Listings.{AreListsOf, graphs_in};
+ghost use Rattle.hda_controller.specs.Controllers.{is_candidate_of};
+ghost use Rattle.hda_controller.specs.Openings.{codecs_in};
+ghost use Rattle.rig.specs.Replays.{AreHeardIn};
+ghost use Rattle.rig.specs.Rigs.{telling_of, setting_of};
+
+use crate::recording::Recording;
+use crate::rig::Rig;
+use codec_sound::Heard;
+use hda_files::Machine;
+use hda_world::Journal;
+use heard_lists::HeardLists;
+
+impl Rig {
+    /// What a candidate pin of the codec with this address heard, oldest first.
+    pub fn heard(&self, codec: u8, pin: u8) -> &[Heard]
+        requires { is_candidate_of (codecs_in (setting_of self.now).machine.codecs) codec pin ≡ true }
+        ensures { result.now ≡ heard codec pin (world_of (telling_of self.now)).carried }
+    {
+        self.recording.heard.of(codec, pin)
+    }
+
+    /// All that happened, oldest first.
+    pub fn journal(&self) -> &Journal
+        ensures { events_of result.now ≡ (telling_of self.now).journal }
+    {
+        &self.recording.journal
+    }
+
+    /// The machine as its file describes it.
+    pub fn machine(&self) -> &Machine
+        ensures { result.now ≡ (setting_of self.now).machine }
+    {
+        &self.recording.machine
+    }
+
+    /// The machine as its file describes it, what its pins heard, and all that happened.
+    pub fn parts(self) -> (Machine, HeardLists, Journal)
+        ensures machine { result.0 ≡ (setting_of self).machine }
+        ensures heard { AreHeardIn (world_of (telling_of self)) result.1 }
+        ensures pins { ∥ AreListsOf (graphs_in (setting_of self).machine.codecs) result.1 ∥₁ }
+        ensures journal { events_of result.2 ≡ (telling_of self).journal }
+    {
+        let Rig {
+            recording,
+            in_run: _,
+            begun: _,
+            groups: _,
+            made: _,
+            spare_accesses: _,
+            spare_bytes: _,
+        } = self;
+        recording.into_parts()
+    }
+}
