@@ -11,7 +11,8 @@ mod parts;
 
 use crate::groups::{copied, pass_all};
 use crate::recording::Recording;
-use crate::rooms::{items_for, room_for};
+use crate::rooms::room_for;
+use hda_controller::most_items;
 use hda_files::Machine;
 use hda_items::Items;
 use hda_platform::Platform;
@@ -86,7 +87,7 @@ impl Rig {
         ensures unchanged { OnErr result (told_by self.new ≡ told_by self.old) }
         ensures setting { setting_of self.new ≡ setting_of self.old }
     {
-        self.recording.reserve(1, 0, items_for(step))?;
+        self.recording.reserve(1, 0, most_items(step))?;
         self.recording.step(step);
         Ok(())
     }

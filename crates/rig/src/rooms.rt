@@ -1,9 +1,9 @@
 //! The room that a run of a driver asks.
 ghost use Rattle.std.specs.Prelude.{◌≡◌, ◌+◌, IfSome};
-ghost use Rattle.hda_controller.specs.Hearing.{most_items};
 ghost use Rattle.rig.specs.Recordings as recordings;
 ghost use Rattle.rig.specs.Rooms.{step_count, item_count};
 
+use hda_controller::most_items;
 use hda_schedule::Group;
 use hda_world::Step;
 
@@ -16,24 +16,13 @@ pub(crate) struct Room {
     pub(crate) items: u64,
 }
 
-/// For how many items in each heard list a step asks room: a link frame has at most four blocks, and one that misses them adds one
-/// hole.
-pub(crate) fn items_for(step: &Step) -> u64
-    ensures { result ≡ most_items step.now }
-{
-    match *step {
-        Step::Link(frames) => 4 * u64::from(frames),
-        _ => 0,
-    }
-}
-
 /// For how many items some steps ask room. `None` where their number has no 64 bits.
 fn items_for_all(steps: &[Step]) -> Option<u64>
     ensures { IfSome result (λ items. items ≡ recordings.items_for steps.now) }
 {
     let mut items: u64 = 0;
     for step in steps {
-        items = items.checked_add(items_for(step))?;
+        items = items.checked_add(most_items(step))?;
     }
     Some(items)
 }
