@@ -4,3 +4,7 @@
 pub use Rattle.rig.proofs.Following.{follow_none, follow_both, follow_step, follow_run}
 -- what a run added to a journal is the run with its accesses
 pub use Rattle.rig.proofs.Following.{follow_more, run_more, all_accesses}
+-- every rig is where its journal leads
+pub use Rattle.rig.proofs.Replayed.{replayed}
+-- a candidate pin of a codec's graph is one of its machine
+pub use Rattle.rig.proofs.Candidates.{candidate_known}

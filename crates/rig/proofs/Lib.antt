@@ -1,3 +1,5 @@
+pub mod Replayed
+pub mod Candidates
 pub mod Callers
 pub mod Noting
 pub mod Weaving

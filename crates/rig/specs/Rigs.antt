@@ -7,7 +7,7 @@ use Rattle.hda_world.specs.declared.world.TheConstants.{REGION_BYTES}
 use Rattle.hda_world.specs.Worlds.{World}
 use Rattle.hda_world.specs.JournalEvents.{events_of}
 use Rattle.hda_world.specs.Tellings.{Telling, world_of}
-use Rattle.heard_lists.specs.Listings.{Listing}
+use Rattle.heard_lists.specs.Listings.{Listing, AreListsOf, graphs_in}
 use Rattle.rig.specs.declared.recording.Recording.{Recording}
 use Rattle.rig.specs.declared.rig.Rig.{Rig}
 use Rattle.rig.specs.declared.setting.Setting.{Setting}
@@ -36,10 +36,11 @@ setting_of rig = record { machine = rig.recording.machine; in_run = rig.in_run; 
 abbrev pub lists_of : Rig → List Listing
 lists_of rig = rig.recording.heard
 
--- the journal replays to a world, and the rig is there: its controller with its memory stands for this world, and the lists have what
--- their pins heard in it
+-- the journal replays to a world, and the rig is there: its controller with its memory stands for this world, and there is one list for
+-- each candidate pin of the machine, which has what that pin heard in it
 pub record IsReplayed (rig : Rig) : Type 0 where
   pub world : World
   pub replays : Replays (start_of REGION_BYTES (setting_of rig).machine) (telling_of rig).journal world
   pub stands : ∥ StandsFor rig.recording.memory.items rig.recording.controller world ∥₁
   pub heard : AreHeardIn world (lists_of rig)
+  pub pins : ∥ AreListsOf (graphs_in (setting_of rig).machine.codecs) (lists_of rig) ∥₁

@@ -70,7 +70,7 @@ impl Recording {
     /// Makes room for so many more entries, bytes of pieces of memory, and items in each heard list.
     ///
     /// # Errors
-    /// Want of memory. Nothing is told anew then, and there is at least the room that there was.
+    /// Want of memory. Nothing is told anew then.
     pub(crate) fn reserve(
         &mut self,
         entries: usize,

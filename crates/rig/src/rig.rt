@@ -1,4 +1,4 @@
-//! The rig: a machine that runs a schedule and keeps its journal.
+//! The rig: a machine that makes the steps of a schedule and keeps its journal.
 ghost use Rattle.std.specs.Prelude.{◌≡◌, ◌≤◌, ◌<◌, ◌+◌, ◌^◌, true, false, length, drop};
 ghost use Rattle.std.proofs.Props.{props};
 ghost use Rattle.hda_world.specs.JournalEvents.{events_of};

@@ -1,6 +1,5 @@
-//! A driver of one command, written out access by access, over a rig: it takes the controller out of reset, asks a codec for its
-//! vendor word, and prints what it reads. The steps of the device between its accesses are written out too.
-#![tactic(auto)]
+//! A driver of one command, written out access by access, over a rig: it takes the controller out of reset and asks a codec for its
+//! vendor word. The steps of the device between its runs are written out too.
 
 ghost use Rattle.std.specs.Prelude.{◌≡◌, ◌≤◌, false};
 ghost use Rattle.rig.specs.Rigs.{setting_of};
@@ -15,10 +14,9 @@ use hda_registers::places::{
 use hda_world::Step;
 use rig::Rig;
 use std::alloc::{AllocError, Global};
-use std::process::ExitCode;
 
 /// The converter 02, the mixer 0C and the pin 14.
-const CODEC: &str = "
+pub(crate) const CODEC: &str = "
 [[codec]]
 address = 0
 vendor = 0x10EC0889
@@ -34,13 +32,13 @@ const ASK_VENDOR: u32 = 0x000F_0000;
 
 /// What the driver read.
 #[derive(Clone, Copy, Debug, PartialEq, Eq)]
-struct Seen {
+pub(crate) struct Seen {
     /// RIRBWP.
-    last: u32,
+    pub(crate) last: u32,
     /// RIRBSTS.
-    status: u32,
+    pub(crate) status: u32,
     /// The entry 1 of RIRB: the response and who sent it.
-    entry: [u8; 8],
+    pub(crate) entry: [u8; 8],
 }
 
 /// Takes the controller out of reset, with unsolicited responses accepted.
@@ -114,21 +112,21 @@ fn run(rig: &mut Rig, corb: &mut Lent, rirb: &Lent) -> Result<(u32, Seen), Alloc
     Ok((codecs, seen))
 }
 
-/// What was seen on the way of one command.
+/// What was seen on a command's way.
 #[derive(Drop)]
-struct Told {
+pub(crate) struct Way {
     /// The addresses of both rings.
-    corb: u32,
-    rirb: u32,
+    pub(crate) corb: u32,
+    pub(crate) rirb: u32,
     /// STATESTS.
-    codecs: u32,
-    seen: Seen,
+    pub(crate) codecs: u32,
+    pub(crate) seen: Seen,
     /// How many entries the rig's journal has.
-    entries: usize,
+    pub(crate) entries: usize,
 }
 
-/// Asks the codec for its vendor word. `None` where memory is wanting.
-fn tell(alloc: Global) -> Option<Told> {
+/// Asks the codec for its vendor word. `None` where memory is wanting: the codec's text is good, and the pool has room for both rings.
+pub(crate) fn ask_vendor(alloc: Global) -> Option<Way> {
     let machine = read_machine(alloc, CODEC.as_bytes()).ok()?;
     let mut rig = Rig::new(alloc, machine).ok()?;
     let mut pool = Pool::new(alloc, 24).ok()?;
@@ -146,35 +144,11 @@ fn tell(alloc: Global) -> Option<Told> {
     pool.give(rirb.back());
     pool.give(corb.back());
     let (codecs, seen) = outcome.ok()?;
-    Some(Told {
+    Some(Way {
         corb: addresses.0,
         rirb: addresses.1,
         codecs,
         seen,
         entries: rig.journal().entries.len(),
     })
-}
-
-fn main(rt: HostRuntime) -> ExitCode {
-    let Some(told) = tell(rt.alloc()) else {
-        return ExitCode::from(12);
-    };
-    let Seen {
-        last,
-        status,
-        entry,
-    } = told.seen;
-    let [a, b, c, d, e, f, g, h] = entry;
-    let written = println!(rt;
-        "CORB at {}, RIRB at {}\n\
-         STATESTS {:04X}h\n\
-         RIRBWP {last}, RIRBSTS {status}\n\
-         response {a:02X} {b:02X} {c:02X} {d:02X} {e:02X} {f:02X} {g:02X} {h:02X}\n\
-         journal of {} entries",
-        told.corb, told.rirb, told.codecs, told.entries
-    );
-    match written {
-        Ok(()) => ExitCode::from(0),
-        Err(_) => ExitCode::from(4),
-    }
 }

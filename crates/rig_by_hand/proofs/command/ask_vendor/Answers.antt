@@ -3,7 +3,7 @@ use Rattle.std.specs.Prelude.{Contains}
 use Rattle.dma_pool.specs.declared.blocks.Lent.{Lent}
 use Rattle.dma_pool.specs.declared.runs.Run.{Run}
 use Rattle.dma_pool.specs.Blocks.{run_at}
-use Rattle.command_by_hand.proofs.tell.Goals as goal
+use Rattle.rig_by_hand.proofs.command.ask_vendor.Goals as goal
 
 -- the run of the first block is still taken, since that of the second is another
 pub give-requires-3 : goal.give-requires-3
