@@ -1,0 +1,18 @@
+-- The bytes of the line: zeros in its silences, and the sound in order elsewhere. This project's own.
+use Rattle.std.specs.Prelude.{ℕ, ◌-◌, List, [], ◌∷◌, ◌++◌, take, drop, replicate}
+use Rattle.period_writer.specs.declared.course.Span.{Span}
+use Rattle.period_writer.specs.Runs.{Tally}
+
+-- from a position on, of a line that ends at its reach
+abbrev pub line_from : (at : ℕ) → List Span → (reach : ℕ) → (pcm : List ℕ) → List ℕ
+line_from at [] reach pcm = take (reach - at) pcm
+line_from at (silence ∷ silences) reach pcm =
+    take (silence.start - at) pcm
+    ++ (replicate (silence.end - silence.start) 0 ++ line_from silence.end silences reach (drop (silence.start - at) pcm))
+
+abbrev pub line_of : Tally → (pcm : List ℕ) → List ℕ
+line_of tally pcm = line_from 0 tally.silences tally.course.reach pcm
+
+-- what a run appends: so many bytes of the sound, and then silence
+abbrev pub sound_and_silence : (sound room : ℕ) → (pcm : List ℕ) → List ℕ
+sound_and_silence sound room pcm = take sound pcm ++ replicate (room - sound) 0

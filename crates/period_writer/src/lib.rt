@@ -1,0 +1,11 @@
+//! Plays sound through a ring of periods that the driver and the device own in turn (HDA 1.0a, 4.5).
+//!
+//! The ring is `periods` blocks of memory of `384 * period` bytes each, which the device plays round and round. The driver writes the
+//! line, the sound and silence where there is none, always one whole ring ahead of where the device plays.
+#![tactic(auto)]
+
+mod course;
+mod geometry;
+
+pub use course::{Course, Ran, Run, Span};
+pub use geometry::{Geometry, GeometryFault, PERIOD_UNIT};
