@@ -1,3 +1,6 @@
+pub mod Blocks
 pub mod Rings
 pub mod Runs
+pub mod Courses
 pub mod Lines
+pub mod Opening

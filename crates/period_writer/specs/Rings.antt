@@ -2,6 +2,7 @@
 use Rattle.std.specs.Prelude.{ℕ, ◌*◌, ◌-◌, ◌/◌, ◌==◌, ◌||◌, nat_lt, nat_le, Option, Some, None, if◌then◌else◌}
 use Rattle.stream_format.specs.declared.format.Format.{Format}
 use Rattle.stream_format.specs.Cadence.{most_bytes}
+use Rattle.stream_moves.specs.declared.buffers.TheConstants.{BUFFER_ENTRY_BYTES}
 use Rattle.period_writer.specs.declared.geometry.GeometryFault.{GeometryFault}
 use Rattle.period_writer.specs.declared.geometry.GeometryFault.TheVariants.{FifoTooSmall, RingTooSmall}
 
@@ -30,3 +31,7 @@ fault_by ring fifo most =
 
 abbrev pub fault_of : (periods period fifo : ℕ) → Format → Option GeometryFault
 fault_of periods period fifo format = fault_by (ring_bytes periods period) fifo (most_bytes format)
+
+-- the list of buffers has an entry of 16 bytes for each period
+abbrev pub list_bytes : (periods : ℕ) → ℕ
+list_bytes periods = BUFFER_ENTRY_BYTES * periods

@@ -4,8 +4,11 @@
 //! line, the sound and silence where there is none, always one whole ring ahead of where the device plays.
 #![tactic(auto)]
 
+mod blocks;
 mod course;
 mod geometry;
+mod writer;
 
 pub use course::{Course, Ran, Run, Span};
 pub use geometry::{Geometry, GeometryFault, PERIOD_UNIT};
+pub use writer::{OpenFault, Writer};
