@@ -1,8 +1,8 @@
 -- Blocks that are taken one after another, and given back.
-use Rattle.std.proofs.Common.{◌≡◌, ◌≢◌, ◌≤◌, ◌<◌, ◌+◌, ◌-◌, ◌/◌, ℕ, zero, suc, List, [], ◌∷◌, ◌++◌, take, drop, length, get_or, set, replicate, map, refl, sym, ap, ◌∙◌, subst, true, false, Result, Ok, Err, Option, Some, None, arith, rules}
+use Rattle.std.proofs.Common.{◌≡◌, ◌≢◌, ◌<◌, ◌+◌, ◌-◌, ℕ, zero, suc, List, [], ◌∷◌, ◌++◌, take, drop, length, get_or, set, replicate, refl, sym, ap, ◌∙◌, subst, true, false, Result, Ok, Err, Option, Some, arith, rules}
 use Rattle.std.specs.Prelude.{Contains, All, slice_index}
-use Rattle.std.specs.Result.{OnErr, OnOk, is_err, is_ok}
-use Rattle.std.proofs.lemmas.List.{length-append, drop-drop, drop-replicate, get_or-take, get_or-drop, get_or-replicate, drop-set, take-set, take-take, length-drop, map-append, length_push, get_or_push, get_or_append_left, length-map}
+use Rattle.std.specs.Result.{OnErr, OnOk, is_err}
+use Rattle.std.proofs.lemmas.List.{take_at, length-append, drop-drop, drop-replicate, get_or-take, get_or-drop, get_or-replicate, drop-set, take-set, take-take, map-append, length_push, get_or_push, get_or_append_left}
 use Rattle.std.proofs.lemmas.List.Elements.{Contains-append_right, All-append}
 use Rattle.dma_pool.specs.declared.blocks.Block.{Block}
 use Rattle.dma_pool.specs.declared.blocks.Lent.{Lent}
@@ -128,7 +128,7 @@ address_last : (lents : List Lent) (last : Lent) → slice_index (addresses_of (
 address_last [] last = refl
 address_last (lent ∷ lents) last = address_last lents last
 
-addresses_long : (lents : List Lent) → length (addresses_of lents) ≡ length lents
+pub addresses_long : (lents : List Lent) → length (addresses_of lents) ≡ length lents
 addresses_long [] = refl
 addresses_long (lent ∷ lents) = ap suc (addresses_long lents)
 
@@ -159,3 +159,7 @@ pub gives_all : (bytes : ℕ) (taken middle taken' : List Run) (all rest : List 
 gives_all bytes taken middle taken' all rest last split before once =
     subst (λ (addresses : List ℕ). AddsAll bytes taken addresses taken') (sym (ap addresses_of split ∙ map-append (λ (lent : Lent). lent.address) rest (last ∷ [])))
     (adds_last bytes taken middle taken' (addresses_of rest) last.address before once)
+
+-- a slice of a whole list, written back
+pub written_back : {X : Type 0} (len : ℕ) (xs ys : List X) → len ≡ length xs → length ys ≡ length xs → take len (ys ++ drop (length ys) xs) ≡ ys
+written_back {X} len xs ys a b = take_at ys (drop (length ys) xs) len (b ∙ sym a)

@@ -1,5 +1,5 @@
 -- Blocks that are taken from a pool one after another, and given back. This project's own.
-use Rattle.std.specs.Prelude.{◌≡◌, ◌≢◌, ◌≤◌, ◌<◌, slice_index, ℕ, ◌/◌, ◌+◌, ◌||◌, Bool, true, nat_le, List, [], ◌∷◌, length, map, Option, Some, None}
+use Rattle.std.specs.Prelude.{◌≡◌, ◌≢◌, ◌<◌, slice_index, ℕ, ◌/◌, ◌+◌, ◌||◌, Bool, true, nat_le, List, [], ◌∷◌, length, map, Option, Some, None}
 use Rattle.dma_pool.specs.declared.blocks.Block.{Block}
 use Rattle.dma_pool.specs.declared.blocks.Lent.{Lent}
 use Rattle.dma_pool.specs.declared.runs.Run.{Run}

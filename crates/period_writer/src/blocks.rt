@@ -52,11 +52,7 @@ fn take_from(
 ///
 /// # Errors
 /// `NoRun` exactly where one of these takes meets no run. Then no place has a block, and the pool is as it was.
-pub(crate) fn take_all(
-    pool: &mut Pool,
-    bytes: u32,
-    into: &mut [Option<Block>],
-) -> Result<(), NoRun>
+fn take_all(pool: &mut Pool, bytes: u32, into: &mut [Option<Block>]) -> Result<(), NoRun>
     requires some { 1 ≤ bytes }
     requires empty { into.old ≡ replicate (length into.old) None }
     ensures takes { OnOk result (spec.TakesAll pool.old.granules bytes pool.old.taken (spec.addresses_in into.new) pool.new.taken) }
@@ -120,7 +116,7 @@ fn push_lent(periods: &mut Vec<Lent>, lent: Lent)
 }
 
 /// Lends the blocks of all places, in order, to the end of a list that has room for them.
-pub(crate) fn lend_all(places: &mut Vec<Option<Block>>, periods: &mut Vec<Lent>, bytes: u32)
+fn lend_all(places: &mut Vec<Option<Block>>, periods: &mut Vec<Lent>, bytes: u32)
     requires blocks { All (spec.HasBlock bytes) places.old.items }
     requires room { vec_len periods.old + vec_len places.old ≤ vec_capacity periods.old }
     ensures addresses { spec.addresses_of periods.new.items ≡ spec.addresses_of periods.old.items ++ spec.addresses_in places.old.items }
@@ -136,6 +132,52 @@ pub(crate) fn lend_all(places: &mut Vec<Option<Block>>, periods: &mut Vec<Lent>,
             None => unreachable!(),
         }
     }
+}
+
+/// Takes a block for each place, as [`take_all`] does.
+fn fill_places(pool: &mut Pool, bytes: u32, places: &mut Vec<Option<Block>>) -> Result<(), NoRun>
+    requires some { 1 ≤ bytes }
+    requires empty { places.old.items ≡ replicate (length places.old.items) None }
+    ensures takes { OnOk result (spec.TakesAll pool.old.granules bytes pool.old.taken (spec.addresses_in places.new.items) pool.new.taken) }
+    ensures blocks { OnOk result (All (spec.HasBlock bytes) places.new.items) }
+    ensures number { length places.new.items ≡ length places.old.items }
+    ensures granules { pool.new.granules ≡ pool.old.granules }
+    ensures none { OnErr result (spec.MeetsNoRun pool.old.granules bytes (length places.old.items) pool.old.taken) }
+    ensures unchanged { OnErr result (pool.new ≡ pool.old) }
+    ensures emptied { OnErr result (places.new.items ≡ places.old.items) }
+{
+    take_all(pool, bytes, places)
+}
+
+/// Takes a block of so many bytes for each place, in order, each at the lowest place for it, and lends them.
+///
+/// # Errors
+/// `NoRun` exactly where one of these takes meets no run. Then the pool is as it was.
+pub(crate) fn take_periods(
+    pool: &mut Pool,
+    bytes: u32,
+    mut places: Vec<Option<Block>>,
+    periods: &mut Vec<Lent>,
+) -> Result<(), NoRun>
+    requires some { 1 ≤ bytes }
+    requires empty { places.items ≡ replicate (length places.items) None }
+    requires none_yet { periods.old.items ≡ [] }
+    requires room { length places.items ≤ vec_capacity periods.old }
+    ensures takes { OnOk result (spec.TakesAll pool.old.granules bytes pool.old.taken (spec.addresses_of periods.new.items) pool.new.taken) }
+    ensures number { OnOk result (length periods.new.items ≡ length places.items) }
+    ensures sizes { OnOk result (All (λ lent. lent.bytes ≡ bytes) periods.new.items) }
+    ensures granules { pool.new.granules ≡ pool.old.granules }
+    ensures none { OnErr result (spec.MeetsNoRun pool.old.granules bytes (length places.items) pool.old.taken) }
+    ensures unchanged { OnErr result (pool.new ≡ pool.old) }
+    ensures emptied { OnErr result (vec_len periods.new ≡ 0) }
+{
+    if fill_places(pool, bytes, &mut places).is_err() {
+        end_places(places);
+        return Err(NoRun);
+    }
+    lend_all(&mut places, periods, bytes);
+    places.destroy_empty();
+    Ok(())
 }
 
 /// Gives blocks back to the pool that they were taken from, the last one first.

@@ -7,7 +7,7 @@ ghost use Rattle.period_writer.specs.Runs.{course_opened};
 ghost use Rattle.period_writer.specs.Opening as spec;
 
 use super::{OpenFault, Writer};
-use crate::blocks::{empty_places, end_places, give_all, lend_all, take_all};
+use crate::blocks::{empty_places, end_places, give_all, take_periods};
 use crate::course::{Course, Ran, Run, Span};
 use crate::geometry::Geometry;
 use dma_pool::{Block, Lent, Pool};
@@ -94,7 +94,7 @@ impl Writer {
             return Err(OpenFault::OutOfMemory);
         };
         let Room {
-            mut places,
+            places,
             mut periods,
             buffer,
             runs,
@@ -105,15 +105,11 @@ impl Writer {
             periods.destroy_empty();
             return Err(OpenFault::NoRun);
         };
-        let bytes = geometry.period_bytes();
-        if take_all(pool, bytes, &mut places).is_err() {
+        if take_periods(pool, geometry.period_bytes(), places, &mut periods).is_err() {
             pool.give(list);
-            end_places(places);
             periods.destroy_empty();
             return Err(OpenFault::NoRun);
         }
-        lend_all(&mut places, &mut periods, bytes);
-        places.destroy_empty();
         Ok(Writer {
             geometry,
             list: list.lend(),

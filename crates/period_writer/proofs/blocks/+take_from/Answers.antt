@@ -1,10 +1,9 @@
-use Rattle.std.proofs.Common.{◌≡◌, ◌<◌, ◌+◌, ◌-◌, ◌∙◌, ℕ, List, None, Some, length, arith, rules, sym, subst, ap, Option, refl, set, drop}
+use Rattle.std.proofs.Common.{◌≡◌, ◌+◌, ◌-◌, ℕ, None, length, arith, rules, sym, subst, Option, refl, set, drop}
 use Rattle.std.specs.Prelude.{All}
 use Rattle.dma_pool.specs.declared.blocks.Block.{Block}
 use Rattle.dma_pool.specs.Blocks.{run_at}
 use Rattle.dma_pool.specs.Pools.{PoolState, AddsRun}
-use Rattle.dma_pool.specs.declared.runs.Run.{Run}
-use Rattle.period_writer.specs.Blocks.{TakesFirst, TakesAll, MeetsNoRun, HasBlock, addresses_in}
+use Rattle.period_writer.specs.Blocks.{TakesAll, MeetsNoRun, HasBlock, addresses_in}
 use Rattle.period_writer.proofs.Takes.{rest_empty, empty_here, before_same, at_error, at_success, takes_more, blocks_more, meets_later, given_back}
 use Rattle.period_writer.proofs.blocks.+take_from.Goals as goal
 
