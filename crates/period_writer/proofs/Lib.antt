@@ -1,3 +1,5 @@
 pub mod Worked
 pub mod Takes
 pub mod Apart
+pub mod Told
+pub mod LineSteps

@@ -4,3 +4,5 @@ pub mod Runs
 pub mod Courses
 pub mod Lines
 pub mod Opening
+pub mod Places
+pub mod Starting

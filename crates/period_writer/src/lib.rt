@@ -7,6 +7,9 @@
 mod blocks;
 mod course;
 mod geometry;
+mod memory;
+mod pieces;
+mod registers;
 mod writer;
 
 pub use course::{Course, Ran, Run, Span};
