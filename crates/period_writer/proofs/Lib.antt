@@ -3,3 +3,6 @@ pub mod Takes
 pub mod Apart
 pub mod Told
 pub mod LineSteps
+pub mod Silences
+pub mod CourseLaws
+pub mod Runnings

@@ -6,3 +6,5 @@ pub mod Lines
 pub mod Opening
 pub mod Places
 pub mod Starting
+pub mod Writers
+pub mod Playing

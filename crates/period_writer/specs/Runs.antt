@@ -35,6 +35,9 @@ pub record RunFacts : Type 0 where
   pub lpib : ℕ
   pub to : ℕ
 
+abbrev pub facts_of : (budget left from lpib to : ℕ) → RunFacts
+facts_of budget left from lpib to = record { budget = budget; left = left; from = from; lpib = lpib; to = to }
+
 -- what is kept: the runs, the silences, and where the last run stood
 pub record Tally : Type 0 where
   pub runs : List Run
@@ -149,13 +152,7 @@ pub record Stretch : Type 0 where
 -- one that reads the clock twice is a run, while the stream plays
 abbrev pub taken_up_if : Ran → List ℕ → Measures → (total : ℕ) → Stretch → Tally → Tally
 taken_up_if Playing (from ∷ to ∷ []) m total stretch tally =
-    tally_after m tally (record {
-      budget = stretch.budget;
-      left = total - tally.course.used;
-      from = from;
-      lpib = slice_index stretch.lpibs 0;
-      to = to;
-    })
+    tally_after m tally (facts_of stretch.budget (total - tally.course.used) from (slice_index stretch.lpibs 0) to)
 taken_up_if Playing [] m total stretch tally = tally
 taken_up_if Playing (from ∷ []) m total stretch tally = tally
 taken_up_if Playing (from ∷ to ∷ other ∷ more) m total stretch tally = tally

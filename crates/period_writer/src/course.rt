@@ -1,9 +1,4 @@
 //! What is kept of the runs that play.
-ghost use Rattle.std.specs.Prelude.{◌≡◌, ◌≤◌, ◌<◌, ◌+◌, ◌*◌, ◌++◌, [], ◌∷◌, vec_len, vec_capacity};
-ghost use Rattle.period_writer.specs.Runs as spec;
-
-/// The ticks of the wall clock in a link frame (HDA 1.0a, 3.3.16).
-const TICKS_PER_FRAME: u64 = 500;
 
 /// A recorded run.
 #[derive(Clone, Copy, Debug, PartialEq, Eq)]

@@ -9,7 +9,9 @@ mod course;
 mod geometry;
 mod memory;
 mod pieces;
+mod records;
 mod registers;
+mod turns;
 mod writer;
 
 pub use course::{Course, Ran, Run, Span};

@@ -129,7 +129,7 @@ fn write_step<P: Platform>(
 }
 
 /// Writes a part of the line from the supply, a write for each period that it touches.
-pub(crate) fn write_line<P: Platform>(
+fn write_line<P: Platform>(
     platform: &mut P,
     periods: &mut [Lent],
     buffer: &mut [u8],
@@ -160,4 +160,32 @@ pub(crate) fn write_line<P: Platform>(
         write_step(platform, periods, buffer, supply, piece);
         left -= piece.sound;
     }
+}
+
+/// Writes a part of the line to the blocks of the periods, by a buffer of a period's bytes.
+pub(crate) fn write_part<P: Platform>(
+    platform: &mut P,
+    periods: &mut Vec<Lent>,
+    buffer: &mut Vec<u8>,
+    supply: &mut Supply,
+    part: Part,
+)
+    requires some_periods { 1 ≤ length periods.old.items }
+    requires some { 1 ≤ length buffer.old.items }
+    requires sizes { All (λ lent. lent.bytes ≡ length buffer.old.items) periods.old.items }
+    requires ascends { part.from ≤ part.to }
+    requires small { part.to + length buffer.old.items < 2 ^ 63 }
+    requires sound { part.sound ≤ part.to - part.from }
+    requires left { part.sound ≤ length supply.old }
+    requires room { spec.touched (length buffer.old.items) part.from part.to ≤ P.spare_accesses platform.old }
+    requires bytes_room { part.to - part.from ≤ P.spare_bytes platform.old }
+    ensures made { Between (Makes (spec.line_writes (length buffer.old.items) (addresses_of periods.old.items) part.from part.to (sound_and_silence part.sound (part.to - part.from) supply.old))) (P.told platform.old) (P.told platform.new) }
+    ensures supply { supply.new ≡ drop part.sound supply.old }
+    ensures periods { periods.new.items ≡ periods.old.items }
+    ensures buffer { length buffer.new.items ≡ length buffer.old.items }
+    ensures fixed { P.fixed platform.new ≡ P.fixed platform.old }
+    ensures accesses { P.spare_accesses platform.new + spec.touched (length buffer.old.items) part.from part.to ≡ P.spare_accesses platform.old }
+    ensures bytes { P.spare_bytes platform.new + (part.to - part.from) ≡ P.spare_bytes platform.old }
+{
+    write_line(platform, periods, buffer, supply, part);
 }

@@ -1,11 +1,14 @@
 //! The writer.
-ghost use Rattle.std.specs.Prelude.{◌≡◌, ◌≤◌, All, length, vec_len, vec_capacity};
+ghost use Rattle.std.specs.Prelude.{◌≡◌, ◌≤◌, ◌<◌, ◌^◌, All, length, nat_lt, vec_len, vec_capacity};
 ghost use Rattle.std.proofs.Props.{props};
 ghost use Rattle.period_writer.specs.Rings.{period_bytes, ring_bytes, list_bytes};
 ghost use Rattle.period_writer.specs.Blocks.{addresses_of, AreApart, IsBesideAll};
 ghost use Rattle.period_writer.specs.Courses.{IsCourse};
 
 mod opening;
+mod playing;
+mod recording;
+mod starting;
 
 use crate::course::{Course, Run, Span};
 use crate::geometry::Geometry;
@@ -40,6 +43,7 @@ pub struct Writer {
     pub ghost beside: { IsBesideAll list.address (list_bytes geometry.periods) (period_bytes geometry.period) (addresses_of periods.items) } by { Prim.hlevel props },
     pub ghost buffer_size: { length buffer.items ≡ period_bytes geometry.period },
     pub ghost some_records: { 1 ≤ records },
+    pub ghost few_records: { records < 2 ^ 32 },
     pub ghost runs_room: { records ≤ vec_capacity runs },
     pub ghost silences_room: { records ≤ vec_capacity silences },
     pub ghost few_runs: { vec_len runs ≤ records },
@@ -48,6 +52,20 @@ pub struct Writer {
 }
 
 impl Writer {
+    /// Where the last run stood: whether the writer was started, how long the line is, and how the last run ended.
+    pub fn course(&self) -> Course
+        ensures { result ≡ self.now.course }
+    {
+        self.course
+    }
+
+    /// Whether there is room to record one run more.
+    pub fn has_free_record(&self) -> bool
+        ensures { result ≡ nat_lt (vec_len self.now.runs) self.now.records }
+    {
+        self.runs.len() < self.records as usize
+    }
+
     /// The recorded runs, in order.
     pub fn runs(&self) -> &[Run]
         ensures { result.now ≡ self.now.runs.items }
