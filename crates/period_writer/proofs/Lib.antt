@@ -6,3 +6,4 @@ pub mod LineSteps
 pub mod Silences
 pub mod CourseLaws
 pub mod Runnings
+pub mod LineLaws

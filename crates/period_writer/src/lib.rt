@@ -7,6 +7,7 @@
 mod blocks;
 mod course;
 mod geometry;
+mod laws;
 mod memory;
 mod pieces;
 mod records;
@@ -16,4 +17,5 @@ mod writer;
 
 pub use course::{Course, Ran, Run, Span};
 pub use geometry::{Geometry, GeometryFault, PERIOD_UNIT};
+pub use laws::runs_append_to_the_line;
 pub use writer::{OpenFault, Writer};
