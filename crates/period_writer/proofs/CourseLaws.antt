@@ -1,0 +1,59 @@
+-- What is kept of the course of runs.
+use Rattle.std.proofs.Common.{◌≡◌, ◌≤◌, ◌<◌, ◌+◌, ◌-◌, ◌*◌, ◌/◌, ◌^◌, ◌==◌, ℕ, Bool, true, false, refl, arith, rules, if◌then◌else◌}
+use Rattle.std.proofs.Math.Nat.{mul-le-mul_left}
+use Rattle.std.specs.Prelude.{nat_lt}
+use Rattle.std.proofs.lemmas.Nat.{div_below}
+use Rattle.period_writer.specs.declared.course.Course.{Course}
+use Rattle.period_writer.specs.declared.course.Ran.{Ran}
+use Rattle.period_writer.specs.Courses.{IsCourse}
+use Rattle.period_writer.specs.Rings.{period_bytes, ring_bytes}
+use Rattle.period_writer.specs.Places.{touched}
+use Rattle.period_writer.proofs.LineSteps.{div_gt}
+
+sound_ends : (before reach sound last : ℕ) → before ≤ reach → sound ≤ reach - before → last ≤ before → (if sound == 0 then last else before + sound) ≤ reach
+sound_ends before reach sound last ascends fits within = by_test (sound == 0) where
+  by_test : (test : Bool) → (if test then last else before + sound) ≤ reach
+  by_test true = omega (arith, ascends, within)
+  by_test false = omega (arith, ascends, fits)
+
+pub course_next : (ring runs : ℕ) (course : Course) (at from reach sound : ℕ) (ran : Ran) → IsCourse ring runs course → at ≤ course.at + ring → reach ≡ at + ring → course.reach ≤ reach → sound ≤ reach - course.reach
+    → IsCourse ring (runs + 1) (record { started = true; at = at; from = from; reach = reach; used = course.used + sound; sound_end = if sound == 0 then course.sound_end else course.reach + sound; ran = ran })
+course_next ring runs course at from reach sound ran is soon reaches ascends fits =
+    let bounded = is.bounded in
+    let used = is.used in
+    let wide : ring * (runs + 1) ≡ ring * runs + ring = omega arith in
+    record {
+      bounded = omega (arith, bounded, soon, wide);
+      reach = reaches;
+      fresh = λ e. cc;
+      used = omega (arith, used, ascends, fits);
+      sound_end = sound_ends course.reach reach sound course.sound_end ascends fits is.sound_end;
+    }
+
+-- positions stay small
+pub position_small : (ring runs records at : ℕ) → ring < 2 ^ 22 → runs ≤ records → records < 2 ^ 32 → at ≤ ring * runs → at < 2 ^ 54
+position_small ring runs records at few within most bounded =
+    let wide : ring * runs ≤ ring * 4294967296 = mul-le-mul_left ring (omega (arith, within, most)) in
+    omega (arith, wide, few, bounded)
+
+pub ring_small : (periods period : ℕ) → periods ≤ 32 → period ≤ 128 → ring_bytes periods period < 2 ^ 22
+ring_small periods period few few' =
+    let wide : period_bytes period * periods ≤ period_bytes period * 32 = mul-le-mul_left (period_bytes period) few in
+    omega (arith, wide, few')
+
+pub ring_some : (periods period : ℕ) → 2 ≤ periods → 1 ≤ period → 1 ≤ ring_bytes periods period
+ring_some periods period some some' =
+    let wide : period_bytes period * 2 ≤ period_bytes period * periods = mul-le-mul_left (period_bytes period) some in
+    omega (arith, wide, some')
+
+-- a part of at most a ring touches at most one period more than the ring has
+pub touched_few : (b k from to : ℕ) → 1 ≤ b → to - from ≤ b * k → touched b from to ≤ k + 1
+touched_few b k from to some within = by_test (nat_lt from to) refl where
+  by_test : (test : Bool) → nat_lt from to ≡ test → (if test then (to - 1) / b + 1 - from / b else 0) ≤ k + 1
+  by_test true e =
+      let ascends : from < to = search (rules, e) in
+      let first = div_gt b from some in
+      let up : to - 1 < (from / b + k + 1) * b = omega (arith, first, within, ascends) in
+      let last = div_below (to - 1) b (from / b + k + 1) some up in
+      omega (arith, last)
+  by_test false e = omega arith

@@ -1,0 +1,10 @@
+pub mod Blocks
+pub mod Rings
+pub mod Runs
+pub mod Courses
+pub mod Lines
+pub mod Opening
+pub mod Places
+pub mod Starting
+pub mod Writers
+pub mod Playing

@@ -1,0 +1,15 @@
+//! Laws of the line, each the contract of a function that does nothing.
+ghost use Rattle.std.specs.Prelude.{◌≡◌, ◌++◌, ℕ, List, drop, false};
+ghost use Rattle.period_writer.specs.Courses.{IsCourse};
+ghost use Rattle.period_writer.specs.Lines.{IsLine, line_of};
+ghost use Rattle.period_writer.specs.Playing.{run_bytes};
+ghost use Rattle.period_writer.specs.Runs.{Measures, RunFacts, Tally, tally_if, tally_opened};
+
+/// A run that is not late appends to the line what it writes, and nothing before that changes. The silences stay maximal, and all else
+/// is the sound in order.
+pub fn runs_append_to_the_line()
+    ensures opened { IsLine tally_opened }
+    ensures kept { (m : Measures) (runs : ℕ) (tally : Tally) (facts : RunFacts) → IsCourse m.ring runs tally.course → IsLine tally → IsLine (tally_if false m tally facts) }
+    ensures grows { (m : Measures) (runs : ℕ) (tally : Tally) (facts : RunFacts) (pcm : List ℕ) → IsCourse m.ring runs tally.course → IsLine tally
+        → line_of (tally_if false m tally facts) pcm ≡ line_of tally pcm ++ run_bytes m tally.course facts (drop tally.course.used pcm) }
+{}

@@ -1,0 +1,145 @@
+//! How a writer is opened and closed.
+ghost use Rattle.std.specs.Prelude.{◌≡◌, ◌≤◌, [], None, All, Contains, IfOk, OnErr, length, replicate, max, vec_len, vec_capacity};
+ghost use Rattle.dma_pool.specs.Blocks.{run_at};
+ghost use Rattle.period_writer.specs.Rings.{period_bytes, list_bytes};
+ghost use Rattle.period_writer.specs.Blocks.{addresses_of};
+ghost use Rattle.period_writer.specs.Runs.{course_opened};
+ghost use Rattle.period_writer.specs.Opening as spec;
+
+use super::{OpenFault, Writer};
+use crate::blocks::{empty_places, end_places, give_all, take_periods};
+use crate::course::{Course, Ran, Run, Span};
+use crate::geometry::Geometry;
+use dma_pool::{Block, Lent, Pool};
+use std::alloc::{AllocError, Global};
+use stream_moves::BUFFER_ENTRY_BYTES;
+
+/// What a writer needs memory for.
+struct Room {
+    places: Vec<Option<Block>>,
+    periods: Vec<Lent>,
+    buffer: Vec<u8>,
+    runs: Vec<Run>,
+    silences: Vec<Span>,
+}
+
+/// Room for the blocks of a geometry, and for so many runs.
+fn make_room(alloc: Global, geometry: &Geometry, records: u32) -> Result<Room, AllocError>
+    ensures places { IfOk result (λ room. room.places.items ≡ replicate geometry.now.periods None) }
+    ensures periods { IfOk result (λ room. room.periods.items ≡ []) }
+    ensures periods_room { IfOk result (λ room. geometry.now.periods ≤ vec_capacity room.periods) }
+    ensures buffer { IfOk result (λ room. length room.buffer.items ≡ period_bytes geometry.now.period) }
+    ensures runs { IfOk result (λ room. room.runs.items ≡ []) }
+    ensures runs_room { IfOk result (λ room. records ≤ vec_capacity room.runs) }
+    ensures silences { IfOk result (λ room. room.silences.items ≡ []) }
+    ensures silences_room { IfOk result (λ room. records ≤ vec_capacity room.silences) }
+{
+    let runs = Vec::with_capacity(alloc, records as usize)?;
+    let silences = Vec::with_capacity(alloc, records as usize)?;
+    let buffer = vec![in alloc; 0; geometry.period_bytes() as usize]?;
+    let places = empty_places(alloc, geometry.periods())?;
+    let Ok(periods) = Vec::with_capacity(alloc, usize::from(geometry.periods())) else {
+        end_places(places);
+        return Err(AllocError);
+    };
+    Ok(Room {
+        places,
+        periods,
+        buffer,
+        runs,
+        silences,
+    })
+}
+
+/// Before the first run.
+fn course_opened() -> Course
+    ensures { result ≡ course_opened }
+{
+    Course {
+        started: false,
+        at: 0,
+        from: 0,
+        reach: 0,
+        used: 0,
+        sound_end: 0,
+        ran: Ran::Playing,
+    }
+}
+
+impl Writer {
+    /// Takes 16 bytes for each period for the list of buffers, then a block for each period, one after another, and makes room to
+    /// record so many runs, and one where that is 0.
+    ///
+    /// # Errors
+    /// `NoRun` exactly where one of these takes, in this order, meets no run. After each error the pool is as it was.
+    pub fn open(
+        alloc: Global,
+        pool: &mut Pool,
+        geometry: Geometry,
+        runs: u32,
+    ) -> Result<Writer, OpenFault>
+        ensures opens { IfOk result (λ writer. spec.Opens geometry pool.old writer.list.address (addresses_of writer.periods.items) pool.new) }
+        ensures owns_list { IfOk result (λ writer. Contains pool.new.taken (run_at writer.list.address (list_bytes geometry.periods))) }
+        ensures owns_periods { IfOk result (λ writer. All (λ lent. Contains pool.new.taken (run_at lent.address (period_bytes geometry.period))) writer.periods.items) }
+        ensures geometry { IfOk result (λ writer. writer.geometry ≡ geometry) }
+        ensures records { IfOk result (λ writer. writer.records ≡ max runs 1) }
+        ensures runs { IfOk result (λ writer. writer.runs.items ≡ []) }
+        ensures silences { IfOk result (λ writer. writer.silences.items ≡ []) }
+        ensures course { IfOk result (λ writer. writer.course ≡ course_opened) }
+        ensures no_run { result ≡ Err OpenFault.NoRun → spec.HasNoRuns geometry pool.old }
+        ensures unchanged { OnErr result (pool.new ≡ pool.old) }
+    {
+        let records = runs.max(1);
+        let Ok(room) = make_room(alloc, &geometry, records) else {
+            return Err(OpenFault::OutOfMemory);
+        };
+        let Room {
+            places,
+            mut periods,
+            buffer,
+            runs,
+            silences,
+        } = room;
+        let Ok(list) = pool.take(BUFFER_ENTRY_BYTES * u32::from(geometry.periods())) else {
+            end_places(places);
+            periods.destroy_empty();
+            return Err(OpenFault::NoRun);
+        };
+        if take_periods(pool, geometry.period_bytes(), places, &mut periods).is_err() {
+            pool.give(list);
+            periods.destroy_empty();
+            return Err(OpenFault::NoRun);
+        }
+        Ok(Writer {
+            geometry,
+            list: list.lend(),
+            periods,
+            buffer,
+            records,
+            runs,
+            silences,
+            course: course_opened(),
+        })
+    }
+
+    /// Gives all blocks back to the pool that they were taken from: their runs are among its taken runs.
+    pub fn close(self, pool: &mut Pool)
+        requires list { Contains pool.old.taken (run_at self.list.address (list_bytes self.geometry.periods)) }
+        requires periods { All (λ lent. Contains pool.old.taken (run_at lent.address (period_bytes self.geometry.period))) self.periods.items }
+        ensures { spec.GivesBack self.geometry pool.old self.list.address (addresses_of self.periods.items) pool.new }
+    {
+        let Writer {
+            geometry,
+            list,
+            mut periods,
+            buffer: _,
+            records: _,
+            runs: _,
+            silences: _,
+            course: _,
+        } = self;
+        give_all(pool, &mut periods, geometry.period_bytes());
+        periods.destroy_empty();
+        pool.give(list.back());
+    }
+}

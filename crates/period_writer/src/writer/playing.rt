@@ -1,0 +1,68 @@
+//! How the stream plays on.
+ghost use Rattle.std.specs.Prelude.{◌≡◌, ◌≤◌, ◌<◌, ◌+◌, true, length, vec_len};
+ghost use Rattle.hda_world.specs.Tellings.{Between, Makes};
+ghost use Rattle.period_writer.specs.Rings.{ring_bytes};
+ghost use Rattle.period_writer.specs.Playing.{Plays, stop_accesses};
+ghost use Rattle.period_writer.specs.Writers.{tally_of, periods_of};
+
+use super::Writer;
+use crate::course::Ran;
+use crate::registers::{CONTROL, POSITION, STOP};
+use crate::turns::{Facts, turn_of};
+use hda_platform::Platform;
+use hda_registers::{Width, places};
+use wav_reader::Supply;
+
+/// Stops the stream, where a run ended so.
+#[tactic(auto, using(hda_world::proofs::Callers::rows))]
+fn stop_if<P: Platform>(platform: &mut P, ran: Ran)
+    requires { 1 ≤ P.spare_accesses platform.old }
+    ensures made { Between (Makes (stop_accesses ran)) (P.told platform.old) (P.told platform.new) }
+    ensures fixed { P.fixed platform.new ≡ P.fixed platform.old }
+    ensures accesses { P.spare_accesses platform.old ≤ P.spare_accesses platform.new + 1 }
+    ensures bytes { P.spare_bytes platform.new ≡ P.spare_bytes platform.old }
+{
+    match ran {
+        Ran::Playing => {}
+        Ran::Drained | Ran::Late { .. } => platform.write(CONTROL, Width::One, STOP),
+    }
+}
+
+impl Writer {
+    /// A later run, which may write so many bytes of sound: reads where the link is, and makes the line longer up to one ring ahead of
+    /// that, by sound and then silence (HDA 1.0a, 4.5.4).
+    ///
+    /// `Late` exactly where more than the geometry's limit of link frames passed between the clock that the run before read first and
+    /// the one that this run reads last. Then it is not recorded. Else `Drained` exactly where no sound is left and the link is past
+    /// the last of it. In both cases the stream is stopped.
+    pub fn run<P: Platform>(&mut self, platform: &mut P, supply: &mut Supply, budget: u32) -> Ran
+        requires started { self.old.course.started ≡ true }
+        requires playing { self.old.course.ran ≡ Ran.Playing }
+        requires free { vec_len self.old.runs < self.old.records }
+        requires room { 5 + self.old.geometry.periods ≤ P.spare_accesses platform.old }
+        requires bytes_room { ring_bytes self.old.geometry.periods self.old.geometry.period ≤ P.spare_bytes platform.old }
+        ensures plays { Plays self.old.geometry (periods_of self.old) budget supply.old (tally_of self.old) result (tally_of self.new) supply.new (P.told platform.old) (P.told platform.new) }
+        ensures geometry { self.new.geometry ≡ self.old.geometry }
+        ensures list { self.new.list ≡ self.old.list }
+        ensures periods { self.new.periods.items ≡ self.old.periods.items }
+        ensures records { self.new.records ≡ self.old.records }
+        ensures fixed { P.fixed platform.new ≡ P.fixed platform.old }
+        ensures accesses { P.spare_accesses platform.old ≤ P.spare_accesses platform.new + (5 + self.old.geometry.periods) }
+        ensures bytes { P.spare_bytes platform.old ≤ P.spare_bytes platform.new + ring_bytes self.old.geometry.periods self.old.geometry.period }
+    {
+        let from = platform.read(places::WALCLK, Width::Four);
+        let lpib = platform.read(POSITION, Width::Four);
+        let facts = Facts {
+            budget,
+            left: supply.left(),
+            from,
+            lpib,
+        };
+        let turn = turn_of(&self.geometry, self.course, facts);
+        self.write_turn(platform, supply, turn);
+        let to = platform.read(places::WALCLK, Width::Four);
+        let ran = self.conclude(turn, facts, to);
+        stop_if(platform, ran);
+        ran
+    }
+}
