@@ -9,7 +9,7 @@ use hda_files::read_machine;
 use hda_items::Items;
 use hda_platform::{Journal, Platform, Step};
 use hda_registers::Width;
-use hda_registers::places::{GCTL, WALCLK};
+use hda_registers::places::{DESCRIPTORS_END, GCTL, WALCLK};
 use hda_schedule::Group;
 use rig::Rig;
 use std::alloc::{AllocError, Global};
@@ -140,4 +140,30 @@ pub(crate) fn run_groups(alloc: Global) -> Option<Ended> {
         lists: lists.into_lists().len(),
         heard,
     })
+}
+
+/// Reads two and four bytes at each place of the registers. Says how many that lie at no multiple of their width read other than 0.
+fn read_everywhere<P: Platform>(platform: &mut P) -> u32
+    requires { 384 ≤ P.spare_accesses platform.old }
+    ensures { P.fixed platform.new ≡ P.fixed platform.old }
+{
+    let mut odd: u32 = 0;
+    for at in 0..DESCRIPTORS_END {
+        let two = platform.read(at, Width::Two);
+        let four = platform.read(at, Width::Four);
+        if (at % 2 != 0 && two != 0) || (at % 4 != 0 && four != 0) {
+            odd = odd.saturating_add(1);
+        }
+    }
+    odd
+}
+
+/// Reads all registers of a rig in one run: how many odd reads gave other than 0, and how many entries the journal has. `None` where
+/// memory is wanting.
+pub(crate) fn read_all(alloc: Global) -> Option<(u32, usize)> {
+    let mut rig = opened(alloc)?;
+    rig.begin(&[], 384, 0).ok()?;
+    let odd = read_everywhere(&mut rig);
+    rig.end();
+    Some((odd, rig.journal().entries.len()))
 }

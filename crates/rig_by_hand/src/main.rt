@@ -6,7 +6,7 @@ mod command;
 mod groups;
 
 use command::{Way, ask_vendor};
-use groups::{Ended, run_groups};
+use groups::{Ended, read_all, run_groups};
 use hda_platform::Entry;
 use std::alloc::{AllocError, Global};
 use std::process::ExitCode;
@@ -52,6 +52,9 @@ fn text(alloc: Global) -> Option<String> {
     let ended = run_groups(alloc)?;
     let mut text = way_text(alloc, &way).ok()?;
     text.push_str(&groups_text(alloc, &ended).ok()?).ok()?;
+    let (odd, entries) = read_all(alloc)?;
+    let reads = format!(in alloc; "\n{odd} odd reads of other than 0, {entries} entries").ok()?;
+    text.push_str(&reads).ok()?;
     Some(text)
 }
 
