@@ -6,9 +6,7 @@ ghost use Rattle.period_writer.specs.Runs as spec;
 
 use crate::course::{Course, Ran};
 use crate::geometry::Geometry;
-
-/// The ticks of the wall clock in a link frame (HDA 1.0a, 3.3.16).
-const TICKS_PER_FRAME: u64 = 500;
+use hda_registers::places::TICKS_PER_FRAME;
 
 /// What a run goes by: how many bytes of sound it may write, how many are left, the clock that it read first, and LPIB.
 #[derive(Clone, Copy)]
@@ -102,8 +100,8 @@ pub(crate) fn turn_of(geometry: &Geometry, course: Course, facts: Facts) -> Turn
 pub(crate) fn is_late(geometry: &Geometry, course: Course, to: u32) -> bool
     ensures { result ≡ spec.is_late (spec.measures geometry.now) course (spec.facts_of 0 0 0 0 to) }
 {
-    let passed = u64::from(to.saturating_sub(course.from));
-    course.started && TICKS_PER_FRAME * u64::from(geometry.limit()) < passed
+    let passed = to.saturating_sub(course.from);
+    course.started && TICKS_PER_FRAME * geometry.limit() < passed
 }
 
 /// Where the last byte of sound ends after a run.
