@@ -3,7 +3,7 @@
 /// A recorded run.
 #[derive(Clone, Copy, Debug, PartialEq, Eq)]
 pub struct Run {
-    /// The position of the link in the line when the run read it, in bytes from the line's start.
+    /// The position of the link in the line when the run read it, in bytes from the line's start; 0 in the first.
     pub at: u64,
     /// The clock that it read first, in ticks of 1/24,000,000 s.
     pub from: u32,

@@ -5,6 +5,8 @@ ghost use Rattle.period_writer.specs.Lines.{IsLine, line_of};
 ghost use Rattle.period_writer.specs.Playing.{run_bytes};
 ghost use Rattle.period_writer.specs.Runs.{Measures, RunFacts, Tally, tally_if, tally_opened};
 
+use crate::registers::{CONTROL, FORMAT, LAST_INDEX, LIST_ADDRESS, POSITION, RING_LENGTH};
+
 /// A run that is not late appends to the line what it writes, and nothing before that changes. The silences stay maximal, and all else
 /// is the sound in order.
 pub fn runs_append_to_the_line()
@@ -12,4 +14,14 @@ pub fn runs_append_to_the_line()
     ensures kept { (m : Measures) (runs : ℕ) (tally : Tally) (facts : RunFacts) → IsCourse m.ring runs tally.course → IsLine tally → IsLine (tally_if false m tally facts) }
     ensures grows { (m : Measures) (runs : ℕ) (tally : Tally) (facts : RunFacts) (pcm : List ℕ) → IsCourse m.ring runs tally.course → IsLine tally
         → line_of (tally_if false m tally facts) pcm ≡ line_of tally pcm ++ run_bytes m tally.course facts (drop tally.course.used pcm) }
+{}
+
+/// Where the registers of the output stream's descriptor stand (HDA 1.0a, 3.3.35 to 3.3.42).
+pub fn registers_are_the_descriptors()
+    ensures control { CONTROL ≡ 0xA0 }
+    ensures position { POSITION ≡ 0xA4 }
+    ensures length { RING_LENGTH ≡ 0xA8 }
+    ensures last { LAST_INDEX ≡ 0xAC }
+    ensures format { FORMAT ≡ 0xB2 }
+    ensures list { LIST_ADDRESS ≡ 0xB8 }
 {}

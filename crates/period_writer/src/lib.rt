@@ -1,7 +1,7 @@
 //! Plays sound through a ring of periods that the driver and the device own in turn (HDA 1.0a, 4.5).
 //!
 //! The ring is `periods` blocks of memory of `384 * period` bytes each, which the device plays round and round. The driver writes the
-//! line, the sound and silence where there is none, always one whole ring ahead of where the device plays.
+//! line, the sound and silence where there is none, at each run up to one ring ahead of where the link stands.
 #![tactic(auto)]
 
 mod blocks;
@@ -17,5 +17,5 @@ mod writer;
 
 pub use course::{Course, Ran, Run, Span};
 pub use geometry::{Geometry, GeometryFault, PERIOD_UNIT};
-pub use laws::runs_append_to_the_line;
+pub use laws::{registers_are_the_descriptors, runs_append_to_the_line};
 pub use writer::{OpenFault, Writer};
