@@ -1,7 +1,6 @@
 -- what other crates cite
 pub mod Callers
 pub mod Readings
-pub mod Pools
 pub mod Starts
 pub mod Codecs
 pub mod Coming

@@ -1,1 +1,3 @@
 pub mod LaidOut
+pub mod Taking
+pub mod Callers

@@ -5,6 +5,7 @@ mod blocks;
 mod pool;
 mod region;
 mod runs;
+mod several;
 
 pub use blocks::{Block, Lent, Window};
 pub use pool::{GRANULE, NoRun, Pool};

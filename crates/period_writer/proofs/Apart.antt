@@ -6,7 +6,8 @@ use Rattle.dma_pool.specs.declared.blocks.Lent.{Lent}
 use Rattle.dma_pool.specs.declared.runs.Run.{Run}
 use Rattle.dma_pool.specs.Pools.{AddsRun, IsApart, granules_for}
 use Rattle.dma_pool.specs.Blocks.{run_at}
-use Rattle.period_writer.specs.Blocks.{TakesAll, AddsAll, AreDistinct, AreApart, IsBesideAll, are_apart, addresses_of}
+use Rattle.dma_pool.specs.Several.{TakesAll}
+use Rattle.period_writer.specs.Blocks.{AddsAll, AreDistinct, AreApart, IsBesideAll, are_apart, addresses_of}
 use Rattle.period_writer.proofs.Takes.{addresses_long}
 
 -- ---- runs that are added

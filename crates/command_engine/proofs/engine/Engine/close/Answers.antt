@@ -1,5 +1,5 @@
 use Rattle.std.proofs.Common.{◌∙◌}
-use Rattle.command_engine.proofs.Pools.{adds_at}
+use Rattle.dma_pool.proofs.Callers.{adds_at}
 use Rattle.command_engine.proofs.engine.Engine.close.Goals as goal
 
 pub returns : goal.returns

@@ -4,7 +4,7 @@ use Rattle.dma_pool.specs.declared.runs.Run.{Run}
 use Rattle.dma_pool.specs.Pools.{PoolState, AddsRun, HasNoRun, granules_for}
 use Rattle.dma_pool.specs.Blocks.{run_at}
 use Rattle.command_engine.specs.Blocks.{corb_bytes, rirb_bytes}
-use Rattle.command_engine.proofs.Pools.{given_back}
+use Rattle.dma_pool.proofs.Callers.{given_back}
 use Rattle.command_engine.proofs.engine.Engine.open.Goals as goal
 
 pub returns-in_default-take-clause-no_run : goal.returns-in_default-take-clause-no_run

@@ -1,5 +1,5 @@
 use Rattle.std.proofs.Common.{◌-◌, length}
-use Rattle.period_writer.proofs.blocks.+take_from.Given as goal
+use Rattle.dma_pool.proofs.several.+take_from.Given as goal
 
 abbrev pub decreases-take_from : goal.decreases-take_from
 decreases-take_from l = length l.into.now - l.index

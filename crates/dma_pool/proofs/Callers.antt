@@ -1,6 +1,7 @@
--- Runs that were taken are given back.
-use Rattle.std.proofs.Common.{◌≡◌, ℕ, List, [], ◌∷◌, ◌++◌, refl, sym, subst, ◌∙◌, rules}
+-- What the layers above cite of runs that are taken and given back.
+use Rattle.std.proofs.Common.{◌≡◌, ℕ, List, [], ◌∷◌, ◌++◌, refl, sym, subst, ◌∙◌, true, false, Result, Ok, Err, rules}
 use Rattle.std.specs.Prelude.{Contains}
+use Rattle.std.specs.Result.{OnErr, OnOk, is_err}
 use Rattle.std.proofs.lemmas.List.Elements.{Contains-append_right}
 use Rattle.dma_pool.specs.declared.runs.Run.{Run}
 use Rattle.dma_pool.specs.Pools.{PoolState, AddsRun}
@@ -41,3 +42,12 @@ given_back pool middle given run fresh takes gives kept stayed =
 pub adds_at : (address address' bytes bytes' : ℕ) (before after : List Run) → address ≡ address' → bytes ≡ bytes' → AddsRun before (run_at address bytes) after → AddsRun before (run_at address' bytes') after
 adds_at address address' bytes bytes' before after a b adds =
     subst (λ (at : ℕ). AddsRun before (run_at at bytes') after) a (subst (λ (n : ℕ). AddsRun before (run_at address n) after) b adds)
+
+-- what holds at an error and at a success
+pub at_error : {T E : Type 0} (r : Result T E) (P : Type 0) → true ≡ is_err r → OnErr r P → P
+at_error (Ok x) P e h = cc
+at_error (Err x) P e h = h
+
+pub at_success : {T E : Type 0} (r : Result T E) (P : Type 0) → false ≡ is_err r → OnOk r P → P
+at_success (Ok x) P e h = h
+at_success (Err x) P e h = cc

@@ -3,9 +3,10 @@ use Rattle.std.specs.Prelude.{All}
 use Rattle.dma_pool.specs.declared.blocks.Block.{Block}
 use Rattle.dma_pool.specs.Blocks.{run_at}
 use Rattle.dma_pool.specs.Pools.{PoolState, AddsRun}
-use Rattle.period_writer.specs.Blocks.{TakesAll, MeetsNoRun, HasBlock, addresses_in}
-use Rattle.period_writer.proofs.Takes.{rest_empty, empty_here, before_same, at_error, at_success, takes_more, blocks_more, meets_later, given_back}
-use Rattle.period_writer.proofs.blocks.+take_from.Goals as goal
+use Rattle.dma_pool.specs.Several.{TakesAll, MeetsNoRun, HasBlock, addresses_in}
+use Rattle.dma_pool.proofs.Taking.{rest_empty, empty_here, before_same, takes_more, blocks_more, meets_later}
+use Rattle.dma_pool.proofs.Callers.{at_error, at_success, given_back}
+use Rattle.dma_pool.proofs.several.+take_from.Goals as goal
 
 pub take_from-requires : goal.take_from-requires
 take_from-requires t c = (search rules, (c.requires.some, (omega arith, rest_empty c.args.into.now c.args.index None c.requires.empty)))
