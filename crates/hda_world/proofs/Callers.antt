@@ -110,3 +110,11 @@ pub use Rattle.hda_world.proofs.Settling.{write_keeps_position}
 pub use Rattle.hda_world.proofs.Settling.{write_keeps_ready}
 -- the order of the sound begins where RUN rises, and is kept else
 pub use Rattle.hda_world.proofs.Settling.{write_begins_order, write_keeps_order}
+-- the events that were told while accesses were made
+pub use Rattle.hda_world.proofs.Moments.{Weaving, woven}
+-- what accesses lead to and what holds at each moment meanwhile
+pub use Rattle.hda_world.proofs.Moments.{Lead, lead_none, lead_more, lead_both, lead_some, lead_from, lead_to}
+-- what a link frame moves of the controller's part
+pub use Rattle.hda_world.proofs.Passing.{passed_global}
+-- relations that are kept together
+pub use Rattle.hda_world.proofs.Passing.{kept_both}

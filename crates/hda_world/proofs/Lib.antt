@@ -11,3 +11,5 @@ pub mod Discovery
 pub mod Streaming
 pub mod Writing
 pub mod Settling
+pub mod Moments
+pub mod Passing

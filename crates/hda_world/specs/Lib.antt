@@ -9,3 +9,4 @@ pub mod Leaving
 pub mod Unread
 pub mod Discovery
 pub mod Streaming
+pub mod Moments

@@ -4,3 +4,5 @@
 pub use Rattle.stream_format.proofs.Bounds.{bounded}
 -- nor more bytes than the most of its format
 pub use Rattle.stream_format.proofs.Bounds.{most-bounds}
+-- the word of a format is read as that format
+pub use Rattle.stream_format.proofs.ReadBack.{read_back}

@@ -1,3 +1,4 @@
 mod Cycles
 mod Bounds
+mod ReadBack
 pub mod Callers

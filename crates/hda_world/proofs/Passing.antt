@@ -1,0 +1,50 @@
+-- What link frames pass by, and relations that are kept together.
+use Rattle.std.proofs.Common.{◌≡◌, ◌+◌, ◌==◌, Bool, true, false, List, [], ◌∷◌, refl, if◌then◌else◌}
+use Rattle.codec_graph.specs.CodecStates.{CodecState}
+use Rattle.hda_registers.specs.Fields.{Fields}
+use Rattle.hda_registers.specs.Moves.{framed, raised}
+use Rattle.hda_registers.specs.declared.shapes.Raise.TheVariants as event
+use Rattle.hda_world.specs.declared.step.TheConstants.{FRAMES_TO_DISCOVERY}
+use Rattle.hda_world.specs.Worlds.{World}
+use Rattle.hda_world.specs.Steps.{discovered, passed}
+use Rattle.hda_world.specs.Kept.{Kept}
+
+-- the discovery changes the state change status alone
+discovered_global : (codecs : List CodecState) (fields : Fields) → (discovered codecs fields).global ≡ record fields.global { state_status = (discovered codecs fields).global.state_status }
+discovered_global [] fields = refl
+discovered_global (codec ∷ codecs) fields = discovered_global codecs (raised fields (event.Codec codec.graph.address))
+
+discovered_if : (now : Bool) (codecs : List CodecState) (fields : Fields) → (if now then discovered codecs fields else fields).global
+    ≡ record fields.global { state_status = (if now then discovered codecs fields else fields).global.state_status }
+discovered_if true codecs fields = discovered_global codecs fields
+discovered_if false codecs fields = refl
+
+-- a link frame moves the wall clock and the state change status of the controller's part alone
+pub passed_global : (world : World) → (passed world).registers.global
+    ≡ record world.registers.global { wall_clock = (framed world.registers).global.wall_clock; state_status = (passed world).registers.global.state_status }
+passed_global world = discovered_if (world.frames + 1 == FRAMES_TO_DISCOVERY) world.codecs (framed world.registers)
+
+-- two relations that every move keeps, it keeps together
+pub kept_both : (One Other : World → Type 0) → Kept One → Kept Other → Kept (λ (world : World). One world × Other world)
+kept_both One Other one other = record {
+  codecs = record {
+    hands = λ world holds can free. (one.codecs.hands world holds.0 can free, other.codecs.hands world holds.1 can free);
+    sends = λ world address item rest holds out room are. (one.codecs.sends world address item rest holds.0 out room are, other.codecs.sends world address item rest holds.1 out room are);
+    loses = λ world address holds out. (one.codecs.loses world address holds.0 out, other.codecs.loses world address holds.1 out);
+    plugs = λ world address nid present holds. (one.codecs.plugs world address nid present holds.0, other.codecs.plugs world address nid present holds.1);
+  };
+  responds = λ world response rest holds can are. (one.responds world response rest holds.0 can are, other.responds world response rest holds.1 can are);
+  bytes = record {
+    comes = λ world holds can room good is. (one.bytes.comes world holds.0 can room good is, other.bytes.comes world holds.1 can room good is);
+    ends = λ world holds can room good is. (one.bytes.ends world holds.0 can room good is, other.bytes.ends world holds.1 can room good is);
+    breaks = λ world holds can room bad. (one.bytes.breaks world holds.0 can room bad, other.bytes.breaks world holds.1 can room bad);
+    refuses = λ world holds must. (one.bytes.refuses world holds.0 must, other.bytes.refuses world holds.1 must);
+  };
+  passes = λ world holds out still. (one.passes world holds.0 out still, other.passes world holds.1 out still);
+  frames = record {
+    gaps = λ world holds can none. (one.frames.gaps world holds.0 can none, other.frames.gaps world holds.1 can none);
+    sends = λ world holds can some enough. (one.frames.sends world holds.0 can some enough, other.frames.sends world holds.1 can some enough);
+    misses = λ world holds can short. (one.frames.misses world holds.0 can short, other.frames.misses world holds.1 can short);
+    stops = λ world holds must. (one.frames.stops world holds.0 must, other.frames.stops world holds.1 must);
+  };
+}
