@@ -7,3 +7,4 @@ pub mod Silences
 pub mod CourseLaws
 pub mod Runnings
 pub mod LineLaws
+pub mod Fetched

@@ -8,3 +8,7 @@ pub mod Places
 pub mod Starting
 pub mod Writers
 pub mod Playing
+pub mod Standing
+pub mod Owning
+pub mod Between
+pub mod Outcomes
