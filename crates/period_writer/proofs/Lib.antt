@@ -8,3 +8,6 @@ pub mod CourseLaws
 pub mod Runnings
 pub mod LineLaws
 pub mod Fetched
+pub mod Paces
+pub mod RingMemory
+pub mod RingKept
