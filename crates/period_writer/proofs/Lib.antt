@@ -11,3 +11,6 @@ pub mod Fetched
 pub mod Paces
 pub mod RingMemory
 pub mod RingKept
+pub mod RingPlaces
+pub mod RingWrites
+pub mod LineWritten
