@@ -18,3 +18,4 @@ pub mod RunTimes
 pub mod RunMoments
 pub mod RunEnds
 pub mod RunTelling
+pub mod RunClause
