@@ -19,3 +19,5 @@ pub mod RunMoments
 pub mod RunEnds
 pub mod RunTelling
 pub mod RunClause
+pub mod RegistersBeside
+pub mod BetweenRuns

@@ -1,9 +1,9 @@
 -- A later run by its accesses and by what it tells.
-use Rattle.std.proofs.Common.{◌≡◌, ◌*◌, ℕ, Bool, true, false, List, length, drop, Option, refl, sym, ap, subst, ◌∙◌, if◌then◌else◌}
+use Rattle.std.proofs.Common.{◌≡◌, ℕ, Bool, true, false, List, length, drop, Option, refl, sym, ap, subst, ◌∙◌, if◌then◌else◌}
 use Rattle.hda_world.specs.Tellings.{Telling, Makes, Between, world_of}
 use Rattle.hda_world.proofs.Callers.{told_map}
 use Rattle.period_writer.specs.declared.course.Ran.{Ran}
-use Rattle.period_writer.specs.declared.course.Ran.TheVariants.{Playing, Drained, Late}
+use Rattle.period_writer.specs.declared.course.Ran.TheVariants.{Playing, Drained}
 use Rattle.period_writer.specs.Courses.{IsCourse}
 use Rattle.period_writer.specs.Runs.{RunFacts, Tally, measures, facts_of, is_late, has_drained, tally_if, tally_after}
 use Rattle.period_writer.specs.Playing.{Plays, play_accesses}

@@ -1,19 +1,14 @@
 -- How a later run ends.
-use Rattle.std.proofs.Common.{◌≡◌, ◌≢◌, ◌≤◌, ◌<◌, ◌+◌, ◌-◌, ◌*◌, ◌/◌, ◌%◌, ◌^◌, ◌==◌, ◌⊎◌, inl, inr, ℕ, zero, suc, Bool, true, false, List, [], ◌∷◌, ◌++◌, length, drop, refl, sym, ap, subst, ◌∙◌, arith, rules, tests, if◌then◌else◌}
-use Rattle.std.specs.Prelude.{slice_index, nat_lt}
-use Rattle.std.proofs.lemmas.Nat.{mod-mul-add}
-use Rattle.hda_registers.specs.declared.shapes.Width.TheVariants.{One, Four}
-use Rattle.hda_registers.specs.declared.places.TheConstants.{WALCLK}
-use Rattle.hda_registers.specs.Fields.{Fields, Descriptor, is_running, is_out_of_reset}
+use Rattle.std.proofs.Common.{◌≡◌, ◌≤◌, ◌<◌, ◌+◌, ◌-◌, ◌⊎◌, inl, inr, ℕ, zero, suc, true, false, List, length, refl, sym, ap, subst, ◌∙◌, arith, rules}
+use Rattle.std.specs.Prelude.{slice_index}
+use Rattle.hda_registers.specs.declared.shapes.Width.TheVariants.{One}
+use Rattle.hda_registers.specs.Fields.{Fields, is_running, is_out_of_reset}
 use Rattle.hda_registers.specs.Access.{written, placed, stream_written}
-use Rattle.hda_registers.proofs.Callers.{read-wall_clock}
-use Rattle.stream_moves.specs.Streams.{StreamState}
 use Rattle.hda_world.specs.Worlds.{World}
-use Rattle.hda_world.specs.Events.{Event, Stepped, Read, Write, happens, registers_written, after_write}
-use Rattle.hda_world.specs.Kept.{Kept}
-use Rattle.hda_world.proofs.Callers.{kept_both, beside_write, Lead, lead_none, lead_more}
+use Rattle.hda_world.specs.Events.{Write, happens, registers_written}
+use Rattle.hda_world.proofs.Callers.{beside_write}
 use Rattle.period_writer.specs.declared.registers.TheConstants.{CONTROL}
-use Rattle.period_writer.specs.Standing.{Ring, Extent, StandsBy, Stands, Pace, PacedBy, Paced, bytes_in, size_of, extent_of}
+use Rattle.period_writer.specs.Standing.{Ring, Stands, bytes_in, size_of, extent_of}
 use Rattle.period_writer.specs.Places.{place_of}
 use Rattle.period_writer.proofs.RingPlaces.{place_again}
 

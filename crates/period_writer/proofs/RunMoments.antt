@@ -1,34 +1,32 @@
 -- A later run, access by access: the ring is kept, and the device owns what it was left.
-use Rattle.std.proofs.Common.{◌≡◌, ◌≢◌, ◌≤◌, ◌<◌, ◌+◌, ◌-◌, ◌*◌, ◌/◌, ◌%◌, ◌^◌, ◌⊎◌, inl, inr, ℕ, zero, suc, Bool, true, false, List, [], ◌∷◌, ◌++◌, length, map, take, drop, length-drop, refl, sym, ap, subst, ◌∙◌, arith, rules, tests, if◌then◌else◌}
-use Rattle.std.specs.Prelude.{slice_index, slice_range, nat_le, nat_lt, min, max}
+use Rattle.std.proofs.Common.{◌≡◌, ◌≤◌, ◌<◌, ◌+◌, ◌-◌, ◌*◌, ◌/◌, ◌%◌, ◌^◌, ℕ, zero, suc, Bool, true, false, List, ◌∷◌, ◌++◌, length, map, drop, length-drop, refl, sym, ap, subst, ◌∙◌, arith, rules, tests, if◌then◌else◌}
+use Rattle.std.specs.Prelude.{slice_index, slice_range, nat_le, min, max}
 use Rattle.std.specs.List.{range_with_len}
 use Rattle.std.proofs.lemmas.List.{length-take-le, get_or-take, get_or-drop}
-use Rattle.device_steps.specs.declared.Step.{Step}
 use Rattle.hda_registers.specs.declared.shapes.Width.TheVariants.{Four}
 use Rattle.hda_registers.specs.declared.places.TheConstants.{WALCLK}
 use Rattle.hda_registers.specs.Access.{value_at}
 use Rattle.hda_registers.proofs.Callers.{read-wall_clock, read-output_position}
-use Rattle.stream_format.specs.Cadence.{most_bytes}
 use Rattle.hda_world.specs.Worlds.{World}
-use Rattle.hda_world.specs.Events.{Event, Stepped, Read, Write, DmaWrite, happens, IsHonest}
+use Rattle.hda_world.specs.Events.{Event, Stepped, Read, happens, IsHonest}
 use Rattle.hda_world.specs.Kept.{Kept}
-use Rattle.hda_world.proofs.Callers.{kept_both, Lead, lead_none, lead_more, lead_both, lead_some, lead_from, lead_to}
+use Rattle.hda_world.proofs.Callers.{kept_both, Lead, lead_none, lead_more, lead_both, lead_some, lead_from}
 use Rattle.period_writer.specs.declared.registers.TheConstants.{POSITION}
 use Rattle.period_writer.specs.Courses.{IsCourse}
 use Rattle.period_writer.specs.Rings.{limit_of}
-use Rattle.period_writer.specs.Places.{place_in, piece_start, piece_end, piece_write, line_writes, touched}
-use Rattle.period_writer.specs.Runs.{RunFacts, Tally, Measures, measures, run_at, run_reach, run_room, tally_if, position_from}
+use Rattle.period_writer.specs.Places.{piece_start, piece_end, piece_write, line_writes, touched}
+use Rattle.period_writer.specs.Runs.{RunFacts, Tally, Measures, measures, run_at, run_reach, position_from}
 use Rattle.period_writer.specs.Lines.{line_of}
 use Rattle.period_writer.specs.Playing.{run_bytes}
-use Rattle.period_writer.specs.Standing.{Ring, Extent, StandsBy, Stands, Pace, PacedBy, Paced, bytes_in, size_of, extent_of}
-use Rattle.period_writer.specs.Owning.{Owns, IsBehind, WritesBehind, IsOwned, IsWritten, IsPlaying}
+use Rattle.period_writer.specs.Standing.{Ring, Stands, Paced, bytes_in, size_of, extent_of}
+use Rattle.period_writer.specs.Owning.{Owns, WritesBehind, IsOwned, IsWritten}
 use Rattle.period_writer.proofs.RingKept.{stands_kept}
 use Rattle.period_writer.proofs.Paces.{paced_kept}
 use Rattle.period_writer.proofs.RingWrites.{IsPieceOf, piece_kept, piece_behind}
 use Rattle.period_writer.proofs.LineSteps.{done, IsStep, is_step, done_first, done_now, done_next, done_last, piece_ascends}
-use Rattle.period_writer.proofs.LineWritten.{next_tally, appended, appended_is, line_same, line_new, written_next}
+use Rattle.period_writer.proofs.LineWritten.{next_tally, appended_is, line_same, line_new}
 use Rattle.period_writer.proofs.RunTimes.{position_behind, position_there, position_later, position_soon, fifo_below, some_fifo, within_reach, Passed, passed_kept}
-use Rattle.period_writer.proofs.RingMemory.{some_bytes, some_periods}
+use Rattle.period_writer.proofs.RingMemory.{some_bytes}
 
 range_long : (xs : List ℕ) (a b : ℕ) → b ≤ length xs → length (slice_range xs a b) ≡ b - a
 range_long xs a b within = let rest = length-drop a xs in length-take-le (b - a) (drop a xs) (omega (arith, rest, within))
@@ -38,7 +36,7 @@ range_at xs a b k within = get_or-take (b - a) (drop a xs) k 0 within ∙ get_or
 
 -- ---- from what stands to what is owned
 
-owns_of : (ring : Ring) (line line' : List ℕ) (from upto sure : ℕ) (world : World) → ((at : ℕ) → at < sure → slice_index line' at ≡ slice_index line at)
+pub owns_of : (ring : Ring) (line line' : List ℕ) (from upto sure : ℕ) (world : World) → ((at : ℕ) → at < sure → slice_index line' at ≡ slice_index line at)
     → Stands ring (extent_of line' from upto sure) world → Owns ring line sure world
 owns_of ring line line' from upto sure world same stands = record {
   runs = stands.set.runs;

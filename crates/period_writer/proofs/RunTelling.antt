@@ -1,5 +1,5 @@
 -- What a later run tells.
-use Rattle.std.proofs.Common.{◌≡◌, ◌≤◌, ◌<◌, ◌+◌, ◌-◌, ◌*◌, ◌%◌, ◌^◌, ◌&&◌, ◌==◌, ℕ, Bool, true, false, List, [], ◌∷◌, ◌++◌, length, drop, refl, sym, ap, subst, ◌∙◌, arith, rules, tests, if◌then◌else◌}
+use Rattle.std.proofs.Common.{◌≡◌, ◌≤◌, ◌<◌, ◌+◌, ◌-◌, ◌*◌, ◌%◌, ◌^◌, ◌&&◌, ◌==◌, ℕ, Bool, true, false, List, [], ◌∷◌, length, drop, refl, sym, ap, subst, ◌∙◌, arith, rules, tests, if◌then◌else◌}
 use Rattle.std.specs.Prelude.{slice_index, nat_lt, nat_le}
 use Rattle.std.proofs.Math.Nat.{mod-eq_of_lt}
 use Rattle.hda_registers.specs.declared.shapes.Width.TheVariants.{One, Four}
@@ -8,26 +8,25 @@ use Rattle.hda_registers.specs.Fields.{is_running}
 use Rattle.hda_registers.specs.Access.{value_at}
 use Rattle.hda_registers.proofs.Callers.{read-wall_clock}
 use Rattle.hda_world.specs.Worlds.{World}
-use Rattle.hda_world.specs.Events.{Event, Stepped, Read, Write, happens, after}
+use Rattle.hda_world.specs.Events.{Event, Stepped, Read, Write, happens}
 use Rattle.hda_world.specs.Tellings.{Telling, Makes, world_of}
 use Rattle.hda_world.specs.Kept.{Kept}
 use Rattle.hda_world.proofs.Callers.{kept_both, world_of-went, Weaving, woven, Lead, lead_none, lead_more, lead_some}
 use Rattle.period_writer.specs.declared.registers.TheConstants.{CONTROL}
-use Rattle.period_writer.specs.declared.course.Ran.{Ran}
 use Rattle.period_writer.specs.declared.course.Ran.TheVariants.{Playing, Drained, Late}
 use Rattle.period_writer.specs.Courses.{IsCourse}
-use Rattle.period_writer.specs.Runs.{RunFacts, Tally, Measures, measures, run_at, run_reach, is_late, has_drained, run_sound, run_sound_end, tally_if, tally_after}
+use Rattle.period_writer.specs.Runs.{RunFacts, Tally, Measures, measures, run_at, run_reach, is_late, has_drained, run_sound, run_sound_end, tally_if}
 use Rattle.period_writer.specs.Lines.{line_of}
-use Rattle.period_writer.specs.Playing.{play_accesses, stop_accesses}
-use Rattle.period_writer.specs.Standing.{Ring, Stands, Pace, PacedBy, Paced, bytes_in, size_of, extent_of}
+use Rattle.period_writer.specs.Playing.{play_accesses}
+use Rattle.period_writer.specs.Standing.{Ring, Stands, Paced, size_of, extent_of}
 use Rattle.period_writer.specs.Owning.{WritesBehind, IsWritten, IsPlaying}
-use Rattle.period_writer.specs.Outcomes.{HasNotWrapped, HasDrained, WasLate, HasEnded, RunTells}
+use Rattle.period_writer.specs.Outcomes.{HasNotWrapped, HasDrained, WasLate, RunTells}
 use Rattle.period_writer.proofs.RingKept.{stands_kept}
 use Rattle.period_writer.proofs.Paces.{paced_kept}
 use Rattle.period_writer.proofs.LineWritten.{next_tally, line_same, written_next}
 use Rattle.period_writer.proofs.RunTimes.{within_reach, on_time, kept_given, fifo_below}
 use Rattle.period_writer.proofs.RunMoments as moments
-use Rattle.period_writer.proofs.RunEnds.{IsStopped, stops, silent_on}
+use Rattle.period_writer.proofs.RunEnds.{stops, silent_on}
 
 small_clock : (clock frames : ℕ) → clock ≡ (500 * frames) % 2 ^ 32 → 500 * frames < 2 ^ 32 → clock ≡ 500 * frames
 small_clock clock frames is small = is ∙ mod-eq_of_lt small
