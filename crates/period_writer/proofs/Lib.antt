@@ -8,3 +8,6 @@ pub mod CourseLaws
 pub mod Runnings
 pub mod LineLaws
 pub mod Fetched
+pub mod RestWrites
+pub mod RingBytes
+pub mod Rising

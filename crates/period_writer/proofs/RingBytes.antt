@@ -1,0 +1,88 @@
+-- The bytes of the ring's blocks: where they stay, the list and the line stay.
+use Rattle.std.proofs.Common.{◌≡◌, ◌≤◌, ◌<◌, ◌⊎◌, ◌+◌, ◌-◌, ◌*◌, ◌/◌, ◌%◌, ◌^◌, ◌||◌, ◌==◌, nat_le, ℕ, suc, Bool, true, false, List, length, slice_index, refl, sym, ap, subst, ◌∙◌, inl, inr, arith, rules, tests, lit<, lit≤}
+use Rattle.std.proofs.Math.Nat.{mod-lt}
+use Rattle.hda_registers.specs.declared.shapes.Shape.{Shape}
+use Rattle.hda_registers.specs.Fields.{entries_of}
+use Rattle.ring_entries.specs.Memory.{word_at, IsOutside}
+use Rattle.stream_moves.specs.Lists.{buffer_of}
+use Rattle.stream_moves.specs.declared.buffers.Buffer.{Buffer}
+use Rattle.period_writer.specs.Blocks.{are_apart}
+use Rattle.period_writer.specs.Rings.{list_bytes}
+use Rattle.period_writer.specs.Places.{place_of}
+use Rattle.period_writer.specs.Standing.{Ring, IsRing, IsBesideRirb, bytes_in, buffer_in}
+use Rattle.period_writer.proofs.LineSteps.{div_le, div_gt}
+
+-- so many entries of the list stand
+abbrev pub HasEntries : Ring → ℕ → List ℕ → Type 0
+HasEntries ring entries memory = (index : ℕ) → index < entries → buffer_of memory ring.list index ≡ buffer_in ring index
+
+-- so many bytes of a line stand
+abbrev pub HasBytes : Ring → ℕ → (line memory : List ℕ) → Type 0
+HasBytes ring bytes line memory = (at : ℕ) → at < bytes → slice_index memory (place_of (bytes_in ring) ring.periods at) ≡ slice_index line at
+
+-- ---- the list
+
+pub same_word : (old new : List ℕ) (at : ℕ) → ((byte : ℕ) → byte < 4 → slice_index new (at + byte) ≡ slice_index old (at + byte)) → word_at new at ≡ word_at old at
+same_word old new at same =
+    let e0 : slice_index new at ≡ slice_index old at = subst (λ (n : ℕ). slice_index new n ≡ slice_index old n) (omega arith) (same 0 (lit< tt)) in
+    let e1 : slice_index new (suc at) ≡ slice_index old (suc at) = subst (λ (n : ℕ). slice_index new n ≡ slice_index old n) (omega arith) (same 1 (lit< tt)) in
+    let e2 : slice_index new (suc (suc at)) ≡ slice_index old (suc (suc at)) = subst (λ (n : ℕ). slice_index new n ≡ slice_index old n) (omega arith) (same 2 (lit< tt)) in
+    let e3 : slice_index new (suc (suc (suc at))) ≡ slice_index old (suc (suc (suc at))) = subst (λ (n : ℕ). slice_index new n ≡ slice_index old n) (omega arith) (same 3 (lit< tt)) in
+    cc
+
+buffer_by : (low low' high high' bytes bytes' flags flags' : ℕ) → low ≡ low' → high ≡ high' → bytes ≡ bytes' → flags ≡ flags'
+    → let one : Buffer = record { address = low + 2 ^ 32 * high; bytes = bytes; interrupts = flags % 2 == 1 } in one ≡ record { address = low' + 2 ^ 32 * high'; bytes = bytes'; interrupts = flags' % 2 == 1 }
+buffer_by low low' high high' bytes bytes' flags flags' a b c d =
+    ap (λ (n : ℕ). let one : Buffer = record { address = n + 2 ^ 32 * high; bytes = bytes; interrupts = flags % 2 == 1 } in one) a
+    ∙ ap (λ (n : ℕ). let one : Buffer = record { address = low' + 2 ^ 32 * n; bytes = bytes; interrupts = flags % 2 == 1 } in one) b
+    ∙ ap (λ (n : ℕ). let one : Buffer = record { address = low' + 2 ^ 32 * high'; bytes = n; interrupts = flags % 2 == 1 } in one) c
+    ∙ ap (λ (n : ℕ). let one : Buffer = record { address = low' + 2 ^ 32 * high'; bytes = bytes'; interrupts = n % 2 == 1 } in one) d
+
+pub same_buffer : (old new : List ℕ) (base index : ℕ) → ((byte : ℕ) → byte < 16 → slice_index new (base + 16 * index + byte) ≡ slice_index old (base + 16 * index + byte))
+    → buffer_of new base index ≡ buffer_of old base index
+same_buffer old new base index same =
+    let at = base + 16 * index in
+    let word : (from : ℕ) → from ≤ 12 → word_at new (base + 16 * index + from) ≡ word_at old (base + 16 * index + from) =
+    λ from few. same_word old new (base + 16 * index + from) (λ byte small. subst (λ (n : ℕ). slice_index new n ≡ slice_index old n) (omega arith) (same (from + byte) (omega (arith, few, small)))) in
+    let first : word_at new (base + 16 * index) ≡ word_at old (base + 16 * index) = same_word old new (base + 16 * index) (λ byte small. same byte (omega (arith, small))) in
+    buffer_by _ _ _ _ _ _ _ _ first (word 4 (lit≤ tt)) (word 8 (lit≤ tt)) (word 12 (lit≤ tt))
+
+pub entries_stay : (ring : Ring) (entries : ℕ) (old new : List ℕ) → entries ≤ ring.geometry.periods
+    → ((place : ℕ) → place < list_bytes ring.geometry.periods → slice_index new (ring.list + place) ≡ slice_index old (ring.list + place)) → HasEntries ring entries old → HasEntries ring entries new
+entries_stay ring entries old new few same has index within =
+    same_buffer old new ring.list index (λ byte small. subst (λ (n : ℕ). slice_index new n ≡ slice_index old n) (omega arith) (same (16 * index + byte) (omega (arith, few, within, small)))) ∙ has index within
+
+-- ---- the line
+
+pub bytes_stay : (ring : Ring) (bytes : ℕ) (line old new : List ℕ) → 1 ≤ bytes_in ring → 1 ≤ ring.geometry.periods → length ring.periods ≡ ring.geometry.periods
+    → ((index place : ℕ) → index < ring.geometry.periods → place < bytes_in ring → slice_index new (slice_index ring.periods index + place) ≡ slice_index old (slice_index ring.periods index + place))
+    → HasBytes ring bytes line old → HasBytes ring bytes line new
+bytes_stay ring bytes line old new some some' number same has at within =
+    let low = div_le (bytes_in ring) at in
+    let high = div_gt (bytes_in ring) at some in
+    let index = mod-lt (at / bytes_in ring) (subst (λ (n : ℕ). 0 < n) (sym number) some') in
+    same ((at / bytes_in ring) % length ring.periods) (at - bytes_in ring * (at / bytes_in ring)) (subst (λ (n : ℕ). (at / bytes_in ring) % length ring.periods < n) number index) (omega (arith, low, high)) ∙ has at within
+
+-- ---- apart
+
+-- a byte of a block is outside a piece of RIRB
+pub outside_rirb : (base place address bytes here : ℕ) (shape : Shape) → place < entries_of shape.rirb → IsBesideRirb base shape address bytes → here < bytes → IsOutside (128 * base + 8 * place) 8 (address + here)
+outside_rirb base place address bytes here shape within beside small = elim beside [
+  | inl below ↦ inl (omega (arith, below, small))
+  | inr above ↦ inr (omega (arith, above, within))
+]
+
+-- a byte of a block is outside a piece of a block apart from it
+pub outside_block : (one one_bytes other other_bytes here at size : ℕ) → are_apart one one_bytes other other_bytes ≡ true → here < one_bytes → other ≤ at → at + size ≤ other + other_bytes → IsOutside at size (one + here)
+outside_block one one_bytes other other_bytes here at size apart small from upto = by_test (nat_le (one + one_bytes) other) refl apart where
+  by_test : (test : Bool) → nat_le (one + one_bytes) other ≡ test → (test || nat_le (other + other_bytes) one) ≡ true → IsOutside at size (one + here)
+  by_test true is e = let first : one + one_bytes ≤ other = search (rules, is) in inl (omega (arith, first, small, from))
+  by_test false is e = let second : other + other_bytes ≤ one = search (rules, tests) in inr (omega (arith, second, upto))
+
+pub apart_other : (one one_bytes other other_bytes : ℕ) → are_apart one one_bytes other other_bytes ≡ true → are_apart other other_bytes one one_bytes ≡ true
+apart_other one one_bytes other other_bytes apart = by_tests (nat_le (one + one_bytes) other) (nat_le (other + other_bytes) one) apart where
+  by_tests : (a b : Bool) → (a || b) ≡ true → (b || a) ≡ true
+  by_tests true true e = refl
+  by_tests true false e = refl
+  by_tests false true e = refl
+  by_tests false false e = e
