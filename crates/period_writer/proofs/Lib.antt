@@ -11,3 +11,5 @@ pub mod Fetched
 pub mod RestWrites
 pub mod RingBytes
 pub mod Rising
+pub mod RingWrites
+pub mod RiseSteps

@@ -22,15 +22,18 @@ HasBytes ring bytes line memory = (at : ℕ) → at < bytes → slice_index memo
 
 -- ---- the list
 
-pub same_word : (old new : List ℕ) (at : ℕ) → ((byte : ℕ) → byte < 4 → slice_index new (at + byte) ≡ slice_index old (at + byte)) → word_at new at ≡ word_at old at
-same_word old new at same =
-    let e0 : slice_index new at ≡ slice_index old at = subst (λ (n : ℕ). slice_index new n ≡ slice_index old n) (omega arith) (same 0 (lit< tt)) in
-    let e1 : slice_index new (suc at) ≡ slice_index old (suc at) = subst (λ (n : ℕ). slice_index new n ≡ slice_index old n) (omega arith) (same 1 (lit< tt)) in
-    let e2 : slice_index new (suc (suc at)) ≡ slice_index old (suc (suc at)) = subst (λ (n : ℕ). slice_index new n ≡ slice_index old n) (omega arith) (same 2 (lit< tt)) in
-    let e3 : slice_index new (suc (suc (suc at))) ≡ slice_index old (suc (suc (suc at))) = subst (λ (n : ℕ). slice_index new n ≡ slice_index old n) (omega arith) (same 3 (lit< tt)) in
+pub same_word : (old new : List ℕ) (from at : ℕ) → ((byte : ℕ) → byte < 4 → slice_index new (at + byte) ≡ slice_index old (from + byte)) → word_at new at ≡ word_at old from
+same_word old new from at same =
+    let e0 : slice_index new at ≡ slice_index old from = moved at from (at + 0) (from + 0) (omega arith) (omega arith) (same 0 (lit< tt)) in
+    let e1 : slice_index new (suc at) ≡ slice_index old (suc from) = moved (suc at) (suc from) (at + 1) (from + 1) (omega arith) (omega arith) (same 1 (lit< tt)) in
+    let e2 : slice_index new (suc (suc at)) ≡ slice_index old (suc (suc from)) = moved (suc (suc at)) (suc (suc from)) (at + 2) (from + 2) (omega arith) (omega arith) (same 2 (lit< tt)) in
+    let e3 : slice_index new (suc (suc (suc at))) ≡ slice_index old (suc (suc (suc from))) = moved (suc (suc (suc at))) (suc (suc (suc from))) (at + 3) (from + 3) (omega arith) (omega arith) (same 3 (lit< tt)) in
     cc
+  where
+    moved : (i j i' j' : ℕ) → i' ≡ i → j' ≡ j → slice_index new i' ≡ slice_index old j' → slice_index new i ≡ slice_index old j
+    moved i j i' j' a b e = ap (slice_index new) (sym a) ∙ e ∙ ap (slice_index old) b
 
-buffer_by : (low low' high high' bytes bytes' flags flags' : ℕ) → low ≡ low' → high ≡ high' → bytes ≡ bytes' → flags ≡ flags'
+pub buffer_by : (low low' high high' bytes bytes' flags flags' : ℕ) → low ≡ low' → high ≡ high' → bytes ≡ bytes' → flags ≡ flags'
     → let one : Buffer = record { address = low + 2 ^ 32 * high; bytes = bytes; interrupts = flags % 2 == 1 } in one ≡ record { address = low' + 2 ^ 32 * high'; bytes = bytes'; interrupts = flags' % 2 == 1 }
 buffer_by low low' high high' bytes bytes' flags flags' a b c d =
     ap (λ (n : ℕ). let one : Buffer = record { address = n + 2 ^ 32 * high; bytes = bytes; interrupts = flags % 2 == 1 } in one) a
@@ -41,10 +44,9 @@ buffer_by low low' high high' bytes bytes' flags flags' a b c d =
 pub same_buffer : (old new : List ℕ) (base index : ℕ) → ((byte : ℕ) → byte < 16 → slice_index new (base + 16 * index + byte) ≡ slice_index old (base + 16 * index + byte))
     → buffer_of new base index ≡ buffer_of old base index
 same_buffer old new base index same =
-    let at = base + 16 * index in
     let word : (from : ℕ) → from ≤ 12 → word_at new (base + 16 * index + from) ≡ word_at old (base + 16 * index + from) =
-    λ from few. same_word old new (base + 16 * index + from) (λ byte small. subst (λ (n : ℕ). slice_index new n ≡ slice_index old n) (omega arith) (same (from + byte) (omega (arith, few, small)))) in
-    let first : word_at new (base + 16 * index) ≡ word_at old (base + 16 * index) = same_word old new (base + 16 * index) (λ byte small. same byte (omega (arith, small))) in
+    λ from few. same_word old new (base + 16 * index + from) (base + 16 * index + from) (λ byte small. subst (λ (n : ℕ). slice_index new n ≡ slice_index old n) (omega arith) (same (from + byte) (omega (arith, few, small)))) in
+    let first : word_at new (base + 16 * index) ≡ word_at old (base + 16 * index) = same_word old new (base + 16 * index) (base + 16 * index) (λ byte small. same byte (omega (arith, small))) in
     buffer_by _ _ _ _ _ _ _ _ first (word 4 (lit≤ tt)) (word 8 (lit≤ tt)) (word 12 (lit≤ tt))
 
 pub entries_stay : (ring : Ring) (entries : ℕ) (old new : List ℕ) → entries ≤ ring.geometry.periods

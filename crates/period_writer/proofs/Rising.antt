@@ -78,7 +78,7 @@ module _ (ring : Ring) (some : 1 ≤ bytes_in ring) (some' : 1 ≤ ring.geometry
       let base = world.registers.global.rirb_base in
       let place = response_place world.registers in
       let stays = stored_outside (128 * base + 8 * place) (response_bytes response) world.memory in
-      let long : length (response_bytes response) ≡ 8 = simp (length-append, length-bytes_low_first) in
+      let long : length (response_bytes response) ≡ 8 = refl in
       let within : place < entries_of world.registers.shape.rirb = mod-lt _ (has_entries world.registers.shape.rirb) in
       let outside = λ (at : ℕ) (apart : IsOutside (128 * base + 8 * place) 8 at). stays.1 at (subst (λ (n : ℕ). IsOutside (128 * base + 8 * place) n at) (sym long) apart) in
       memory_changes since entries bytes line world.memory (response_stored world.registers world.memory response) _ _ _ _ _ _ rises stays.0
