@@ -52,12 +52,12 @@ tick_is : (clock frames : ℕ) → clock ≡ (500 * frames) % 2 ^ 32 → (clock 
 tick_is clock frames is = omega (arith, is)
 
 module _ (ring : Ring) (some : 1 ≤ bytes_in ring) (some' : 1 ≤ ring.geometry.periods) where
-  -- the memory changed elsewhere
-  pub memory_changes : (since entries bytes : ℕ) (line memory memory' : List ℕ) (reset clock rirb_base : ℕ) (shape : Shape) (input : Descriptor) (frames : ℕ)
+  -- the memory changed
+  pub memory_changes : (since entries bytes entries' bytes' : ℕ) (line memory memory' : List ℕ) (reset clock rirb_base : ℕ) (shape : Shape) (input : Descriptor) (frames : ℕ)
       → RisesBy ring since entries bytes line memory reset clock rirb_base shape input frames
-      → length memory' ≡ length memory → HasEntries ring entries memory' → HasBytes ring bytes line memory'
-      → RisesBy ring since entries bytes line memory' reset clock rirb_base shape input frames
-  memory_changes since entries bytes line memory memory' reset clock rirb_base shape input frames rises size list stands = record {
+      → length memory' ≡ length memory → entries' ≤ ring.geometry.periods → HasEntries ring entries' memory' → HasBytes ring bytes' line memory'
+      → RisesBy ring since entries' bytes' line memory' reset clock rirb_base shape input frames
+  memory_changes since entries bytes entries' bytes' line memory memory' reset clock rirb_base shape input frames rises size few list stands = record {
     out = rises.out;
     input_stopped = rises.input_stopped;
     clock_is = rises.clock_is;
@@ -65,7 +65,7 @@ module _ (ring : Ring) (some : 1 ≤ bytes_in ring) (some' : 1 ≤ ring.geometry
     since_before = rises.since_before;
     ring_is = subst (IsRing ring) (sym size) rises.ring_is;
     beside = rises.beside;
-    few = rises.few;
+    few = few;
     list = list;
     line_stands = stands;
   }
@@ -81,7 +81,7 @@ module _ (ring : Ring) (some : 1 ≤ bytes_in ring) (some' : 1 ≤ ring.geometry
       let long : length (response_bytes response) ≡ 8 = refl in
       let within : place < entries_of world.registers.shape.rirb = mod-lt _ (has_entries world.registers.shape.rirb) in
       let outside = λ (at : ℕ) (apart : IsOutside (128 * base + 8 * place) 8 at). stays.1 at (subst (λ (n : ℕ). IsOutside (128 * base + 8 * place) n at) (sym long) apart) in
-      memory_changes since entries bytes line world.memory (response_stored world.registers world.memory response) _ _ _ _ _ _ rises stays.0
+      memory_changes since entries bytes entries bytes line world.memory (response_stored world.registers world.memory response) _ _ _ _ _ _ rises stays.0 rises.few
       (entries_stay ring entries world.memory _ rises.few (λ here small. outside (ring.list + here) (outside_rirb base place ring.list _ here world.registers.shape within rises.beside.list small)) rises.list)
       (bytes_stay ring bytes line world.memory _ some some' rises.ring_is.number
       (λ index here below small. outside _ (outside_rirb base place (slice_index ring.periods index) _ here world.registers.shape within (rises.beside.periods index below) small)) rises.line_stands)
