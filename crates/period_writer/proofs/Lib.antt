@@ -13,3 +13,5 @@ pub mod RingBytes
 pub mod Rising
 pub mod RingWrites
 pub mod RiseSteps
+pub mod RiseRows
+pub mod Begins

@@ -1,5 +1,5 @@
 -- The bytes of the ring's blocks: where they stay, the list and the line stay.
-use Rattle.std.proofs.Common.{◌≡◌, ◌≤◌, ◌<◌, ◌⊎◌, ◌+◌, ◌-◌, ◌*◌, ◌/◌, ◌%◌, ◌^◌, ◌||◌, ◌==◌, nat_le, ℕ, suc, Bool, true, false, List, length, slice_index, refl, sym, ap, subst, ◌∙◌, inl, inr, arith, rules, tests, lit<, lit≤}
+use Rattle.std.proofs.Common.{◌≡◌, ◌≤◌, ◌<◌, ◌+◌, ◌-◌, ◌*◌, ◌/◌, ◌%◌, ◌^◌, ◌||◌, ◌==◌, nat_le, ℕ, suc, Bool, true, false, List, length, slice_index, refl, sym, ap, subst, ◌∙◌, inl, inr, arith, rules, tests, lit<, lit≤}
 use Rattle.std.proofs.Math.Nat.{mod-lt}
 use Rattle.hda_registers.specs.declared.shapes.Shape.{Shape}
 use Rattle.hda_registers.specs.Fields.{entries_of}
@@ -9,7 +9,7 @@ use Rattle.stream_moves.specs.declared.buffers.Buffer.{Buffer}
 use Rattle.period_writer.specs.Blocks.{are_apart}
 use Rattle.period_writer.specs.Rings.{list_bytes}
 use Rattle.period_writer.specs.Places.{place_of}
-use Rattle.period_writer.specs.Standing.{Ring, IsRing, IsBesideRirb, bytes_in, buffer_in}
+use Rattle.period_writer.specs.Standing.{Ring, IsBesideRirb, bytes_in, buffer_in}
 use Rattle.period_writer.proofs.LineSteps.{div_le, div_gt}
 
 -- so many entries of the list stand

@@ -1,19 +1,17 @@
 -- The writes of the list and of the first ring of bytes of the line, one by one.
-use Rattle.std.proofs.Common.{◌≡◌, ◌≤◌, ◌<◌, ◌⊎◌, ◌+◌, ◌-◌, ◌*◌, ◌/◌, ◌%◌, ◌^◌, ◌==◌, min, max, ℕ, zero, suc, Bool, true, false, List, ◌++◌, length, drop, slice_index, map, refl, sym, ap, subst, ◌∙◌, inl, inr, arith, rules, tests, lit<, lit≤, length-append}
+use Rattle.std.proofs.Common.{◌≡◌, ◌≤◌, ◌<◌, ◌+◌, ◌-◌, ◌*◌, ◌/◌, ◌%◌, ◌^◌, min, max, ℕ, Bool, true, false, List, length, drop, slice_index, refl, sym, ap, subst, ◌∙◌, inl, arith, rules, lit≤}
 use Rattle.std.specs.Prelude.{slice_range, nat_lt}
-use Rattle.std.specs.List.{range_with_len}
 use Rattle.std.proofs.Math.Nat.{mod-eq_of_lt, mul-le-mul_left}
 use Rattle.std.proofs.lemmas.List.{places}
 use Rattle.std.proofs.lemmas.Nat.{div-mul-add, div_below}
-use Rattle.byteorder.specs.Endian.{little_bytes}
-use Rattle.byteorder.specs.Numbers.{little_from-bytes, length-bytes_low_first}
-use Rattle.ring_entries.specs.Memory.{word_at, stored, IsOutside, PieceStored}
+use Rattle.byteorder.specs.Numbers.{little_from-bytes}
+use Rattle.ring_entries.specs.Memory.{word_at, stored, PieceStored}
 use Rattle.ring_entries.proofs.Callers.{piece_is_stored}
 use Rattle.stream_moves.specs.Lists.{buffer_of}
-use Rattle.hda_world.specs.Events.{Event, DmaWrite}
-use Rattle.period_writer.specs.Blocks.{are_apart, AreApart, IsBesideAll}
+use Rattle.hda_world.specs.Events.{DmaWrite}
+use Rattle.period_writer.specs.Blocks.{are_apart, AreApart}
 use Rattle.period_writer.specs.Rings.{list_bytes}
-use Rattle.period_writer.specs.Places.{place_of, place_in, piece_write}
+use Rattle.period_writer.specs.Places.{place_of, piece_write}
 use Rattle.period_writer.specs.Starting.{entry_bytes}
 use Rattle.period_writer.specs.Standing.{Ring, IsRing, bytes_in, size_of, buffer_in}
 use Rattle.period_writer.proofs.LineSteps.{div_le, div_gt}
@@ -57,7 +55,7 @@ entry_stands ring index memory narrow narrow' stands =
 -- after its write the entries before it stand, and it
 pub entry_more : (ring : Ring) (index : ℕ) (memory : List ℕ) → slice_index ring.periods index < 2 ^ 32 → bytes_in ring < 2 ^ 32
     → ring.list + 16 * index + length (entry_bytes (slice_index ring.periods index) (bytes_in ring)) ≤ length memory → HasEntries ring index memory
-    → HasEntries ring (suc index) (stored memory (ring.list + 16 * index) (entry_bytes (slice_index ring.periods index) (bytes_in ring)))
+    → HasEntries ring (index + 1) (stored memory (ring.list + 16 * index) (entry_bytes (slice_index ring.periods index) (bytes_in ring)))
 entry_more ring index memory narrow narrow' fits has = λ other below. by_place other (nat_lt other index) refl below where
   entry : List ℕ
   entry = entry_bytes (slice_index ring.periods index) (bytes_in ring)
@@ -68,7 +66,7 @@ entry_more ring index memory narrow narrow' fits has = λ other below. by_place 
   piece : PieceStored (ring.list + 16 * index) entry memory (stored memory (ring.list + 16 * index) entry)
   piece = piece_is_stored (ring.list + 16 * index) entry memory fits
 
-  by_place : (other : ℕ) (test : Bool) → nat_lt other index ≡ test → other < suc index → buffer_of (stored memory (ring.list + 16 * index) entry) ring.list other ≡ buffer_in ring other
+  by_place : (other : ℕ) (test : Bool) → nat_lt other index ≡ test → other < index + 1 → buffer_of (stored memory (ring.list + 16 * index) entry) ring.list other ≡ buffer_in ring other
   by_place other true e below =
       let before : other < index = search (rules, e) in
       same_buffer memory (stored memory (ring.list + 16 * index) entry) ring.list other
@@ -138,7 +136,7 @@ list_stays ring index entries piece memory is long within few fits has =
 -- after the write of a period the line stands up to its end
 pub line_more : (ring : Ring) (index : ℕ) (line memory : List ℕ) → 1 ≤ bytes_in ring → IsRing ring (length memory) → length line ≡ size_of ring → index < ring.geometry.periods
     → slice_index ring.periods index + length (whole_period ring line index) ≤ length memory → HasBytes ring (bytes_in ring * index) line memory
-    → HasBytes ring (bytes_in ring * suc index) line (stored memory (slice_index ring.periods index) (whole_period ring line index))
+    → HasBytes ring (bytes_in ring * (index + 1)) line (stored memory (slice_index ring.periods index) (whole_period ring line index))
 line_more ring index line memory some is long within fits has = λ at below. by_place at (nat_lt at (bytes_in ring * index)) refl below where
   b : ℕ
   b = bytes_in ring
@@ -152,17 +150,17 @@ line_more ring index line memory some is long within fits has = λ at below. by_
   piece : PieceStored (slice_index ring.periods index) (whole_period ring line index) memory (stored memory (slice_index ring.periods index) (whole_period ring line index))
   piece = piece_is_stored (slice_index ring.periods index) (whole_period ring line index) memory fits
 
-  wide : bytes_in ring * suc index ≤ bytes_in ring * ring.geometry.periods
+  wide : bytes_in ring * (index + 1) ≤ bytes_in ring * ring.geometry.periods
   wide = mul-le-mul_left (bytes_in ring) (omega (arith, within))
 
-  next : bytes_in ring * suc index ≡ bytes_in ring * index + bytes_in ring
+  next : bytes_in ring * (index + 1) ≡ bytes_in ring * index + bytes_in ring
   next = omega arith
 
   -- a position of a period of the ring
   turn : (q : ℕ) → q < ring.geometry.periods → q % length ring.periods ≡ q
   turn q small = mod-eq_of_lt (subst (λ (n : ℕ). q < n) (sym is.number) small)
 
-  by_place : (at : ℕ) (test : Bool) → nat_lt at (bytes_in ring * index) ≡ test → at < bytes_in ring * suc index
+  by_place : (at : ℕ) (test : Bool) → nat_lt at (bytes_in ring * index) ≡ test → at < bytes_in ring * (index + 1)
       → slice_index (stored memory (slice_index ring.periods index) (whole_period ring line index)) (place_of (bytes_in ring) ring.periods at) ≡ slice_index line at
   by_place at true e below =
       let before : at < bytes_in ring * index = search (rules, e) in

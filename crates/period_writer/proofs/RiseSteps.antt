@@ -1,26 +1,23 @@
 -- What each access of a first run leads to, before RUN rises and where it rises.
-use Rattle.std.proofs.Common.{◌≡◌, ◌≢◌, ◌≤◌, ◌<◌, ◌+◌, ◌-◌, ◌*◌, ◌/◌, ◌%◌, ◌^◌, ◌==◌, ℕ, zero, suc, Bool, true, false, List, [], ◌∷◌, ◌++◌, length, slice_index, map, refl, sym, ap, subst, ◌∙◌, bit_and, arith}
-use Rattle.std.specs.List.{range_with_len}
+use Rattle.std.proofs.Common.{◌≡◌, ◌≢◌, ◌≤◌, ◌<◌, ◌+◌, ◌-◌, ◌*◌, ◌/◌, ◌%◌, ◌^◌, ℕ, true, List, length, slice_index, refl, sym, ap, subst, ◌∙◌, bit_and, arith}
 use Rattle.hda_registers.specs.declared.shapes.Width.{Width}
 use Rattle.hda_registers.specs.declared.shapes.Width.TheVariants.{One, Two, Four}
-use Rattle.hda_registers.specs.Fields.{Global, Descriptor, Fields, reset_descriptor, is_out_of_reset, is_running}
+use Rattle.hda_registers.specs.Fields.{Global, Descriptor, Fields, reset_descriptor, is_out_of_reset}
 use Rattle.hda_registers.specs.Access.{written}
 use Rattle.hda_registers.proofs.Callers.{keeps-reset, keeps-left, write-output_length}
 use Rattle.ring_entries.specs.Memory.{stored}
 use Rattle.ring_entries.proofs.Callers.{stored_outside}
 use Rattle.stream_format.specs.Words.{format_word}
-use Rattle.stream_moves.specs.Streams.{StreamState, begun, settled, settled_state}
+use Rattle.stream_moves.specs.Streams.{begun, settled, settled_state}
 use Rattle.hda_world.specs.Worlds.{World}
-use Rattle.hda_world.specs.Events.{Event, Read, Write, DmaWrite, IsHonest, happens, registers_written}
-use Rattle.hda_world.specs.Kept.{Kept}
-use Rattle.hda_world.proofs.Callers.{plain_write, Lead, lead_none, lead_more}
+use Rattle.hda_world.specs.Events.{Event, Write, IsHonest, happens, registers_written}
+use Rattle.hda_world.proofs.Callers.{plain_write}
 use Rattle.period_writer.specs.Starting.{entry_bytes, entry_write}
 use Rattle.period_writer.specs.Places.{piece_write}
 use Rattle.period_writer.specs.Standing.{Ring, bytes_in, size_of}
 use Rattle.period_writer.proofs.RestWrites.{write-reset, write-ready, write-tag, write-run, write-last_index, write-format, write-list, write-interrupts, settled_same, settled_reset}
-use Rattle.period_writer.proofs.RingBytes.{HasEntries, HasBytes, bytes_stay, outside_block}
-use Rattle.period_writer.proofs.RingWrites.{whole_period, whole_piece, length-whole_period, length-entry_bytes, entry_more, line_more, list_stays}
-use Rattle.period_writer.proofs.Rising.{RisesBy, Rises, IsAt, RestsAt, memory_changes, rises_kept, rests_kept}
+use Rattle.period_writer.proofs.RingWrites.{whole_period, whole_piece, length-whole_period, entry_more, line_more, list_stays}
+use Rattle.period_writer.proofs.Rising.{RisesBy, Rises, RestsAt, memory_changes}
 
 -- nothing is asked of the moments between
 abbrev pub Any : World → Event → Type 0
@@ -191,13 +188,13 @@ module _ (ring : Ring) (since : ℕ) (line : List ℕ) where
       (number : length ring.periods ≡ ring.geometry.periods) (long : length line ≡ size_of ring) where
     -- an entry of the list
     pub writes_entry : (index : ℕ) (d : Descriptor) → index < ring.geometry.periods → (world : World) → RestsAt ring since index 0 line d world → IsHonest world (entry_write ring.list ring.periods (bytes_in ring) index)
-        → Any world (entry_write ring.list ring.periods (bytes_in ring) index) × RestsAt ring since (suc index) 0 line d (happens world (entry_write ring.list ring.periods (bytes_in ring) index))
+        → Any world (entry_write ring.list ring.periods (bytes_in ring) index) × RestsAt ring since (index + 1) 0 line d (happens world (entry_write ring.list ring.periods (bytes_in ring) index))
     writes_entry index d within world rests honest =
         let entry = entry_bytes (slice_index ring.periods index) (bytes_in ring) in
         let stays = stored_outside (ring.list + 16 * index) entry world.memory in (
           tt,
           (
-            memory_changes ring some some' since index 0 (suc index) 0 line world.memory (stored world.memory (ring.list + 16 * index) entry) _ _ _ _ _ _ rests.0 stays.0 within
+            memory_changes ring some some' since index 0 (index + 1) 0 line world.memory (stored world.memory (ring.list + 16 * index) entry) _ _ _ _ _ _ rests.0 stays.0 (omega (arith, within))
                 (entry_more ring index world.memory (narrow index within) narrow' honest rests.0.list) (λ at below. absurd (omega (arith, below))),
             rests.1,
           ),
@@ -207,16 +204,16 @@ module _ (ring : Ring) (since : ℕ) (line : List ℕ) where
     pub writes_period : (index : ℕ) (d : Descriptor) → index < ring.geometry.periods → (world : World) → RestsAt ring since ring.geometry.periods (bytes_in ring * index) line d world
         → IsHonest world (piece_write (bytes_in ring) ring.periods 0 (size_of ring) line index)
         → Any world (piece_write (bytes_in ring) ring.periods 0 (size_of ring) line index)
-        × RestsAt ring since ring.geometry.periods (bytes_in ring * suc index) line d (happens world (piece_write (bytes_in ring) ring.periods 0 (size_of ring) line index))
+        × RestsAt ring since ring.geometry.periods (bytes_in ring * (index + 1)) line d (happens world (piece_write (bytes_in ring) ring.periods 0 (size_of ring) line index))
     writes_period index d within world rests =
         let piece = whole_period ring line index in
         let size = length-whole_period ring line index long within in
-        subst (λ (event : Event). IsHonest world event → Any world event × RestsAt ring since ring.geometry.periods (bytes_in ring * suc index) line d (happens world event)) (sym (whole_piece ring line index number within))
+        subst (λ (event : Event). IsHonest world event → Any world event × RestsAt ring since ring.geometry.periods (bytes_in ring * (index + 1)) line d (happens world event)) (sym (whole_piece ring line index number within))
         (λ honest.
         let stays = stored_outside (slice_index ring.periods index) (whole_period ring line index) world.memory in (
           tt,
           (
-            memory_changes ring some some' since ring.geometry.periods (bytes_in ring * index) ring.geometry.periods (bytes_in ring * suc index) line world.memory (stored world.memory (slice_index ring.periods index) (whole_period ring line index)) _ _ _ _ _ _ rests.0 stays.0 rests.0.few
+            memory_changes ring some some' since ring.geometry.periods (bytes_in ring * index) ring.geometry.periods (bytes_in ring * (index + 1)) line world.memory (stored world.memory (slice_index ring.periods index) (whole_period ring line index)) _ _ _ _ _ _ rests.0 stays.0 rests.0.few
                 (list_stays ring index ring.geometry.periods (whole_period ring line index) world.memory rests.0.ring_is size within rests.0.few honest rests.0.list)
                 (line_more ring index line world.memory some rests.0.ring_is long within honest rests.0.line_stands),
             rests.1,

@@ -1,8 +1,7 @@
 -- What holds while the first run sets the stream going, before RUN rises: kept by every move of the device.
-use Rattle.std.proofs.Common.{◌≡◌, ◌≤◌, ◌<◌, ◌+◌, ◌*◌, ◌%◌, ◌^◌, ◌==◌, ℕ, Bool, true, false, List, [], ◌∷◌, length, slice_index, refl, sym, ap, subst, ◌∙◌, arith, lit<, lit≤, length-append, if◌then◌else◌}
+use Rattle.std.proofs.Common.{◌≡◌, ◌≤◌, ◌<◌, ◌+◌, ◌*◌, ◌%◌, ◌^◌, ◌==◌, ℕ, Bool, true, false, List, [], ◌∷◌, length, slice_index, refl, sym, ap, subst, ◌∙◌, arith, lit<, if◌then◌else◌}
 use Rattle.std.proofs.Math.Nat.{mod-lt}
 use Rattle.std.proofs.lemmas.Bool.{false≢true}
-use Rattle.byteorder.specs.Numbers.{length-bytes_low_first}
 use Rattle.codec_graph.specs.CodecStates.{CodecState}
 use Rattle.hda_registers.specs.declared.shapes.Shape.{Shape}
 use Rattle.hda_registers.specs.declared.shapes.RingSize.{RingSize}
@@ -17,8 +16,8 @@ use Rattle.ring_entries.proofs.Callers.{stored_outside}
 use Rattle.stream_moves.specs.Streams.{StreamState}
 use Rattle.hda_world.specs.Worlds.{World, CarriedFrame}
 use Rattle.hda_world.specs.Steps.{discovered}
-use Rattle.hda_world.specs.Kept.{Kept, unmoved}
-use Rattle.hda_world.proofs.Callers.{kept_singly, kept_both, OfOutput, stream_kept}
+use Rattle.hda_world.specs.Kept.{Kept}
+use Rattle.hda_world.proofs.Callers.{kept_singly, kept_both, stream_kept}
 use Rattle.period_writer.specs.Standing.{Ring, IsRing, AreBesideRirb, bytes_in}
 use Rattle.period_writer.proofs.RingBytes.{HasEntries, HasBytes, entries_stay, bytes_stay, outside_rirb}
 
