@@ -11,7 +11,7 @@ pub mod Fetched
 pub mod RestWrites
 pub mod RingBytes
 pub mod Rising
-pub mod RingWrites
+pub mod RiseWrites
 pub mod RiseSteps
 pub mod RiseRows
 pub mod Begins

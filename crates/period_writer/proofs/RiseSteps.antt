@@ -16,7 +16,7 @@ use Rattle.period_writer.specs.Starting.{entry_bytes, entry_write}
 use Rattle.period_writer.specs.Places.{piece_write}
 use Rattle.period_writer.specs.Standing.{Ring, bytes_in, size_of}
 use Rattle.period_writer.proofs.RestWrites.{write-reset, write-ready, write-tag, write-run, write-last_index, write-format, write-list, write-interrupts, settled_same, settled_reset}
-use Rattle.period_writer.proofs.RingWrites.{whole_period, whole_piece, length-whole_period, entry_more, line_more, list_stays}
+use Rattle.period_writer.proofs.RiseWrites.{whole_period, whole_piece, length-whole_period, entry_more, line_more, list_stays}
 use Rattle.period_writer.proofs.Rising.{RisesBy, Rises, RestsAt, memory_changes}
 
 -- nothing is asked of the moments between
