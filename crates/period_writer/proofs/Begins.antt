@@ -1,7 +1,6 @@
 -- The first run brings about how a writer that plays stands to the world.
-use Rattle.std.proofs.Common.{◌≡◌, ◌≤◌, ◌<◌, ◌+◌, ◌-◌, ◌*◌, ◌/◌, ◌%◌, ◌^◌, ◌==◌, ◌&&◌, min, nat_lt, nat_le, ℕ, Bool, true, false, List, [], ◌++◌, length, take, drop, slice_index, Some, None, refl, sym, ap, subst, ◌∙◌, arith, rules, lit<, lit≤, if◌then◌else◌}
+use Rattle.std.proofs.Common.{◌≡◌, ◌≤◌, ◌<◌, ◌+◌, ◌-◌, ◌*◌, ◌/◌, ◌%◌, ◌^◌, ◌==◌, ℕ, Bool, true, false, List, length, slice_index, Some, None, refl, sym, ap, subst, ◌∙◌, arith, lit<, lit≤, if◌then◌else◌}
 use Rattle.std.proofs.Math.Nat.{mod-eq_of_lt, div-eq_of_lt}
-use Rattle.std.proofs.lemmas.List.{places}
 use Rattle.hda_registers.specs.Fields.{Descriptor, is_running, list_address}
 use Rattle.stream_format.specs.declared.format.Rate.{Rate}
 use Rattle.stream_format.specs.declared.format.Rate.TheVariants.{R8, R16, R44, R48, R96, R192}
@@ -15,18 +14,17 @@ use Rattle.stream_moves.specs.Streams.{StreamState}
 use Rattle.hda_world.specs.Worlds.{World}
 use Rattle.hda_world.specs.Tellings.{Telling, Makes, world_of}
 use Rattle.hda_world.proofs.Callers.{woven, world_of-went}
-use Rattle.period_writer.specs.declared.course.Ran.TheVariants.{Playing, Drained}
-use Rattle.period_writer.specs.declared.course.Span.{Span}
-use Rattle.period_writer.specs.Courses.{IsCourse}
-use Rattle.period_writer.specs.Runs.{Measures, RunFacts, Tally, measures, facts_of, whole_blocks, position_from, run_at, run_reach, run_room, run_sound, run_sound_end, is_late, has_drained, tally_if, tally_after}
-use Rattle.period_writer.specs.Lines.{IsLine, AreMaximal, sound_in, line_from, line_of, sound_and_silence}
+use Rattle.period_writer.specs.declared.course.Ran.TheVariants.{Playing}
+use Rattle.period_writer.specs.Runs.{Tally, measures, facts_of, tally_if, tally_after}
+use Rattle.period_writer.specs.Lines.{line_of}
 use Rattle.period_writer.specs.Starting.{rise_accesses}
 use Rattle.period_writer.specs.Playing.{run_bytes}
 use Rattle.period_writer.specs.Standing.{Ring, IsSet, StandsBy, Stands, Paced, bytes_in, size_of, buffer_in, list_place, extent_of}
-use Rattle.period_writer.specs.Owning.{IsPlaying}
+use Rattle.period_writer.specs.Owning.{IsWritten, IsPlaying}
 use Rattle.period_writer.specs.Outcomes.{CanBegin, HasNotWrapped}
 use Rattle.period_writer.proofs.CourseLaws.{ring_small}
-use Rattle.period_writer.proofs.LineLaws.{line_kept, line_grows}
+use Rattle.period_writer.proofs.FirstRuns.{IsFresh, at_none, reaches, in_time, plays_on, written_now, written_is, written_long}
+use Rattle.period_writer.proofs.RingMemory.{some_bytes, some_periods}
 use Rattle.period_writer.proofs.Rising.{Rises}
 use Rattle.period_writer.proofs.RiseSteps.{length_in, last_in, format_in, Begins}
 use Rattle.period_writer.proofs.RiseRows.{Counted, rise_lead}
@@ -65,12 +63,6 @@ based at narrow aligned =
 module _ (ring : Ring) (words : AreWords ring) where
   -- ---- the numbers of the ring
 
-  some_bytes : 1 ≤ bytes_in ring
-  some_bytes = let some = ring.geometry.some in omega (arith, some)
-
-  some_periods : 1 ≤ ring.geometry.periods
-  some_periods = let two = ring.geometry.some_periods in omega (arith, two)
-
   narrow_bytes : bytes_in ring < 2 ^ 32
   narrow_bytes = let few = ring.geometry.few in omega (arith, few)
 
@@ -89,9 +81,9 @@ module _ (ring : Ring) (words : AreWords ring) where
   -- before the first byte
   place_at_start : list_start ≡ list_place ring 0
   place_at_start =
-      let none : 0 / bytes_in ring ≡ 0 = div-eq_of_lt some_bytes in
-      let none' : 0 % bytes_in ring ≡ 0 = mod-eq_of_lt some_bytes in
-      let first : 0 % ring.geometry.periods ≡ 0 = mod-eq_of_lt some_periods in
+      let none : 0 / bytes_in ring ≡ 0 = div-eq_of_lt (some_bytes ring) in
+      let none' : 0 % bytes_in ring ≡ 0 = mod-eq_of_lt (some_bytes ring) in
+      let first : 0 % ring.geometry.periods ≡ 0 = mod-eq_of_lt (some_periods ring) in
       place_by (0 / bytes_in ring % ring.geometry.periods) (0 % bytes_in ring) (ap (λ (n : ℕ). n % ring.geometry.periods) none ∙ first) none'
     where
       place_by : (index fetched : ℕ) → index ≡ 0 → fetched ≡ 0
@@ -134,7 +126,7 @@ module _ (ring : Ring) (words : AreWords ring) where
         place = place_at_start;
         behind = omega arith;
         ordered = omega arith;
-        standing = λ at from upto. begins.rises.line_stands at upto;
+        standing = begins.rises.line_stands;
         fetched = λ at within sure. absurd (omega (arith, within));
       })
 
@@ -148,93 +140,18 @@ module _ (ring : Ring) (words : AreWords ring) where
   -- what is recorded of a run that read this, where so many bytes of the line stand
   plays : (pcm line : List ℕ) (tally : Tally) (since : ℕ) (world : World) → Begins ring since line ring.geometry.periods (size_of ring) world
       → tally.course.from ≡ 500 * since → tally.course.started ≡ true → tally.course.ran ≡ Playing → tally.course.at ≡ 0 → tally.course.reach ≡ size_of ring
-      → IsLine tally → line_of tally pcm ≡ line → length line ≡ size_of ring → IsPlaying ring pcm tally world
-  plays pcm line tally since world begins from started ran at reach is same long = record {
+      → IsWritten pcm tally → line_of tally pcm ≡ line → IsPlaying ring pcm tally world
+  plays pcm line tally since world begins from started ran at reach written same = record {
     since = since;
     clock_from = from;
     started = started;
     plays = ran;
-    line = is;
-    whole = ap (λ (l : List ℕ). length l) same ∙ long ∙ sym reach;
+    written = written;
     stands = subst (λ (l : List ℕ). Stands ring (extent_of l tally.course.at tally.course.reach tally.course.reach) world) (sym same)
         (subst (λ (n : ℕ). Stands ring (extent_of line n tally.course.reach tally.course.reach) world) (sym at)
         (subst (λ (n : ℕ). Stands ring (extent_of line 0 n n) world) (sym reach) (stands_by since line world begins)));
     paced = subst (λ (n : ℕ). Paced ring true (record { at = n; since = since }) world) (sym at) (paced_by since line world begins);
   }
-
--- ---- what a first run records
-
--- the first run of a writer
-pub record IsFresh (ring : Ring) (tally : Tally) : Type 0 where
-  pub runs : ℕ
-  pub course : IsCourse (size_of ring) runs tally.course
-  pub started : tally.course.started ≡ false
-  pub silences : tally.silences ≡ []
-
-module _ (ring : Ring) (tally : Tally) (fresh : IsFresh ring tally) where
-  reach_none : tally.course.reach ≡ 0
-  reach_none = fresh.course.reach ∙ ap (λ (started : Bool). if started then tally.course.at + size_of ring else 0) fresh.started
-
-  used_none : tally.course.used ≡ 0
-  used_none = let used = fresh.course.used in let none = reach_none in omega (arith, used, none)
-
-  fresh_line : IsLine tally
-  fresh_line =
-      let used = used_none in
-      let none = reach_none in
-      record {
-        maximal = subst (λ (silences : List Span). AreMaximal 0 silences tally.course.reach) (sym fresh.silences) (omega arith);
-        used = subst (λ (silences : List Span). tally.course.used ≡ sound_in 0 silences tally.course.reach) (sym fresh.silences) (omega (arith, used, none));
-      }
-
-  empty_line : (pcm : List ℕ) → line_of tally pcm ≡ []
-  empty_line pcm = ap (λ (silences : List Span). line_from 0 silences tally.course.reach pcm) fresh.silences ∙ ap (λ (n : ℕ). take (n - 0) pcm) reach_none
-
-  module _ (budget left from to : ℕ) where
-    m : Measures
-    m = measures ring.geometry
-
-    facts : RunFacts
-    facts = facts_of budget left from 0 to
-
-    at_none : run_at (measures ring.geometry) tally.course (facts_of budget left from 0 to) ≡ 0
-    at_none = ap (λ (started : Bool). if started then position_from (size_of ring) tally.course.at 0 else 0) fresh.started
-
-    reaches : run_reach (measures ring.geometry) tally.course (facts_of budget left from 0 to) ≡ size_of ring
-    reaches = ap (λ (n : ℕ). n + size_of ring) at_none ∙ omega arith
-
-    room_is : run_room (measures ring.geometry) tally.course (facts_of budget left from 0 to) ≡ size_of ring
-    room_is = ap (λ (n : ℕ). n - tally.course.reach) reaches ∙ ap (λ (n : ℕ). size_of ring - n) reach_none ∙ omega arith
-
-    in_time : is_late (measures ring.geometry) tally.course (facts_of budget left from 0 to) ≡ false
-    in_time = ap (λ (started : Bool). started && nat_lt (500 * (measures ring.geometry).limit) (to - tally.course.from)) fresh.started
-
-    not_drained : has_drained (measures ring.geometry) tally.course (facts_of budget left from 0 to) ≡ false
-    not_drained = ap (λ (started : Bool). started && left == run_sound (measures ring.geometry) tally.course (facts_of budget left from 0 to)
-        && nat_le (run_sound_end (measures ring.geometry) tally.course (facts_of budget left from 0 to)) (run_at (measures ring.geometry) tally.course (facts_of budget left from 0 to))) fresh.started
-
-    -- what is written has as many bytes as the ring
-    written_long : (pcm : List ℕ) → left ≡ length pcm → length (run_bytes (measures ring.geometry) tally.course (facts_of budget left from 0 to) pcm) ≡ size_of ring
-    written_long pcm all =
-        long (run_sound (measures ring.geometry) tally.course (facts_of budget left from 0 to)) (run_room (measures ring.geometry) tally.course (facts_of budget left from 0 to)) pcm
-        (few (measures ring.geometry).block budget (run_room (measures ring.geometry) tally.course (facts_of budget left from 0 to)) left (length pcm) all)
-        (fits (measures ring.geometry).block budget (run_room (measures ring.geometry) tally.course (facts_of budget left from 0 to)) left) ∙ room_is
-      where
-        few : (block budget room left all : ℕ) → left ≡ all → whole_blocks block (min budget (min room left)) ≤ all
-        few block budget room left all same = grind (arith, same)
-
-        fits : (block budget room left : ℕ) → whole_blocks block (min budget (min room left)) ≤ room
-        fits block budget room left = grind arith
-
-        long : (sound room : ℕ) (pcm : List ℕ) → sound ≤ length pcm → sound ≤ room → length (sound_and_silence sound room pcm) ≡ room
-        long sound room pcm enough fits = search (rules, places)
-
-    -- and it is the line
-    line_is : (pcm : List ℕ) → line_of (tally_if false (measures ring.geometry) tally (facts_of budget left from 0 to)) pcm ≡ run_bytes (measures ring.geometry) tally.course (facts_of budget left from 0 to) pcm
-    line_is pcm =
-        line_grows (measures ring.geometry) fresh.runs tally (facts_of budget left from 0 to) pcm fresh.course fresh_line
-        ∙ ap (λ (l : List ℕ). l ++ run_bytes (measures ring.geometry) tally.course (facts_of budget left from 0 to) (drop tally.course.used pcm)) (empty_line pcm)
-        ∙ ap (λ (n : ℕ). run_bytes (measures ring.geometry) tally.course (facts_of budget left from 0 to) (drop n pcm)) used_none
 
 -- ---- the whole
 
@@ -248,7 +165,7 @@ pub start_rises : (ring : Ring) (pcm : List ℕ) (tally : Tally) (budget from in
     → IsPlaying ring pcm (tally_after (measures ring.geometry) tally (facts_of budget (length pcm) from 0 to)) (world_of risen)
 start_rises ring pcm tally budget from in_reset ready to words fresh old risen can few makes =
     let line = run_bytes (measures ring.geometry) tally.course (facts_of budget (length pcm) from 0 to) pcm in
-    let long = written_long ring tally fresh budget (length pcm) from to pcm refl in
+    let long = written_long ring tally fresh pcm budget from to in
     let rises : Rises ring 0 0 0 line (world_of old) = record {
       out = can.out;
       input_stopped = can.input_stopped;
@@ -259,17 +176,13 @@ start_rises ring pcm tally budget from in_reset ready to words fresh old risen c
       beside = can.beside;
       few = omega arith;
       list = λ index below. absurd (omega (arith, below));
-      line_stands = λ at below. absurd (omega (arith, below));
+      line_stands = λ at from below. absurd (omega (arith, below));
     } in
     let told = woven makes in
-    let there = rise_lead ring line (some_bytes ring words) (some_periods ring words) words.periods (narrow_bytes ring words) can.ring_is.number long from in_reset ready told.events (world_of old) told.woven told.went.honest rises in
-    let begins = subst (λ (world : World). (counted : Counted ring line (some_bytes ring words) (some_periods ring words) words.periods (narrow_bytes ring words) can.ring_is.number long from) × Begins ring counted.0 line ring.geometry.periods (size_of ring) world) (sym (world_of-went old risen told.events told.went)) there.1 in
+    let there = rise_lead ring line words.periods (narrow_bytes ring words) can.ring_is.number long from in_reset ready told.events (world_of old) told.woven told.went.honest rises in
+    let begins = subst (λ (world : World). (counted : Counted ring line words.periods (narrow_bytes ring words) can.ring_is.number long from) × Begins ring counted.0 line ring.geometry.periods (size_of ring) world) (sym (world_of-went old risen told.events told.went)) there.1 in
     let since = begins.0.0 in
     let tally' = tally_if false (measures ring.geometry) tally (facts_of budget (length pcm) from 0 to) in
-    subst (λ (late : Bool). IsPlaying ring pcm (tally_if late (measures ring.geometry) tally (facts_of budget (length pcm) from 0 to)) (world_of risen)) (sym (in_time ring tally fresh budget (length pcm) from to))
-    (plays ring words pcm line tally' since (world_of risen) begins.1
-    (unwrapped from since (world_of risen).frames begins.0.1 begins.1.rises.since_before few) refl
-    (ap (λ (drained : Bool). if drained then Drained else Playing) (not_drained ring tally fresh budget (length pcm) from to))
-    (at_none ring tally fresh budget (length pcm) from to) (reaches ring tally fresh budget (length pcm) from to)
-    (line_kept (measures ring.geometry) fresh.runs tally (facts_of budget (length pcm) from 0 to) fresh.course (fresh_line ring tally fresh))
-    (line_is ring tally fresh budget (length pcm) from to pcm) long)
+    subst (λ (late : Bool). IsPlaying ring pcm (tally_if late (measures ring.geometry) tally (facts_of budget (length pcm) from 0 to)) (world_of risen)) (sym (in_time ring tally fresh pcm budget from to))
+    (plays ring words pcm line tally' since (world_of risen) begins.1 (unwrapped from since (world_of risen).frames begins.0.1 begins.1.rises.since_before few) refl
+    (plays_on ring tally fresh pcm budget from to) (at_none ring tally fresh pcm budget from to) (reaches ring tally fresh pcm budget from to) (written_now ring tally fresh pcm budget from to) (written_is ring tally fresh pcm budget from to))

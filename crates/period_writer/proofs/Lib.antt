@@ -14,4 +14,11 @@ pub mod Rising
 pub mod RiseWrites
 pub mod RiseSteps
 pub mod RiseRows
+pub mod FirstRuns
 pub mod Begins
+pub mod Paces
+pub mod RingMemory
+pub mod RingKept
+pub mod RingPlaces
+pub mod RingWrites
+pub mod LineWritten

@@ -1,6 +1,5 @@
 -- The bytes of the ring's blocks: where they stay, the list and the line stay.
-use Rattle.std.proofs.Common.{◌≡◌, ◌≤◌, ◌<◌, ◌+◌, ◌-◌, ◌*◌, ◌/◌, ◌%◌, ◌^◌, ◌||◌, ◌==◌, nat_le, ℕ, suc, Bool, true, false, List, length, slice_index, refl, sym, ap, subst, ◌∙◌, inl, inr, arith, rules, tests, lit<, lit≤}
-use Rattle.std.proofs.Math.Nat.{mod-lt}
+use Rattle.std.proofs.Common.{◌≡◌, ◌≤◌, ◌<◌, ◌+◌, ◌*◌, ◌%◌, ◌^◌, ◌||◌, ◌==◌, nat_le, ℕ, suc, Bool, true, false, List, slice_index, refl, sym, ap, ◌∙◌, inl, inr, arith, rules, tests, lit<}
 use Rattle.hda_registers.specs.declared.shapes.Shape.{Shape}
 use Rattle.hda_registers.specs.Fields.{entries_of}
 use Rattle.ring_entries.specs.Memory.{word_at, IsOutside}
@@ -8,9 +7,8 @@ use Rattle.stream_moves.specs.Lists.{buffer_of}
 use Rattle.stream_moves.specs.declared.buffers.Buffer.{Buffer}
 use Rattle.period_writer.specs.Blocks.{are_apart}
 use Rattle.period_writer.specs.Rings.{list_bytes}
-use Rattle.period_writer.specs.Places.{place_of}
-use Rattle.period_writer.specs.Standing.{Ring, IsBesideRirb, bytes_in, buffer_in}
-use Rattle.period_writer.proofs.LineSteps.{div_le, div_gt}
+use Rattle.period_writer.specs.Standing.{Ring, IsBesideRirb, StandsInRing, extent_of, buffer_in}
+use Rattle.period_writer.proofs.RingMemory.{BlockStays, entry_stays}
 
 -- so many entries of the list stand
 abbrev pub HasEntries : Ring → ℕ → List ℕ → Type 0
@@ -18,7 +16,7 @@ HasEntries ring entries memory = (index : ℕ) → index < entries → buffer_of
 
 -- so many bytes of a line stand
 abbrev pub HasBytes : Ring → ℕ → (line memory : List ℕ) → Type 0
-HasBytes ring bytes line memory = (at : ℕ) → at < bytes → slice_index memory (place_of (bytes_in ring) ring.periods at) ≡ slice_index line at
+HasBytes ring bytes line memory = StandsInRing ring (extent_of line 0 bytes 0) memory
 
 -- ---- the list
 
@@ -41,29 +39,8 @@ buffer_by low low' high high' bytes bytes' flags flags' a b c d =
     ∙ ap (λ (n : ℕ). let one : Buffer = record { address = low' + 2 ^ 32 * high'; bytes = n; interrupts = flags % 2 == 1 } in one) c
     ∙ ap (λ (n : ℕ). let one : Buffer = record { address = low' + 2 ^ 32 * high'; bytes = bytes'; interrupts = n % 2 == 1 } in one) d
 
-pub same_buffer : (old new : List ℕ) (base index : ℕ) → ((byte : ℕ) → byte < 16 → slice_index new (base + 16 * index + byte) ≡ slice_index old (base + 16 * index + byte))
-    → buffer_of new base index ≡ buffer_of old base index
-same_buffer old new base index same =
-    let word : (from : ℕ) → from ≤ 12 → word_at new (base + 16 * index + from) ≡ word_at old (base + 16 * index + from) =
-    λ from few. same_word old new (base + 16 * index + from) (base + 16 * index + from) (λ byte small. subst (λ (n : ℕ). slice_index new n ≡ slice_index old n) (omega arith) (same (from + byte) (omega (arith, few, small)))) in
-    let first : word_at new (base + 16 * index) ≡ word_at old (base + 16 * index) = same_word old new (base + 16 * index) (base + 16 * index) (λ byte small. same byte (omega (arith, small))) in
-    buffer_by _ _ _ _ _ _ _ _ first (word 4 (lit≤ tt)) (word 8 (lit≤ tt)) (word 12 (lit≤ tt))
-
-pub entries_stay : (ring : Ring) (entries : ℕ) (old new : List ℕ) → entries ≤ ring.geometry.periods
-    → ((place : ℕ) → place < list_bytes ring.geometry.periods → slice_index new (ring.list + place) ≡ slice_index old (ring.list + place)) → HasEntries ring entries old → HasEntries ring entries new
-entries_stay ring entries old new few same has index within =
-    same_buffer old new ring.list index (λ byte small. subst (λ (n : ℕ). slice_index new n ≡ slice_index old n) (omega arith) (same (16 * index + byte) (omega (arith, few, within, small)))) ∙ has index within
-
--- ---- the line
-
-pub bytes_stay : (ring : Ring) (bytes : ℕ) (line old new : List ℕ) → 1 ≤ bytes_in ring → 1 ≤ ring.geometry.periods → length ring.periods ≡ ring.geometry.periods
-    → ((index place : ℕ) → index < ring.geometry.periods → place < bytes_in ring → slice_index new (slice_index ring.periods index + place) ≡ slice_index old (slice_index ring.periods index + place))
-    → HasBytes ring bytes line old → HasBytes ring bytes line new
-bytes_stay ring bytes line old new some some' number same has at within =
-    let low = div_le (bytes_in ring) at in
-    let high = div_gt (bytes_in ring) at some in
-    let index = mod-lt (at / bytes_in ring) (subst (λ (n : ℕ). 0 < n) (sym number) some') in
-    same ((at / bytes_in ring) % length ring.periods) (at - bytes_in ring * (at / bytes_in ring)) (subst (λ (n : ℕ). (at / bytes_in ring) % length ring.periods < n) number index) (omega (arith, low, high)) ∙ has at within
+pub entries_stay : (ring : Ring) (entries : ℕ) (old new : List ℕ) → entries ≤ ring.geometry.periods → BlockStays old new ring.list (list_bytes ring.geometry.periods) → HasEntries ring entries old → HasEntries ring entries new
+entries_stay ring entries old new few same has index within = entry_stays old new ring.list (list_bytes ring.geometry.periods) index same (omega (arith, few, within)) ∙ has index within
 
 -- ---- apart
 

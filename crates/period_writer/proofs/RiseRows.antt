@@ -15,6 +15,7 @@ use Rattle.hda_world.proofs.Callers.{Lead, lead_none, lead_more, lead_both, lead
 use Rattle.period_writer.specs.Places.{touched, piece_write, line_writes}
 use Rattle.period_writer.specs.Starting.{entry_write, entry_writes, reset_accesses, run_accesses, rise_accesses}
 use Rattle.period_writer.specs.Standing.{Ring, bytes_in, size_of}
+use Rattle.period_writer.proofs.RingMemory.{some_bytes, some_periods}
 use Rattle.period_writer.proofs.Rising.{Rises, RestsAt, rises_kept, rests_kept}
 use Rattle.period_writer.proofs.RiseSteps.{Any, set_to, tagged, as_set, length_in, last_in, format_in, Begins, resets, readies, sets_length, sets_last, sets_format, sets_list, sets_tag, sets_interrupts, runs, writes_entry, writes_period}
 
@@ -40,7 +41,7 @@ touches_all bytes periods some some' =
     is_less : (n : ℕ) → 0 < n → nat_lt 0 n ≡ true
     is_less n some = search (rules, some)
 
-module _ (ring : Ring) (line : List ℕ) (some : 1 ≤ bytes_in ring) (some' : 1 ≤ ring.geometry.periods) (narrow : (index : ℕ) → index < ring.geometry.periods → slice_index ring.periods index < 2 ^ 32) (narrow' : bytes_in ring < 2 ^ 32)
+module _ (ring : Ring) (line : List ℕ) (narrow : (index : ℕ) → index < ring.geometry.periods → slice_index ring.periods index < 2 ^ 32) (narrow' : bytes_in ring < 2 ^ 32)
     (number : length ring.periods ≡ ring.geometry.periods) (long : length line ≡ size_of ring) where
   -- ---- at rest, where so many link frames passed before
 
@@ -49,7 +50,7 @@ module _ (ring : Ring) (line : List ℕ) (some : 1 ≤ bytes_in ring) (some' : 1
     reads : (entries bytes : ℕ) (d : Descriptor) (at value : ℕ) (width : Width) (made : List Event) (After : World → Type 0) → is_running d ≡ false
         → Lead Any (RestsAt ring since entries bytes line d) made After → Lead Any (RestsAt ring since entries bytes line d) (Read at width value ∷ made) After
     reads entries bytes d at value width made After still more =
-        lead_more Any (RestsAt ring since entries bytes line d) (RestsAt ring since entries bytes line d) After (rests_kept ring some some' since entries bytes line d still) (Read at width value) made
+        lead_more Any (RestsAt ring since entries bytes line d) (RestsAt ring since entries bytes line d) After (rests_kept ring since entries bytes line d still) (Read at width value) made
         (λ world step rests. tt) (λ world rests honest. (tt, rests)) more
 
     entries_lead : (d : Descriptor) → is_running d ≡ false → (count first : ℕ) → first + count ≡ ring.geometry.periods
@@ -58,9 +59,9 @@ module _ (ring : Ring) (line : List ℕ) (some : 1 ≤ bytes_in ring) (some' : 1
         lead_none Any (RestsAt ring since first 0 line d) (RestsAt ring since ring.geometry.periods 0 line d)
         (λ world rests. subst (λ (n : ℕ). RestsAt ring since n 0 line d world) (omega (arith, all)) rests)
     entries_lead d still (suc count) first all =
-        lead_more Any (RestsAt ring since first 0 line d) (RestsAt ring since (first + 1) 0 line d) (RestsAt ring since ring.geometry.periods 0 line d) (rests_kept ring some some' since first 0 line d still)
+        lead_more Any (RestsAt ring since first 0 line d) (RestsAt ring since (first + 1) 0 line d) (RestsAt ring since ring.geometry.periods 0 line d) (rests_kept ring since first 0 line d still)
         (entry_write ring.list ring.periods (bytes_in ring) first) (map (entry_write ring.list ring.periods (bytes_in ring)) (range_with_len (first + 1) count))
-        (λ world step rests. tt) (writes_entry ring since line some some' narrow narrow' number long first d (omega (arith, all)))
+        (λ world step rests. tt) (writes_entry ring since line narrow narrow' number long first d (omega (arith, all)))
         (entries_lead d still count (first + 1) (omega (arith, all)))
 
     periods_lead : (d : Descriptor) → is_running d ≡ false → (count first : ℕ) → first + count ≡ ring.geometry.periods
@@ -71,9 +72,9 @@ module _ (ring : Ring) (line : List ℕ) (some : 1 ≤ bytes_in ring) (some' : 1
         (λ world rests. subst (λ (n : ℕ). RestsAt ring since ring.geometry.periods n line d world) (ap (λ (n : ℕ). bytes_in ring * n) (omega (arith, all))) rests)
     periods_lead d still (suc count) first all =
         lead_more Any (RestsAt ring since ring.geometry.periods (bytes_in ring * first) line d) (RestsAt ring since ring.geometry.periods (bytes_in ring * (first + 1)) line d) (RestsAt ring since ring.geometry.periods (size_of ring) line d)
-        (rests_kept ring some some' since ring.geometry.periods (bytes_in ring * first) line d still)
+        (rests_kept ring since ring.geometry.periods (bytes_in ring * first) line d still)
         (piece_write (bytes_in ring) ring.periods 0 (size_of ring) line first) (map (piece_write (bytes_in ring) ring.periods 0 (size_of ring) line) (range_with_len (first + 1) count))
-        (λ world step rests. tt) (writes_period ring since line some some' narrow narrow' number long first d (omega (arith, all)))
+        (λ world step rests. tt) (writes_period ring since line narrow narrow' number long first d (omega (arith, all)))
         (periods_lead d still count (first + 1) (omega (arith, all)))
 
     -- the list and the line
@@ -83,8 +84,8 @@ module _ (ring : Ring) (line : List ℕ) (some : 1 ≤ bytes_in ring) (some' : 1
     line_lead : Lead Any (RestsAt ring since ring.geometry.periods 0 line (reset_descriptor 0)) (line_writes (bytes_in ring) ring.periods 0 (size_of ring) line)
         (RestsAt ring since ring.geometry.periods (size_of ring) line (reset_descriptor 0))
     line_lead =
-        let none : 0 / bytes_in ring ≡ 0 = first_period (bytes_in ring) some in
-        let all = touches_all (bytes_in ring) ring.geometry.periods some some' in
+        let none : 0 / bytes_in ring ≡ 0 = first_period (bytes_in ring) (some_bytes ring) in
+        let all = touches_all (bytes_in ring) ring.geometry.periods (some_bytes ring) (some_periods ring) in
         let bottom : bytes_in ring * 0 ≡ 0 = omega arith in
         subst (λ (n : ℕ). Lead Any (RestsAt ring since ring.geometry.periods n line (reset_descriptor 0)) (line_writes (bytes_in ring) ring.periods 0 (size_of ring) line) (RestsAt ring since ring.geometry.periods (size_of ring) line (reset_descriptor 0))) bottom
         (subst (λ (n : ℕ). Lead Any (RestsAt ring since ring.geometry.periods (bytes_in ring * 0) line (reset_descriptor 0)) (map (piece_write (bytes_in ring) ring.periods 0 (size_of ring) line) (range_with_len n (touched (bytes_in ring) 0 (size_of ring))))
@@ -98,13 +99,13 @@ module _ (ring : Ring) (line : List ℕ) (some : 1 ≤ bytes_in ring) (some' : 1
         → ((world : World) → RestsAt ring since entries bytes line old world → IsHonest world (Write at width value) → Any world (Write at width value) × Middle (happens world (Write at width value)))
         → Lead Any Middle made After → Lead Any (RestsAt ring since entries bytes line old) (Write at width value ∷ made) After
     writes_on entries bytes at value width old Middle made After still leads more =
-        lead_more Any (RestsAt ring since entries bytes line old) Middle After (rests_kept ring some some' since entries bytes line old still) (Write at width value) made (λ world step rests. tt) leads more
+        lead_more Any (RestsAt ring since entries bytes line old) Middle After (rests_kept ring since entries bytes line old still) (Write at width value) made (λ world step rests. tt) leads more
 
     -- the reset and its end
     reset_lead : (in_reset ready : ℕ) → Lead Any (Rises ring since 0 0 line) (reset_accesses in_reset ready) (RestsAt ring since 0 0 line (reset_descriptor 0))
     reset_lead in_reset ready =
         let done = RestsAt ring since 0 0 line (reset_descriptor 0) in
-        lead_more Any (Rises ring since 0 0 line) (RestsAt ring since 0 0 line (reset_descriptor 1)) (RestsAt ring since 0 0 line (reset_descriptor 0)) (rises_kept ring some some' since 0 0 line) (Write 0xA0 One 1)
+        lead_more Any (Rises ring since 0 0 line) (RestsAt ring since 0 0 line (reset_descriptor 1)) (RestsAt ring since 0 0 line (reset_descriptor 0)) (rises_kept ring since 0 0 line) (Write 0xA0 One 1)
         (Read 0xA0 One in_reset ∷ Write 0xA0 One 0 ∷ Read 0xA0 One ready ∷ []) (λ world step rises. tt) (resets ring since line)
         (reads 0 0 (reset_descriptor 1) 0xA0 in_reset One (Write 0xA0 One 0 ∷ Read 0xA0 One ready ∷ []) done refl
         (writes_on 0 0 0xA0 0 One (reset_descriptor 1) done (Read 0xA0 One ready ∷ []) done refl (readies ring since line)
@@ -181,6 +182,6 @@ module _ (ring : Ring) (line : List ℕ) (some : 1 ≤ bytes_in ring) (some' : 1
   pub rise_lead : (from in_reset ready : ℕ) → Lead Any (Rises ring 0 0 0 line) (rise_accesses ring.geometry ring.list ring.periods from in_reset ready line) (BeginsSince from)
   rise_lead from in_reset ready =
       let rest : List Event = reset_accesses in_reset ready ++ (entry_writes ring.list ring.periods (bytes_in ring) ++ (line_writes (bytes_in ring) ring.periods 0 (size_of ring) line ++ run_accesses ring.list ring.geometry)) in
-      lead_more Any (Rises ring 0 0 0 line) (counts from) (BeginsSince from) (rises_kept ring some some' 0 0 0 line) (Read 0x30 Four from) rest (λ world step rises. tt) (first_read from)
+      lead_more Any (Rises ring 0 0 0 line) (counts from) (BeginsSince from) (rises_kept ring 0 0 0 line) (Read 0x30 Four from) rest (λ world step rises. tt) (first_read from)
       (lead_some Any (λ (counted : Counted from) (world : World). Rises ring counted.0 0 0 line world) rest (BeginsSince from)
       (λ (counted : Counted from). lead_to Any (Rises ring counted.0 0 0 line) rest (Begins ring counted.0 line ring.geometry.periods (size_of ring)) (BeginsSince from) (λ world begins. (counted, begins)) (rest_lead counted.0 in_reset ready)))

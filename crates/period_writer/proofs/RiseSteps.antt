@@ -1,5 +1,5 @@
 -- What each access of a first run leads to, before RUN rises and where it rises.
-use Rattle.std.proofs.Common.{◌≡◌, ◌≢◌, ◌≤◌, ◌<◌, ◌+◌, ◌-◌, ◌*◌, ◌/◌, ◌%◌, ◌^◌, ℕ, true, List, length, slice_index, refl, sym, ap, subst, ◌∙◌, bit_and, arith}
+use Rattle.std.proofs.Common.{◌≡◌, ◌≢◌, ◌<◌, ◌+◌, ◌-◌, ◌*◌, ◌/◌, ◌%◌, ◌^◌, ℕ, true, List, length, slice_index, refl, sym, ap, subst, ◌∙◌, bit_and, arith}
 use Rattle.hda_registers.specs.declared.shapes.Width.{Width}
 use Rattle.hda_registers.specs.declared.shapes.Width.TheVariants.{One, Two, Four}
 use Rattle.hda_registers.specs.Fields.{Global, Descriptor, Fields, reset_descriptor, is_out_of_reset}
@@ -184,7 +184,7 @@ module _ (ring : Ring) (since : ℕ) (line : List ℕ) where
 
   -- ---- writes of memory
 
-  module _ (some : 1 ≤ bytes_in ring) (some' : 1 ≤ ring.geometry.periods) (narrow : (index : ℕ) → index < ring.geometry.periods → slice_index ring.periods index < 2 ^ 32) (narrow' : bytes_in ring < 2 ^ 32)
+  module _ (narrow : (index : ℕ) → index < ring.geometry.periods → slice_index ring.periods index < 2 ^ 32) (narrow' : bytes_in ring < 2 ^ 32)
       (number : length ring.periods ≡ ring.geometry.periods) (long : length line ≡ size_of ring) where
     -- an entry of the list
     pub writes_entry : (index : ℕ) (d : Descriptor) → index < ring.geometry.periods → (world : World) → RestsAt ring since index 0 line d world → IsHonest world (entry_write ring.list ring.periods (bytes_in ring) index)
@@ -194,8 +194,8 @@ module _ (ring : Ring) (since : ℕ) (line : List ℕ) where
         let stays = stored_outside (ring.list + 16 * index) entry world.memory in (
           tt,
           (
-            memory_changes ring some some' since index 0 (index + 1) 0 line world.memory (stored world.memory (ring.list + 16 * index) entry) _ _ _ _ _ _ rests.0 stays.0 (omega (arith, within))
-                (entry_more ring index world.memory (narrow index within) narrow' honest rests.0.list) (λ at below. absurd (omega (arith, below))),
+            memory_changes ring since index 0 (index + 1) 0 line world.memory (stored world.memory (ring.list + 16 * index) entry) _ _ _ _ _ _ rests.0 stays.0 (omega (arith, within))
+                (entry_more ring index world.memory (narrow index within) narrow' honest rests.0.list) (λ at from below. absurd (omega (arith, below))),
             rests.1,
           ),
         )
@@ -213,9 +213,9 @@ module _ (ring : Ring) (since : ℕ) (line : List ℕ) where
         let stays = stored_outside (slice_index ring.periods index) (whole_period ring line index) world.memory in (
           tt,
           (
-            memory_changes ring some some' since ring.geometry.periods (bytes_in ring * index) ring.geometry.periods (bytes_in ring * (index + 1)) line world.memory (stored world.memory (slice_index ring.periods index) (whole_period ring line index)) _ _ _ _ _ _ rests.0 stays.0 rests.0.few
+            memory_changes ring since ring.geometry.periods (bytes_in ring * index) ring.geometry.periods (bytes_in ring * (index + 1)) line world.memory (stored world.memory (slice_index ring.periods index) (whole_period ring line index)) _ _ _ _ _ _ rests.0 stays.0 rests.0.few
                 (list_stays ring index ring.geometry.periods (whole_period ring line index) world.memory rests.0.ring_is size within rests.0.few honest rests.0.list)
-                (line_more ring index line world.memory some rests.0.ring_is long within honest rests.0.line_stands),
+                (line_more ring index line world.memory rests.0.ring_is long within honest rests.0.line_stands),
             rests.1,
           ),
         ))

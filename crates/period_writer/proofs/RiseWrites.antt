@@ -15,7 +15,8 @@ use Rattle.period_writer.specs.Places.{place_of, piece_write}
 use Rattle.period_writer.specs.Starting.{entry_bytes}
 use Rattle.period_writer.specs.Standing.{Ring, IsRing, bytes_in, size_of, buffer_in}
 use Rattle.period_writer.proofs.LineSteps.{div_le, div_gt}
-use Rattle.period_writer.proofs.RingBytes.{HasEntries, HasBytes, same_word, same_buffer, buffer_by, entries_stay, outside_block, apart_other}
+use Rattle.period_writer.proofs.RingBytes.{HasEntries, HasBytes, same_word, buffer_by, entries_stay, outside_block, apart_other}
+use Rattle.period_writer.proofs.RingMemory.{entry_stays, some_bytes}
 
 -- ---- an entry
 
@@ -69,8 +70,7 @@ entry_more ring index memory narrow narrow' fits has = λ other below. by_place 
   by_place : (other : ℕ) (test : Bool) → nat_lt other index ≡ test → other < index + 1 → buffer_of (stored memory (ring.list + 16 * index) entry) ring.list other ≡ buffer_in ring other
   by_place other true e below =
       let before : other < index = search (rules, e) in
-      same_buffer memory (stored memory (ring.list + 16 * index) entry) ring.list other
-      (λ byte small. piece.outside (ring.list + 16 * other + byte) (inl (omega (arith, before, small)))) ∙ has other before
+      entry_stays memory (stored memory (ring.list + 16 * index) entry) ring.list (16 * index) other (λ place small. piece.outside (ring.list + place) (inl (omega (arith, small)))) (omega (arith, before)) ∙ has other before
   by_place other false e below =
       let above : index ≤ other = search (rules, e) in
       let same : index ≡ other = omega (arith, above, below) in
@@ -134,13 +134,10 @@ list_stays ring index entries piece memory is long within few fits has =
     has
 
 -- after the write of a period the line stands up to its end
-pub line_more : (ring : Ring) (index : ℕ) (line memory : List ℕ) → 1 ≤ bytes_in ring → IsRing ring (length memory) → length line ≡ size_of ring → index < ring.geometry.periods
+pub line_more : (ring : Ring) (index : ℕ) (line memory : List ℕ) → IsRing ring (length memory) → length line ≡ size_of ring → index < ring.geometry.periods
     → slice_index ring.periods index + length (whole_period ring line index) ≤ length memory → HasBytes ring (bytes_in ring * index) line memory
     → HasBytes ring (bytes_in ring * (index + 1)) line (stored memory (slice_index ring.periods index) (whole_period ring line index))
-line_more ring index line memory some is long within fits has = λ at below. by_place at (nat_lt at (bytes_in ring * index)) refl below where
-  b : ℕ
-  b = bytes_in ring
-
+line_more ring index line memory is long within fits has = λ at from below. by_place at (nat_lt at (bytes_in ring * index)) refl below where
   new : List ℕ
   new = stored memory (slice_index ring.periods index) (whole_period ring line index)
 
@@ -165,15 +162,15 @@ line_more ring index line memory some is long within fits has = λ at below. by_
   by_place at true e below =
       let before : at < bytes_in ring * index = search (rules, e) in
       let low = div_le (bytes_in ring) at in
-      let high = div_gt (bytes_in ring) at some in
-      let earlier : at / bytes_in ring < index = div_below at (bytes_in ring) index some (omega (arith, before)) in
+      let high = div_gt (bytes_in ring) at (some_bytes ring) in
+      let earlier : at / bytes_in ring < index = div_below at (bytes_in ring) index (some_bytes ring) (omega (arith, before)) in
       let there = turn (at / bytes_in ring) (omega (arith, earlier, within)) in
       let other : (at / bytes_in ring) % length ring.periods ≡ index → ⊥ = λ same. absurd (omega (arith, same, there, earlier)) in
       let number = is.number in
       let apart = blocks_apart (bytes_in ring) ring.periods ((at / bytes_in ring) % length ring.periods) index is.apart (omega (arith, there, earlier, within, number)) (omega (arith, within, number)) other in
       piece.outside (place_of (bytes_in ring) ring.periods at)
       (outside_block (slice_index ring.periods ((at / bytes_in ring) % length ring.periods)) (bytes_in ring) (slice_index ring.periods index) (bytes_in ring) (at - bytes_in ring * (at / bytes_in ring)) (slice_index ring.periods index) (length (whole_period ring line index))
-      apart (omega (arith, low, high)) (omega arith) (omega (arith, size))) ∙ has at before
+      apart (omega (arith, low, high)) (omega arith) (omega (arith, size))) ∙ has at (omega arith) before
   by_place at false e below =
       let above : bytes_in ring * index ≤ at = search (rules, e) in
       let rest : at ≡ index * bytes_in ring + (at - bytes_in ring * index) = omega (arith, above) in

@@ -50,6 +50,13 @@ pub record IsOwned (ring : Ring) (line : List ℕ) (reach from to : ℕ) (world 
 
 -- ---- between runs
 
+-- the line of a tally: its silences are maximal and all else is sound in order, it has as many bytes as its reach says, and after the last
+-- byte of sound it is silent
+pub record IsWritten (pcm : List ℕ) (tally : Tally) : Type 0 where
+  pub line : IsLine tally
+  pub whole : length (line_of tally pcm) ≡ tally.course.reach
+  pub quiet : (at : ℕ) → tally.course.sound_end ≤ at → slice_index (line_of tally pcm) at ≡ 0
+
 -- how a writer that plays stands to the world, where this is the whole sound: its last run found the link where its course says, when so
 -- many link frames had passed
 pub record IsPlaying (ring : Ring) (pcm : List ℕ) (tally : Tally) (world : World) : Type 0 where
@@ -57,7 +64,6 @@ pub record IsPlaying (ring : Ring) (pcm : List ℕ) (tally : Tally) (world : Wor
   pub clock_from : tally.course.from ≡ 500 * since
   pub started : tally.course.started ≡ true
   pub plays : tally.course.ran ≡ Playing
-  pub line : IsLine tally
-  pub whole : length (line_of tally pcm) ≡ tally.course.reach
+  pub written : IsWritten pcm tally
   pub stands : Stands ring (extent_of (line_of tally pcm) tally.course.at tally.course.reach tally.course.reach) world
   pub paced : Paced ring true (record { at = tally.course.at; since = since }) world
