@@ -1,17 +1,20 @@
 -- What a run writes stands in the ring, and nothing that the device fetches yet is written over.
-use Rattle.std.proofs.Common.{◌≡◌, ◌≢◌, ◌≤◌, ◌<◌, ◌+◌, ◌-◌, ◌*◌, ◌/◌, ◌||◌, ◌⊎◌, inl, inr, ℕ, Bool, true, false, List, length, refl, sym, ap, subst, ◌∙◌, arith, rules, tests}
+use Rattle.std.proofs.Common.{◌≡◌, ◌≢◌, ◌≤◌, ◌<◌, ◌+◌, ◌-◌, ◌*◌, ◌/◌, ◌%◌, ◌||◌, ◌⊎◌, inl, inr, ℕ, Bool, true, false, List, length, refl, sym, ap, subst, ◌∙◌, arith, rules, tests}
 use Rattle.std.specs.Prelude.{slice_index, nat_le}
 use Rattle.std.proofs.Math.Nat.{add-mul-div_left}
-use Rattle.ring_entries.specs.Memory.{PieceStored, stored}
+use Rattle.hda_registers.specs.Fields.{Descriptor}
+use Rattle.hda_registers.specs.declared.shapes.Shape.{Shape}
+use Rattle.ring_entries.specs.Memory.{PieceStored, IsOutside, stored}
 use Rattle.ring_entries.proofs.Callers.{piece_is_stored}
+use Rattle.stream_moves.specs.Streams.{StreamState}
 use Rattle.hda_world.specs.Worlds.{World}
 use Rattle.hda_world.specs.Events.{DmaWrite, happens}
 use Rattle.period_writer.specs.Rings.{list_bytes}
 use Rattle.period_writer.specs.Blocks.{are_apart}
 use Rattle.period_writer.specs.Places.{place_of, place_in}
-use Rattle.period_writer.specs.Standing.{Ring, IsRing, Stands, StandsInRing, bytes_in, size_of, extent_of}
+use Rattle.period_writer.specs.Standing.{Ring, IsRing, Extent, StandsBy, Stands, StandsInRing, bytes_in, size_of, extent_of}
 use Rattle.period_writer.specs.Owning.{IsBehind}
-use Rattle.period_writer.proofs.RingMemory.{BlockStays, is_in, some_bytes, list_stays}
+use Rattle.period_writer.proofs.RingMemory.{BlockStays, IsIn, is_in, some_bytes, list_stays}
 use Rattle.period_writer.proofs.RingPlaces.{place_again, places_differ, outside_by}
 
 -- a piece of the line in a period: from a position up to another, and its bytes
