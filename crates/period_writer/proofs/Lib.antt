@@ -16,6 +16,7 @@ pub mod RiseSteps
 pub mod RiseRows
 pub mod FirstRuns
 pub mod Begins
+pub mod Started
 pub mod Paces
 pub mod RingMemory
 pub mod RingKept
