@@ -17,6 +17,7 @@ pub mod RiseRows
 pub mod FirstRuns
 pub mod Begins
 pub mod Started
+pub mod FreshWriters
 pub mod Paces
 pub mod RingMemory
 pub mod RingKept
