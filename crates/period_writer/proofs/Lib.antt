@@ -24,3 +24,8 @@ pub mod RingKept
 pub mod RingPlaces
 pub mod RingWrites
 pub mod LineWritten
+pub mod RunTimes
+pub mod RunMoments
+pub mod RunEnds
+pub mod RunTelling
+pub mod RunClause

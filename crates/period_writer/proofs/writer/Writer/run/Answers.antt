@@ -2,7 +2,8 @@ use Rattle.std.proofs.Common.{◌≡◌, ◌+◌, ◌∙◌, Bool, ap, subst, ar
 use Rattle.period_writer.specs.declared.geometry.Geometry.{Geometry}
 use Rattle.period_writer.specs.Rings.{ring_bytes}
 use Rattle.period_writer.specs.Runs.{Tally, measures, facts_of, tally_after}
-use Rattle.period_writer.specs.Writers.{tally_of, periods_of}
+use Rattle.period_writer.specs.Writers.{tally_of, periods_of, ring_of}
+use Rattle.period_writer.proofs.RunClause.{run_tells_of}
 use Rattle.period_writer.proofs.CourseLaws.{position_small, ring_small}
 use Rattle.period_writer.proofs.Runnings.{plays_so, tally_same}
 use Rattle.period_writer.proofs.writer.Writer.run.Goals as goal
@@ -26,3 +27,8 @@ returns-clause-plays g c =
     (tally_of c.args.self.now) (tally_of c.conclude-ran.new.self) c.conclude-ran.result (g.P.Platform.told c.args.platform.now) (g.P.Platform.told c.read-from.new.self) (g.P.Platform.told c.read-lpib.new.self) (g.P.Platform.told c.write_turn.new.platform) (g.P.Platform.told c.read-to.new.self) (g.P.Platform.told c.stop_if.new.platform)
     c.left.ensures c.turn_of-turn.ensures.reach c.turn_of-turn.ensures.sound after c.conclude-ran.ensures.answer c.write_turn.ensures.supply
     c.read-from.ensures.told c.read-lpib.ensures.told c.write_turn.ensures.made c.read-to.ensures.told c.stop_if.ensures.made
+
+pub returns-clause-tells : goal.returns-clause-tells
+returns-clause-tells g c pcm lent =
+    run_tells_of (ring_of c.args.self.now) pcm c.args.self.now.runs.len c.args.budget (tally_of c.args.self.now) (tally_of c.conclude-ran.new.self) c.conclude-ran.result c.args.supply.now c.write_turn.new.supply
+    (g.P.Platform.told c.args.platform.now) (g.P.Platform.told c.stop_if.new.platform) c.args.self.now.course_is lent (returns-clause-plays g c)
