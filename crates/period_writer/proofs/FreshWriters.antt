@@ -1,16 +1,13 @@
 -- A writer before its first run.
 use Rattle.std.proofs.Common.{◌≡◌, ◌≤◌, ◌<◌, ◌+◌, ◌^◌, ℕ, zero, suc, Bool, false, List, [], ◌∷◌, length, slice_index, refl, sym, ap, subst, ◌∙◌, arith, lit<}
 use Rattle.std.specs.Prelude.{vec_len}
+use Rattle.std.proofs.lemmas.List.{nil_from_length}
 use Rattle.dma_pool.specs.declared.blocks.Lent.{Lent}
 use Rattle.period_writer.specs.declared.writer.Writer.{Writer}
 use Rattle.period_writer.specs.Blocks.{addresses_of}
 use Rattle.period_writer.specs.Writers.{tally_of, ring_of}
 use Rattle.period_writer.proofs.FirstRuns.{IsFresh}
 use Rattle.period_writer.proofs.Begins.{AreWords}
-
-none_is : {A : Type 0} (xs : List A) → length xs ≡ 0 → xs ≡ []
-none_is [] none = refl
-none_is (x ∷ xs) none = absurd (omega (arith, none))
 
 -- a block's address is a word
 address_small : (lent : Lent) → lent.address < 2 ^ 32
@@ -28,4 +25,4 @@ pub is_fresh : (writer : Writer) → writer.course.started ≡ false → IsFresh
 is_fresh writer fresh =
     let runs = writer.course_is.fresh fresh in
     let few = writer.few_silences in
-    record { runs = vec_len writer.runs; course = writer.course_is; started = fresh; silences = none_is writer.silences.items (omega (arith, runs, few)) }
+    record { runs = vec_len writer.runs; course = writer.course_is; started = fresh; silences = nil_from_length writer.silences.items (omega (arith, runs, few)) }

@@ -50,18 +50,3 @@ outside_rirb base place address bytes here shape within beside small = elim besi
   | inl below ↦ inl (omega (arith, below, small))
   | inr above ↦ inr (omega (arith, above, within))
 ]
-
--- a byte of a block is outside a piece of a block apart from it
-pub outside_block : (one one_bytes other other_bytes here at size : ℕ) → are_apart one one_bytes other other_bytes ≡ true → here < one_bytes → other ≤ at → at + size ≤ other + other_bytes → IsOutside at size (one + here)
-outside_block one one_bytes other other_bytes here at size apart small from upto = by_test (nat_le (one + one_bytes) other) refl apart where
-  by_test : (test : Bool) → nat_le (one + one_bytes) other ≡ test → (test || nat_le (other + other_bytes) one) ≡ true → IsOutside at size (one + here)
-  by_test true is e = let first : one + one_bytes ≤ other = search (rules, is) in inl (omega (arith, first, small, from))
-  by_test false is e = let second : other + other_bytes ≤ one = search (rules, tests) in inr (omega (arith, second, upto))
-
-pub apart_other : (one one_bytes other other_bytes : ℕ) → are_apart one one_bytes other other_bytes ≡ true → are_apart other other_bytes one one_bytes ≡ true
-apart_other one one_bytes other other_bytes apart = by_tests (nat_le (one + one_bytes) other) (nat_le (other + other_bytes) one) apart where
-  by_tests : (a b : Bool) → (a || b) ≡ true → (b || a) ≡ true
-  by_tests true true e = refl
-  by_tests true false e = refl
-  by_tests false true e = refl
-  by_tests false false e = e

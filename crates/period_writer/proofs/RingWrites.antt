@@ -65,17 +65,17 @@ list_differs ring region is here at within same =
 
 module _ (ring : Ring) (line : List ℕ) (from upto sure end period : ℕ) (bytes : List ℕ) (piece : IsPieceOf ring line period upto end bytes) (soon : end ≤ from + size_of ring)
     (memory : List ℕ) (region : IsRing ring (length memory)) (fits : place_in (bytes_in ring) ring.periods period upto + length bytes ≤ length memory) where
-  abbrev new : List ℕ
+  abbrev pub new : List ℕ
   new = stored memory (place_in (bytes_in ring) ring.periods period upto) bytes
 
   piece_stored : PieceStored (place_in (bytes_in ring) ring.periods period upto) bytes memory new
   piece_stored = piece_is_stored (place_in (bytes_in ring) ring.periods period upto) bytes memory fits
 
-  list_kept : BlockStays memory new ring.list (list_bytes ring.geometry.periods)
+  pub list_kept : BlockStays memory new ring.list (list_bytes ring.geometry.periods)
   list_kept here within = piece_stored.outside (ring.list + here) (outside_by _ (length bytes) (ring.list + here) (λ place small same.
       list_differs ring (length memory) region here (upto + place) within (same ∙ sym (piece_place ring line period upto end bytes piece place small))))
 
-  standing_kept : StandsInRing ring (extent_of line from upto sure) memory → StandsInRing ring (extent_of line from end sure) new
+  pub standing_kept : StandsInRing ring (extent_of line from upto sure) memory → StandsInRing ring (extent_of line from end sure) new
   standing_kept stands at low high = by (order at) where
     order : (a : ℕ) → (a < upto) ⊎ (upto ≤ a)
     order a = search (rules, arith)

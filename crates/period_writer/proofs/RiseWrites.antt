@@ -9,14 +9,14 @@ use Rattle.ring_entries.specs.Memory.{word_at, stored, PieceStored}
 use Rattle.ring_entries.proofs.Callers.{piece_is_stored}
 use Rattle.stream_moves.specs.Lists.{buffer_of}
 use Rattle.hda_world.specs.Events.{DmaWrite}
-use Rattle.period_writer.specs.Blocks.{are_apart, AreApart}
 use Rattle.period_writer.specs.Rings.{list_bytes}
-use Rattle.period_writer.specs.Places.{place_of, piece_write}
+use Rattle.period_writer.specs.Places.{place_in, piece_write}
 use Rattle.period_writer.specs.Starting.{entry_bytes}
 use Rattle.period_writer.specs.Standing.{Ring, IsRing, bytes_in, size_of, buffer_in}
-use Rattle.period_writer.proofs.LineSteps.{div_le, div_gt}
-use Rattle.period_writer.proofs.RingBytes.{HasEntries, HasBytes, same_word, buffer_by, entries_stay, outside_block, apart_other}
-use Rattle.period_writer.proofs.RingMemory.{entry_stays, some_bytes}
+use Rattle.period_writer.proofs.RingMemory.{entry_stays}
+use Rattle.period_writer.proofs.RingWrites.{IsPieceOf, list_kept, standing_kept}
+use Rattle.period_writer.proofs.RunMoments.{range_long, range_at}
+use Rattle.period_writer.proofs.RingBytes.{HasEntries, HasBytes, same_word, buffer_by, entries_stay}
 
 -- ---- an entry
 
@@ -79,104 +79,58 @@ entry_more ring index memory narrow narrow' fits has = λ other below. by_place 
 
 -- ---- a period
 
--- the write of a whole period
+-- the bytes of a whole period of a line
 abbrev pub whole_period : Ring → (line : List ℕ) → (index : ℕ) → List ℕ
 whole_period ring line index = slice_range line (bytes_in ring * index) (bytes_in ring * index + bytes_in ring)
 
-pub whole_piece : (ring : Ring) (line : List ℕ) (index : ℕ) → length ring.periods ≡ ring.geometry.periods → index < ring.geometry.periods
-    → piece_write (bytes_in ring) ring.periods 0 (size_of ring) line index ≡ DmaWrite (slice_index ring.periods index) (whole_period ring line index)
-whole_piece ring line index number within =
-    let b = bytes_in ring in
+period_within : (ring : Ring) (index : ℕ) → index < ring.geometry.periods → bytes_in ring * index + bytes_in ring ≤ size_of ring
+period_within ring index within =
+    let wide : bytes_in ring * (index + 1) ≤ bytes_in ring * ring.geometry.periods = mul-le-mul_left (bytes_in ring) (omega (arith, within)) in
+    let next : bytes_in ring * (index + 1) ≡ bytes_in ring * index + bytes_in ring = omega arith in
+    omega (arith, wide, next)
+
+-- the write of what stands there of the first ring of bytes is that of the whole period
+pub whole_piece : (ring : Ring) (line : List ℕ) (index : ℕ) → index < ring.geometry.periods
+    → piece_write (bytes_in ring) ring.periods 0 (size_of ring) line index ≡ DmaWrite (place_in (bytes_in ring) ring.periods index (bytes_in ring * index)) (whole_period ring line index)
+whole_piece ring line index within =
     let start : max 0 (bytes_in ring * index) ≡ bytes_in ring * index = grind arith in
     let next : bytes_in ring * (index + 1) ≡ bytes_in ring * index + bytes_in ring = omega arith in
-    let wide : bytes_in ring * (index + 1) ≤ bytes_in ring * ring.geometry.periods = mul-le-mul_left (bytes_in ring) (omega (arith, within)) in
-    let end : min (size_of ring) (bytes_in ring * (index + 1)) ≡ bytes_in ring * index + bytes_in ring = least (size_of ring) (bytes_in ring * (index + 1)) wide ∙ next in
-    let turn : index % length ring.periods ≡ index = mod-eq_of_lt (subst (λ (n : ℕ). index < n) (sym number) within) in
-    let place : slice_index ring.periods (index % length ring.periods) + (max 0 (bytes_in ring * index) - bytes_in ring * index) ≡ slice_index ring.periods index =
-    ap (λ (n : ℕ). slice_index ring.periods (index % length ring.periods) + (n - bytes_in ring * index)) start ∙ ap (λ (n : ℕ). slice_index ring.periods n + (bytes_in ring * index - bytes_in ring * index)) turn ∙ omega arith in
-    ap (λ (n : ℕ). DmaWrite n (slice_range line (max 0 (bytes_in ring * index) - 0) (min (size_of ring) (bytes_in ring * (index + 1)) - 0))) place
-    ∙ ap (λ (n : ℕ). DmaWrite (slice_index ring.periods index) (slice_range line n (min (size_of ring) (bytes_in ring * (index + 1)) - 0))) (ap (λ (n : ℕ). n - 0) start ∙ omega arith)
-    ∙ ap (λ (n : ℕ). DmaWrite (slice_index ring.periods index) (slice_range line (bytes_in ring * index) n)) (ap (λ (n : ℕ). n - 0) end ∙ omega arith)
+    let inside = period_within ring index within in
+    let end : min (size_of ring) (bytes_in ring * (index + 1)) ≡ bytes_in ring * index + bytes_in ring = ap (min (size_of ring)) next ∙ least (size_of ring) (bytes_in ring * index + bytes_in ring) inside in
+    piece_at (max 0 (bytes_in ring * index)) (bytes_in ring * index) (max 0 (bytes_in ring * index) - 0) (bytes_in ring * index) (min (size_of ring) (bytes_in ring * (index + 1)) - 0) (bytes_in ring * index + bytes_in ring)
+    start (omega (arith, start)) (omega (arith, end))
   where
     least : (a b : ℕ) → b ≤ a → min a b ≡ b
     least a b le = grind (arith, le)
 
-range_length : (line : List ℕ) (from count : ℕ) → from + count ≤ length line → length (slice_range line from (from + count)) ≡ count
-range_length line from count within = search (rules, places)
+    piece_at : (at at' from from' to to' : ℕ) → at ≡ at' → from ≡ from' → to ≡ to'
+        → DmaWrite (place_in (bytes_in ring) ring.periods index at) (slice_range line from to) ≡ DmaWrite (place_in (bytes_in ring) ring.periods index at') (slice_range line from' to')
+    piece_at at at' from from' to to' a b c = cc
 
-range_byte : (line : List ℕ) (from count place : ℕ) → from + count ≤ length line → place < count → slice_index (slice_range line from (from + count)) place ≡ slice_index line (from + place)
-range_byte line from count place within small = search (rules, places)
+whole_is : (ring : Ring) (line : List ℕ) (index : ℕ) → length line ≡ size_of ring → index < ring.geometry.periods
+    → IsPieceOf ring line index (bytes_in ring * index) (bytes_in ring * index + bytes_in ring) (whole_period ring line index)
+whole_is ring line index long within =
+    let inside = period_within ring index within in
+    let number = range_long line (bytes_in ring * index) (bytes_in ring * index + bytes_in ring) (omega (arith, inside, long)) in
+    record {
+      ascends = omega arith;
+      begins = omega arith;
+      ends = omega arith;
+      number = number;
+      are = λ place small. range_at line (bytes_in ring * index) (bytes_in ring * index + bytes_in ring) place (omega (arith, number, small));
+    }
 
-pub length-whole_period : (ring : Ring) (line : List ℕ) (index : ℕ) → length line ≡ size_of ring → index < ring.geometry.periods → length (whole_period ring line index) ≡ bytes_in ring
-length-whole_period ring line index long within =
-    let wide : bytes_in ring * (index + 1) ≤ bytes_in ring * ring.geometry.periods = mul-le-mul_left (bytes_in ring) (omega (arith, within)) in
+-- over the write of a period the list stays, and the line stands up to the period's end
+pub period_more : (ring : Ring) (index entries : ℕ) (line memory : List ℕ) → IsRing ring (length memory) → length line ≡ size_of ring → index < ring.geometry.periods → entries ≤ ring.geometry.periods
+    → place_in (bytes_in ring) ring.periods index (bytes_in ring * index) + length (whole_period ring line index) ≤ length memory → HasEntries ring entries memory → HasBytes ring (bytes_in ring * index) line memory
+    → (let memory' = stored memory (place_in (bytes_in ring) ring.periods index (bytes_in ring * index)) (whole_period ring line index) in HasEntries ring entries memory' × HasBytes ring (bytes_in ring * (index + 1)) line memory')
+period_more ring index entries line memory is long within few fits has stands =
+    let upto = bytes_in ring * index in
+    let end = bytes_in ring * index + bytes_in ring in
     let next : bytes_in ring * (index + 1) ≡ bytes_in ring * index + bytes_in ring = omega arith in
-    range_length line (bytes_in ring * index) (bytes_in ring) (omega (arith, wide, next, long))
-
--- two of the ring's blocks
-pub blocks_apart : (bytes : ℕ) (periods : List ℕ) (one other : ℕ) → AreApart bytes periods → one < length periods → other < length periods → (one ≡ other → ⊥)
-    → are_apart (slice_index periods one) bytes (slice_index periods other) bytes ≡ true
-blocks_apart bytes periods one other apart within within' differs = by_order (nat_lt one other) refl where
-  by_order : (test : Bool) → nat_lt one other ≡ test → are_apart (slice_index periods one) bytes (slice_index periods other) bytes ≡ true
-  by_order true e = let below : one < other = search (rules, e) in apart one other below within'
-  by_order false e =
-      let above : other ≤ one = search (rules, e) in
-      apart_other (slice_index periods other) bytes (slice_index periods one) bytes (apart other one (omega (arith, above, differs)) within)
-
--- the list stays over the write of a period
-pub list_stays : (ring : Ring) (index entries : ℕ) (piece memory : List ℕ) → IsRing ring (length memory) → length piece ≡ bytes_in ring → index < ring.geometry.periods → entries ≤ ring.geometry.periods
-    → slice_index ring.periods index + length piece ≤ length memory → HasEntries ring entries memory → HasEntries ring entries (stored memory (slice_index ring.periods index) piece)
-list_stays ring index entries piece memory is long within few fits has =
-    let written = piece_is_stored (slice_index ring.periods index) piece memory fits in
-    let apart = is.list_apart index (subst (λ (n : ℕ). index < n) (sym is.number) within) in
-    entries_stay ring entries memory (stored memory (slice_index ring.periods index) piece) few
-    (λ place small. written.outside (ring.list + place) (outside_block ring.list (list_bytes ring.geometry.periods) (slice_index ring.periods index) (bytes_in ring) place (slice_index ring.periods index) (length piece) apart small (omega arith) (omega (arith, long))))
-    has
-
--- after the write of a period the line stands up to its end
-pub line_more : (ring : Ring) (index : ℕ) (line memory : List ℕ) → IsRing ring (length memory) → length line ≡ size_of ring → index < ring.geometry.periods
-    → slice_index ring.periods index + length (whole_period ring line index) ≤ length memory → HasBytes ring (bytes_in ring * index) line memory
-    → HasBytes ring (bytes_in ring * (index + 1)) line (stored memory (slice_index ring.periods index) (whole_period ring line index))
-line_more ring index line memory is long within fits has = λ at from below. by_place at (nat_lt at (bytes_in ring * index)) refl below where
-  new : List ℕ
-  new = stored memory (slice_index ring.periods index) (whole_period ring line index)
-
-  size : length (whole_period ring line index) ≡ bytes_in ring
-  size = length-whole_period ring line index long within
-
-  piece : PieceStored (slice_index ring.periods index) (whole_period ring line index) memory (stored memory (slice_index ring.periods index) (whole_period ring line index))
-  piece = piece_is_stored (slice_index ring.periods index) (whole_period ring line index) memory fits
-
-  wide : bytes_in ring * (index + 1) ≤ bytes_in ring * ring.geometry.periods
-  wide = mul-le-mul_left (bytes_in ring) (omega (arith, within))
-
-  next : bytes_in ring * (index + 1) ≡ bytes_in ring * index + bytes_in ring
-  next = omega arith
-
-  -- a position of a period of the ring
-  turn : (q : ℕ) → q < ring.geometry.periods → q % length ring.periods ≡ q
-  turn q small = mod-eq_of_lt (subst (λ (n : ℕ). q < n) (sym is.number) small)
-
-  by_place : (at : ℕ) (test : Bool) → nat_lt at (bytes_in ring * index) ≡ test → at < bytes_in ring * (index + 1)
-      → slice_index (stored memory (slice_index ring.periods index) (whole_period ring line index)) (place_of (bytes_in ring) ring.periods at) ≡ slice_index line at
-  by_place at true e below =
-      let before : at < bytes_in ring * index = search (rules, e) in
-      let low = div_le (bytes_in ring) at in
-      let high = div_gt (bytes_in ring) at (some_bytes ring) in
-      let earlier : at / bytes_in ring < index = div_below at (bytes_in ring) index (some_bytes ring) (omega (arith, before)) in
-      let there = turn (at / bytes_in ring) (omega (arith, earlier, within)) in
-      let other : (at / bytes_in ring) % length ring.periods ≡ index → ⊥ = λ same. absurd (omega (arith, same, there, earlier)) in
-      let number = is.number in
-      let apart = blocks_apart (bytes_in ring) ring.periods ((at / bytes_in ring) % length ring.periods) index is.apart (omega (arith, there, earlier, within, number)) (omega (arith, within, number)) other in
-      piece.outside (place_of (bytes_in ring) ring.periods at)
-      (outside_block (slice_index ring.periods ((at / bytes_in ring) % length ring.periods)) (bytes_in ring) (slice_index ring.periods index) (bytes_in ring) (at - bytes_in ring * (at / bytes_in ring)) (slice_index ring.periods index) (length (whole_period ring line index))
-      apart (omega (arith, low, high)) (omega arith) (omega (arith, size))) ∙ has at (omega arith) before
-  by_place at false e below =
-      let above : bytes_in ring * index ≤ at = search (rules, e) in
-      let rest : at ≡ index * bytes_in ring + (at - bytes_in ring * index) = omega (arith, above) in
-      let small : at - bytes_in ring * index < bytes_in ring = omega (arith, above, below, next) in
-      let period : at / bytes_in ring ≡ index = ap (λ (n : ℕ). n / bytes_in ring) rest ∙ div-mul-add index (bytes_in ring) (at - bytes_in ring * index) small in
-      let place : place_of (bytes_in ring) ring.periods at ≡ slice_index ring.periods index + (at - bytes_in ring * index) =
-      ap (λ (q : ℕ). slice_index ring.periods (q % length ring.periods) + (at - bytes_in ring * q)) period ∙ ap (λ (q : ℕ). slice_index ring.periods q + (at - bytes_in ring * index)) (turn index within) in
-      ap (slice_index new) place ∙ piece.inside (at - bytes_in ring * index) (subst (λ (n : ℕ). at - bytes_in ring * index < n) (sym size) small)
-      ∙ range_byte line (bytes_in ring * index) (bytes_in ring) (at - bytes_in ring * index) (omega (arith, wide, next, long)) small ∙ ap (slice_index line) (omega (arith, above))
+    let inside = period_within ring index within in
+    let piece = whole_is ring line index long within in
+    let memory' = stored memory (place_in (bytes_in ring) ring.periods index (bytes_in ring * index)) (whole_period ring line index) in (
+      entries_stay ring entries memory memory' few (list_kept ring line 0 upto 0 end index (whole_period ring line index) piece (omega (arith, inside)) memory is fits) has,
+      subst (λ (n : ℕ). HasBytes ring n line memory') (sym next) (standing_kept ring line 0 upto 0 end index (whole_period ring line index) piece (omega (arith, inside)) memory is fits stands),
+    )

@@ -19,6 +19,7 @@ use Rattle.period_writer.specs.Owning.{Owns, IsOwned, IsPlaying}
 use Rattle.period_writer.specs.Outcomes.{CanBegin, HasNotWrapped, StartTells, StartTellsOf}
 use Rattle.period_writer.proofs.RingKept.{stands_kept}
 use Rattle.period_writer.proofs.Paces.{paced_kept}
+use Rattle.period_writer.proofs.RunMoments.{owns_of}
 use Rattle.period_writer.proofs.FirstRuns.{IsFresh}
 use Rattle.period_writer.proofs.RiseSteps.{Any}
 use Rattle.period_writer.proofs.Begins.{AreWords, start_rises}
@@ -79,18 +80,6 @@ read_leads Holds Before at value kept steps reads =
 
 -- ---- while a writer plays that was just started
 
--- where the ring stands the device owns all that it did not fetch
-pub stands_owns : (ring : Ring) (line : List ℕ) (from reach : ℕ) (world : World) → Stands ring (extent_of line from reach reach) world → Owns ring line reach world
-stands_owns ring line from reach world stands =
-    let behind = stands.behind in
-    let ahead = stands.fifo.behind in
-    record {
-      runs = stands.set.runs;
-      no_error = stands.set.no_error;
-      fetched = stands.fetched;
-      ahead = λ at later within. stands.standing at (omega (arith, behind, ahead, later)) within;
-    }
-
 abbrev PlaysBy : (ring : Ring) (line : List ℕ) (at since reach : ℕ) → World → Type 0
 PlaysBy ring line at since reach world = Stands ring (extent_of line at reach reach) world × Paced ring true (record { at = at; since = since }) world
 
@@ -99,7 +88,7 @@ last_read : (ring : Ring) (line : List ℕ) (at since reach to : ℕ)
 last_read ring line at since reach to =
     read_leads (IsOwned ring line reach 0 0) (PlaysBy ring line at since reach) WALCLK to
     (kept_both (Stands ring (extent_of line at reach reach)) (Paced ring true (record { at = at; since = since })) (stands_kept ring (extent_of line at reach reach)) (paced_kept ring true (record { at = at; since = since })))
-    (λ world step plays. record { owns = stands_owns ring line at reach world plays.0; behind = tt }) (λ world plays. record { owns = stands_owns ring line at reach world plays.0; behind = tt })
+    (λ world step plays. record { owns = owns_of ring line line at reach reach world (λ at below. refl) plays.0; behind = tt }) (λ world plays. record { owns = owns_of ring line line at reach reach world (λ at below. refl) plays.0; behind = tt })
 
 plays_still : (ring : Ring) (pcm : List ℕ) (tally : Tally) (old new : World) (plays : IsPlaying ring pcm tally old) → PlaysBy ring (line_of tally pcm) tally.course.at plays.since tally.course.reach new → IsPlaying ring pcm tally new
 plays_still ring pcm tally old new plays still = record {
