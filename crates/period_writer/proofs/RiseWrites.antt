@@ -2,14 +2,11 @@
 use Rattle.std.proofs.Common.{◌≡◌, ◌≤◌, ◌<◌, ◌+◌, ◌-◌, ◌*◌, ◌/◌, ◌%◌, ◌^◌, min, max, ℕ, Bool, true, false, List, length, drop, slice_index, refl, sym, ap, subst, ◌∙◌, inl, arith, rules, lit≤}
 use Rattle.std.specs.Prelude.{slice_range, nat_lt}
 use Rattle.std.proofs.Math.Nat.{mod-eq_of_lt, mul-le-mul_left}
-use Rattle.std.proofs.lemmas.List.{places}
-use Rattle.std.proofs.lemmas.Nat.{div-mul-add, div_below}
 use Rattle.byteorder.specs.Numbers.{little_from-bytes}
 use Rattle.ring_entries.specs.Memory.{word_at, stored, PieceStored}
 use Rattle.ring_entries.proofs.Callers.{piece_is_stored}
 use Rattle.stream_moves.specs.Lists.{buffer_of}
 use Rattle.hda_world.specs.Events.{DmaWrite}
-use Rattle.period_writer.specs.Rings.{list_bytes}
 use Rattle.period_writer.specs.Places.{place_in, piece_write}
 use Rattle.period_writer.specs.Starting.{entry_bytes}
 use Rattle.period_writer.specs.Standing.{Ring, IsRing, bytes_in, size_of, buffer_in}

@@ -1,22 +1,21 @@
 -- What a first run promises where its platform tells: from the rise of RUN on the writer plays.
-use Rattle.std.proofs.Common.{◌≡◌, ◌≤◌, ◌<◌, ◌+◌, ◌*◌, ◌^◌, ℕ, Bool, true, List, [], ◌∷◌, ◌++◌, length, slice_index, Option, refl, sym, ap, subst, ◌∙◌, append_assoc, arith}
+use Rattle.std.proofs.Common.{◌≡◌, ◌≤◌, ◌<◌, ◌*◌, ◌^◌, ℕ, true, List, [], ◌∷◌, ◌++◌, length, Option, refl, sym, ap, subst, ◌∙◌, append_assoc, arith}
 use Rattle.device_steps.specs.declared.Step.{Step}
 use Rattle.hda_registers.specs.declared.shapes.Width.TheVariants.{Four}
 use Rattle.hda_registers.specs.declared.places.TheConstants.{WALCLK}
 use Rattle.hda_world.specs.Worlds.{World}
-use Rattle.hda_world.specs.Events.{Event, Stepped, Read, IsHonest, after, happens}
-use Rattle.hda_world.specs.Tellings.{Telling, Makes, MakesBy, Went, Between, world_of}
+use Rattle.hda_world.specs.Events.{Event, Stepped, Read}
+use Rattle.hda_world.specs.Tellings.{Telling, Makes, MakesBy, Between, world_of}
 use Rattle.hda_world.specs.Kept.{Kept}
-use Rattle.hda_world.specs.Moments.{AtEach}
-use Rattle.hda_world.proofs.Callers.{Lead, Weaving, woven, lead_none, lead_more, world_of-went, frames_after, kept_both, told_map}
+use Rattle.hda_world.proofs.Callers.{Lead, woven, lead_none, lead_more, world_of-went, frames_after, kept_both, told_map}
 use Rattle.period_writer.specs.Runs.{Tally, measures, facts_of, tally_after}
 use Rattle.period_writer.specs.Lines.{line_of}
 use Rattle.period_writer.specs.Starting.{reset_accesses, entry_writes, run_accesses, rise_accesses, start_accesses}
 use Rattle.period_writer.specs.Places.{line_writes}
 use Rattle.period_writer.specs.Playing.{Starts, run_bytes}
-use Rattle.period_writer.specs.Standing.{Ring, Extent, Pace, Stands, Paced, bytes_in, size_of, extent_of}
-use Rattle.period_writer.specs.Owning.{Owns, IsOwned, IsPlaying}
-use Rattle.period_writer.specs.Outcomes.{CanBegin, HasNotWrapped, StartTells, StartTellsOf}
+use Rattle.period_writer.specs.Standing.{Ring, Stands, Paced, bytes_in, size_of, extent_of}
+use Rattle.period_writer.specs.Owning.{IsOwned, IsPlaying}
+use Rattle.period_writer.specs.Outcomes.{StartTellsOf}
 use Rattle.period_writer.proofs.RingKept.{stands_kept}
 use Rattle.period_writer.proofs.Paces.{paced_kept}
 use Rattle.period_writer.proofs.RunMoments.{owns_of}
