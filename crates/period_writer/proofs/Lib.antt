@@ -8,6 +8,16 @@ pub mod CourseLaws
 pub mod Runnings
 pub mod LineLaws
 pub mod Fetched
+pub mod RestWrites
+pub mod RingBytes
+pub mod Rising
+pub mod RiseWrites
+pub mod RiseSteps
+pub mod RiseRows
+pub mod FirstRuns
+pub mod Begins
+pub mod Started
+pub mod FreshWriters
 pub mod Paces
 pub mod RingMemory
 pub mod RingKept

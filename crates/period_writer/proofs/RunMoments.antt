@@ -28,10 +28,10 @@ use Rattle.period_writer.proofs.LineWritten.{next_tally, appended_is, line_same,
 use Rattle.period_writer.proofs.RunTimes.{position_behind, position_there, position_later, position_soon, fifo_below, some_fifo, within_reach, Passed, passed_kept}
 use Rattle.period_writer.proofs.RingMemory.{some_bytes}
 
-range_long : (xs : List ℕ) (a b : ℕ) → b ≤ length xs → length (slice_range xs a b) ≡ b - a
+pub range_long : (xs : List ℕ) (a b : ℕ) → b ≤ length xs → length (slice_range xs a b) ≡ b - a
 range_long xs a b within = let rest = length-drop a xs in length-take-le (b - a) (drop a xs) (omega (arith, rest, within))
 
-range_at : (xs : List ℕ) (a b k : ℕ) → k < b - a → slice_index (slice_range xs a b) k ≡ slice_index xs (a + k)
+pub range_at : (xs : List ℕ) (a b k : ℕ) → k < b - a → slice_index (slice_range xs a b) k ≡ slice_index xs (a + k)
 range_at xs a b k within = get_or-take (b - a) (drop a xs) k 0 within ∙ get_or-drop a xs k 0
 
 -- ---- from what stands to what is owned

@@ -6,7 +6,8 @@ ghost use Rattle.period_writer.specs.Rings.{period_bytes, ring_bytes, list_bytes
 ghost use Rattle.period_writer.specs.Blocks.{addresses_of};
 ghost use Rattle.period_writer.specs.Starting as starting;
 ghost use Rattle.period_writer.specs.Playing.{Starts};
-ghost use Rattle.period_writer.specs.Writers.{tally_of, periods_of};
+ghost use Rattle.period_writer.specs.Outcomes.{StartTellsOf};
+ghost use Rattle.period_writer.specs.Writers.{tally_of, periods_of, ring_of};
 
 use super::Writer;
 use crate::geometry::Geometry;
@@ -79,6 +80,7 @@ impl Writer {
         requires room { 14 + 2 * self.old.geometry.periods ≤ P.spare_accesses platform.old }
         requires bytes_room { list_bytes self.old.geometry.periods + ring_bytes self.old.geometry.periods self.old.geometry.period ≤ P.spare_bytes platform.old }
         ensures starts { Starts self.old.geometry self.old.list.address (periods_of self.old) budget supply.old (tally_of self.old) (tally_of self.new) supply.new (P.told platform.old) (P.told platform.new) }
+        ensures tells { Between (StartTellsOf (ring_of self.old) supply.old (tally_of self.old) (tally_of self.new)) (P.told platform.old) (P.told platform.new) }
         ensures geometry { self.new.geometry ≡ self.old.geometry }
         ensures list { self.new.list ≡ self.old.list }
         ensures periods { self.new.periods.items ≡ self.old.periods.items }

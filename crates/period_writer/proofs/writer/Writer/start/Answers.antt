@@ -6,7 +6,9 @@ use Rattle.period_writer.specs.Rings.{ring_bytes}
 use Rattle.period_writer.specs.Blocks.{addresses_of}
 use Rattle.period_writer.specs.Starting.{entry_writes, run_accesses}
 use Rattle.period_writer.specs.Runs.{Tally, measures, facts_of, tally_after}
-use Rattle.period_writer.specs.Writers.{tally_of, periods_of}
+use Rattle.period_writer.specs.Writers.{tally_of, periods_of, ring_of}
+use Rattle.period_writer.proofs.FreshWriters.{has_words, is_fresh}
+use Rattle.period_writer.proofs.Started.{starts_tell}
 use Rattle.period_writer.proofs.Runnings.{starts_so, tally_same}
 use Rattle.period_writer.proofs.writer.Writer.start.Goals as goal
 
@@ -28,3 +30,8 @@ returns-clause-starts g c =
     (tally_of c.args.self.now) (tally_of c.conclude-ran.new.self) (g.P.Platform.told c.args.platform.now) (g.P.Platform.told c.read-from.new.self) (g.P.Platform.told c.reset_stream.new.platform) (g.P.Platform.told c.write_list.new.platform) (g.P.Platform.told c.write_turn.new.platform) (g.P.Platform.told c.set_stream.new.platform) (g.P.Platform.told c.read-to.new.self)
     c.requires.fresh none c.left.ensures c.turn_of-turn.ensures.reach c.turn_of-turn.ensures.sound after c.write_turn.ensures.supply
     c.read-from.ensures.told reset.made entries c.write_turn.ensures.made run c.read-to.ensures.told
+
+pub returns-clause-tells : goal.returns-clause-tells
+returns-clause-tells g c =
+    starts_tell (ring_of c.args.self.now) c.args.budget c.args.supply.now c.write_turn.new.supply (tally_of c.args.self.now) (tally_of c.conclude-ran.new.self) (g.P.Platform.told c.args.platform.now) (g.P.Platform.told c.read-to.new.self)
+    (has_words c.args.self.now) (is_fresh c.args.self.now c.requires.fresh) (returns-clause-starts g c)
