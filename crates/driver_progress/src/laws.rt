@@ -1,0 +1,1 @@
+//! Laws of progress, each the contract of a function that does nothing.

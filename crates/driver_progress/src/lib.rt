@@ -1,0 +1,10 @@
+//! What a driver has to do and how far it has come: its phases, and from these the accesses that it makes at each of its calls. The
+//! definitions stand in `specs`; how far a driver came is read off a journal alone.
+#![tactic(auto)]
+
+mod laws;
+mod phase;
+mod registers;
+
+pub use phase::Phase;
+pub use registers::STREAM_STATUS;
