@@ -13,7 +13,7 @@ use Rattle.command_engine.specs.Starting.{rings_found, rirb_accesses}
 use Rattle.command_engine.specs.Submitting.{command_place}
 use Rattle.command_engine.specs.Polling.{new_entries}
 use Rattle.period_writer.specs.declared.registers.TheConstants.{CONTROL, POSITION}
-use Rattle.period_writer.specs.Rings.{period_bytes, ring_bytes}
+use Rattle.period_writer.specs.Rings.{period_bytes}
 use Rattle.period_writer.specs.Places.{line_writes}
 use Rattle.period_writer.specs.Starting.{entry_writes, run_accesses}
 use Rattle.period_writer.specs.Playing.{run_bytes, stop_accesses}
@@ -103,7 +103,7 @@ appends task state budget seen =
     let facts = facts_seen task state budget seen in
     let m = measures task.geometry in
     requests_of (line_writes (period_bytes task.geometry.period) task.blocks.periods state.tally.course.reach (run_reach m state.tally.course facts)
-      (run_bytes m state.tally.course facts (drop state.tally.course.used task.pcm)))
+    (run_bytes m state.tally.course facts (drop state.tally.course.used task.pcm)))
 
 -- the first run: the stream is reset, the list and the first bytes of the line are written, and the stream is set going (4.5.3)
 abbrev pub starts : Task → State → (budget : ℕ) → Seen → List Request

@@ -1,5 +1,5 @@
 -- Where a stretch of its accesses leads a driver. This project's own.
-use Rattle.std.specs.Prelude.{ℕ, ◌+◌, ◌%◌, Bool, true, false, ◌&&◌, not, nat_le, List, length, slice_get, Option, None, Some, if◌then◌else◌}
+use Rattle.std.specs.Prelude.{ℕ, ◌+◌, ◌%◌, Bool, true, false, ◌&&◌, not, nat_le, List, length, Option, None, Some, if◌then◌else◌}
 use Rattle.verb_codes.specs.Words.{has_bit}
 use Rattle.hda_registers.specs.Fields.{entries_of}
 use Rattle.command_engine.specs.declared.ring_places.RingPlaces.{RingPlaces}

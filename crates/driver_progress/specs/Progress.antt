@@ -1,5 +1,6 @@
 -- How far a driver came by a journal, and that it made the accesses that it was to make and no others. This project's own.
-use Rattle.std.specs.Prelude.{◌≡◌, ℕ, ◌==◌, Bool, true, false, List, [], ◌∷◌, ◌++◌, length, drop, any, slice_get, Option, None, Some, if◌then◌else◌}
+use Rattle.std.specs.Prelude.{◌≡◌, ℕ, ◌==◌, Bool, true, false, List, [], ◌∷◌, ◌++◌, length, drop, slice_get, Option, None, if◌then◌else◌}
+use Rattle.std.specs.List.{list_any}
 use Rattle.hda_registers.specs.declared.places.TheConstants.{CORBWP, RIRBSTS}
 use Rattle.command_engine.specs.Entries.{answers_it}
 use Rattle.command_engine.specs.Polling.{asked_of}
@@ -34,7 +35,7 @@ course_opened lines =
 -- whether since the last submission a response to the outstanding command was written: one of the codec that is asked that did not
 -- come unasked
 abbrev pub is_answered : Course → World → Bool
-is_answered course world = any (answers_it (asked_of course.state.rings.outstanding)) (drop course.written world.written)
+is_answered course world = list_any (answers_it (asked_of course.state.rings.outstanding)) (drop course.written world.written)
 
 abbrev pub seen_in : Course → Seen
 seen_in course = seen_by (values_of course.made) course.answered
