@@ -5,3 +5,4 @@ pub mod Seen
 pub mod Expected
 pub mod Next
 pub mod Progress
+pub mod Worked

@@ -6,5 +6,9 @@ mod laws;
 mod phase;
 mod registers;
 
+pub use laws::{
+    closings_are_worked, commands_are_worked, interrupts_are_worked, resets_are_worked,
+    runs_are_worked,
+};
 pub use phase::Phase;
 pub use registers::STREAM_STATUS;
