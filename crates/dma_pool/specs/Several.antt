@@ -1,5 +1,5 @@
 -- Blocks that are taken from a pool one after another. This project's own.
-use Rattle.std.specs.Prelude.{◌≡◌, ◌<◌, ◌/◌, ⊥, ℕ, List, [], ◌∷◌, length, map, Option, Some, None}
+use Rattle.std.specs.Prelude.{◌≡◌, ◌<◌, ◌/◌, ℕ, List, [], ◌∷◌, length, map, Option, Some, None}
 use Rattle.dma_pool.specs.declared.blocks.Block.{Block}
 use Rattle.dma_pool.specs.declared.runs.Run.{Run}
 use Rattle.dma_pool.specs.Pools.{IsFirstFit, HasNoRun, AddsRun, granules_for}
