@@ -31,7 +31,7 @@ fn stop_if<P: Platform>(platform: &mut P, ran: Ran)
 
 impl Writer {
     /// A later run, which may write so many bytes of sound: reads where the link is, and makes the line longer up to one ring ahead of
-    /// that, by sound and then silence (HDA 1.0a, 4.5.4).
+    /// that, by sound and then silence. This project's own.
     ///
     /// `Late` exactly where more than the geometry's limit of link frames passed between the clock that the run before read first and
     /// the one that this run reads last. Then it is not recorded. Else `Drained` exactly where no sound is left and the link is past

@@ -77,7 +77,7 @@ impl Writer {
     /// going (HDA 1.0a, 4.5.3). It is recorded.
     pub fn start<P: Platform>(&mut self, platform: &mut P, supply: &mut Supply, budget: u32)
         requires fresh { self.old.course.started ≡ false }
-        requires room { 14 + 2 * self.old.geometry.periods ≤ P.spare_accesses platform.old }
+        requires room { 13 + 2 * self.old.geometry.periods ≤ P.spare_accesses platform.old }
         requires bytes_room { list_bytes self.old.geometry.periods + ring_bytes self.old.geometry.periods self.old.geometry.period ≤ P.spare_bytes platform.old }
         ensures starts { Starts self.old.geometry self.old.list.address (periods_of self.old) budget supply.old (tally_of self.old) (tally_of self.new) supply.new (P.told platform.old) (P.told platform.new) }
         ensures tells { Between (StartTellsOf (ring_of self.old) supply.old (tally_of self.old) (tally_of self.new)) (P.told platform.old) (P.told platform.new) }
@@ -86,7 +86,7 @@ impl Writer {
         ensures periods { self.new.periods.items ≡ self.old.periods.items }
         ensures records { self.new.records ≡ self.old.records }
         ensures fixed { P.fixed platform.new ≡ P.fixed platform.old }
-        ensures accesses { P.spare_accesses platform.old ≤ P.spare_accesses platform.new + (14 + 2 * self.old.geometry.periods) }
+        ensures accesses { P.spare_accesses platform.new + (13 + 2 * self.old.geometry.periods) ≡ P.spare_accesses platform.old }
         ensures bytes { P.spare_bytes platform.new + (list_bytes self.old.geometry.periods + ring_bytes self.old.geometry.periods self.old.geometry.period) ≡ P.spare_bytes platform.old }
     {
         let from = platform.read(places::WALCLK, Width::Four);

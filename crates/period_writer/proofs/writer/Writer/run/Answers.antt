@@ -4,7 +4,7 @@ use Rattle.period_writer.specs.Rings.{ring_bytes}
 use Rattle.period_writer.specs.Runs.{Tally, measures, facts_of, tally_after}
 use Rattle.period_writer.specs.Writers.{tally_of, periods_of, ring_of}
 use Rattle.period_writer.proofs.RunClause.{run_tells_of}
-use Rattle.period_writer.proofs.CourseLaws.{position_small, ring_small}
+use Rattle.period_writer.proofs.CourseLaws.{position_small, ring_small, touched_in_ring}
 use Rattle.period_writer.proofs.Runnings.{plays_so, tally_same}
 use Rattle.period_writer.proofs.writer.Writer.run.Goals as goal
 
@@ -16,6 +16,26 @@ write_turn-requires-clause-small g c =
     let reach : c.args.self.now.course.reach ≡ c.args.self.now.course.at + ring_bytes c.args.self.now.geometry.periods c.args.self.now.geometry.period =
     is.reach ∙ ap (λ (started : Bool). if started then c.args.self.now.course.at + ring_bytes c.args.self.now.geometry.periods c.args.self.now.geometry.period else 0) c.requires.started in
     omega (arith, ring, at, reach, c.turn_of-turn.ensures.room)
+
+pub write_turn-requires-clause-room : goal.write_turn-requires-clause-room
+write_turn-requires-clause-room g c =
+    let few = touched_in_ring c.args.self.now.geometry.periods c.args.self.now.geometry.period c.args.self.now.course.reach c.turn_of-turn.result.reach c.args.self.now.geometry.some c.turn_of-turn.ensures.room in
+    omega (arith, few, c.requires.room, c.read-from.ensures.accesses, c.read-lpib.ensures.accesses)
+
+pub read-to-requires : goal.read-to-requires
+read-to-requires g c =
+    let few = touched_in_ring c.args.self.now.geometry.periods c.args.self.now.geometry.period c.args.self.now.course.reach c.turn_of-turn.result.reach c.args.self.now.geometry.some c.turn_of-turn.ensures.room in
+    record { room = omega (arith, few, c.requires.room, c.read-from.ensures.accesses, c.read-lpib.ensures.accesses, c.write_turn.ensures.accesses) }
+
+pub stop_if-requires : goal.stop_if-requires
+stop_if-requires g c =
+    let few = touched_in_ring c.args.self.now.geometry.periods c.args.self.now.geometry.period c.args.self.now.course.reach c.turn_of-turn.result.reach c.args.self.now.geometry.some c.turn_of-turn.ensures.room in
+    omega (arith, few, c.requires.room, c.read-from.ensures.accesses, c.read-lpib.ensures.accesses, c.write_turn.ensures.accesses, c.read-to.ensures.accesses)
+
+pub returns-clause-accesses : goal.returns-clause-accesses
+returns-clause-accesses g c =
+    let few = touched_in_ring c.args.self.now.geometry.periods c.args.self.now.geometry.period c.args.self.now.course.reach c.turn_of-turn.result.reach c.args.self.now.geometry.some c.turn_of-turn.ensures.room in
+    omega (arith, few, c.read-from.ensures.accesses, c.read-lpib.ensures.accesses, c.write_turn.ensures.accesses, c.read-to.ensures.accesses, c.stop_if.ensures.accesses)
 
 pub returns-clause-plays : goal.returns-clause-plays
 returns-clause-plays g c =

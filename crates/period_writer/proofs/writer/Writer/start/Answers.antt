@@ -1,4 +1,4 @@
-use Rattle.std.proofs.Common.{◌≡◌, ◌+◌, ◌∙◌, ℕ, Bool, List, ap, subst, if◌then◌else◌}
+use Rattle.std.proofs.Common.{◌≡◌, ◌+◌, ◌∙◌, ℕ, Bool, List, length, ap, subst, arith, if◌then◌else◌}
 use Rattle.dma_pool.specs.declared.blocks.Lent.{Lent}
 use Rattle.hda_world.specs.Tellings.{Between, Makes}
 use Rattle.period_writer.specs.declared.geometry.Geometry.{Geometry}
@@ -9,8 +9,33 @@ use Rattle.period_writer.specs.Runs.{Tally, measures, facts_of, tally_after}
 use Rattle.period_writer.specs.Writers.{tally_of, periods_of, ring_of}
 use Rattle.period_writer.proofs.FreshWriters.{has_words, is_fresh}
 use Rattle.period_writer.proofs.Started.{starts_tell}
+use Rattle.period_writer.proofs.CourseLaws.{touched_at_first}
 use Rattle.period_writer.proofs.Runnings.{starts_so, tally_same}
 use Rattle.period_writer.proofs.writer.Writer.start.Goals as goal
+
+pub write_turn-requires-clause-room : goal.write_turn-requires-clause-room
+write_turn-requires-clause-room g c =
+    let is = touched_at_first c.args.self.now.geometry.periods c.args.self.now.geometry.period c.args.self.now.runs.len _ c.turn_of-turn.result.reach c.args.self.now.course c.args.self.now.geometry.some_periods c.args.self.now.geometry.some c.args.self.now.course_is c.requires.fresh c.turn_of-turn.ensures.reach in
+    let entries : length c.deref.result.now ≡ c.args.self.now.geometry.periods = ap length c.deref.ensures.value ∙ c.args.self.now.number in
+    omega (arith, is, entries, c.requires.room, c.read-from.ensures.accesses, c.reset_stream.ensures.accesses, c.write_list.ensures.accesses)
+
+pub set_stream-requires : goal.set_stream-requires
+set_stream-requires g c =
+    let is = touched_at_first c.args.self.now.geometry.periods c.args.self.now.geometry.period c.args.self.now.runs.len _ c.turn_of-turn.result.reach c.args.self.now.course c.args.self.now.geometry.some_periods c.args.self.now.geometry.some c.args.self.now.course_is c.requires.fresh c.turn_of-turn.ensures.reach in
+    let entries : length c.deref.result.now ≡ c.args.self.now.geometry.periods = ap length c.deref.ensures.value ∙ c.args.self.now.number in
+    omega (arith, is, entries, c.requires.room, c.read-from.ensures.accesses, c.reset_stream.ensures.accesses, c.write_list.ensures.accesses, c.write_turn.ensures.accesses)
+
+pub read-to-requires : goal.read-to-requires
+read-to-requires g c =
+    let is = touched_at_first c.args.self.now.geometry.periods c.args.self.now.geometry.period c.args.self.now.runs.len _ c.turn_of-turn.result.reach c.args.self.now.course c.args.self.now.geometry.some_periods c.args.self.now.geometry.some c.args.self.now.course_is c.requires.fresh c.turn_of-turn.ensures.reach in
+    let entries : length c.deref.result.now ≡ c.args.self.now.geometry.periods = ap length c.deref.ensures.value ∙ c.args.self.now.number in
+    record { room = omega (arith, is, entries, c.requires.room, c.read-from.ensures.accesses, c.reset_stream.ensures.accesses, c.write_list.ensures.accesses, c.write_turn.ensures.accesses, c.set_stream.ensures.accesses) }
+
+pub returns-clause-accesses : goal.returns-clause-accesses
+returns-clause-accesses g c =
+    let is = touched_at_first c.args.self.now.geometry.periods c.args.self.now.geometry.period c.args.self.now.runs.len _ c.turn_of-turn.result.reach c.args.self.now.course c.args.self.now.geometry.some_periods c.args.self.now.geometry.some c.args.self.now.course_is c.requires.fresh c.turn_of-turn.ensures.reach in
+    let entries : length c.deref.result.now ≡ c.args.self.now.geometry.periods = ap length c.deref.ensures.value ∙ c.args.self.now.number in
+    omega (arith, is, entries, c.read-from.ensures.accesses, c.reset_stream.ensures.accesses, c.write_list.ensures.accesses, c.write_turn.ensures.accesses, c.set_stream.ensures.accesses, c.read-to.ensures.accesses)
 
 pub returns-clause-starts : goal.returns-clause-starts
 returns-clause-starts g c =
