@@ -10,6 +10,8 @@ mod lies;
 #[cfg(test)]
 mod play;
 #[cfg(test)]
+mod pools;
+#[cfg(test)]
 mod rings;
 #[cfg(test)]
 mod rows;

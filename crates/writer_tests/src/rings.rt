@@ -62,13 +62,9 @@ fn rings_have_their_bytes_and_limits(rt: HostRuntime) -> Result<(), Fail> {
     Ok(())
 }
 
-/// How many granules are free while a writer of the small ring is open in a pool of so many, and after it was closed or refused.
-fn free_in(alloc: Global, granules: u32) -> Result<(Option<u32>, u32), Fail>
-    requires some { 1 ≤ granules }
-    requires most { granules ≤ 100 }
-{
+/// How many granules of a pool are free while a writer of the small ring is open, and after it was closed or refused.
+pub fn free_in(alloc: Global, mut pool: Pool) -> Result<(Option<u32>, u32), Fail> {
     let geometry = small_ring()?;
-    let mut pool = Pool::new(alloc, granules)?;
     match Writer::open(alloc, &mut pool, geometry, 0) {
         Ok(writer) => {
             let free = pool.free();
@@ -82,9 +78,10 @@ fn free_in(alloc: Global, granules: u32) -> Result<(Option<u32>, u32), Fail>
 
 #[test]
 fn a_writer_takes_a_granule_and_three_for_each_period(rt: HostRuntime) -> Result<(), Fail> {
-    assert_eq!(rt; free_in(rt.alloc(), 8)?, (Some(1), 8));
-    assert_eq!(rt; free_in(rt.alloc(), 7)?, (Some(0), 7));
-    assert_eq!(rt; free_in(rt.alloc(), 6)?, (None, 6));
-    assert_eq!(rt; free_in(rt.alloc(), 1)?, (None, 1));
+    let alloc = rt.alloc();
+    assert_eq!(rt; free_in(alloc, Pool::new(alloc, 8)?)?, (Some(1), 8));
+    assert_eq!(rt; free_in(alloc, Pool::new(alloc, 7)?)?, (Some(0), 7));
+    assert_eq!(rt; free_in(alloc, Pool::new(alloc, 6)?)?, (None, 6));
+    assert_eq!(rt; free_in(alloc, Pool::new(alloc, 1)?)?, (None, 1));
     Ok(())
 }
