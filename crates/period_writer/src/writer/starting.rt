@@ -75,6 +75,10 @@ fn set_stream<P: Platform>(platform: &mut P, list: u32, geometry: &Geometry)
 impl Writer {
     /// The first run, which may write so many bytes of sound: writes the list and the first bytes of the line, and sets the stream
     /// going (HDA 1.0a, 4.5.3). It is recorded.
+    ///
+    /// On a platform that tells, where the controller is out of reset, the input stream does not run, the FIFO is the geometry's, RIRB
+    /// lies outside the writer's blocks, and WALCLK does not wrap: from the rise of RUN on the writer plays. The list and the first
+    /// ring of bytes of the line stand in memory, and what the device fetches is the line.
     pub fn start<P: Platform>(&mut self, platform: &mut P, supply: &mut Supply, budget: u32)
         requires fresh { self.old.course.started ≡ false }
         requires room { 13 + 2 * self.old.geometry.periods ≤ P.spare_accesses platform.old }
