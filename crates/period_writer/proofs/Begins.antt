@@ -19,7 +19,7 @@ use Rattle.period_writer.specs.Runs.{Tally, measures, facts_of, tally_if, tally_
 use Rattle.period_writer.specs.Lines.{line_of}
 use Rattle.period_writer.specs.Starting.{rise_accesses}
 use Rattle.period_writer.specs.Playing.{run_bytes}
-use Rattle.period_writer.specs.Standing.{Ring, IsSet, StandsBy, Stands, Paced, bytes_in, size_of, buffer_in, list_place, extent_of}
+use Rattle.period_writer.specs.Standing.{Ring, IsRing, IsSet, StandsBy, Stands, Paced, bytes_in, size_of, buffer_in, list_place, extent_of}
 use Rattle.period_writer.specs.Owning.{IsWritten, IsPlaying}
 use Rattle.period_writer.specs.Outcomes.{CanBegin, HasNotWrapped}
 use Rattle.period_writer.proofs.CourseLaws.{ring_small}
@@ -146,6 +146,7 @@ module _ (ring : Ring) (words : AreWords ring) where
     clock_from = from;
     started = started;
     plays = ran;
+    reach_is = reach ∙ (let none = at in omega (arith, none));
     written = written;
     stands = subst (λ (l : List ℕ). Stands ring (extent_of l tally.course.at tally.course.reach tally.course.reach) world) (sym same)
         (subst (λ (n : ℕ). Stands ring (extent_of line n tally.course.reach tally.course.reach) world) (sym at)
@@ -160,10 +161,10 @@ unwrapped from since frames counted before few = counted ∙ mod-eq_of_lt (omega
 
 -- from each world in which a first run may begin the writer plays where RUN rose
 pub start_rises : (ring : Ring) (pcm : List ℕ) (tally : Tally) (budget from in_reset ready to : ℕ) → AreWords ring → IsFresh ring tally
-    → (old risen : Telling) → CanBegin ring (world_of old) → HasNotWrapped (world_of risen)
+    → (old risen : Telling) → IsRing ring (length (world_of old).memory) → CanBegin ring (world_of old) → HasNotWrapped (world_of risen)
     → Makes (rise_accesses ring.geometry ring.list ring.periods from in_reset ready (run_bytes (measures ring.geometry) tally.course (facts_of budget (length pcm) from 0 to) pcm)) old risen
     → IsPlaying ring pcm (tally_after (measures ring.geometry) tally (facts_of budget (length pcm) from 0 to)) (world_of risen)
-start_rises ring pcm tally budget from in_reset ready to words fresh old risen can few makes =
+start_rises ring pcm tally budget from in_reset ready to words fresh old risen region can few makes =
     let line = run_bytes (measures ring.geometry) tally.course (facts_of budget (length pcm) from 0 to) pcm in
     let long = written_long ring tally fresh pcm budget from to in
     let rises : Rises ring 0 0 0 line (world_of old) = record {
@@ -172,15 +173,15 @@ start_rises ring pcm tally budget from in_reset ready to words fresh old risen c
       clock_is = can.clock;
       fifo = can.fifo;
       since_before = omega arith;
-      ring_is = can.ring_is;
+      ring_is = region;
       beside = can.beside;
       few = omega arith;
       list = λ index below. absurd (omega (arith, below));
       line_stands = λ at from below. absurd (omega (arith, below));
     } in
     let told = woven makes in
-    let there = rise_lead ring line words.periods (narrow_bytes ring words) can.ring_is.number long from in_reset ready told.events (world_of old) told.woven told.went.honest rises in
-    let begins = subst (λ (world : World). (counted : Counted ring line words.periods (narrow_bytes ring words) can.ring_is.number long from) × Begins ring counted.0 line ring.geometry.periods (size_of ring) world) (sym (world_of-went old risen told.events told.went)) there.1 in
+    let there = rise_lead ring line words.periods (narrow_bytes ring words) region.number long from in_reset ready told.events (world_of old) told.woven told.went.honest rises in
+    let begins = subst (λ (world : World). (counted : Counted ring line words.periods (narrow_bytes ring words) region.number long from) × Begins ring counted.0 line ring.geometry.periods (size_of ring) world) (sym (world_of-went old risen told.events told.went)) there.1 in
     let since = begins.0.0 in
     let tally' = tally_if false (measures ring.geometry) tally (facts_of budget (length pcm) from 0 to) in
     subst (λ (late : Bool). IsPlaying ring pcm (tally_if late (measures ring.geometry) tally (facts_of budget (length pcm) from 0 to)) (world_of risen)) (sym (in_time ring tally fresh pcm budget from to))

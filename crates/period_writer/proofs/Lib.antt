@@ -25,6 +25,7 @@ pub mod RingPlaces
 pub mod RingWrites
 pub mod LineWritten
 pub mod RunTimes
+pub mod CourseRuns
 pub mod RunMoments
 pub mod RunEnds
 pub mod RunTelling

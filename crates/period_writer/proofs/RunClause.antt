@@ -18,7 +18,7 @@ module _ (ring : Ring) (pcm : List ℕ) (runs : ℕ) (tally : Tally) (is : IsCou
   Made answer = Makes (play_accesses ring.geometry ring.periods tally.course facts (drop tally.course.used pcm) answer) old new
 
   abbrev Tells : Ran → Tally → Type 0
-  Tells answer tally' = RunTells ring pcm tally answer tally' old new
+  Tells answer tally' = RunTells ring pcm facts.budget tally answer tally' old new
 
   in_time : (drained : Bool) → is_late (measures ring.geometry) tally.course facts ≡ false → has_drained (measures ring.geometry) tally.course facts ≡ drained
       → Made (if drained then Drained else Playing) → Tells (if drained then Drained else Playing) (tally_if false (measures ring.geometry) tally facts)
@@ -39,7 +39,7 @@ module _ (ring : Ring) (pcm : List ℕ) (runs : ℕ) (tally : Tally) (is : IsCou
 
 -- so does a run of a writer, wherever its platform tells
 pub run_tells_of : (ring : Ring) (pcm : List ℕ) (runs budget : ℕ) (tally tally' : Tally) (answer : Ran) (left left' : List ℕ) (old new : Option Telling) → IsCourse (size_of ring) runs tally.course
-    → left ≡ drop tally.course.used pcm → Plays ring.geometry ring.periods budget left tally answer tally' left' old new → Between (RunTellsOf ring pcm tally answer tally') old new
+    → left ≡ drop tally.course.used pcm → Plays ring.geometry ring.periods budget left tally answer tally' left' old new → Between (RunTellsOf ring pcm budget tally answer tally') old new
 run_tells_of ring pcm runs budget tally tally' answer left left' old new is lent plays =
     let facts = facts_of budget (length left) plays.from plays.lpib plays.to in
     told_map (λ old new made playing small.

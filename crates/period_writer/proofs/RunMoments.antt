@@ -13,12 +13,11 @@ use Rattle.hda_world.specs.Kept.{Kept}
 use Rattle.hda_world.proofs.Callers.{kept_both, Lead, lead_none, lead_more, lead_both, lead_some, lead_from}
 use Rattle.period_writer.specs.declared.registers.TheConstants.{POSITION}
 use Rattle.period_writer.specs.Courses.{IsCourse}
-use Rattle.period_writer.specs.Rings.{limit_of}
 use Rattle.period_writer.specs.Places.{piece_start, piece_end, piece_write, line_writes, touched}
 use Rattle.period_writer.specs.Runs.{RunFacts, Tally, Measures, measures, run_at, run_reach, position_from}
 use Rattle.period_writer.specs.Lines.{line_of}
 use Rattle.period_writer.specs.Playing.{run_bytes}
-use Rattle.period_writer.specs.Standing.{Ring, Stands, Paced, bytes_in, size_of, extent_of}
+use Rattle.period_writer.specs.Standing.{Ring, Extent, limit_in, Stands, Paced, bytes_in, size_of, extent_of}
 use Rattle.period_writer.specs.Owning.{Owns, WritesBehind, IsOwned, IsWritten}
 use Rattle.period_writer.proofs.RingKept.{stands_kept}
 use Rattle.period_writer.proofs.Paces.{paced_kept}
@@ -68,12 +67,12 @@ relined ring line line' from from' upto world same later behind stands = record 
 }
 
 module _ (ring : Ring) (pcm : List ℕ) (runs : ℕ) (tally : Tally) (facts : RunFacts) (is : IsCourse (size_of ring) runs tally.course) (started : tally.course.started ≡ true) (written : IsWritten pcm tally)
-    (enough : facts.left ≡ length (drop tally.course.used pcm)) (since : ℕ) where
+    (enough : facts.left ≡ length (drop tally.course.used pcm)) (since : ℕ) (clock_from : tally.course.from ≡ 500 * since) where
   abbrev pub m : Measures
   m = measures ring.geometry
 
   abbrev pub limit : ℕ
-  limit = limit_of ring.geometry.periods ring.geometry.period ring.geometry.fifo ring.geometry.format
+  limit = limit_in ring
 
   abbrev pub at' : ℕ
   at' = run_at m tally.course facts
@@ -88,7 +87,7 @@ module _ (ring : Ring) (pcm : List ℕ) (runs : ℕ) (tally : Tally) (facts : Ru
   line' = line_of (next_tally m runs tally facts pcm is written enough) pcm
 
   abbrev pub Moment : World → Event → Type 0
-  Moment = IsOwned ring line tally.course.reach tally.course.at at'
+  Moment = IsOwned ring line tally.course.reach tally.course.at at' tally.course.from
 
   pub reach_is : tally.course.reach ≡ tally.course.at + size_of ring
   reach_is = is.reach ∙ by tally.course.started started where
@@ -139,11 +138,24 @@ module _ (ring : Ring) (pcm : List ℕ) (runs : ℕ) (tally : Tally) (facts : Ru
   pub found_kept : (frames : ℕ) (known : Bool) (upto : ℕ) → Kept (Found frames known upto)
   found_kept frames known upto = kept_both _ _ (kept_both _ _ (stands_kept ring _) (paced_kept ring true _)) (kept_both _ _ (paced_kept ring known _) (passed_kept (since + limit) known))
 
+  -- while the limit is kept nothing past the reach was fetched
+  bounded : (extent : Extent) (world : World) → Stands ring extent world → Paced ring true (record { at = tally.course.at; since = since }) world → 500 * world.frames ≤ tally.course.from + 500 * limit
+      → length world.output.entered ≤ tally.course.reach
+  bounded extent world stands paced few =
+      let from = clock_from in
+      let within : world.frames ≤ since + limit = omega (arith, few, from) in
+      let together = within_reach ring.geometry tally.course.at world.output.left world.frames since paced.before within (paced.soon refl) in
+      let ahead = stands.fifo.ahead in
+      let reach = reach_is in
+      omega (arith, together, ahead, reach)
+
   moment_before : (world : World) (event : Event) → Before world → WritesBehind ring tally.course.at at' world event → Moment world event
-  moment_before world event before behind = record { owns = owns_of ring line line tally.course.at tally.course.reach tally.course.reach world (λ at below. refl) before.0; behind = behind }
+  moment_before world event before behind =
+      record { owns = owns_of ring line line tally.course.at tally.course.reach tally.course.reach world (λ at below. refl) before.0; within = bounded _ world before.0 before.1; behind = behind }
 
   pub moment_found : (frames : ℕ) (known : Bool) (upto : ℕ) (world : World) (event : Event) → Found frames known upto world → WritesBehind ring tally.course.at at' world event → Moment world event
-  moment_found frames known upto world event found behind = record { owns = owns_of ring line line' at' upto tally.course.reach world same_line found.0.0; behind = behind }
+  moment_found frames known upto world event found behind =
+      record { owns = owns_of ring line line' at' upto tally.course.reach world same_line found.0.0; within = bounded _ world found.0.0 found.0.1; behind = behind }
 
   finds : (frames : ℕ) (world : World) → Clocked frames world → facts.lpib ≡ world.output.left % size_of ring → (known : Bool) × Found frames known tally.course.reach world
   finds frames world clocked reads = (nat_le world.frames (since + limit), ((stood, clocked.0.1), (paced, passed))) where

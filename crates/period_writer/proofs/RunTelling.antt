@@ -49,22 +49,22 @@ module _ (ring : Ring) (pcm : List ℕ) (runs : ℕ) (tally : Tally) (facts : Ru
   line' = line_of tally' pcm
 
   abbrev limit : ℕ
-  limit = moments.limit ring pcm runs tally facts is started written enough since
+  limit = moments.limit ring pcm runs tally facts is started written enough since clock_from
 
   abbrev Moment : World → Event → Type 0
-  Moment = moments.Moment ring pcm runs tally facts is started written enough since
+  Moment = moments.Moment ring pcm runs tally facts is started written enough since clock_from
 
   abbrev Before : World → Type 0
-  Before = moments.Before ring pcm runs tally facts is started written enough since
+  Before = moments.Before ring pcm runs tally facts is started written enough since clock_from
 
   abbrev Found : (frames : ℕ) (known : Bool) → World → Type 0
-  Found frames known = moments.Found ring pcm runs tally facts is started written enough since frames known reach'
+  Found frames known = moments.Found ring pcm runs tally facts is started written enough since clock_from frames known reach'
 
   found_kept : (frames : ℕ) (known : Bool) → Kept (Found frames known)
-  found_kept frames known = moments.found_kept ring pcm runs tally facts is started written enough since frames known reach'
+  found_kept frames known = moments.found_kept ring pcm runs tally facts is started written enough since clock_from frames known reach'
 
   moment_found : (frames : ℕ) (known : Bool) (world : World) (event : Event) → Found frames known world → WritesBehind ring tally.course.at at' world event → Moment world event
-  moment_found frames known world event found behind = moments.moment_found ring pcm runs tally facts is started written enough since frames known reach' world event found behind
+  moment_found frames known world event found behind = moments.moment_found ring pcm runs tally facts is started written enough since clock_from frames known reach' world event found behind
 
   -- ---- a run that is not late
 
@@ -99,7 +99,7 @@ module _ (ring : Ring) (pcm : List ℕ) (runs : ℕ) (tally : Tally) (facts : Ru
     few =
         let together = within_reach ring.geometry tally.course.at world.output.left world.frames since found.0.1.before within (found.0.1.soon refl) in
         let ahead = found.0.0.fifo.ahead in
-        let reach = moments.reach_is ring pcm runs tally facts is started written enough since in
+        let reach = moments.reach_is ring pcm runs tally facts is started written enough since clock_from in
         omega (arith, together, ahead, reach)
 
   -- all that was fetched is the line, now up to the new reach
@@ -133,6 +133,7 @@ module _ (ring : Ring) (pcm : List ℕ) (runs : ℕ) (tally : Tally) (facts : Ru
           clock_from = time.from_is;
           started = refl;
           plays = ap (λ (drained : Bool). if drained then Drained else Playing) more;
+          reach_is = refl;
           written = written_next m runs tally facts pcm is written enough;
           stands = sure_all world found.0.0 time.few;
           paced = record { format_is = found.1.0.format_is; before = found.1.0.before; soon = λ e. found.1.0.soon time.known_is };
@@ -146,7 +147,7 @@ module _ (ring : Ring) (pcm : List ℕ) (runs : ℕ) (tally : Tally) (facts : Ru
         (lead_none Moment _ _ (λ world plays. plays))
 
     pub playing_run : Lead Moment Before (play_accesses ring.geometry ring.periods tally.course facts (drop tally.course.used pcm) Playing) (λ world. HasNotWrapped world → IsPlaying ring pcm tally' world)
-    playing_run = moments.run_led ring pcm runs tally facts is started written enough since (λ world. HasNotWrapped world → IsPlaying ring pcm tally' world) (Read WALCLK Four facts.to ∷ []) playing_led
+    playing_run = moments.run_led ring pcm runs tally facts is started written enough since clock_from (λ world. HasNotWrapped world → IsPlaying ring pcm tally' world) (Read WALCLK Four facts.to ∷ []) playing_led
 
   -- ---- it was late
 
@@ -155,6 +156,7 @@ module _ (ring : Ring) (pcm : List ℕ) (runs : ℕ) (tally : Tally) (facts : Ru
       let stopped = stops world found.0.0.set.out found.0.0.set.runs in
       record {
         stopped = stopped.stopped;
+        no_error = stopped.error ∙ found.0.0.set.no_error;
         fetched = λ at below under.
             ap (λ state. slice_index state.entered at) stopped.state
             ∙ found.0.0.fetched at (subst (λ state. at < length state.entered) stopped.state below) under
@@ -172,7 +174,7 @@ module _ (ring : Ring) (pcm : List ℕ) (runs : ℕ) (tally : Tally) (facts : Ru
       (lead_none Moment _ _ (λ world late. late)))
 
   pub late_run : (from to : ℕ) → Lead Moment Before (play_accesses ring.geometry ring.periods tally.course facts (drop tally.course.used pcm) (Late from to)) (WasLate ring pcm tally)
-  late_run from to = moments.run_led ring pcm runs tally facts is started written enough since (WasLate ring pcm tally) (Read WALCLK Four facts.to ∷ Write CONTROL One 0 ∷ []) late_led
+  late_run from to = moments.run_led ring pcm runs tally facts is started written enough since clock_from (WasLate ring pcm tally) (Read WALCLK Four facts.to ∷ Write CONTROL One 0 ∷ []) late_led
 
   -- ---- it has drained
 
@@ -206,6 +208,7 @@ module _ (ring : Ring) (pcm : List ℕ) (runs : ℕ) (tally : Tally) (facts : Ru
 
     pub record IsSilent (world : World) : Type 0 where
       pub stopped : is_running world.registers.output ≡ false
+      pub no_error : world.registers.output.descriptor_error ≡ 0
       pub sent : at' ≤ world.output.left
       pub fetched : (at : ℕ) → at < length world.output.entered → at < most → slice_index world.output.entered at ≡ slice_index line' at
 
@@ -217,6 +220,7 @@ module _ (ring : Ring) (pcm : List ℕ) (runs : ℕ) (tally : Tally) (facts : Ru
         let stands = silent.1.0 (omega (arith, small, same, before)) in
         record {
           stopped = stopped.stopped;
+          no_error = stopped.error ∙ silent.0.0.0.set.no_error;
           sent = subst (λ state. at' ≤ state.left) (sym stopped.state) stands.behind;
           fetched = λ at below under. ap (λ state. slice_index state.entered at) stopped.state ∙ stands.fetched at (subst (λ state. at < length state.entered) stopped.state below) under;
         }
@@ -239,7 +243,7 @@ module _ (ring : Ring) (pcm : List ℕ) (runs : ℕ) (tally : Tally) (facts : Ru
         (lead_some Moment (λ (later : ℕ). Silent frames known later) (Write CONTROL One 0 ∷ []) After (λ later. silent_led frames known later))
 
     pub drained_run : Lead Moment Before (play_accesses ring.geometry ring.periods tally.course facts (drop tally.course.used pcm) Drained) After
-    drained_run = moments.run_led ring pcm runs tally facts is started written enough since After (Read WALCLK Four facts.to ∷ Write CONTROL One 0 ∷ []) drained_led
+    drained_run = moments.run_led ring pcm runs tally facts is started written enough since clock_from After (Read WALCLK Four facts.to ∷ Write CONTROL One 0 ∷ []) drained_led
 
   -- ---- all of it
 
@@ -247,14 +251,16 @@ module _ (ring : Ring) (pcm : List ℕ) (runs : ℕ) (tally : Tally) (facts : Ru
   before_of world stands paced = (stands, paced)
 
   pub tells_playing : is_late m tally.course facts ≡ false → has_drained m tally.course facts ≡ false → (old new : Telling) → Before (world_of old)
-      → Makes (play_accesses ring.geometry ring.periods tally.course facts (drop tally.course.used pcm) Playing) old new → HasNotWrapped (world_of new) → RunTells ring pcm tally Playing tally' old new
+      → Makes (play_accesses ring.geometry ring.periods tally.course facts (drop tally.course.used pcm) Playing) old new → HasNotWrapped (world_of new) → RunTells ring pcm facts.budget tally Playing tally' old new
   tells_playing in_time more old new before made small = by (woven made) where
-    by : Weaving (play_accesses ring.geometry ring.periods tally.course facts (drop tally.course.used pcm) Playing) old new → RunTells ring pcm tally Playing tally' old new
+    by : Weaving (play_accesses ring.geometry ring.periods tally.course facts (drop tally.course.used pcm) Playing) old new → RunTells ring pcm facts.budget tally Playing tally' old new
     by weaving =
         let there = world_of-went old new weaving.events weaving.went in
         let led = playing_run in_time more weaving.events (world_of old) weaving.woven weaving.went.honest before in
         record {
           facts = facts;
+          budget_is = refl;
+          left_is = enough;
           events = weaving.events;
           made = made;
           recorded = sym (ap (λ (late : Bool). tally_if late m tally facts) in_time);
@@ -265,15 +271,17 @@ module _ (ring : Ring) (pcm : List ℕ) (runs : ℕ) (tally : Tally) (facts : Ru
 
   pub tells_late : is_late m tally.course facts ≡ true → (old new : Telling) → Before (world_of old)
       → Makes (play_accesses ring.geometry ring.periods tally.course facts (drop tally.course.used pcm) (Late tally.course.from facts.to)) old new
-      → RunTells ring pcm tally (Late tally.course.from facts.to) (tally_if true m tally facts) old new
+      → RunTells ring pcm facts.budget tally (Late tally.course.from facts.to) (tally_if true m tally facts) old new
   tells_late late old new before made = by (woven made) where
     by : Weaving (play_accesses ring.geometry ring.periods tally.course facts (drop tally.course.used pcm) (Late tally.course.from facts.to)) old new
-        → RunTells ring pcm tally (Late tally.course.from facts.to) (tally_if true m tally facts) old new
+        → RunTells ring pcm facts.budget tally (Late tally.course.from facts.to) (tally_if true m tally facts) old new
     by weaving =
         let there = world_of-went old new weaving.events weaving.went in
         let led = late_run tally.course.from facts.to weaving.events (world_of old) weaving.woven weaving.went.honest before in
         record {
           facts = facts;
+          budget_is = refl;
+          left_is = enough;
           events = weaving.events;
           made = made;
           recorded = sym (ap (λ (late : Bool). tally_if late m tally facts) late);
@@ -283,7 +291,7 @@ module _ (ring : Ring) (pcm : List ℕ) (runs : ℕ) (tally : Tally) (facts : Ru
         }
 
   pub tells_drained : is_late m tally.course facts ≡ false → has_drained m tally.course facts ≡ true → (old new : Telling) → Before (world_of old)
-      → Makes (play_accesses ring.geometry ring.periods tally.course facts (drop tally.course.used pcm) Drained) old new → HasNotWrapped (world_of new) → RunTells ring pcm tally Drained tally' old new
+      → Makes (play_accesses ring.geometry ring.periods tally.course facts (drop tally.course.used pcm) Drained) old new → HasNotWrapped (world_of new) → RunTells ring pcm facts.budget tally Drained tally' old new
   tells_drained in_time done old new before made small = by (woven made) where
     next : IsWritten pcm tally'
     next = written_next m runs tally facts pcm is written enough
@@ -291,18 +299,21 @@ module _ (ring : Ring) (pcm : List ℕ) (runs : ℕ) (tally : Tally) (facts : Ru
     ended : (most : ℕ) (long : reach' ≤ most) (world : World) → length world.output.entered ≤ most → IsSilent in_time done most long world → HasDrained ring pcm tally' world
     ended most long world all silent = record {
       stopped = silent.stopped;
+      no_error = silent.no_error;
       sent = silent.sent;
       fetched = λ at below under. silent.fetched at below (omega (arith, below, all));
       silent = λ at below past. silent.fetched at below (omega (arith, below, all)) ∙ quiet in_time done most long at (omega (arith, past));
     }
 
-    by : Weaving (play_accesses ring.geometry ring.periods tally.course facts (drop tally.course.used pcm) Drained) old new → RunTells ring pcm tally Drained tally' old new
+    by : Weaving (play_accesses ring.geometry ring.periods tally.course facts (drop tally.course.used pcm) Drained) old new → RunTells ring pcm facts.budget tally Drained tally' old new
     by weaving =
         let there = world_of-went old new weaving.events weaving.went in
         let most = reach' + length (world_of new).output.entered in
         let led = drained_run in_time done most (omega arith) weaving.events (world_of old) weaving.woven weaving.went.honest before in
         record {
           facts = facts;
+          budget_is = refl;
+          left_is = enough;
           events = weaving.events;
           made = made;
           recorded = sym (ap (λ (late : Bool). tally_if late m tally facts) in_time);

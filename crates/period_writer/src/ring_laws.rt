@@ -1,16 +1,15 @@
 //! Laws of the ring that driver and device own in turn, each the contract of a function that does nothing.
-ghost use Rattle.std.specs.Prelude.{◌≡◌, ◌≤◌, ◌+◌, ◌-◌, ℕ, List, [], ◌∷◌, length};
+ghost use Rattle.std.specs.Prelude.{◌≡◌, ◌≤◌, ◌+◌, ◌*◌, ◌-◌, ℕ, List, [], ◌∷◌, length};
 ghost use Rattle.device_steps.specs.declared.Step.{Step};
 ghost use Rattle.hda_world.specs.Worlds.{World};
 ghost use Rattle.hda_world.specs.Steps.{after_steps};
 ghost use Rattle.hda_world.specs.Events.{Event, after};
 ghost use Rattle.period_writer.specs.declared.course.Ran.TheVariants.{Playing};
-ghost use Rattle.period_writer.specs.Rings.{limit_of};
 ghost use Rattle.period_writer.specs.Runs.{Measures, Tally, facts_of, tally_after, taken_up};
 ghost use Rattle.period_writer.specs.Lines.{line_of};
-ghost use Rattle.period_writer.specs.Standing.{Ring, size_of};
+ghost use Rattle.period_writer.specs.Standing.{Ring, limit_in};
 ghost use Rattle.period_writer.specs.Owning.{Owns, IsPlaying};
-ghost use Rattle.period_writer.specs.Between.{LeaveRing};
+ghost use Rattle.period_writer.specs.Beside.{LeaveRing};
 
 /// That a writer plays is kept by every step of the device.
 pub fn steps_keep_the_ring()
@@ -34,10 +33,8 @@ pub fn the_device_owns_what_it_was_left()
 
 /// While no more link frames passed since the last run's first clock than the limit says, the device fetched nothing past its reach.
 pub fn the_limit_bounds_what_is_fetched()
-    ensures { (ring : Ring) (pcm : List ℕ) (tally : Tally) (world : World) → (playing : IsPlaying ring pcm tally world)
-        → tally.course.reach ≡ tally.course.at + size_of ring
-        → world.frames ≤ playing.since + limit_of ring.geometry.periods ring.geometry.period ring.geometry.fifo ring.geometry.format
-        → length world.output.entered ≤ tally.course.reach }
+    ensures { (ring : Ring) (pcm : List ℕ) (tally : Tally) (world : World) → IsPlaying ring pcm tally world
+        → 500 * world.frames ≤ tally.course.from + 500 * limit_in ring → length world.output.entered ≤ tally.course.reach }
 {}
 
 /// What runs record is what a stretch of accesses says that reads the clock twice: the first run by its two clocks, a later one by

@@ -39,8 +39,8 @@ impl Writer {
     ///
     /// On a platform that tells, where the writer plays: at each moment until the stop all that the device fetched below the reach of
     /// the last recorded run is the line, and what it fetches next of it stands in the ring; the run writes only to places of
-    /// positions that were fetched. After a run that is on time the writer plays on with the longer line. What is fetched of a
-    /// drained one from its end on is silence.
+    /// positions that were fetched. After `Playing` the writer plays on with the longer line; after `Drained` all
+    /// sound was sent, and what was fetched past the line is silence. The supply is that of the first run, and WALCLK has not wrapped.
     pub fn run<P: Platform>(&mut self, platform: &mut P, supply: &mut Supply, budget: u32) -> Ran
         requires started { self.old.course.started ≡ true }
         requires playing { self.old.course.ran ≡ Ran.Playing }
@@ -49,7 +49,7 @@ impl Writer {
         requires bytes_room { ring_bytes self.old.geometry.periods self.old.geometry.period ≤ P.spare_bytes platform.old }
         ensures plays { Plays self.old.geometry (periods_of self.old) budget supply.old (tally_of self.old) result (tally_of self.new) supply.new (P.told platform.old) (P.told platform.new) }
         ensures tells { (pcm : List ℕ) → supply.old ≡ drop self.old.course.used pcm
-            → Between (RunTellsOf (ring_of self.old) pcm (tally_of self.old) result (tally_of self.new)) (P.told platform.old) (P.told platform.new) }
+            → Between (RunTellsOf (ring_of self.old) pcm budget (tally_of self.old) result (tally_of self.new)) (P.told platform.old) (P.told platform.new) }
         ensures geometry { self.new.geometry ≡ self.old.geometry }
         ensures list { self.new.list ≡ self.old.list }
         ensures periods { self.new.periods.items ≡ self.old.periods.items }

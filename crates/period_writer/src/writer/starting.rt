@@ -77,14 +77,14 @@ impl Writer {
     /// going (HDA 1.0a, 4.5.3). It is recorded.
     ///
     /// On a platform that tells, where the controller is out of reset, the input stream does not run, the FIFO is the geometry's, RIRB
-    /// lies outside the writer's blocks, and WALCLK does not wrap: from the rise of RUN on the writer plays. The list and the first
+    /// lies outside the writer's blocks, and WALCLK counts the link frames and does not wrap: from the rise of RUN on the writer plays. The list and the first
     /// ring of bytes of the line stand in memory, and what the device fetches is the line.
     pub fn start<P: Platform>(&mut self, platform: &mut P, supply: &mut Supply, budget: u32)
         requires fresh { self.old.course.started ≡ false }
         requires room { 13 + 2 * self.old.geometry.periods ≤ P.spare_accesses platform.old }
         requires bytes_room { list_bytes self.old.geometry.periods + ring_bytes self.old.geometry.periods self.old.geometry.period ≤ P.spare_bytes platform.old }
         ensures starts { Starts self.old.geometry self.old.list.address (periods_of self.old) budget supply.old (tally_of self.old) (tally_of self.new) supply.new (P.told platform.old) (P.told platform.new) }
-        ensures tells { Between (StartTellsOf (ring_of self.old) supply.old (tally_of self.old) (tally_of self.new)) (P.told platform.old) (P.told platform.new) }
+        ensures tells { Between (StartTellsOf (ring_of self.old) supply.old budget (tally_of self.old) (tally_of self.new)) (P.told platform.old) (P.told platform.new) }
         ensures geometry { self.new.geometry ≡ self.old.geometry }
         ensures list { self.new.list ≡ self.old.list }
         ensures periods { self.new.periods.items ≡ self.old.periods.items }

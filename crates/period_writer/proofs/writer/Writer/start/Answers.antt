@@ -7,7 +7,8 @@ use Rattle.period_writer.specs.Blocks.{addresses_of}
 use Rattle.period_writer.specs.Starting.{entry_writes, run_accesses}
 use Rattle.period_writer.specs.Runs.{Tally, measures, facts_of, tally_after}
 use Rattle.period_writer.specs.Writers.{tally_of, periods_of, ring_of}
-use Rattle.period_writer.proofs.FreshWriters.{has_words, is_fresh}
+use Rattle.period_writer.proofs.FreshWriters.{has_words, is_fresh, has_ring}
+use Rattle.hda_world.specs.declared.world.TheConstants.{REGION_BYTES}
 use Rattle.period_writer.proofs.Started.{starts_tell}
 use Rattle.period_writer.proofs.CourseLaws.{touched_at_first}
 use Rattle.period_writer.proofs.Runnings.{starts_so, tally_same}
@@ -58,5 +59,5 @@ returns-clause-starts g c =
 
 pub returns-clause-tells : goal.returns-clause-tells
 returns-clause-tells g c =
-    starts_tell (ring_of c.args.self.now) c.args.budget c.args.supply.now c.write_turn.new.supply (tally_of c.args.self.now) (tally_of c.conclude-ran.new.self) (g.P.Platform.told c.args.platform.now) (g.P.Platform.told c.read-to.new.self)
-    (has_words c.args.self.now) (is_fresh c.args.self.now c.requires.fresh) (returns-clause-starts g c)
+    starts_tell (ring_of c.args.self.now) c.args.budget REGION_BYTES c.args.supply.now c.write_turn.new.supply (tally_of c.args.self.now) (tally_of c.conclude-ran.new.self) (g.P.Platform.told c.args.platform.now) (g.P.Platform.told c.read-to.new.self)
+    (has_words c.args.self.now) (is_fresh c.args.self.now c.requires.fresh) (has_ring c.args.self.now) (g.met.P.Platform.whole c.args.platform.now) (returns-clause-starts g c)

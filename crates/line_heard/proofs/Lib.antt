@@ -1,0 +1,3 @@
+pub mod Steadying
+pub mod Blocks
+pub mod Hearing

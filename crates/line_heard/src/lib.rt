@@ -1,0 +1,6 @@
+//! What pins hear of the line: that the sound which a writer plays is what each routed pin's list has.
+#![tactic(auto)]
+
+mod laws;
+
+pub use laws::steps_keep_it_steady;
