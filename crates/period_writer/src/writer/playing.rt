@@ -37,10 +37,10 @@ impl Writer {
     /// the one that this run reads last. Then it is not recorded. Else `Drained` exactly where no sound is left and the link is past
     /// the last of it. In both cases the stream is stopped.
     ///
-    /// On a platform that tells, where the writer plays: at each moment until the stop all that the device fetched below the reach of
-    /// the last recorded run is the line, and what it fetches next of it stands in the ring; the run writes only to places of
-    /// positions that were fetched. After `Playing` the writer plays on with the longer line; after `Drained` all
-    /// sound was sent, and what was fetched past the line is silence. The supply is that of the first run, and WALCLK has not wrapped.
+    /// On a platform that tells, where the writer plays, the supply is that of the first run, and WALCLK has not wrapped: at each moment
+    /// until the stop all that the device fetched below the reach of the last recorded run is the line, and what it fetches next of it
+    /// stands in the ring; the run writes only to places of positions that were fetched. After `Playing` the writer plays on with the
+    /// longer line; after `Drained` all sound was sent, and what was fetched past the line is silence.
     pub fn run<P: Platform>(&mut self, platform: &mut P, supply: &mut Supply, budget: u32) -> Ran
         requires started { self.old.course.started ≡ true }
         requires playing { self.old.course.ran ≡ Ran.Playing }
