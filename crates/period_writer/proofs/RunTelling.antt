@@ -157,6 +157,7 @@ module _ (ring : Ring) (pcm : List ℕ) (runs : ℕ) (tally : Tally) (facts : Ru
       record {
         stopped = stopped.stopped;
         no_error = stopped.error ∙ found.0.0.set.no_error;
+        written = written;
         fetched = λ at below under.
             ap (λ state. slice_index state.entered at) stopped.state
             ∙ found.0.0.fetched at (subst (λ state. at < length state.entered) stopped.state below) under
@@ -300,6 +301,7 @@ module _ (ring : Ring) (pcm : List ℕ) (runs : ℕ) (tally : Tally) (facts : Ru
     ended most long world all silent = record {
       stopped = silent.stopped;
       no_error = silent.no_error;
+      written = next;
       sent = silent.sent;
       fetched = λ at below under. silent.fetched at below (omega (arith, below, all));
       silent = λ at below past. silent.fetched at below (omega (arith, below, all)) ∙ quiet in_time done most long at (omega (arith, past));

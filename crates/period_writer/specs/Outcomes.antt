@@ -14,7 +14,7 @@ use Rattle.period_writer.specs.Lines.{line_of}
 use Rattle.period_writer.specs.Starting.{rise_accesses}
 use Rattle.period_writer.specs.Playing.{run_bytes, play_accesses}
 use Rattle.period_writer.specs.Standing.{Ring, AreBesideRirb}
-use Rattle.period_writer.specs.Owning.{IsOwned, IsPlaying}
+use Rattle.period_writer.specs.Owning.{IsOwned, IsWritten, IsPlaying}
 
 -- WALCLK did not wrap since CRST rose
 abbrev pub HasNotWrapped : World → Type 0
@@ -26,6 +26,7 @@ HasNotWrapped world = 500 * world.frames < 2 ^ 32
 pub record HasDrained (ring : Ring) (pcm : List ℕ) (tally : Tally) (world : World) : Type 0 where
   pub stopped : is_running world.registers.output ≡ false
   pub no_error : world.registers.output.descriptor_error ≡ 0
+  pub written : IsWritten pcm tally
   pub sent : tally.course.at ≤ world.output.left
   pub fetched : (at : ℕ) → at < length world.output.entered → at < tally.course.reach
       → slice_index world.output.entered at ≡ slice_index (line_of tally pcm) at
@@ -35,6 +36,7 @@ pub record HasDrained (ring : Ring) (pcm : List ℕ) (tally : Tally) (world : Wo
 pub record WasLate (ring : Ring) (pcm : List ℕ) (tally : Tally) (world : World) : Type 0 where
   pub stopped : is_running world.registers.output ≡ false
   pub no_error : world.registers.output.descriptor_error ≡ 0
+  pub written : IsWritten pcm tally
   pub fetched : (at : ℕ) → at < length world.output.entered → at < tally.course.reach
       → slice_index world.output.entered at ≡ slice_index (line_of tally pcm) at
 
