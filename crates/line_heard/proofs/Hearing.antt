@@ -1,7 +1,7 @@
 -- What a routed pin heard of the link frames of a steady stream is what they carried.
-use Rattle.std.proofs.Common.{◌≡◌, ◌≤◌, ◌<◌, ◌+◌, ◌-◌, ◌*◌, ◌/◌, ◌==◌, ℕ, zero, suc, Bool, true, false, not, List, [], ◌∷◌, ◌++◌, length, map, filter, take, drop, Option, Some, None, refl, sym, ap, ap₂, subst, ◌∙◌, arith, rules, if◌then◌else◌}
+use Rattle.std.proofs.Common.{◌≡◌, ◌≤◌, ◌/◌, ◌==◌, ℕ, Bool, true, false, not, List, [], ◌∷◌, ◌++◌, map, Option, Some, refl, sym, ap, ap₂, subst, ◌∙◌, rules, if◌then◌else◌}
 use Rattle.std.specs.Prelude.{All}
-use Rattle.std.specs.List.{find, flat_map, range_with_len}
+use Rattle.std.specs.List.{range_with_len}
 use Rattle.std.proofs.lemmas.List.{map-append}
 use Rattle.std.proofs.lemmas.List.Elements.{filter-append, All-head, All-tail}
 use Rattle.codec_graph.specs.declared.raw.RawCodec.{RawCodec}
@@ -12,11 +12,10 @@ use Rattle.stream_moves.specs.Output.{Carriage, Sent, Missed}
 use Rattle.hda_world.specs.Worlds.{CarriedFrame, codec_at}
 use Rattle.hda_world.specs.Streaming.{bytes_of, carried_bytes}
 use Rattle.codec_sound.specs.declared.signals.Signal.{Signal}
-use Rattle.codec_sound.specs.declared.signals.Signal.TheVariants.{Pair, Silence}
+use Rattle.codec_sound.specs.declared.signals.Signal.TheVariants.{Pair}
 use Rattle.codec_sound.specs.declared.heard.Heard.{Heard}
-use Rattle.codec_sound.specs.declared.heard.Heard.TheVariants.{Quiet, Hole}
-use Rattle.codec_sound.specs.HeardLists.{block_at, block_size, blocks, item_of, items_of, items_sent, signal_with, signal_in, frame_items, heard}
-use Rattle.line_heard.specs.Plays.{is_hole, without_holes, sound_at, sounds, IsSilent}
+use Rattle.codec_sound.specs.HeardLists.{block_at, block_size, blocks, item_of, items_of, signal_with, signal_in, frame_items, heard}
+use Rattle.line_heard.specs.Plays.{is_hole, without_holes}
 use Rattle.line_heard.specs.Steady.{settings_of, IsSteadyFrame}
 use Rattle.line_heard.proofs.Blocks.{blocks_append}
 
@@ -67,7 +66,7 @@ carriage_items layout pair Missed = sym (none (block_size layout)) where
 carriage_items layout pair (Sent bytes) = no_holes layout pair (blocks (block_size layout) bytes)
 
 module _ (codecs : List CodecState) (tag word : ℕ) (layout : Layout) (known : layout_of word ≡ Some layout) where
-  frame_is : (address pin : ℕ) (signal : Signal) (frame : CarriedFrame) → IsSteadyFrame codecs tag word (block_size layout) frame → signal_with (codec_at address codecs) tag word (Some layout) pin ≡ signal
+  pub frame_is : (address pin : ℕ) (signal : Signal) (frame : CarriedFrame) → IsSteadyFrame codecs tag word (block_size layout) frame → signal_with (codec_at address codecs) tag word (Some layout) pin ≡ signal
       → frame_items address pin frame ≡ items_of (Some layout) signal frame.carriage
   frame_is address pin signal frame steady is =
       let format : layout_of frame.format ≡ Some layout = ap layout_of steady.word_is ∙ known in

@@ -1,3 +1,5 @@
 pub mod Steadying
 pub mod Blocks
 pub mod Hearing
+pub mod Playing
+pub mod LineHeard

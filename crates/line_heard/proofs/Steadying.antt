@@ -1,7 +1,6 @@
 -- The device keeps what is steady.
-use Rattle.std.proofs.Common.{◌≡◌, ◌≤◌, ◌<◌, ◌+◌, ◌-◌, ◌*◌, ◌==◌, ◌&&◌, ℕ, Bool, true, false, not, List, [], ◌∷◌, ◌++◌, length, map, take, drop, Option, Some, None, refl, sym, ap, ap₂, subst, ◌∙◌, arith, rules, if◌then◌else◌, length-append, length-drop}
+use Rattle.std.proofs.Common.{◌≡◌, ◌≤◌, ◌*◌, ◌==◌, ◌&&◌, ℕ, Bool, true, false, not, List, [], ◌∷◌, ◌++◌, length, take, drop, Option, Some, None, refl, sym, ap, ap₂, subst, ◌∙◌, arith, rules, if◌then◌else◌, length-append, length-drop}
 use Rattle.std.specs.Prelude.{All}
-use Rattle.std.proofs.lemmas.Bool.{true≢false}
 use Rattle.std.proofs.lemmas.List.{length-take-le, drop-append-le}
 use Rattle.std.proofs.lemmas.List.Elements.{All-push}
 use Rattle.codec_graph.specs.declared.raw.RawCodec.{RawCodec}
@@ -14,18 +13,17 @@ use Rattle.hda_registers.specs.Moves.{raised}
 use Rattle.hda_registers.specs.declared.shapes.Raise.TheVariants as event
 use Rattle.ring_entries.specs.declared.response.Response.{Response}
 use Rattle.ring_entries.specs.Entries.{after_response, after_responses}
-use Rattle.ring_entries.specs.Engines.{after_batch, batch, can_fetch}
-use Rattle.stream_format.specs.Layouts.{Layout, layout_of, frame_bytes}
+use Rattle.ring_entries.specs.Engines.{after_batch}
+use Rattle.stream_format.specs.Layouts.{Layout, layout_of}
 use Rattle.stream_format.specs.Cadence.{blocks_of}
 use Rattle.stream_moves.specs.Streams.{Stream, due, due_by, held, held_bytes}
 use Rattle.stream_moves.specs.Output.{Carriage, Sent, Missed}
 use Rattle.device_steps.specs.declared.Step.{Step}
-use Rattle.device_steps.specs.declared.Step.TheVariants as step
 use Rattle.hda_world.specs.Worlds.{World, CarriedFrame, with_codec, output_of}
-use Rattle.hda_world.specs.Steps.{passed, responded, after_steps}
+use Rattle.hda_world.specs.Steps.{passed, after_steps}
 use Rattle.hda_world.specs.Kept.{Kept, KeptByFrames, unmoved}
 use Rattle.hda_world.specs.Streaming.{bytes_of}
-use Rattle.hda_world.proofs.Callers.{kept_steps, frames_after, passed_global, step_leaves_streams}
+use Rattle.hda_world.proofs.Callers.{kept_steps, frames_after, passed_global}
 use Rattle.codec_sound.specs.HeardLists.{block_size}
 use Rattle.line_heard.specs.Steady.{settings_of, IsSteadyFrame, SteadyBy, Steady}
 

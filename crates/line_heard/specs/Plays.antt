@@ -1,6 +1,6 @@
 -- What it means that a pin's list is a line of bytes that was played. This project's own, over the blocks and samples of High Definition
 -- Audio 1.0a, 4.5.1.
-use Rattle.std.specs.Prelude.{◌≡◌, ◌≤◌, ◌<◌, ℕ, zero, suc, ◌+◌, ◌*◌, Bool, true, false, not, List, ◌++◌, length, map, filter, replicate, get_or}
+use Rattle.std.specs.Prelude.{◌≡◌, ◌≤◌, ◌<◌, ℕ, ◌+◌, ◌*◌, Bool, true, false, not, List, ◌++◌, length, map, filter, replicate, get_or}
 use Rattle.std.specs.List.{range_with_len}
 use Rattle.stream_format.specs.Layouts.{Layout}
 use Rattle.codec_sound.specs.declared.signals.Signal.TheVariants.{Pair}

@@ -3,4 +3,4 @@
 
 mod laws;
 
-pub use laws::steps_keep_it_steady;
+pub use laws::{silent_pins_hear_nothing, steps_keep_it_steady, the_line_is_heard};

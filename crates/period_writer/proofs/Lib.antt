@@ -32,3 +32,4 @@ pub mod RunTelling
 pub mod RunClause
 pub mod RegistersBeside
 pub mod BetweenRuns
+pub mod Callers
