@@ -4,6 +4,7 @@ ghost use Rattle.codec_graph.specs.CodecStates.{CodecState};
 ghost use Rattle.device_steps.specs.declared.Step.{Step};
 ghost use Rattle.hda_world.specs.Worlds.{World, codec_at};
 ghost use Rattle.hda_world.specs.Steps.{after_steps};
+ghost use Rattle.hda_world.specs.Events.{Event, after};
 ghost use Rattle.hda_world.specs.Streaming.{HasSent};
 ghost use Rattle.stream_format.specs.Layouts.{Layout, layout_of};
 ghost use Rattle.codec_sound.specs.declared.signals.Signal.TheVariants.{Pair, Silence};
@@ -14,13 +15,21 @@ ghost use Rattle.period_writer.specs.Standing.{Ring, limit_in};
 ghost use Rattle.period_writer.specs.Owning.{IsPlaying};
 ghost use Rattle.period_writer.specs.Outcomes.{HasDrained, WasLate};
 ghost use Rattle.line_heard.specs.Plays.{Plays, PlaysBelow, IsSilent};
-ghost use Rattle.line_heard.specs.Steady.{Steady};
+ghost use Rattle.line_heard.specs.Steady.{Steady, LeavesSteady};
 
 /// While CORB has no command that was not fetched, no step of the device changes a setting.
 pub fn steps_keep_it_steady()
     ensures { (codecs : List CodecState) (tag word : ℕ) (layout : Layout) (from : ℕ) (steps : List Step) (world : World)
         → layout_of word ≡ Some layout → Steady codecs tag word (block_size layout) from world
         → Steady codecs tag word (block_size layout) from (after_steps steps world) }
+{}
+
+/// Nor does a read, a mark, a write of memory, or a write beside GCTL, the rings and the descriptors; a write of a descriptor's status
+/// and the one that stops the stream leave its tag and its format too.
+pub fn accesses_beside_keep_it_steady()
+    ensures { (codecs : List CodecState) (tag word : ℕ) (layout : Layout) (from : ℕ) (events : List Event) (world : World)
+        → layout_of word ≡ Some layout → All LeavesSteady events → Steady codecs tag word (block_size layout) from world
+        → Steady codecs tag word (block_size layout) from (after events world) }
 {}
 
 /// A pin that hears a pair of a steady stream heard, but for its holes, the pair's samples of the line that a writer plays, from its

@@ -3,4 +3,7 @@
 
 mod laws;
 
-pub use laws::{silent_pins_hear_nothing, steps_keep_it_steady, the_line_is_heard};
+pub use laws::{
+    accesses_beside_keep_it_steady, silent_pins_hear_nothing, steps_keep_it_steady,
+    the_line_is_heard,
+};
