@@ -1,4 +1,5 @@
 pub mod Steadying
+pub mod StartedSteady
 pub mod SteadyEvents
 pub mod Blocks
 pub mod Hearing

@@ -1,12 +1,14 @@
 //! Laws of what is heard, each the contract of a function that does nothing.
-ghost use Rattle.std.specs.Prelude.{◌≡◌, ◌≤◌, ◌+◌, ◌*◌, ℕ, true, false, List, Some, All, drop};
+ghost use Rattle.std.specs.Prelude.{◌≡◌, ◌≤◌, ◌+◌, ◌*◌, ℕ, true, false, List, Some, All, length, drop};
 ghost use Rattle.codec_graph.specs.CodecStates.{CodecState};
 ghost use Rattle.device_steps.specs.declared.Step.{Step};
 ghost use Rattle.hda_world.specs.Worlds.{World, codec_at};
 ghost use Rattle.hda_world.specs.Steps.{after_steps};
 ghost use Rattle.hda_world.specs.Events.{Event, after};
 ghost use Rattle.hda_world.specs.Streaming.{HasSent};
-ghost use Rattle.stream_format.specs.Layouts.{Layout, layout_of};
+ghost use Rattle.stream_format.specs.Layouts.{Layout, layout, layout_of};
+ghost use Rattle.stream_format.specs.Words.{format_word};
+ghost use Rattle.stream_moves.specs.Streams.{begun};
 ghost use Rattle.codec_sound.specs.declared.signals.Signal.TheVariants.{Pair, Silence};
 ghost use Rattle.codec_sound.specs.HeardLists.{block_size, signal_with, heard};
 ghost use Rattle.period_writer.specs.Runs.{Tally};
@@ -30,6 +32,15 @@ pub fn accesses_beside_keep_it_steady()
     ensures { (codecs : List CodecState) (tag word : ℕ) (layout : Layout) (from : ℕ) (events : List Event) (world : World)
         → layout_of word ≡ Some layout → All LeavesSteady events → Steady codecs tag word (block_size layout) from world
         → Steady codecs tag word (block_size layout) from (after events world) }
+{}
+
+/// A stream is steady where a first run has just set it going and CORB has no command that was not fetched, and what link frames carry of
+/// it from there on is what is fetched.
+pub fn a_started_stream_is_steady()
+    ensures steady { (ring : Ring) (pcm : List ℕ) (tally : Tally) (world : World) → IsPlaying ring pcm tally world
+        → world.registers.global.corb_read_pointer ≡ world.registers.global.corb_write_pointer
+        → Steady world.codecs 1 (format_word ring.geometry.format) (block_size (layout ring.geometry.format)) (length world.carried) world }
+    ensures sent { (world : World) → world.output ≡ begun → HasSent (length world.carried) world }
 {}
 
 /// A pin that hears a pair of a steady stream heard, but for its holes, the pair's samples of the line that a writer plays, from its

@@ -4,6 +4,6 @@
 mod laws;
 
 pub use laws::{
-    accesses_beside_keep_it_steady, silent_pins_hear_nothing, steps_keep_it_steady,
-    the_line_is_heard,
+    a_started_stream_is_steady, accesses_beside_keep_it_steady, silent_pins_hear_nothing,
+    steps_keep_it_steady, the_line_is_heard,
 };

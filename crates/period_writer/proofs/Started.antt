@@ -132,8 +132,8 @@ start_tells ring pcm tally tally' budget from in_reset ready to words fresh reco
     let there = world_of-went risen new told.events told.went in
     let passed = read_leads Any (Passed (world_of risen).frames) WALCLK to (passed_kept (world_of risen).frames) (λ world step holds. tt) (λ world holds. tt) told.events (world_of risen) told.woven told.went.honest (omega arith) in
     let later : (world_of risen).frames ≤ (world_of new).frames = subst (λ (world : World). (world_of risen).frames ≤ world.frames) (sym there) passed.1 in
-    let rises = subst (λ (t : Tally). IsPlaying ring pcm t (world_of risen)) (sym recorded)
-    (start_rises ring pcm tally budget from in_reset ready to words fresh old risen region can (not_wrapped (world_of risen).frames (world_of new).frames later few) rise) in
+    let begins = start_rises ring pcm tally budget from in_reset ready to words fresh old risen region can (not_wrapped (world_of risen).frames (world_of new).frames later few) rise in
+    let rises = subst (λ (t : Tally). IsPlaying ring pcm t (world_of risen)) (sym recorded) begins.0 in
     let plays = last_read ring (line_of tally' pcm) tally'.course.at rises.since tally'.course.reach to rises.reach_is told.events (world_of risen) told.woven told.went.honest (rises.stands, rises.paced) in
     record {
       from = from;
@@ -146,6 +146,7 @@ start_tells ring pcm tally tally' budget from in_reset ready to words fresh reco
       after = read;
       recorded = recorded;
       rises = rises;
+      anew = begins.1;
       went = told.went;
       moments = subst (λ (clock : ℕ). AtEach (IsOwned ring (line_of tally' pcm) tally'.course.reach 0 0 clock) told.events (world_of risen)) (sym rises.clock_from) plays.0;
       plays = plays_still ring pcm tally' (world_of risen) (world_of new) rises (subst (PlaysBy ring (line_of tally' pcm) tally'.course.at rises.since tally'.course.reach) (sym there) plays.1);

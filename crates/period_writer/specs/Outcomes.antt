@@ -3,6 +3,7 @@ use Rattle.std.specs.Prelude.{◌≡◌, ◌≤◌, ◌<◌, ℕ, ◌*◌, ◌%�
 use Rattle.hda_registers.specs.Fields.{is_running}
 use Rattle.hda_registers.specs.declared.shapes.Width.TheVariants.{Four}
 use Rattle.hda_registers.specs.declared.places.TheConstants.{WALCLK}
+use Rattle.stream_moves.specs.Streams.{begun}
 use Rattle.hda_world.specs.Worlds.{World}
 use Rattle.hda_world.specs.Events.{Event, Read}
 use Rattle.hda_world.specs.Tellings.{Telling, Went, Makes, world_of}
@@ -75,7 +76,8 @@ pub record CanBegin (ring : Ring) (world : World) : Type 0 where
   pub fifo : world.registers.shape.fifo ≡ ring.geometry.fifo
   pub beside : AreBesideRirb ring world.registers.global.rirb_base world.registers.shape
 
--- a first run: from the rise of RUN on the writer plays, and at each moment the device owns what it was left
+-- a first run: from the rise of RUN on, with which the stream begins anew, the writer plays, and at each moment the device owns what it
+-- was left
 pub record StartTells (ring : Ring) (pcm : List ℕ) (budget : ℕ) (tally tally' : Tally) (old new : Telling) : Type 0 where
   pub from : ℕ
   pub in_reset : ℕ
@@ -88,6 +90,7 @@ pub record StartTells (ring : Ring) (pcm : List ℕ) (budget : ℕ) (tally tally
   pub after : Makes (Read WALCLK Four to ∷ []) risen new
   pub recorded : tally' ≡ tally_after (measures ring.geometry) tally (facts_of budget (length pcm) from 0 to)
   pub rises : IsPlaying ring pcm tally' (world_of risen)
+  pub anew : (world_of risen).output ≡ begun
   pub went : Went risen new events
   pub moments : AtEach (IsOwned ring (line_of tally' pcm) tally'.course.reach 0 0 tally'.course.from) events (world_of risen)
   pub plays : IsPlaying ring pcm tally' (world_of new)
