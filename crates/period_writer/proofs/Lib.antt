@@ -7,3 +7,10 @@ pub mod Silences
 pub mod CourseLaws
 pub mod Runnings
 pub mod LineLaws
+pub mod Fetched
+pub mod Paces
+pub mod RingMemory
+pub mod RingKept
+pub mod RingPlaces
+pub mod RingWrites
+pub mod LineWritten

@@ -139,13 +139,13 @@ maximal_silence low (one ∷ other ∷ more) reach sound end laid within longer 
 
 -- ---- a run
 
-run_longer : (m : Measures) (runs : ℕ) (course : Course) (facts : RunFacts) → IsCourse m.ring runs course → course.reach ≤ run_reach m course facts
+pub run_longer : (m : Measures) (runs : ℕ) (course : Course) (facts : RunFacts) → IsCourse m.ring runs course → course.reach ≤ run_reach m course facts
 run_longer m runs course facts is = by_test course.started is.reach where
   by_test : (started : Bool) → course.reach ≡ (if started then course.at + m.ring else 0) → course.reach ≤ (if started then position_from m.ring course.at facts.lpib else 0) + m.ring
   by_test true e = omega (arith, e)
   by_test false e = omega (arith, e)
 
-run_fits : (m : Measures) (course : Course) (facts : RunFacts) → run_sound m course facts ≤ run_room m course facts
+pub run_fits : (m : Measures) (course : Course) (facts : RunFacts) → run_sound m course facts ≤ run_room m course facts
 run_fits m course facts = fits m.block facts.budget (run_room m course facts) facts.left where
   fits : (block budget room left : ℕ) → whole_blocks block (min budget (min room left)) ≤ room
   fits block budget room left = grind arith
