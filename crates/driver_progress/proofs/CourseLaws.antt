@@ -1,12 +1,10 @@
 -- How the course goes on over events.
-use Rattle.std.proofs.Common.{◌≡◌, ◌≢◌, ℕ, List, [], ◌∷◌, ◌++◌, map, Bool, true, false, refl, sym, ap, subst, ◌∙◌, append_assoc, append-nil, ◌==◌, if◌then◌else◌}
+use Rattle.std.proofs.Common.{◌≡◌, List, [], ◌∷◌, ◌++◌, map, refl}
 use Rattle.device_steps.specs.declared.Step.{Step}
 use Rattle.hda_world.specs.Worlds.{World}
-use Rattle.hda_world.specs.Events.{Event, Stepped, Begin, End, Read, Write, DmaRead, DmaWrite, happens, after}
-use Rattle.hda_world.specs.Moments.{AreWoven}
-use Rattle.driver_progress.specs.Tasks.{Task, DriverLine}
-use Rattle.driver_progress.specs.States.{State}
-use Rattle.driver_progress.specs.Progress.{Course, noted, course_after, FitsAt, Conforms}
+use Rattle.hda_world.specs.Events.{Event, Stepped, happens, after}
+use Rattle.driver_progress.specs.Tasks.{Task}
+use Rattle.driver_progress.specs.Progress.{Course, noted, course_after, Conforms}
 
 pub course_append : (task : Task) (front back : List Event) (world : World) (course : Course)
     → course_after task (front ++ back) world course ≡ course_after task back (after front world) (course_after task front world course)

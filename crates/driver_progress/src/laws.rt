@@ -7,9 +7,11 @@ ghost use Rattle.hda_world.specs.Worlds.{World};
 ghost use Rattle.hda_world.specs.Events.{Event, Stepped, Read, Write, DmaWrite, after};
 ghost use Rattle.period_writer.specs.declared.course.Ran.TheVariants as ran;
 ghost use Rattle.driver_progress.specs.declared.phase.Phase.TheVariants.{Settling, Walking, SettingUp, Ready, Playing, Drained, Unanswered, Late};
-ghost use Rattle.driver_progress.specs.Tasks.{Task};
+ghost use Rattle.hda_world.specs.Tellings.{Telling, Makes};
+ghost use Rattle.driver_progress.specs.Tasks.{Task, DriverLine};
 ghost use Rattle.driver_progress.specs.States.{state_opened};
-ghost use Rattle.driver_progress.specs.Progress.{Course, course_after, Conforms};
+ghost use Rattle.driver_progress.specs.Progress.{Course, course_opened, course_after, course_of, Conforms};
+ghost use Rattle.driver_progress.specs.Noting.{ArePlain, with_accesses};
 ghost use Rattle.driver_progress.specs.Worked as worked;
 
 /// Worked stretches of the reset: its clock is kept, and the codecs have 12,500 ticks from it on to announce themselves.
@@ -86,4 +88,11 @@ pub fn courses_go_on()
         → Conforms task front world course }
     ensures back { (task : Task) (front back : List Event) (world : World) (course : Course) → Conforms task (front ++ back) world course
         → Conforms task back (after front world) (course_after task front world course) }
+{}
+
+/// A row of accesses among which no read of RIRBSTS and no write of CORBWP is adds to what a stretch made, and the journal still conforms.
+pub fn rows_are_made()
+    ensures { (task : Task) (lines : List DriverLine) (made : List Event) (old new : Telling) → Makes made old new → ArePlain made
+        → (course_of task lines new ≡ with_accesses (course_of task lines old) made)
+        × (Conforms task old.journal old.start (course_opened lines) → Conforms task new.journal new.start (course_opened lines)) }
 {}
