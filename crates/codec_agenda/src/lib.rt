@@ -7,4 +7,5 @@ mod fault;
 mod plans;
 
 
+pub use agenda::Agenda;
 pub use fault::AgendaFault;

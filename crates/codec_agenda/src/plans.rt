@@ -1,6 +1,7 @@
 //! The plans of graphs, and the verbs for them.
-ghost use Rattle.std.specs.Prelude.{◌≡◌, IfOk, length};
+ghost use Rattle.std.specs.Prelude.{◌≡◌, ◌≤◌, All, IfOk, length};
 ghost use Rattle.std.specs.List.{list_any};
+ghost use Rattle.verb_codes.specs.Verbs.{IsInRange};
 ghost use Rattle.codec_agenda.specs.Planned.{ArePlansBy, verbs_for, is_route, has_route};
 
 use codec_graph::Graph;
@@ -30,6 +31,24 @@ pub(crate) fn plans_of<T: Setter>(
     Ok(plans)
 }
 
+/// The verbs of a graph for its plan.
+fn verbs_of_one<T: Setter>(
+    alloc: Global,
+    setter: &T,
+    graph: &Graph,
+    plan: &Plan,
+    format: Format,
+) -> Result<Vec<Command>, AllocError>
+    requires plan { T.IsPlanBy setter.now graph.now format plan.now }
+    requires of_it { graph.now.address ≤ 14 }
+    ensures value { IfOk result (λ verbs. verbs.items ≡ T.verbs_by setter.now graph.now plan.now format TAG) }
+    ensures in_range { IfOk result (λ verbs. All IsInRange verbs.items) }
+{
+    let _raw = graph.raw();
+    let verbs = setter.verbs(alloc, graph, plan, format, TAG)?;
+    Ok(verbs)
+}
+
 /// The verbs of each graph for its plan, one graph's after the other's.
 pub(crate) fn verbs_of<T: Setter>(
     alloc: Global,
@@ -38,12 +57,14 @@ pub(crate) fn verbs_of<T: Setter>(
     plans: &[Plan],
     format: Format,
 ) -> Result<Vec<Command>, AllocError>
-    requires { ArePlansBy (λ graph. T.IsPlanBy setter.now graph format) graphs.now plans.now }
-    ensures { IfOk result (λ verbs. verbs.items ≡ verbs_for (λ graph plan. T.verbs_by setter.now graph plan format TAG) graphs.now plans.now) }
+    requires plans { ArePlansBy (λ graph. T.IsPlanBy setter.now graph format) graphs.now plans.now }
+    requires of_them { All (λ graph. graph.address ≤ 14) graphs.now }
+    ensures in_range { IfOk result (λ verbs. All IsInRange verbs.items) }
+    ensures value { IfOk result (λ verbs. verbs.items ≡ verbs_for (λ graph plan. T.verbs_by setter.now graph plan format TAG) graphs.now plans.now) }
 {
     let mut all = Vec::new(alloc);
     for index in 0..graphs.len() {
-        let verbs = setter.verbs(alloc, &graphs[index], &plans[index], format, TAG)?;
+        let verbs = verbs_of_one(alloc, setter, &graphs[index], &plans[index], format)?;
         all.extend_from_slice(&verbs)?;
     }
     Ok(all)
