@@ -4,8 +4,10 @@
 
 mod agenda;
 mod fault;
+mod laws;
 mod plans;
 
 
 pub use agenda::Agenda;
 pub use fault::AgendaFault;
+pub use laws::agendas_ask_in_order;
