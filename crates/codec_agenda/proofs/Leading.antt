@@ -1,5 +1,5 @@
 -- Where an answer leads an agenda.
-use Rattle.std.proofs.Common.{◌≡◌, ◌≤◌, ℕ, List, [], ◌∷◌, ◌++◌, Bool, true, false, if◌then◌else◌, refl, sym, ap, subst, ◌∙◌}
+use Rattle.std.proofs.Common.{ℕ, List, [], ◌∷◌, ◌++◌, Bool, true, false, if◌then◌else◌, sym, subst}
 use Rattle.std.specs.Prelude.{IsSome, All}
 use Rattle.std.proofs.lemmas.List.Elements.{All-append, All-cons, All-nil}
 use Rattle.verb_codes.specs.declared.verbs.Command.{Command}
@@ -8,7 +8,7 @@ use Rattle.route_planner.specs.declared.routes.Plan.{Plan}
 use Rattle.codec_walk.specs.Dialogues.{Dialogue, Ask, Told, question}
 use Rattle.codec_walk.specs.Walks.{unknown}
 use Rattle.codec_agenda.specs.declared.agenda.Agenda.{Agenda}
-use Rattle.codec_agenda.specs.Agendas.{GoesOn, WalksOn, WalkEnds, LedByDialogue, GivesGraph}
+use Rattle.codec_agenda.specs.Agendas.{GoesOn, WalksOn, LedByDialogue, GivesGraph}
 
 pub walk_ends : (P : RawCodec → Plan → Type 0) (v : RawCodec → Plan → List Command) (dialogue : Dialogue) (graph : RawCodec) (addresses : List ℕ) (graphs : List RawCodec) (new : Agenda)
     → GivesGraph dialogue graph → GoesOn P v addresses (graphs ++ graph ∷ []) new → LedByDialogue P v dialogue addresses graphs new

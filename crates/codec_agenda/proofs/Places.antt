@@ -1,14 +1,13 @@
 -- Where a command stands among all commands, and that those of a walk go to its codec.
-use Rattle.std.proofs.Common.{◌≡◌, ◌<◌, ◌+◌, ℕ, zero, suc, List, [], ◌∷◌, ◌++◌, length, map, Some, None, Bool, true, false, if◌then◌else◌, refl, sym, ap, subst, ◌∙◌, arith}
+use Rattle.std.proofs.Common.{◌≡◌, ◌<◌, ◌+◌, ℕ, zero, suc, List, [], ◌∷◌, ◌++◌, length, map, Some, Bool, true, false, if◌then◌else◌, refl, ap, subst, arith}
 use Rattle.std.specs.Prelude.{slice_get, All, filter}
 use Rattle.std.proofs.lemmas.List.Elements.{All-append, All-cons, All-nil}
 use Rattle.verb_codes.specs.declared.verbs.Command.{Command}
 use Rattle.codec_graph.specs.declared.raw.RawNode.{RawNode}
 use Rattle.codec_graph.specs.declared.raw.RawCodec.{RawCodec}
 use Rattle.codec_graph.specs.Widget.{has_list, has_power_control}
-use Rattle.codec_walk.specs.Words.{parameter_command, codec_words, codec_command, node_words, applies, word_command}
-use Rattle.codec_walk.specs.Commands.{walk_commands, nodes_commands, node_commands, connection_commands, power_commands, entry_commands}
-use Rattle.verb_codes.specs.declared.parameters.Parameter.TheVariants as parameter
+use Rattle.codec_walk.specs.Words.{codec_words, codec_command, node_words, applies, word_command}
+use Rattle.codec_walk.specs.Commands.{walk_commands, nodes_commands, node_commands}
 
 pub get_front : {X : Type 0} (xs ys : List X) (i : ℕ) → i < length xs → slice_get (xs ++ ys) i ≡ slice_get xs i
 get_front {X} [] ys i there = absurd (omega (arith, there))

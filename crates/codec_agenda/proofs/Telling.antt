@@ -1,5 +1,5 @@
 -- What a walk tells is a codec with the walk's address.
-use Rattle.std.proofs.Common.{◌≡◌, ℕ, List, [], ◌∷◌, Some, None, Option, Ok, refl, sym, ap, subst, ◌∙◌, ◌<◌, length, get_or, arith}
+use Rattle.std.proofs.Common.{◌≡◌, ℕ, List, [], ◌∷◌, Some, None, Ok, refl, sym, ap, subst, ◌∙◌, ◌<◌, length, get_or, arith}
 use Rattle.std.proofs.lemmas.List.{get_or_read_under}
 use Rattle.std.specs.Prelude.{IsSome, slice_index}
 use Rattle.verb_codes.specs.declared.verbs.Command.{Command}

@@ -1,9 +1,8 @@
 -- Where an agenda stands, and where an answer leads it. This project's own.
-use Rattle.std.specs.Prelude.{◌≡◌, ◌<◌, ◌≤◌, ℕ, ◌+◌, true, false, List, [], ◌∷◌, ◌++◌, length, slice_get, slice_index, Option, Some, None, Result, Ok, Err}
+use Rattle.std.specs.Prelude.{◌≡◌, ◌<◌, ◌≤◌, ℕ, ◌+◌, true, false, List, [], ◌∷◌, ◌++◌, length, slice_get, slice_index, Option, Some, None}
 use Rattle.std.specs.List.{list_any}
 use Rattle.verb_codes.specs.declared.verbs.Command.{Command}
 use Rattle.codec_graph.specs.declared.raw.RawCodec.{RawCodec}
-use Rattle.stream_format.specs.declared.format.Format.{Format}
 use Rattle.route_planner.specs.declared.routes.Plan.{Plan}
 use Rattle.codec_walk.specs.declared.walk.Walk.{Walk}
 use Rattle.codec_walk.specs.declared.fault.WalkFault.{WalkFault}
@@ -12,8 +11,6 @@ use Rattle.codec_walk.specs.Walks.{walk}
 use Rattle.codec_walk.specs.Outcomes.{IsGood, IsFaultOf}
 use Rattle.codec_walk.specs.Remaining.{remaining}
 use Rattle.codec_agenda.specs.declared.agenda.Agenda.{Agenda}
-use Rattle.codec_agenda.specs.declared.fault.AgendaFault.{AgendaFault}
-use Rattle.codec_agenda.specs.declared.fault.AgendaFault.TheVariants.{Malformed, NothingRouted, OutOfMemory}
 use Rattle.codec_agenda.specs.Planned.{ArePlansBy, verbs_for, has_route}
 
 -- the command that comes next: the question of the walk that is under way, or the verb after those that were answered

@@ -1,7 +1,5 @@
 -- What holds of every agenda. This project's own.
-use Rattle.std.specs.Prelude.{◌≡◌, ◌≤◌, ◌<◌, ℕ, List, length, slice_index, All, Option, Some, None, IsSome}
-use Rattle.verb_codes.specs.declared.verbs.Command.{Command}
-use Rattle.verb_codes.specs.Verbs.{IsInRange}
+use Rattle.std.specs.Prelude.{◌≡◌, ◌<◌, ℕ, List, length, slice_index, Some, IsSome}
 use Rattle.codec_graph.specs.declared.raw.RawCodec.{RawCodec}
 use Rattle.codec_walk.specs.declared.walk.Walk.{Walk}
 use Rattle.codec_walk.specs.Dialogues.{Dialogue, question, after, told}

@@ -7,7 +7,6 @@ mod fault;
 mod laws;
 mod plans;
 
-
 pub use agenda::Agenda;
 pub use fault::AgendaFault;
-pub use laws::agendas_ask_in_order;
+pub use laws::{agendas_ask_in_order, agendas_follow};

@@ -1,4 +1,4 @@
-use Rattle.std.proofs.Common.{◌≡◌, ◌<◌, ◌≤◌, ◌+◌, take, length, get_or, sym, subst, List, [], ◌∷◌, ◌++◌, arith, add-one, ap, ◌∙◌}
+use Rattle.std.proofs.Common.{◌≡◌, ◌<◌, ◌+◌, take, length, get_or, sym, subst, List, ◌++◌, arith, add-one, ap, ◌∙◌}
 use Rattle.std.specs.Prelude.{All}
 use Rattle.std.proofs.lemmas.List.{take_all}
 use Rattle.std.proofs.lemmas.List.Elements.{All-append}
@@ -6,7 +6,7 @@ use Rattle.verb_codes.specs.Verbs.{IsInRange}
 use Rattle.verb_codes.specs.declared.verbs.Command.{Command}
 use Rattle.codec_graph.specs.declared.raw.RawCodec.{RawCodec}
 use Rattle.route_planner.specs.declared.routes.Plan.{Plan}
-use Rattle.codec_agenda.specs.Planned.{ArePlansBy, verbs_for}
+use Rattle.codec_agenda.specs.Planned.{verbs_for}
 use Rattle.codec_agenda.specs.declared.plans.TheConstants.{TAG}
 use Rattle.codec_agenda.proofs.Planning.{plans_long, plans_at, verbs_more}
 use Rattle.codec_agenda.proofs.plans.verbs_of.Goals as goal
@@ -33,16 +33,19 @@ loop-index-preserved g c =
     let plan-is : c.index-plans-index.result ≡ get_or c.args.plans.now c.loop-index.index c.index-plans-index.result = c.index-plans-index.is in
     let verbs-are : c.in_ok-verbs.verbs.items ≡ f c.index-graphs-index.result c.index-plans-index.result = c.in_ok-verbs.ensures.value in
     let one : c.in_ok-verbs.verbs.items ≡ f (get_or c.args.graphs.now c.loop-index.index c.index-graphs-index.result) (get_or c.args.plans.now c.loop-index.index c.index-plans-index.result) =
-        verbs-are ∙ (ap (λ (graph : RawCodec). f graph c.index-plans-index.result) graph-is
-        ∙ ap (λ (plan : Plan). f (get_or c.args.graphs.now c.loop-index.index c.index-graphs-index.result) plan) plan-is) in
+    verbs-are ∙ (ap (λ (graph : RawCodec). f graph c.index-plans-index.result) graph-is
+    ∙ ap (λ (plan : Plan). f (get_or c.args.graphs.now c.loop-index.index c.index-graphs-index.result) plan) plan-is) in
     let given : c.deref.result.now ≡ c.in_ok-verbs.verbs.items = c.deref.ensures.value in
     let extended : c.extend_from_slice.new.self.items ≡ c.loop-index.all.items ++ c.deref.result.now = c.in_ok-extend_from_slice.ensures.items in
     let here : c.extend_from_slice.new.self.items ≡ verbs_for f (take (c.loop-index.index + 1) c.args.graphs.now) (take (c.loop-index.index + 1) c.args.plans.now) =
-        rw add-one (extended ∙ ap (λ (list : List Command). c.loop-index.all.items ++ list) (given ∙ one)
-        ∙ ap (λ (list : List Command). list ++ f (get_or c.args.graphs.now c.loop-index.index c.index-graphs-index.result) (get_or c.args.plans.now c.loop-index.index c.index-plans-index.result)) c.loop-index.invariant.value
-        ∙ sym grown) in
-    record { in_range = subst (λ (verbs : List Command). All IsInRange verbs) (sym extended)
-        (All-append IsInRange c.loop-index.all.items c.deref.result.now c.loop-index.invariant.in_range (subst (λ (verbs : List Command). All IsInRange verbs) (sym given) c.in_ok-verbs.ensures.in_range)); value = here }
+    rw add-one (extended ∙ ap (λ (list : List Command). c.loop-index.all.items ++ list) (given ∙ one)
+    ∙ ap (λ (list : List Command). list ++ f (get_or c.args.graphs.now c.loop-index.index c.index-graphs-index.result) (get_or c.args.plans.now c.loop-index.index c.index-plans-index.result)) c.loop-index.invariant.value
+    ∙ sym grown) in
+    record {
+      in_range = subst (λ (verbs : List Command). All IsInRange verbs) (sym extended)
+          (All-append IsInRange c.loop-index.all.items c.deref.result.now c.loop-index.invariant.in_range (subst (λ (verbs : List Command). All IsInRange verbs) (sym given) c.in_ok-verbs.ensures.in_range));
+      value = here;
+    }
 
 pub returns-clause-value : goal.returns-clause-value
 returns-clause-value g c =

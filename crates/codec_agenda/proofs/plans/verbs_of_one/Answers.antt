@@ -1,8 +1,7 @@
-use Rattle.std.proofs.Common.{◌≤◌, ◌<◌, ℕ, List, sym, subst, length, arith, lit≤}
+use Rattle.std.proofs.Common.{ℕ, List, sym, subst, lit≤}
 use Rattle.std.specs.Prelude.{All}
 use Rattle.verb_codes.specs.declared.verbs.Command.{Command}
 use Rattle.verb_codes.specs.Verbs.{IsInRange}
-use Rattle.setup_verbs.specs.SetUp.{IsCommandOf}
 use Rattle.codec_agenda.proofs.plans.verbs_of_one.Goals as goal
 
 pub returns-clause-in_range : goal.returns-clause-in_range

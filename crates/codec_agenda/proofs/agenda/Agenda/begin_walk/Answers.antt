@@ -1,6 +1,5 @@
-use Rattle.std.proofs.Common.{◌≡◌, ◌<◌, ℕ, Some, refl, sym, ap, subst, ◌∙◌, arith, rules}
-use Rattle.std.specs.Prelude.{slice_index, length}
-use Rattle.codec_walk.specs.declared.walk.Walk.{Walk}
+use Rattle.std.proofs.Common.{◌≡◌, ℕ, refl, ap, subst, ◌∙◌, rules}
+use Rattle.std.specs.Prelude.{length}
 use Rattle.codec_walk.specs.Walks.{walk}
 use Rattle.codec_walk.specs.Remaining.{remaining}
 use Rattle.codec_agenda.specs.Sound.{IsUnderWay, TellsOf}

@@ -1,8 +1,7 @@
-use Rattle.std.proofs.Common.{◌≡◌, ◌≤◌, ◌<◌, ℕ, List, sym, subst, get_or, length, arith, rules}
+use Rattle.std.proofs.Common.{◌≡◌, ◌≤◌, List, sym, subst, get_or, length, arith, rules}
 use Rattle.std.specs.Prelude.{All}
 use Rattle.std.specs.Result.{is_ok}
 use Rattle.codec_graph.specs.declared.raw.RawCodec.{RawCodec}
-use Rattle.verb_codes.specs.declared.verbs.Command.{Command}
 use Rattle.route_planner.specs.declared.routes.Plan.{Plan}
 use Rattle.std.proofs.lemmas.Result.{on_ok_weaker}
 use Rattle.codec_walk.specs.Remaining.{remaining}

@@ -1,8 +1,7 @@
-use Rattle.std.proofs.Common.{◌≡◌, ◌<◌, ℕ, Some, refl, sym, ap, subst, ◌∙◌, arith, rules}
+use Rattle.std.proofs.Common.{◌≡◌, refl, sym, subst, ◌∙◌}
 use Rattle.std.specs.Prelude.{Option, true, slice_index, length, IsSome}
 use Rattle.std.specs.Option.{is_some}
 use Rattle.verb_codes.specs.declared.verbs.Command.{Command}
-use Rattle.codec_walk.specs.declared.walk.Walk.{Walk}
 use Rattle.codec_walk.specs.Dialogues.{Dialogue, question, answered}
 use Rattle.codec_walk.specs.Remaining.{remaining}
 use Rattle.codec_agenda.specs.Sound.{IsUnderWay, TellsOf}
