@@ -1,0 +1,5 @@
+pub mod Resetting
+pub mod Settling
+pub mod Commands
+pub mod Interrupts
+pub mod Shutting
