@@ -4,12 +4,14 @@
 
 mod commands;
 mod interrupts;
+mod laws;
 mod resetting;
 mod settling;
 mod shutting;
 
 pub use commands::{Asked, ask};
 pub use interrupts::has_interrupt;
+pub use laws::stretches_are_expected;
 pub use resetting::reset;
 pub use settling::{SETTLING_TICKS, Settled, settle};
 pub use shutting::shut;
