@@ -1,7 +1,6 @@
 -- The accesses of stretches are those that progress expects, and lead where it says.
-use Rattle.std.proofs.Common.{◌≡◌, ◌+◌, ◌*◌, ◌%◌, ◌==◌, ℕ, zero, suc, List, [], ◌∷◌, ◌++◌, length, Bool, true, false, if◌then◌else◌, Option, Some, None, refl, sym, ap, subst, ◌∙◌, append-nil, arith}
+use Rattle.std.proofs.Common.{◌≡◌, ◌+◌, ◌*◌, ◌%◌, ℕ, List, [], ◌∷◌, ◌++◌, length, Bool, true, false, if◌then◌else◌, Option, Some, None, refl, sym, ap, ◌∙◌}
 use Rattle.std.specs.Prelude.{All}
-use Rattle.std.specs.List.{flat_map}
 use Rattle.std.proofs.lemmas.Grind.{flat_map-append}
 use Rattle.std.proofs.lemmas.List.Elements.{All-head, All-tail}
 use Rattle.verb_codes.specs.Words.{has_bit}
@@ -9,21 +8,16 @@ use Rattle.hda_registers.specs.declared.shapes.Width.TheVariants.{One, Two, Four
 use Rattle.hda_registers.specs.declared.places.TheConstants.{STATESTS, WALCLK, CORBSIZE, RIRBSIZE, RIRBWP, RIRBSTS}
 use Rattle.hda_registers.specs.Fields.{entries_of}
 use Rattle.ring_entries.specs.declared.entries.TheConstants.{RESPONSE_BYTES}
-use Rattle.hda_world.specs.Events.{Event, Read, Write, DmaRead}
+use Rattle.hda_world.specs.Events.{Read, Write}
 use Rattle.command_engine.specs.declared.ring_places.RingPlaces.{RingPlaces}
-use Rattle.command_engine.specs.Starting.{StartReads, rings_read, start_accesses, settings_if}
+use Rattle.command_engine.specs.Starting.{StartReads, rings_read, settings_if}
 use Rattle.command_engine.specs.Polling.{PollReads, AreNew, entry_reads, batch_accesses, poll_accesses, new_entries}
-use Rattle.driver_progress.specs.declared.phase.Phase.TheVariants.{Settling, Walking}
 use Rattle.driver_progress.specs.Requests.{Request, Gets, Puts, Fetches, requests_of, requests_in}
 use Rattle.driver_progress.specs.Tasks.{Task}
 use Rattle.driver_progress.specs.Seen.{Seen, seen_by, values_of}
 use Rattle.driver_progress.specs.States.{State}
-use Rattle.driver_progress.specs.Expected.{resets, has_settled, rings_seen, settles, sets_rings, fetches, polls, clears, interrupted_if, shuts}
-use Rattle.driver_progress.specs.Next.{reset_if, settled_if}
-use Rattle.driver_stretches.specs.Resetting.{reset_accesses, clock_if}
-use Rattle.driver_stretches.specs.Settling.{settle_accesses, start_if}
-use Rattle.driver_stretches.specs.Interrupts.{interrupt_accesses, clear_accesses}
-use Rattle.driver_stretches.specs.Shutting.{shut_accesses}
+use Rattle.driver_progress.specs.Expected.{has_settled, rings_seen, settles, sets_rings, fetches, polls}
+use Rattle.driver_stretches.specs.Settling.{start_if}
 
 -- ---- settling
 

@@ -1,5 +1,5 @@
 -- The accesses of a look for interrupts, with what is read. High Definition Audio 1.0a, 3.3.15 and 3.3.36.
-use Rattle.std.specs.Prelude.{◌≡◌, ℕ, ◌*◌, Bool, List, [], ◌∷◌, ◌&&◌, if◌then◌else◌, Option}
+use Rattle.std.specs.Prelude.{◌≡◌, ℕ, ◌*◌, Bool, List, [], ◌∷◌, if◌then◌else◌, Option}
 use Rattle.verb_codes.specs.Words.{has_bit, bits_of}
 use Rattle.hda_registers.specs.declared.shapes.Width.TheVariants.{One, Four}
 use Rattle.hda_registers.specs.declared.places.TheConstants.{INTSTS}

@@ -3,3 +3,4 @@ pub mod Settling
 pub mod Commands
 pub mod Interrupts
 pub mod Shutting
+pub mod Beginning

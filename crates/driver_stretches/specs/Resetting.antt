@@ -1,5 +1,5 @@
 -- The accesses of a reset, with what is read. High Definition Audio 1.0a, 4.3.
-use Rattle.std.specs.Prelude.{◌≡◌, ℕ, Bool, List, [], ◌∷◌, Option, Some, None, if◌then◌else◌}
+use Rattle.std.specs.Prelude.{◌≡◌, ℕ, List, [], ◌∷◌, Option, Some, None, if◌then◌else◌}
 use Rattle.verb_codes.specs.Words.{has_bit}
 use Rattle.hda_registers.specs.declared.shapes.Width.TheVariants.{Four}
 use Rattle.hda_registers.specs.declared.places.TheConstants.{GCTL, WALCLK}

@@ -1,5 +1,5 @@
 -- The accesses while the codecs announce themselves, with what is read. High Definition Audio 1.0a, 4.3.
-use Rattle.std.specs.Prelude.{◌≡◌, ◌≢◌, ℕ, ◌==◌, Bool, true, false, List, [], ◌∷◌, Option, Some, None, if◌then◌else◌}
+use Rattle.std.specs.Prelude.{◌≡◌, ℕ, ◌==◌, Bool, true, false, List, [], ◌∷◌, Option, if◌then◌else◌}
 use Rattle.hda_registers.specs.declared.shapes.Width.TheVariants.{Four}
 use Rattle.hda_registers.specs.declared.places.TheConstants.{WALCLK}
 use Rattle.hda_world.specs.Events.{Event, Read}
