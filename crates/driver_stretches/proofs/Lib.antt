@@ -1,3 +1,4 @@
 pub mod Fitting
 pub mod Time
 pub mod ResetWorlds
+pub mod SettleWorlds

@@ -23,7 +23,7 @@ use Rattle.driver_stretches.specs.Resetting.{reset_accesses}
 use Rattle.driver_stretches.proofs.Time.{keeps_time, keeps_only, keeps_held, IsHeld}
 
 -- a relation that steps keep, through an access
-access_leads : (Before After : World → Type 0) (event : Event) → ((steps : List Step) (world : World) → Before world → Before (after_steps steps world))
+pub access_leads : (Before After : World → Type 0) (event : Event) → ((steps : List Step) (world : World) → Before world → Before (after_steps steps world))
     → ((world : World) → Before world → IsHonest world event → After (happens world event)) → (old new : Telling) → Accessed old new event → Before (world_of old) → After (world_of new)
 access_leads Before After event steps_keep leads old new accessed before =
     subst After (sym (world_of-went old new _ accessed.went ∙ after-stepped accessed.steps event (world_of old)))
@@ -74,7 +74,7 @@ reset_leads corb rirb world can =
 
 -- ---- out of reset
 
-settling_steps : (corb rirb : ℕ) (steps : List Step) (world : World) → IsSettling corb rirb world → IsSettling corb rirb (after_steps steps world)
+pub settling_steps : (corb rirb : ℕ) (steps : List Step) (world : World) → IsSettling corb rirb world → IsSettling corb rirb (after_steps steps world)
 settling_steps corb rirb steps world is = record {
   can_start = can_start_steps corb rirb steps world is.can_start;
   discovered = kept_steps IsDiscovered keeps_discovery steps world is.discovered;

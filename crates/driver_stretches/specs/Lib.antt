@@ -4,3 +4,4 @@ pub mod Commands
 pub mod Interrupts
 pub mod Shutting
 pub mod Beginning
+pub mod Announcing
