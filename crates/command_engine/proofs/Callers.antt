@@ -36,3 +36,7 @@ pub use Rattle.command_engine.proofs.Codecs.{graph_address, graph_there}
 pub use Rattle.command_engine.proofs.Settled.{settled_after}
 -- and then an answer is whole
 pub use Rattle.command_engine.proofs.Settled.{answered_whole}
+-- the registers after a write of GCTL whose CRST is 0, and after one whose CRST is 1
+pub use Rattle.command_engine.proofs.Quiet.{reset_registers, risen_registers, control-written}
+-- which of them is a reset
+pub use Rattle.command_engine.proofs.Quiet.{resets, no_reset}

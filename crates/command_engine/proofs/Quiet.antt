@@ -159,7 +159,7 @@ can_start_events corb rirb (event ∷ events) world leave can = can_start_events
 
 -- ---- a reset
 
-resets : (fields : Fields) (value : ℕ) → value % 2 ≡ 0 → (effects_of fields 0x08 Four value).reset ≡ true
+pub resets : (fields : Fields) (value : ℕ) → value % 2 ≡ 0 → (effects_of fields 0x08 Four value).reset ≡ true
 unfolding effects_of
 resets fields value even = rw even refl
 
@@ -177,7 +177,7 @@ write-control : (fields : Fields) (value : ℕ) → written fields 0x08 Four val
 unfolding written placed
 write-control fields value = taken (is_out_of_reset fields.global) fields (with_global fields (global_written fields.shape (access_of 0x08 Four value) fields.global))
 
-control-written : (shape : Shape) (g : Global) (value : ℕ)
+pub control-written : (shape : Shape) (g : Global) (value : ℕ)
     → global_written shape (access_of 0x08 Four value) g ≡ record g { controller_reset = value % 2; unsolicited = (global_written shape (access_of 0x08 Four value) g).unsolicited }
 unfolding global_written
 control-written shape g value =
@@ -196,7 +196,7 @@ graphs_cleared : (codecs : List CodecState) → map (λ (codec : CodecState). co
 graphs_cleared [] = refl
 graphs_cleared (codec ∷ codecs) = ap (λ (graphs : List RawCodec). codec.graph ∷ graphs) (graphs_cleared codecs)
 
-reset_registers : (fields : Fields) (value : ℕ) → value % 2 ≡ 0 → written fields 0x08 Four value ≡ reset_fields fields.shape (global_written fields.shape (access_of 0x08 Four value) fields.global).state_status
+pub reset_registers : (fields : Fields) (value : ℕ) → value % 2 ≡ 0 → written fields 0x08 Four value ≡ reset_fields fields.shape (global_written fields.shape (access_of 0x08 Four value) fields.global).state_status
 reset_registers fields value even =
     let g = global_written fields.shape (access_of 0x08 Four value) fields.global in
     write-control fields value ∙ in_reset fields g (ap (λ (g : Global). g.controller_reset) (control-written fields.shape fields.global value) ∙ even)
@@ -218,7 +218,7 @@ reset_quiet corb rirb value world even blocks ascend =
 
 -- ---- the controller leaves reset
 
-no_reset : (fields : Fields) (value : ℕ) → value % 2 ≡ 1 → (effects_of fields 0x08 Four value).reset ≡ false
+pub no_reset : (fields : Fields) (value : ℕ) → value % 2 ≡ 1 → (effects_of fields 0x08 Four value).reset ≡ false
 unfolding effects_of
 no_reset fields value odd = rw odd refl
 
@@ -229,7 +229,7 @@ rising world value odd = by (effects_of world.registers 0x08 Four value).left_re
     by true is = (0, rising_write world 0x08 value Four (no_reset world.registers value odd) is)
     by false is = (world.frames, plain_write world 0x08 value Four (no_reset world.registers value odd) is)
 
-risen_registers : (fields : Fields) (value : ℕ) → value % 2 ≡ 1 → (unsolicited : ℕ) × (written fields 0x08 Four value ≡ record fields { global = record fields.global { controller_reset = 1; unsolicited = unsolicited } })
+pub risen_registers : (fields : Fields) (value : ℕ) → value % 2 ≡ 1 → (unsolicited : ℕ) × (written fields 0x08 Four value ≡ record fields { global = record fields.global { controller_reset = 1; unsolicited = unsolicited } })
 risen_registers fields value odd =
     let g = global_written fields.shape (access_of 0x08 Four value) fields.global in
     let is : g ≡ record fields.global { controller_reset = value % 2; unsolicited = g.unsolicited } = control-written fields.shape fields.global value in

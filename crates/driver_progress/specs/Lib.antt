@@ -5,4 +5,5 @@ pub mod Seen
 pub mod Expected
 pub mod Next
 pub mod Progress
+pub mod Noting
 pub mod Worked

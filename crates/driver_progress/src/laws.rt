@@ -1,11 +1,17 @@
 //! Laws of progress, each the contract of a function that does nothing. Each worked stretch holds in every world in which just the
 //! responses of the list were written to RIRB.
-ghost use Rattle.std.specs.Prelude.{ℕ, ◌++◌, ◌∷◌, [], true, false, None};
+ghost use Rattle.std.specs.Prelude.{◌≡◌, ℕ, List, ◌++◌, ◌∷◌, [], map, true, false, None};
+ghost use Rattle.device_steps.specs.declared.Step.{Step};
 ghost use Rattle.hda_registers.specs.declared.shapes.Width.TheVariants.{One, Two, Four};
-ghost use Rattle.hda_world.specs.Events.{Read, Write, DmaWrite};
+ghost use Rattle.hda_world.specs.Worlds.{World};
+ghost use Rattle.hda_world.specs.Events.{Event, Stepped, Read, Write, DmaWrite, after};
 ghost use Rattle.period_writer.specs.declared.course.Ran.TheVariants as ran;
 ghost use Rattle.driver_progress.specs.declared.phase.Phase.TheVariants.{Settling, Walking, SettingUp, Ready, Playing, Drained, Unanswered, Late};
+ghost use Rattle.hda_world.specs.Tellings.{Telling, Makes};
+ghost use Rattle.driver_progress.specs.Tasks.{Task, DriverLine};
 ghost use Rattle.driver_progress.specs.States.{state_opened};
+ghost use Rattle.driver_progress.specs.Progress.{Course, course_opened, course_after, course_of, Conforms};
+ghost use Rattle.driver_progress.specs.Noting.{ArePlain, with_accesses};
 ghost use Rattle.driver_progress.specs.Worked as worked;
 
 /// Worked stretches of the reset: its clock is kept, and the codecs have 12,500 ticks from it on to announce themselves.
@@ -64,4 +70,29 @@ pub fn runs_are_worked()
         (worked.plays Drained (worked.second_tally 84500)) }
     ensures late { worked.IsStretch (worked.plays Playing (worked.first_tally ran.Playing)) (worked.run 0) (worked.playing 84501 worked.stopping) []
         (worked.plays (Late 12500 84501 144) (worked.first_tally (ran.Late 12500 84501))) }
+{}
+
+/// Steps of the device leave a course as it is.
+pub fn steps_leave_a_course()
+    ensures course { (task : Task) (steps : List Step) (world : World) (course : Course) → course_after task (map Stepped steps) world course ≡ course }
+    ensures conforms { (task : Task) (steps : List Step) (world : World) (course : Course) → Conforms task (map Stepped steps) world course }
+{}
+
+/// A course over events in a row goes over the front and then over the back, and the whole conforms where both do.
+pub fn courses_go_on()
+    ensures course { (task : Task) (front back : List Event) (world : World) (course : Course)
+        → course_after task (front ++ back) world course ≡ course_after task back (after front world) (course_after task front world course) }
+    ensures both { (task : Task) (front back : List Event) (world : World) (course : Course) → Conforms task front world course
+        → Conforms task back (after front world) (course_after task front world course) → Conforms task (front ++ back) world course }
+    ensures front { (task : Task) (front back : List Event) (world : World) (course : Course) → Conforms task (front ++ back) world course
+        → Conforms task front world course }
+    ensures back { (task : Task) (front back : List Event) (world : World) (course : Course) → Conforms task (front ++ back) world course
+        → Conforms task back (after front world) (course_after task front world course) }
+{}
+
+/// A row of accesses among which no read of RIRBSTS and no write of CORBWP is adds to what a stretch made, and the journal still conforms.
+pub fn rows_are_made()
+    ensures { (task : Task) (lines : List DriverLine) (made : List Event) (old new : Telling) → Makes made old new → ArePlain made
+        → (course_of task lines new ≡ with_accesses (course_of task lines old) made)
+        × (Conforms task old.journal old.start (course_opened lines) → Conforms task new.journal new.start (course_opened lines)) }
 {}

@@ -9,8 +9,8 @@ mod registers;
 
 pub use jack::Jack;
 pub use laws::{
-    closings_are_worked, commands_are_worked, interrupts_are_worked, resets_are_worked,
-    runs_are_worked,
+    closings_are_worked, commands_are_worked, courses_go_on, interrupts_are_worked,
+    resets_are_worked, rows_are_made, runs_are_worked, steps_leave_a_course,
 };
 pub use phase::Phase;
 pub use registers::STREAM_STATUS;

@@ -1,0 +1,5 @@
+pub mod Planning
+pub mod Telling
+pub mod Leading
+pub mod Places
+pub mod Following

@@ -1,0 +1,4 @@
+pub mod Planned
+pub mod Sound
+pub mod Agendas
+pub mod Following

@@ -1,0 +1,4 @@
+pub mod Fitting
+pub mod Time
+pub mod ResetWorlds
+pub mod SettleWorlds

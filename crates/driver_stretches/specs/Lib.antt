@@ -1,0 +1,7 @@
+pub mod Resetting
+pub mod Settling
+pub mod Commands
+pub mod Interrupts
+pub mod Shutting
+pub mod Beginning
+pub mod Announcing
