@@ -1,1 +1,3 @@
 mod PlanParts
+mod SoundLines
+mod StretchLemmas

@@ -1,9 +1,8 @@
 -- The parts of pins: what each candidate pin heard, in stretches of one kind that are as long as can be. This project's own.
-use Rattle.std.specs.Prelude.{ℕ, ℤ, ◌==◌, Bool, true, false, List, [], ◌∷◌, ◌++◌, length, map, codes, decimal, if◌then◌else◌}
+use Rattle.std.specs.Prelude.{ℕ, ℤ, ◌+◌, ◌-◌, ◌/◌, Bool, true, false, List, [], ◌∷◌, ◌++◌, length, map, codes, decimal, if◌then◌else◌}
 use Rattle.std.specs.List.{flat_map, range_with_len}
 use Rattle.std.specs.Int.{bytes_low_first, cast_unsigned, w32}
 use Rattle.std.specs.Fork.{slice_chunk}
-use Rattle.std.specs.Slice.Iter.{chunk_count}
 use Rattle.hex.specs.Hex.{encode_lower}
 use Rattle.stream_format.specs.declared.format.Bits.{Bits}
 use Rattle.stream_format.specs.Cadence.{container_bytes}
@@ -54,11 +53,15 @@ line_blocks = 16
 abbrev pub sound_line : Bits → List Heard → List ℕ
 sound_line bits blocks = codes "sound " ++ flat_map (block_text bits) blocks ++ newline
 
--- the blocks line by line: so many in each, in the last as many as are left
-abbrev pub lines_of : List Heard → List (List Heard)
-lines_of blocks = map (slice_chunk blocks line_blocks) (range_with_len 0 (chunk_count (length blocks) line_blocks))
+-- the first lines of blocks: so many blocks in each, in the last as many as are left
+abbrev pub lines_before : List Heard → ℕ → List (List Heard)
+lines_before blocks lines = map (slice_chunk blocks line_blocks) (range_with_len 0 lines)
 
--- blocks of sound, in as many lines as it takes
+-- the lines of blocks, as many as it takes
+abbrev pub lines_of : List Heard → List (List Heard)
+lines_of blocks = lines_before blocks ((length blocks + line_blocks - 1) / line_blocks)
+
+-- blocks of sound in lines
 abbrev pub sound_lines : Bits → List Heard → List ℕ
 sound_lines bits blocks = flat_map (sound_line bits) (lines_of blocks)
 
@@ -80,6 +83,10 @@ stretch_lines bits (Altered ∷ items) = count_line (codes "altered") (length (A
 abbrev pub heard_lines : Bits → List Heard → List ℕ
 heard_lines bits items = flat_map (stretch_lines bits) (stretches items)
 
--- the part of a pin: its codec and node identifier, then what it heard
+-- the first line of a pin: its codec and its node identifier
+abbrev pub pin_line : ℕ → ℕ → List ℕ
+pin_line codec pin = codes "pin " ++ decimal codec ++ codes " " ++ nid_text pin ++ newline
+
+-- the part of a pin: its first line, then what it heard
 abbrev pub pin_part : Bits → PinHeard → List ℕ
-pin_part bits pin = codes "pin " ++ decimal pin.codec ++ codes " " ++ nid_text pin.pin ++ newline ++ heard_lines bits pin.list
+pin_part bits pin = pin_line pin.codec pin.pin ++ heard_lines bits pin.list

@@ -40,12 +40,7 @@ fn push_commands_left(out: &mut Vec<u8>, sent: u32, of: u32) -> Result<(), Alloc
 }
 
 /// Frames that were not played.
-fn push_frames_left(
-    out: &mut Vec<u8>,
-    written: u64,
-    heard: u64,
-    of: u64,
-) -> Result<(), AllocError>
+fn push_frames_left(out: &mut Vec<u8>, written: u64, heard: u64, of: u64) -> Result<(), AllocError>
     ensures { OnOk result (out.new.items ≡ out.old.items ++ frames_left_line written heard of) }
 {
     push_word(out, "schedule ended: frames ")?;

@@ -3,7 +3,7 @@ ghost use Rattle.std.specs.Prelude.{◌≡◌, ◌++◌, OnOk};
 ghost use Rattle.std.specs.List.{flat_map};
 ghost use Rattle.sound_report.specs.PinParts as text;
 
-use crate::pieces::push_hex;
+use crate::pieces::{push_hex, push_word};
 use codec_sound::Heard;
 use heard_lists::PinHeard;
 use std::alloc::AllocError;
@@ -54,11 +54,11 @@ fn push_block(out: &mut Vec<u8>, bits: Bits, block: &Heard) -> Result<(), AllocE
 fn push_sound_line(out: &mut Vec<u8>, bits: Bits, blocks: &[Heard]) -> Result<(), AllocError>
     ensures { OnOk result (out.new.items ≡ out.old.items ++ text.sound_line bits blocks.now) }
 {
-    out.extend_from_slice(b"sound ")?;
+    push_word(out, "sound ")?;
     for block in blocks {
         push_block(out, bits, block)?;
     }
-    out.extend_from_slice(b"\n")
+    push_word(out, "\n")
 }
 
 /// Blocks of sound, line by line.
@@ -95,13 +95,21 @@ fn push_heard(out: &mut Vec<u8>, bits: Bits, items: &[Heard]) -> Result<(), Allo
     Ok(())
 }
 
+/// The first line of a pin.
+#[tactic(auto, unfolding(crate::specs::PlanLines::nid_text))]
+fn push_pin_line(out: &mut Vec<u8>, codec: u8, pin: u8) -> Result<(), AllocError>
+    ensures { OnOk result (out.new.items ≡ out.old.items ++ text.pin_line codec pin) }
+{
+    write!(out, "pin {codec} ").map_err(|_| AllocError)?;
+    push_hex(out, &[pin])?;
+    push_word(out, "\n")
+}
+
 /// The part of a pin.
 fn push_pin(out: &mut Vec<u8>, bits: Bits, pin: &PinHeard) -> Result<(), AllocError>
     ensures { OnOk result (out.new.items ≡ out.old.items ++ text.pin_part bits pin.now) }
 {
-    write!(out, "pin {} ", pin.codec).map_err(|_| AllocError)?;
-    push_hex(out, &[pin.pin])?;
-    out.extend_from_slice(b"\n")?;
+    push_pin_line(out, pin.codec, pin.pin)?;
     push_heard(out, bits, pin.list.as_slice())
 }
 
@@ -109,11 +117,7 @@ fn push_pin(out: &mut Vec<u8>, bits: Bits, pin: &PinHeard) -> Result<(), AllocEr
 ///
 /// # Errors
 /// Want of memory.
-pub(crate) fn push_pins(
-    out: &mut Vec<u8>,
-    bits: Bits,
-    pins: &[PinHeard],
-) -> Result<(), AllocError>
+pub(crate) fn push_pins(out: &mut Vec<u8>, bits: Bits, pins: &[PinHeard]) -> Result<(), AllocError>
     ensures { OnOk result (out.new.items ≡ out.old.items ++ flat_map (text.pin_part bits) pins.now) }
 {
     for pin in pins {
