@@ -1,9 +1,9 @@
 //! Walks over a codec with the converter 02, the mixer 0C and the pin 14.
 use driver_progress::Jack;
-use hda_files::read_machine;
+use hda_files::{Machine, read_machine};
 use hda_items::Items;
 use hda_world::Journal;
-use route_planner::plan;
+use route_planner::{Plan, plan};
 use sound_report::{PlayFault, Played};
 use std::alloc::Global;
 use stream_format::{Bits, Format, Rate};
@@ -20,18 +20,29 @@ node = [
 ]
 ";
 
+/// The machine with this codec. `None` where memory is wanting.
+fn machine(alloc: Global) -> Option<Machine> {
+    read_machine(alloc, CODEC.as_bytes()).ok()
+}
+
+/// The plans of a machine's codecs. `None` where memory is wanting.
+fn plans(alloc: Global, machine: &Machine, format: Format) -> Option<Items<Plan>> {
+    let mut plans = Items::new(alloc);
+    for codec in machine.codecs.as_slice() {
+        plans.push(plan(alloc, &codec.graph, format).ok()?).ok()?;
+    }
+    Some(plans)
+}
+
 /// A walk that set the codec up by 44 commands. `None` where memory is wanting.
 pub(crate) fn set_up(alloc: Global) -> Option<Played> {
-    let machine = read_machine(alloc, CODEC.as_bytes()).ok()?;
+    let machine = machine(alloc)?;
     let format = Format {
         rate: Rate::R48,
         bits: Bits::B16,
         channels: 2,
     };
-    let mut plans = Items::new(alloc);
-    for codec in machine.codecs.as_slice() {
-        plans.push(plan(alloc, &codec.graph, format).ok()?).ok()?;
-    }
+    let plans = plans(alloc, &machine, format)?;
     Some(Played {
         machine,
         format,
