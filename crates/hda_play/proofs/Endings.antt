@@ -1,11 +1,7 @@
 -- What the words and the statuses of the program come to.
 use Rattle.std.proofs.Common.{◌≡◌, ℕ, ◌+◌, ◌<◌, ◌≤◌, inl, inr, ◌≢◌, Bool, true, false, if◌then◌else◌, Result, Ok, Err, List, ◌++◌, length, get_or, take, take_all, append-nil, min, Option, Some, refl, sym, ap, subst, ◌∙◌, arith}
-use Rattle.std.specs.List.{flat_map, zip, list_any}
-use Rattle.std.proofs.lemmas.List.{take_more}
-use Rattle.std.proofs.lemmas.List.Concat.{flat_map-append}
-use Rattle.std.proofs.lemmas.Slice.Zip.{length-zip, get_or-zip}
+use Rattle.std.specs.List.{list_any}
 use Rattle.stream_format.specs.declared.format.Format.{Format}
-use Rattle.hda_files.specs.declared.machine.CodecFile.{CodecFile}
 use Rattle.route_planner.specs.declared.routes.Plan.{Plan}
 use Rattle.hda_words.specs.declared.request.Request.{Request}
 use Rattle.hda_words.specs.declared.request.Request.TheVariants as request
@@ -16,7 +12,7 @@ use Rattle.hda_files.specs.declared.fault.FileFault.{FileFault}
 use Rattle.hda_files.specs.declared.fault.FileFault.TheVariants.{OutOfMemory}
 use Rattle.hda_files.specs.Machines.{Reads}
 use Rattle.hda_play.specs.Writing.{WroteText}
-use Rattle.hda_play.specs.Answers.{IsMeant, IsFile, IsRouteOf, IsRefused, IsPlanned, RouteAnswers, RequestAnswers, NamesOther, ReadingAnswers, HasEnded, codec_lines, plans_status, has_route, most_codec_bytes}
+use Rattle.hda_play.specs.Answers.{IsMeant, IsFile, IsRouteOf, IsRefused, IsPlanned, RouteAnswers, RequestAnswers, NamesOther, ReadingAnswers, HasEnded, plans_status, has_route, most_codec_bytes}
 
 -- bytes that were read and what they read as make an answer
 pub RouteAnswers-read : (told : Option Files) (failed : List ℕ → Type 0) (name : List ℕ) (format : Format) (bytes : List ℕ) (reading : Result Machine FileFault) (status : ℕ) (text : List ℕ) → IsFile told name bytes → length bytes ≤ most_codec_bytes → Reads bytes reading → ReadingAnswers format reading status text → RouteAnswers told failed name format status text
@@ -27,18 +23,6 @@ pub HasEnded-wrote : (told : Option Files) (failed : List ℕ → Type 0) (words
 HasEnded-wrote told failed words before after sink_failed meant text status m (inl whole) = inl (text, rw whole.0 m, whole.1)
 HasEnded-wrote told failed words before after sink_failed meant text status m (inr (inl sink)) = inr (inl (sink.0, sink.1, (meant, text, m, sink.2)))
 HasEnded-wrote told failed words before after sink_failed meant text status m (inr (inr memory)) = inr (inr (memory.0, inr (meant, text, m, memory.1)))
-
--- the lines of one codec more
-pub lines-more : (files : List CodecFile) (plans : List Plan) (n : ℕ) (file : CodecFile) (plan : Plan) → n < length files → n < length plans → ((d : CodecFile) → file ≡ get_or files n d) → ((d : Plan) → plan ≡ get_or plans n d) → flat_map codec_lines (take (n + 1) (zip files plans)) ≡ flat_map codec_lines (take n (zip files plans)) ++ codec_lines (file, plan)
-lines-more files plans n file plan in_files in_plans is_file is_plan =
-    let within : n < length (zip files plans) = rw length-zip (omega arith) in
-    let here : get_or (zip files plans) n (file, plan) ≡ (file, plan) =
-    get_or-zip files plans n (file, plan) in_files in_plans ∙ ap (λ x. (x, get_or plans n plan)) (sym (is_file file)) ∙ ap (λ x. (file, x)) (sym (is_plan plan)) in
-    rw (take_more (zip files plans) n (file, plan) within, here, flat_map-append) (ap (λ x. flat_map codec_lines (take n (zip files plans)) ++ x) (append-nil (codec_lines (file, plan))))
-
--- the lines of all codecs
-pub lines-all : (files : List CodecFile) (plans : List Plan) (n : ℕ) → n ≡ min (length files) (length plans) → take n (zip files plans) ≡ zip files plans
-lines-all files plans n e = take_all n (zip files plans) (rw (length-zip, e) (omega arith))
 
 -- plans are no refusal
 plans_status-not_5 : (plans : List Plan) → 5 ≡ plans_status plans → ⊥

@@ -1,6 +1,6 @@
 -- What the program answers: a status and a text. This project's own.
 use Rattle.std.specs.Prelude.{◌≡◌, ℕ, Bool, true, false, ◌<◌, ◌≤◌, ◌⊎◌, ◌++◌, if◌then◌else◌, List, [], length, Option, Some, None, Result, Ok, Err, codes, ◌≢◌}
-use Rattle.std.specs.List.{list_any, flat_map, zip, AllZip}
+use Rattle.std.specs.List.{list_any, AllZip}
 use Rattle.stream_format.specs.declared.format.Format.{Format}
 use Rattle.route_planner.specs.declared.routes.Outcome.{Outcome}
 use Rattle.route_planner.specs.declared.routes.Outcome.TheVariants as outcome
@@ -17,7 +17,8 @@ use Rattle.hda_files.specs.declared.fault.FileFault.TheVariants.{OutOfMemory}
 use Rattle.hda_files.specs.Machines.{Reads}
 use Rattle.hda_outside.specs.Shelf.{Files, file_of}
 use Rattle.hda_outside.specs.Sink.{taken_with, TookFront}
-use Rattle.hda_play.specs.Text.{plan_lines, fault_text, usage_line, unreadable_line, refused_line, nothing_routed_line}
+use Rattle.sound_report.specs.PlanLines.{plans_lines}
+use Rattle.hda_play.specs.Text.{fault_text, usage_line, unreadable_line, refused_line, nothing_routed_line}
 
 -- how long a codec file may be
 abbrev pub most_codec_bytes : ℕ
@@ -47,14 +48,6 @@ is_route outcome.NoPath = false
 -- whether a pin of the plan has a route
 abbrev pub has_route : Plan → Bool
 has_route plan = list_any (λ (entry : PinPlan). is_route entry.outcome) plan.pins
-
--- the lines of a codec's plan
-abbrev pub codec_lines : CodecFile × Plan → List ℕ
-codec_lines codec = plan_lines codec.0.graph.address codec.1
-
--- the lines of the plans, codec by codec
-abbrev pub plans_lines : List CodecFile → List Plan → List ℕ
-plans_lines files plans = flat_map codec_lines (zip files plans)
 
 -- what `route` answers for plans: 0 where some pin has a route, and else 8 with a line that says so
 abbrev pub plans_status : List Plan → ℕ

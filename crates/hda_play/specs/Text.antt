@@ -1,6 +1,5 @@
 -- The lines that the program writes. This project's own.
-use Rattle.std.specs.Prelude.{ℕ, ◌+◌, ◌/◌, ◌%◌, nat_lt, if◌then◌else◌, List, [], ◌∷◌, ◌++◌, codes, decimal}
-use Rattle.std.specs.List.{flat_map}
+use Rattle.std.specs.Prelude.{ℕ, List, [], ◌++◌, codes, decimal}
 use Rattle.codec_graph.specs.declared.fault.GraphFault.{GraphFault}
 use Rattle.codec_graph.specs.declared.fault.GraphFault.TheVariants.{NoAudioGroup, BadCount, ConnectionOutside, ListTooLong, AmpOffset, Cycle}
 use Rattle.verb_codes.specs.declared.entries.ListFault.{ListFault}
@@ -11,47 +10,7 @@ use Rattle.hda_files.specs.declared.fault.Key.{Key}
 use Rattle.hda_files.specs.declared.fault.FileFault.{FileFault}
 use Rattle.hda_files.specs.declared.fault.FileFault.TheVariants.{Toml, MissingKey, WrongType, OutOfRange, Doubled, List as InList, Graph, TooManyPins, OutOfMemory}
 use Rattle.hda_files.specs.Keys.{key_name}
-use Rattle.route_planner.specs.declared.routes.Hop.{Hop}
-use Rattle.route_planner.specs.declared.routes.Outcome.{Outcome}
-use Rattle.route_planner.specs.declared.routes.Outcome.TheVariants as outcome
-use Rattle.route_planner.specs.declared.routes.PinPlan.{PinPlan}
-use Rattle.route_planner.specs.declared.routes.Plan.{Plan}
-
--- a number below 16 as a lower hexadecimal digit
-abbrev pub hex_digit : ℕ → ℕ
-hex_digit n = if nat_lt n 10 then 48 + n else 87 + n
-
--- a node identifier: two lower hexadecimal digits
-abbrev pub nid_text : ℕ → List ℕ
-nid_text nid = hex_digit (nid / 16) ∷ hex_digit (nid % 16) ∷ []
-
--- the end of a line
-abbrev pub newline : List ℕ
-newline = 10 ∷ []
-
--- a hop of a route: the node, a point, the index, and a space
-abbrev pub hop_text : Hop → List ℕ
-hop_text hop = nid_text hop.nid ++ codes "." ++ decimal hop.index ++ codes " "
-
--- the codec, the pin and its pair, after the word for what was found
-abbrev pub entry_head : List ℕ → ℕ → PinPlan → List ℕ
-entry_head word address entry =
-    word ++ codes " " ++ decimal address ++ codes " " ++ nid_text entry.pin ++ codes " pair " ++ decimal entry.pair
-
--- what was found for a pin
-abbrev pub outcome_line : ℕ → PinPlan → Outcome → List ℕ
-outcome_line address entry (outcome.Route route) =
-    entry_head (codes "route") address entry ++ codes " via " ++ flat_map hop_text route.hops ++ nid_text route.converter ++ newline
-outcome_line address entry outcome.Blocked = entry_head (codes "blocked") address entry ++ newline
-outcome_line address entry outcome.NoPath = entry_head (codes "nopath") address entry ++ newline
-
--- the line of a pin
-abbrev pub entry_line : ℕ → PinPlan → List ℕ
-entry_line address entry = outcome_line address entry entry.outcome
-
--- the lines of a codec's plan
-abbrev pub plan_lines : ℕ → Plan → List ℕ
-plan_lines address plan = flat_map (entry_line address) plan.pins
+use Rattle.sound_report.specs.PlanLines.{nid_text, newline}
 
 -- the name of a graph's fault, and its node identifier
 abbrev pub graph_fault_name : GraphFault → List ℕ

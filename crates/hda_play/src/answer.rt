@@ -1,15 +1,16 @@
 //! What the program answers to its words, before anything is written.
 ghost use Rattle.std.specs.Prelude.{◌≡◌, ◌≢◌, ◌≤◌, ℕ, List, map, string_bytes, IfOk, IfSome, IfNone, OnOk, ◌++◌};
 ghost use Rattle.hda_outside.specs.Counts.{Rose};
-ghost use Rattle.hda_play.specs.Answers.{AsksForItsFile, IsMeant, RouteAnswers, RequestAnswers, NamesOther, ReadingAnswers, MachineAnswers, ArePlans, has_route, is_route, plans_lines};
+ghost use Rattle.hda_play.specs.Answers.{AsksForItsFile, IsMeant, RouteAnswers, RequestAnswers, NamesOther, ReadingAnswers, MachineAnswers, ArePlans, has_route, is_route};
 ghost use Rattle.std.specs.List.{list_any};
 ghost use Rattle.hda_play.specs.Text.{refused_line, unreadable_line};
 
-use crate::text::{USAGE, push_fault, push_plan};
+use crate::text::{USAGE, push_fault};
 use hda_files::{CodecFile, FileFault, Machine, read_machine};
 use hda_outside::{ReadAll, Shelf, read_all};
 use hda_words::{Request, WordsFault, read_words};
 use route_planner::{Format, Outcome, Plan, plan};
+use sound_report::push_plans;
 use std::alloc::{AllocError, Global};
 
 /// How many bytes a codec file may have.
@@ -146,16 +147,6 @@ fn plans_of(alloc: Global, codecs: &[CodecFile], format: Format) -> Result<Vec<P
         plans.push(plan(alloc, &codec.graph, format)?)?;
     }
     Ok(plans)
-}
-
-/// Appends the lines of the plans, codec by codec.
-fn push_plans(text: &mut String, codecs: &[CodecFile], plans: &[Plan]) -> Result<(), AllocError>
-    ensures { OnOk result (string_bytes text.new ≡ string_bytes text.old ++ plans_lines codecs.now plans.now) }
-{
-    for (codec, plan) in codecs.iter().zip(plans) {
-        push_plan(text, codec.graph.raw().address, plan)?;
-    }
-    Ok(())
 }
 
 /// Whether some pin of some plan has a route.

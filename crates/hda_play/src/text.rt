@@ -1,109 +1,16 @@
 //! The lines that the program writes. Each call here appends to a text.
-ghost use Rattle.std.specs.Prelude.{◌≡◌, ◌<◌, ◌++◌, [], ◌∷◌, OnOk, codes, decimal, string_bytes};
-ghost use Rattle.std.specs.List.{flat_map};
+ghost use Rattle.std.specs.Prelude.{◌≡◌, ◌++◌, OnOk, codes, string_bytes};
 ghost use Rattle.hda_play.specs.Text as text;
 
 use codec_graph::GraphFault;
 use hda_files::{FileFault, Key, Place};
-use route_planner::{Hop, Outcome, PinPlan, Plan};
+use sound_report::push_nid;
 use std::alloc::AllocError;
 use verb_codes::ListFault;
 
 /// The line for words that are no command.
 pub const USAGE: &str =
     "usage: hda_play route CODEC [--rate R] [--channels C] | walk CODEC SCHEDULE | play CODEC WAV SCHEDULE [--periods K] [--period M] | make N\n";
-
-/// A number below 16 as a lower hexadecimal digit.
-fn hex_digit(n: u8) -> char
-    requires { n < 16 }
-    ensures { result ≡ text.hex_digit n }
-{
-    if n < 10 {
-        (b'0' + n) as char
-    } else {
-        (b'a' + n - 10) as char
-    }
-}
-
-/// A node identifier.
-fn push_nid(out: &mut String, nid: u8) -> Result<(), AllocError>
-    ensures { OnOk result (string_bytes out.new ≡ string_bytes out.old ++ text.nid_text nid) }
-{
-    out.push(hex_digit(nid / 16))?;
-    out.push(hex_digit(nid % 16))
-}
-
-/// A number.
-fn push_decimal(out: &mut String, n: u8) -> Result<(), AllocError>
-    ensures { OnOk result (string_bytes out.new ≡ string_bytes out.old ++ decimal n) }
-{
-    write!(out, "{n}")
-}
-
-/// A hop of a route.
-fn push_hop(out: &mut String, hop: &Hop) -> Result<(), AllocError>
-    ensures { OnOk result (string_bytes out.new ≡ string_bytes out.old ++ text.hop_text hop.now) }
-{
-    push_nid(out, hop.nid)?;
-    out.push_str(".")?;
-    push_decimal(out, hop.index)?;
-    out.push_str(" ")
-}
-
-/// The hops of a route.
-fn push_hops(out: &mut String, hops: &[Hop]) -> Result<(), AllocError>
-    ensures { OnOk result (string_bytes out.new ≡ string_bytes out.old ++ flat_map text.hop_text hops.now) }
-{
-    for hop in hops {
-        push_hop(out, hop)?;
-    }
-    Ok(())
-}
-
-/// What was found for a pin, up to its pair.
-fn push_entry_head(
-    out: &mut String,
-    word: &str,
-    address: u8,
-    entry: &PinPlan,
-) -> Result<(), AllocError>
-    ensures { OnOk result (string_bytes out.new ≡ string_bytes out.old ++ text.entry_head word.now address entry.now) }
-{
-    out.push_str(word)?;
-    out.push_str(" ")?;
-    push_decimal(out, address)?;
-    out.push_str(" ")?;
-    push_nid(out, entry.pin)?;
-    out.push_str(" pair ")?;
-    push_decimal(out, entry.pair)
-}
-
-/// The line of a pin.
-fn push_entry(out: &mut String, address: u8, entry: &PinPlan) -> Result<(), AllocError>
-    ensures { OnOk result (string_bytes out.new ≡ string_bytes out.old ++ text.entry_line address entry.now) }
-{
-    match &entry.outcome {
-        Outcome::Route(route) => {
-            push_entry_head(out, "route", address, entry)?;
-            out.push_str(" via ")?;
-            push_hops(out, route.hops.as_slice())?;
-            push_nid(out, route.converter)?;
-        }
-        Outcome::Blocked => push_entry_head(out, "blocked", address, entry)?,
-        Outcome::NoPath => push_entry_head(out, "nopath", address, entry)?,
-    }
-    out.push_str("\n")
-}
-
-/// The lines of a codec's plan.
-pub fn push_plan(out: &mut String, address: u8, plan: &Plan) -> Result<(), AllocError>
-    ensures { OnOk result (string_bytes out.new ≡ string_bytes out.old ++ text.plan_lines address plan.now) }
-{
-    for entry in plan.pins.as_slice() {
-        push_entry(out, address, entry)?;
-    }
-    Ok(())
-}
 
 /// A table of the codec file.
 fn push_place(out: &mut String, place: Place) -> Result<(), AllocError>
@@ -133,7 +40,7 @@ fn push_node_fault(out: &mut String, name: &str, address: u8, nid: u8) -> Result
 {
     out.push_str(name)?;
     out.push_str(" at ")?;
-    push_decimal(out, address)?;
+    write!(out, "{address}")?;
     out.push_str("/")?;
     push_nid(out, nid)
 }

@@ -1,8 +1,8 @@
 use Rattle.std.proofs.Common.{append_assoc, refl}
 use Rattle.std.proofs.lemmas.List.{length_push}
 use Rattle.std.proofs.lemmas.Slice.Zip.{zip_turn, zip_end}
-use Rattle.hda_play.proofs.Endings.{lines-more, lines-all}
-use Rattle.hda_play.proofs.answer.push_plans.Goals as goal
+use Rattle.sound_report.proofs.PlanParts.{lines-more, lines-all}
+use Rattle.sound_report.proofs.plans.push_plans.Goals as goal
 
 pub loop-codec-preserved : goal.loop-codec-preserved
 loop-codec-preserved c =

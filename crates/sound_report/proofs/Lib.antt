@@ -1,0 +1,3 @@
+mod PlanParts
+mod SoundLines
+mod StretchLemmas

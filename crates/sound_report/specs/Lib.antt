@@ -1,0 +1,5 @@
+pub mod Statuses
+pub mod PlanLines
+pub mod RunLines
+pub mod PinParts
+pub mod Texts

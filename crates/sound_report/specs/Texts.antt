@@ -1,0 +1,59 @@
+-- The whole text of a run of the driver. This project's own.
+use Rattle.std.specs.Prelude.{ℕ, Bool, List, ◌++◌, codes, decimal, Option, Some, None, if◌then◌else◌}
+use Rattle.std.specs.List.{flat_map}
+use Rattle.std.specs.Int.{to_be_bytes, w32}
+use Rattle.hex.specs.Hex.{encode_lower}
+use Rattle.sound_report.specs.declared.played.Played.{Played}
+use Rattle.sound_report.specs.declared.played.PlayFault.{PlayFault}
+use Rattle.sound_report.specs.declared.played.PlayFault.TheVariants.{Unanswered, Late, CommandsLeft, FramesLeft}
+use Rattle.sound_report.specs.PlanLines.{plans_lines, newline}
+use Rattle.sound_report.specs.RunLines.{run_line, silence_line, jack_line}
+use Rattle.sound_report.specs.PinParts.{pin_part}
+
+-- a command's word: eight lower hexadecimal digits
+abbrev pub command_text : ℕ → List ℕ
+command_text command = encode_lower (to_be_bytes w32 command)
+
+-- a codec left a command unanswered: the codec, the command, and the clocks when it was issued and found unanswered
+abbrev pub unanswered_line : ℕ → ℕ → ℕ → ℕ → List ℕ
+unanswered_line codec command issued noticed =
+    codes "unanswered " ++ decimal codec ++ codes " " ++ command_text command ++ codes " " ++ decimal issued ++ codes " " ++ decimal noticed ++ newline
+
+-- a run was late: the clocks between which it was, and how many link frames might have passed
+abbrev pub late_line : ℕ → ℕ → ℕ → List ℕ
+late_line from to limit = codes "late " ++ decimal from ++ codes " " ++ decimal to ++ codes " " ++ decimal limit ++ newline
+
+-- commands were left: how many were sent, and of how many
+abbrev pub commands_left_line : ℕ → ℕ → List ℕ
+commands_left_line sent of = codes "schedule ended: commands " ++ decimal sent ++ codes " of " ++ decimal of ++ newline
+
+-- frames were left: how many were written, how many heard, and of how many
+abbrev pub frames_left_line : ℕ → ℕ → ℕ → List ℕ
+frames_left_line written heard of =
+    codes "schedule ended: frames " ++ decimal written ++ codes " written " ++ decimal heard ++ codes " heard of " ++ decimal of ++ newline
+
+-- why a run ended before it was done
+abbrev pub fault_line : PlayFault → List ℕ
+fault_line (Unanswered codec command issued noticed) = unanswered_line codec command issued noticed
+fault_line (Late from to limit) = late_line from to limit
+fault_line (CommandsLeft sent of) = commands_left_line sent of
+fault_line (FramesLeft written heard of) = frames_left_line written heard of
+
+-- what was done: a walk set codecs up by so many commands, and else so many frames were played
+abbrev pub done_line : Bool → ℕ → ℕ → List ℕ
+done_line walk commands total = if walk then codes "set up " ++ decimal commands ++ newline else codes "played " ++ decimal total ++ newline
+
+-- the last line
+abbrev pub last_line : Option PlayFault → List ℕ → List ℕ
+last_line None done = done
+last_line (Some fault) done = fault_line fault
+
+-- the text: plans, runs, silences, jacks, pins, and how it ended
+abbrev pub text_of : Played → List ℕ
+text_of played =
+    plans_lines played.machine.codecs played.plans
+    ++ flat_map run_line played.runs
+    ++ flat_map silence_line played.silences
+    ++ flat_map jack_line played.jacks
+    ++ flat_map (pin_part played.format.bits) played.heard
+    ++ last_line played.fault (done_line played.walk played.commands played.total)

@@ -1,0 +1,17 @@
+//! The text that the program writes of a run of the driver: what was planned, how the run went, what each pin heard, and how it
+//! ended. This project's own.
+#![tactic(auto)]
+
+mod ends;
+mod lines;
+mod pieces;
+mod pins;
+mod plans;
+mod played;
+mod status;
+mod whole;
+
+pub use plans::{push_nid, push_plans};
+pub use played::{PlayFault, Played};
+pub use status::Status;
+pub use whole::report;
