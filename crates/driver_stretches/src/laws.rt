@@ -1,12 +1,20 @@
 //! Laws of the stretches, each the contract of a function that does nothing: their accesses are those that progress expects, and lead where it
 //! says.
-ghost use Rattle.std.specs.Prelude.{◌≡◌, ℕ, Bool, List, ◌∷◌, true};
+ghost use Rattle.std.specs.Prelude.{◌≡◌, ◌≤◌, ℕ, Bool, List, ◌++◌, length, map, drop, true, false, Option, None};
 ghost use Rattle.verb_codes.specs.Words.{has_bit};
 ghost use Rattle.command_engine.specs.declared.ring_places.RingPlaces.{RingPlaces};
 ghost use Rattle.command_engine.specs.Starting.{StartReads};
 ghost use Rattle.command_engine.specs.Polling.{PollReads, AreNew, poll_accesses};
 ghost use Rattle.driver_progress.specs.Requests.{requests_of};
-ghost use Rattle.driver_progress.specs.Tasks.{Task};
+ghost use Rattle.std.specs.Option.{is_some};
+ghost use Rattle.ring_entries.specs.declared.response.Response.{Response};
+ghost use Rattle.hda_world.specs.Tellings.{Telling, world_of, Makes};
+ghost use Rattle.command_engine.specs.Entries.{answer_among};
+ghost use Rattle.command_engine.specs.Belonging.{as_held};
+ghost use Rattle.driver_progress.specs.Tasks.{Task, DriverLine};
+ghost use Rattle.driver_progress.specs.Progress.{course_of, course_opened, is_answered, Conforms};
+ghost use Rattle.driver_progress.specs.Noting.{with_accesses};
+ghost use Rattle.driver_stretches.specs.Answers.{has_answer, AnswersAgree};
 ghost use Rattle.driver_progress.specs.Seen.{Seen, seen_by, values_of};
 ghost use Rattle.driver_progress.specs.States.{State};
 ghost use Rattle.driver_progress.specs.Expected as expected;
@@ -24,4 +32,23 @@ pub fn stretches_are_expected()
     ensures polls { (rirb : ℕ) (rings : RingPlaces) (reads : PollReads) (seen : Seen) → AreNew rings reads → seen.flag ≡ reads.flag
         → (has_bit reads.flag 0 ≡ true → seen.pointer ≡ reads.pointer) → requests_of (poll_accesses rirb rings reads) ≡ expected.polls rirb rings seen }
     ensures shuts { requests_of shut_accesses ≡ expected.shuts }
+{}
+
+/// Over a poll that is told a stretch gains the poll's accesses, and whether the outstanding command was answered is said by what is
+/// written to RIRB once the poll is done: while RINTFL is 1 nothing more is.
+pub fn polls_are_noted()
+    ensures { (task : Task) (lines : List DriverLine) (rirb : ℕ) (rings : RingPlaces) (reads : PollReads) (old new : Telling)
+        → Makes (poll_accesses rirb rings reads) old new → (world_of old).registers.global.response_flag ≤ 1
+        → (course_of task lines new ≡ record (with_accesses (course_of task lines old) (poll_accesses rirb rings reads)) { answered = is_answered (course_of task lines old) (world_of new) })
+        × (Conforms task old.journal old.start (course_opened lines) → Conforms task new.journal new.start (course_opened lines)) }
+{}
+
+/// A poll finds an answer exactly where one of the responses is one that were not read. That these are just those that came since the
+/// submission is kept by what is written later, and by a poll that finds none; where nothing is asked it holds.
+pub fn answers_agree()
+    ensures found { (asked : Option ℕ) (responses : List Response) → is_some (answer_among asked (map as_held responses)) ≡ has_answer asked responses }
+    ensures grows { (asked : Option ℕ) (submitted read : ℕ) (written more : List Response) → AnswersAgree asked submitted read written → AnswersAgree asked submitted read (written ++ more) }
+    ensures polled { (asked : Option ℕ) (submitted read : ℕ) (written : List Response) → AnswersAgree asked submitted read written
+        → has_answer asked (drop read written) ≡ false → AnswersAgree asked submitted (length written) written }
+    ensures none { (submitted read : ℕ) (written : List Response) → submitted ≤ length written → read ≤ length written → AnswersAgree None submitted read written }
 {}
