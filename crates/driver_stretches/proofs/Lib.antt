@@ -4,3 +4,4 @@ pub mod ResetWorlds
 pub mod SettleWorlds
 pub mod Polled
 pub mod Agreeing
+pub mod Unasked

@@ -8,7 +8,9 @@ ghost use Rattle.command_engine.specs.Polling.{PollReads, AreNew, poll_accesses}
 ghost use Rattle.driver_progress.specs.Requests.{requests_of};
 ghost use Rattle.std.specs.Option.{is_some};
 ghost use Rattle.ring_entries.specs.declared.response.Response.{Response};
+ghost use Rattle.hda_world.specs.Worlds.{World};
 ghost use Rattle.hda_world.specs.Tellings.{Telling, world_of, Makes};
+ghost use Rattle.command_engine.specs.Courses.{Stands};
 ghost use Rattle.command_engine.specs.Entries.{answer_among};
 ghost use Rattle.command_engine.specs.Belonging.{as_held};
 ghost use Rattle.driver_progress.specs.Tasks.{Task, DriverLine};
@@ -44,11 +46,14 @@ pub fn polls_are_noted()
 {}
 
 /// A poll finds an answer exactly where one of the responses is one that were not read. That these are just those that came since the
-/// submission is kept by what is written later, and by a poll that finds none; where nothing is asked it holds.
+/// submission is kept by what is written later, and by a poll that finds none; it holds from a submission on, and where nothing is
+/// asked.
 pub fn answers_agree()
     ensures found { (asked : Option ℕ) (responses : List Response) → is_some (answer_among asked (map as_held responses)) ≡ has_answer asked responses }
     ensures grows { (asked : Option ℕ) (submitted read : ℕ) (written more : List Response) → AnswersAgree asked submitted read written → AnswersAgree asked submitted read (written ++ more) }
     ensures polled { (asked : Option ℕ) (submitted read : ℕ) (written : List Response) → AnswersAgree asked submitted read written
         → has_answer asked (drop read written) ≡ false → AnswersAgree asked submitted (length written) written }
+    ensures submitted { (from read corb rirb : ℕ) (rings : RingPlaces) (world : World) (asked : Option ℕ) → Stands from read corb rirb rings world → rings.outstanding ≡ None
+        → AnswersAgree asked (length world.written) read world.written }
     ensures none { (submitted read : ℕ) (written : List Response) → submitted ≤ length written → read ≤ length written → AnswersAgree None submitted read written }
 {}
