@@ -1,11 +1,11 @@
 -- That a poll finds an answer where one was written since the submission.
-use Rattle.std.proofs.Common.{◌≡◌, ◌≤◌, ◌+◌, ℕ, Bool, true, false, not, ◌&&◌, ◌||◌, List, [], ◌∷◌, ◌++◌, length, map, drop, Option, Some, None, if◌then◌else◌, refl, sym, ap, subst, ◌∙◌, arith}
-use Rattle.std.specs.List.{list_any, find}
+use Rattle.std.proofs.Common.{◌≡◌, ◌≤◌, ℕ, Bool, true, false, not, ◌&&◌, ◌||◌, List, [], ◌∷◌, ◌++◌, length, map, drop, Option, Some, None, if◌then◌else◌, refl, sym, ap, ◌∙◌, arith}
+use Rattle.std.specs.List.{find}
 use Rattle.std.specs.Option.{is_some, option_map}
 use Rattle.std.proofs.lemmas.List.{length-append, drop-append-le}
 use Rattle.std.proofs.lemmas.List.Folds.{list_any-append}
 use Rattle.ring_entries.specs.declared.response.Response.{Response}
-use Rattle.command_engine.specs.Entries.{answers_it, is_from, answer_among}
+use Rattle.command_engine.specs.Entries.{answers_it, answer_among}
 use Rattle.command_engine.specs.Belonging.{as_held}
 use Rattle.driver_stretches.specs.Answers.{has_answer, AnswersAgree}
 

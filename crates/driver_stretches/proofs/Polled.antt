@@ -1,23 +1,21 @@
 -- The course of a stretch over a poll: whether the outstanding command was answered is said by what is written once the poll is done.
-use Rattle.std.proofs.Common.{◌≡◌, ◌<◌, ◌≤◌, ◌+◌, ◌*◌, ◌/◌, ◌%◌, ◌==◌, ◌&&◌, ℕ, Bool, true, false, not, List, [], ◌∷◌, ◌++◌, length, map, drop, if◌then◌else◌, refl, sym, ap, subst, ◌∙◌, append_assoc, arith, rules, tests, lit≤}
+use Rattle.std.proofs.Common.{◌≡◌, ◌≤◌, ◌+◌, ◌*◌, ◌/◌, ◌%◌, ◌==◌, ◌&&◌, ℕ, Bool, true, false, not, List, [], ◌∷◌, ◌++◌, map, drop, if◌then◌else◌, refl, sym, ap, subst, ◌∙◌, append_assoc, arith, rules, tests, lit≤}
 use Rattle.std.specs.List.{list_any}
 use Rattle.verb_codes.specs.Words.{has_bit}
 use Rattle.hda_registers.specs.declared.shapes.Width.TheVariants.{One, Two}
-use Rattle.hda_registers.specs.declared.places.TheConstants.{CORBWP, RIRBWP, RIRBSTS}
+use Rattle.hda_registers.specs.declared.places.TheConstants.{RIRBWP, RIRBSTS}
 use Rattle.hda_registers.specs.Fields.{Fields, entries_of, is_out_of_reset}
-use Rattle.hda_registers.specs.Access.{value_at}
 use Rattle.hda_registers.proofs.Callers.{read-response_flag}
 use Rattle.ring_entries.specs.declared.response.Response.{Response}
 use Rattle.ring_entries.specs.declared.entries.TheConstants.{RESPONSE_BYTES}
 use Rattle.ring_entries.specs.Engines.{can_respond}
 use Rattle.device_steps.specs.declared.Step.{Step}
 use Rattle.hda_world.specs.Worlds.{World}
-use Rattle.hda_world.specs.Steps.{passed, after_steps}
-use Rattle.hda_world.specs.Events.{Event, Stepped, Read, Write, DmaRead, happens, after, after_write, IsHonest}
+use Rattle.hda_world.specs.Steps.{passed}
+use Rattle.hda_world.specs.Events.{Event, Stepped, Read, Write, DmaRead, happens, after}
 use Rattle.hda_world.specs.Tellings.{Telling, world_of, Accessed, MakesBy, Makes}
 use Rattle.hda_world.specs.Kept.{Kept}
-use Rattle.hda_world.specs.Leaving.{AccessLeaves}
-use Rattle.hda_world.proofs.Callers.{accessed_then, kept_steps, frames_after, passed_global, access_leaves, world_of-went, after-stepped}
+use Rattle.hda_world.proofs.Callers.{accessed_then, frames_after, passed_global, access_leaves, world_of-went}
 use Rattle.command_engine.specs.declared.ring_places.RingPlaces.{RingPlaces}
 use Rattle.command_engine.specs.Entries.{answers_it}
 use Rattle.command_engine.specs.Polling.{PollReads, asked_of, entry_reads, batch_accesses, poll_accesses}
@@ -161,15 +159,15 @@ poll_course task lines rirb rings reads old new makes bit = by makes.by
         let shown = flag_shown reads.flag old middle first bit in
         let row = course_row task lines (if has_bit reads.flag 0 then batch_accesses rirb rings reads.pointer reads.entries else []) middle new (record { by = rest }) (rest_plain (has_bit reads.flag 0) rirb rings reads.pointer reads.entries) in
         let same : (world_of new).written ≡ (world_of middle).written =
-            rest_written (has_bit reads.flag 0) rirb rings reads.pointer reads.entries middle new (flag_set reads.flag (world_of middle) shown) rest in
+        rest_written (has_bit reads.flag 0) rirb rings reads.pointer reads.entries middle new (flag_set reads.flag (world_of middle) shown) rest in
         let there : world_of middle ≡ after (map Stepped first.steps) (world_of old) =
-            world_of-went old middle _ first.went ∙ read_last reads.flag first.steps (world_of old) in
+        world_of-went old middle _ first.went ∙ read_last reads.flag first.steps (world_of old) in
         let here : course_of task lines middle ≡ record (with_accesses old-course (Read RIRBSTS One reads.flag ∷ [])) { answered = is_answered old-course (world_of middle) } =
-            course_went task lines old middle _ first.went
-            ∙ course_stepped task first.steps (Read RIRBSTS One reads.flag) (world_of old) old-course
-            ∙ ap (λ (world : World). record (with_accesses old-course (Read RIRBSTS One reads.flag ∷ [])) { answered = is_answered old-course world }) (sym there) in (
+        course_went task lines old middle _ first.went
+        ∙ course_stepped task first.steps (Read RIRBSTS One reads.flag) (world_of old) old-course
+        ∙ ap (λ (world : World). record (with_accesses old-course (Read RIRBSTS One reads.flag ∷ [])) { answered = is_answered old-course world }) (sym there) in (
           row.0 ∙ ap (λ (course : Course). with_accesses course (if has_bit reads.flag 0 then batch_accesses rirb rings reads.pointer reads.entries else [])) here
-          ∙ ap (λ (made : List Event). record old-course { made = made; answered = is_answered old-course (world_of middle) }) (append_assoc old-course.made (Read RIRBSTS One reads.flag ∷ []) (if has_bit reads.flag 0 then batch_accesses rirb rings reads.pointer reads.entries else []))
-          ∙ ap (λ (written : List Response). record (with_accesses old-course (poll_accesses rirb rings reads)) { answered = list_any (answers_it (asked_of old-course.state.rings.outstanding)) (drop old-course.written written) }) (sym same),
+              ∙ ap (λ (made : List Event). record old-course { made = made; answered = is_answered old-course (world_of middle) }) (append_assoc old-course.made (Read RIRBSTS One reads.flag ∷ []) (if has_bit reads.flag 0 then batch_accesses rirb rings reads.pointer reads.entries else []))
+              ∙ ap (λ (written : List Response). record (with_accesses old-course (poll_accesses rirb rings reads)) { answered = list_any (answers_it (asked_of old-course.state.rings.outstanding)) (drop old-course.written written) }) (sym same),
           λ conforms. row.1 (conforms_went task lines old middle _ first.went (conforms_stepped task first.steps (Read RIRBSTS One reads.flag) (world_of old) old-course tt) conforms),
         )

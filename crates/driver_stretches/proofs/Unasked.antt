@@ -1,5 +1,5 @@
 -- While no command is outstanding, no answer stands unread.
-use Rattle.std.proofs.Common.{◌≡◌, ◌≤◌, ◌⊎◌, ◌+◌, ◌*◌, ℕ, Bool, true, false, not, ◌&&◌, ◌||◌, List, [], ◌∷◌, length, drop, Option, Some, None, if◌then◌else◌, inl, inr, refl, sym, ap, subst, ◌∙◌, arith}
+use Rattle.std.proofs.Common.{◌≡◌, ◌+◌, ◌*◌, ℕ, Bool, true, false, not, ◌&&◌, ◌||◌, List, [], ◌∷◌, length, drop, Option, None, inl, inr, refl, sym, ap, subst, ◌∙◌, arith}
 use Rattle.std.specs.Prelude.{cond}
 use Rattle.std.proofs.lemmas.List.Sums.{sum_by-cons}
 use Rattle.ring_entries.specs.declared.response.Response.{Response}
@@ -8,7 +8,7 @@ use Rattle.ring_entries.specs.declared.entries.TheConstants.{COMMAND_BYTES}
 use Rattle.hda_world.specs.Worlds.{World, TakenCommand}
 use Rattle.command_engine.specs.declared.ring_places.RingPlaces.{RingPlaces}
 use Rattle.command_engine.specs.declared.answers.Outstanding.{Outstanding}
-use Rattle.command_engine.specs.Courses.{RingPart, part_of, Course, AreOf, solicited, Stands}
+use Rattle.command_engine.specs.Courses.{RingPart, part_of, Course, solicited, Stands}
 use Rattle.command_engine.specs.Entries.{answers_it, is_from}
 use Rattle.driver_stretches.specs.Answers.{has_answer, AnswersAgree}
 
@@ -22,11 +22,11 @@ first_none : (asked : Option ℕ) (response : Response) (responses : List Respon
 first_none asked response responses true is none rest =
     let here : answers_it asked response ≡ false = ap (λ (unsolicited : Bool). not unsolicited && is_from asked response.codec) is in
     let count : solicited (response ∷ responses) ≡ 0 + solicited responses =
-        sum_by-cons (λ (response : Response). cond (not response.unsolicited) 1 0) response responses ∙ ap (λ (unsolicited : Bool). cond (not unsolicited) 1 0 + solicited responses) is in
+    sum_by-cons (λ (response : Response). cond (not response.unsolicited) 1 0) response responses ∙ ap (λ (unsolicited : Bool). cond (not unsolicited) 1 0 + solicited responses) is in
     ap (λ (b : Bool). b || has_answer asked responses) here ∙ rest (omega (arith, count, none))
 first_none asked response responses false is none rest =
     let count : solicited (response ∷ responses) ≡ 1 + solicited responses =
-        sum_by-cons (λ (response : Response). cond (not response.unsolicited) 1 0) response responses ∙ ap (λ (unsolicited : Bool). cond (not unsolicited) 1 0 + solicited responses) is in
+    sum_by-cons (λ (response : Response). cond (not response.unsolicited) 1 0) response responses ∙ ap (λ (unsolicited : Bool). cond (not unsolicited) 1 0 + solicited responses) is in
     absurd (omega (arith, count, none))
 
 -- with no answer to a command among them none answers

@@ -1,6 +1,6 @@
 //! Laws of the stretches, each the contract of a function that does nothing: their accesses are those that progress expects, and lead where it
 //! says.
-ghost use Rattle.std.specs.Prelude.{◌≡◌, ◌≤◌, ℕ, Bool, List, ◌++◌, length, map, drop, true, false, Option, None};
+ghost use Rattle.std.specs.Prelude.{◌≡◌, ◌≤◌, ℕ, Bool, List, [], ◌∷◌, ◌++◌, if◌then◌else◌, length, map, drop, true, false, Option, None};
 ghost use Rattle.verb_codes.specs.Words.{has_bit};
 ghost use Rattle.command_engine.specs.declared.ring_places.RingPlaces.{RingPlaces};
 ghost use Rattle.command_engine.specs.Starting.{StartReads};
@@ -8,7 +8,10 @@ ghost use Rattle.command_engine.specs.Polling.{PollReads, AreNew, poll_accesses}
 ghost use Rattle.driver_progress.specs.Requests.{requests_of};
 ghost use Rattle.std.specs.Option.{is_some};
 ghost use Rattle.ring_entries.specs.declared.response.Response.{Response};
+ghost use Rattle.hda_registers.specs.declared.shapes.Width.TheVariants.{Four};
+ghost use Rattle.hda_registers.specs.declared.places.TheConstants.{INTSTS};
 ghost use Rattle.hda_world.specs.Worlds.{World};
+ghost use Rattle.hda_world.specs.Events.{Event, Read};
 ghost use Rattle.hda_world.specs.Tellings.{Telling, world_of, Makes};
 ghost use Rattle.command_engine.specs.Courses.{Stands};
 ghost use Rattle.command_engine.specs.Entries.{answer_among};
@@ -16,16 +19,20 @@ ghost use Rattle.command_engine.specs.Belonging.{as_held};
 ghost use Rattle.driver_progress.specs.Tasks.{Task, DriverLine};
 ghost use Rattle.driver_progress.specs.Progress.{course_of, course_opened, is_answered, Conforms};
 ghost use Rattle.driver_progress.specs.Noting.{with_accesses};
+ghost use Rattle.device_steps.specs.declared.Step.{Step};
+ghost use Rattle.hda_world.specs.Steps.{after_steps};
+ghost use Rattle.driver_stretches.specs.Beginning.{CanReset, IsSettling};
 ghost use Rattle.driver_stretches.specs.Answers.{has_answer, AnswersAgree};
 ghost use Rattle.driver_progress.specs.Seen.{Seen, seen_by, values_of};
 ghost use Rattle.driver_progress.specs.States.{State};
 ghost use Rattle.driver_progress.specs.Expected as expected;
 ghost use Rattle.driver_stretches.specs.Resetting.{reset_accesses};
 ghost use Rattle.driver_stretches.specs.Settling.{settle_accesses};
-ghost use Rattle.driver_stretches.specs.Interrupts.{interrupt_accesses};
+ghost use Rattle.driver_stretches.specs.Interrupts.{clear_accesses};
 ghost use Rattle.driver_stretches.specs.Shutting.{shut_accesses};
 
-/// The accesses are those that are expected: of a reset, of a look whether the codecs had their time, of a poll and of the end.
+/// The accesses are those that are expected: of a reset, of a look whether the codecs had their time, of a poll, of a look
+/// for interrupts and of the end.
 pub fn stretches_are_expected()
     ensures resets { (in_reset control clock : ℕ) → requests_of (reset_accesses in_reset control clock) ≡ expected.resets }
     ensures settles { (task : Task) (state : State) (clock : ℕ) (reads : StartReads) (answered : Bool)
@@ -33,6 +40,9 @@ pub fn stretches_are_expected()
         ≡ expected.settles task state (seen_by (values_of (settle_accesses state.kept clock task.blocks.corb task.blocks.rirb reads)) answered) }
     ensures polls { (rirb : ℕ) (rings : RingPlaces) (reads : PollReads) (seen : Seen) → AreNew rings reads → seen.flag ≡ reads.flag
         → (has_bit reads.flag 0 ≡ true → seen.pointer ≡ reads.pointer) → requests_of (poll_accesses rirb rings reads) ≡ expected.polls rirb rings seen }
+    ensures interrupts { (interrupts stream : ℕ) (seen : Seen) (called : List Event) → seen.interrupts ≡ interrupts → (has_bit interrupts 1 ≡ true → seen.stream ≡ stream)
+        → requests_of (Read INTSTS Four interrupts ∷ (if has_bit interrupts 31 then clear_accesses interrupts stream ++ called else []))
+        ≡ expected.interrupted_if true seen (requests_of called) }
     ensures shuts { requests_of shut_accesses ≡ expected.shuts }
 {}
 
@@ -56,4 +66,10 @@ pub fn answers_agree()
     ensures submitted { (from read corb rirb : ℕ) (rings : RingPlaces) (world : World) (asked : Option ℕ) → Stands from read corb rirb rings world → rings.outstanding ≡ None
         → AnswersAgree asked (length world.written) read world.written }
     ensures none { (submitted read : ℕ) (written : List Response) → submitted ≤ length written → read ≤ length written → AnswersAgree None submitted read written }
+{}
+
+/// Where a reset can be made, and where the codecs announce themselves after one, stays so over steps of the device.
+pub fn a_reset_stays()
+    ensures before { (corb rirb : ℕ) (steps : List Step) (world : World) → CanReset corb rirb world → CanReset corb rirb (after_steps steps world) }
+    ensures later { (corb rirb : ℕ) (steps : List Step) (world : World) → IsSettling corb rirb world → IsSettling corb rirb (after_steps steps world) }
 {}
