@@ -1,10 +1,11 @@
 -- The wall clock and the state change status over moves of the device.
-use Rattle.std.proofs.Common.{◌≡◌, ◌<◌, ◌≤◌, ◌⊎◌, ◌+◌, ◌*◌, ◌/◌, ◌%◌, ◌^◌, ◌==◌, ℕ, Bool, true, false, List, [], ◌∷◌, ◌++◌, if◌then◌else◌, ◌≢◌, append_assoc, refl, sym, ap, subst, ◌∙◌, inl, inr, arith, rules}
+use Rattle.std.proofs.Common.{map, ◌≡◌, ◌<◌, ◌≤◌, ◌⊎◌, ◌+◌, ◌*◌, ◌/◌, ◌%◌, ◌^◌, ◌==◌, ℕ, Bool, true, false, List, [], ◌∷◌, ◌++◌, if◌then◌else◌, ◌≢◌, append_assoc, refl, sym, ap, subst, ◌∙◌, inl, inr, arith, rules}
 use Rattle.std.specs.Prelude.{Contains, bit_or}
 use Rattle.std.proofs.Math.Nat.{mod-add-div, add-mul-mod_self_left}
 use Rattle.std.proofs.lemmas.Bool.{cases_lt}
 use Rattle.std.proofs.lemmas.Nat.Bits.{bit_at_or, bit_at-pow_other}
 use Rattle.std.proofs.lemmas.List.Elements.{Contains-append_right}
+use Rattle.codec_graph.specs.declared.raw.RawCodec.{RawCodec}
 use Rattle.codec_graph.specs.CodecStates.{CodecState, plugged}
 use Rattle.hda_registers.specs.declared.shapes.Raise.TheVariants as event
 use Rattle.hda_registers.specs.Fields.{Fields, is_out_of_reset}
@@ -16,8 +17,19 @@ use Rattle.hda_world.specs.Worlds.{World, with_codec}
 use Rattle.hda_world.specs.Steps.{discovered, passed}
 use Rattle.hda_world.specs.Kept.{Kept}
 use Rattle.hda_world.specs.Discovery.{addresses_of}
-use Rattle.hda_world.proofs.Callers.{frames_after, passed_global, addresses-with_codec, graph-plugged}
+use Rattle.hda_world.proofs.Callers.{frames_after, passed_global, graphs-with_codec}
+use Rattle.hda_world.proofs.Leaving.{graph-plugged}
 use Rattle.driver_stretches.specs.Beginning.{AreOnly, HasOnly, KeepsTime}
+
+-- addresses are those of the graphs
+of_graphs : (codecs : List CodecState) → addresses_of codecs ≡ map (λ (graph : RawCodec). graph.address) (map (λ (codec : CodecState). codec.graph) codecs)
+of_graphs [] = refl
+of_graphs (codec ∷ codecs) = ap (λ (addresses : List ℕ). codec.graph.address ∷ addresses) (of_graphs codecs)
+
+-- so a change of one codec that keeps its graph leaves them
+addresses_stay : (address : ℕ) (change : CodecState → CodecState) → ((codec : CodecState) → (change codec).graph ≡ codec.graph) → (codecs : List CodecState) → addresses_of (with_codec address change codecs) ≡ addresses_of codecs
+addresses_stay address change keeps codecs =
+    of_graphs (with_codec address change codecs) ∙ ap (map (λ (graph : RawCodec). graph.address)) (graphs-with_codec address change keeps codecs) ∙ sym (of_graphs codecs)
 
 clock_after : (responses : List Response) (fields : Fields) → (after_responses fields responses).global.wall_clock ≡ fields.global.wall_clock
 clock_after [] fields = refl
@@ -103,7 +115,7 @@ status_after (response ∷ responses) fields = status_after responses (after_res
 
 only_changed : (world : World) (address : ℕ) (change : CodecState → CodecState) → ((codec : CodecState) → (change codec).graph ≡ codec.graph) → HasOnly world
     → AreOnly world.registers.global.state_status (addresses_of (with_codec address change world.codecs))
-only_changed world address change keeps holds = subst (AreOnly world.registers.global.state_status) (sym (addresses-with_codec address change keeps world.codecs)) holds
+only_changed world address change keeps holds = subst (AreOnly world.registers.global.state_status) (sym (addresses_stay address change keeps world.codecs)) holds
 
 pub keeps_only : Kept HasOnly
 keeps_only = record {

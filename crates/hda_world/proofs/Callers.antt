@@ -118,9 +118,3 @@ pub use Rattle.hda_world.proofs.Moments.{Lead, lead_none, lead_more, lead_both, 
 pub use Rattle.hda_world.proofs.Passing.{passed_global}
 -- relations that are kept together
 pub use Rattle.hda_world.proofs.Passing.{kept_both}
--- a change of one codec that keeps its graph leaves the addresses
-pub use Rattle.hda_world.proofs.Discovery.{addresses-with_codec}
--- what is plugged in leaves a codec's graph
-pub use Rattle.hda_world.proofs.Leaving.{graph-plugged}
--- steps as events are those steps, and an event after them is honest where they led
-pub use Rattle.hda_world.proofs.Accessing.{after-stepped, honest-stepped}

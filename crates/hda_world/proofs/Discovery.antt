@@ -64,7 +64,7 @@ status_after : (responses : List Response) (fields : Fields) → (after_response
 status_after [] fields = refl
 status_after (response ∷ responses) fields = status_after responses (after_response fields)
 
-pub addresses-with_codec : (address : ℕ) (change : CodecState → CodecState) → ((codec : CodecState) → (change codec).graph ≡ codec.graph) → (codecs : List CodecState) → addresses_of (with_codec address change codecs) ≡ addresses_of codecs
+addresses-with_codec : (address : ℕ) (change : CodecState → CodecState) → ((codec : CodecState) → (change codec).graph ≡ codec.graph) → (codecs : List CodecState) → addresses_of (with_codec address change codecs) ≡ addresses_of codecs
 addresses-with_codec address change keeps [] = refl
 addresses-with_codec address change keeps (codec ∷ codecs) =
     let first : (named : Bool) → (if named then change codec else codec).graph.address ≡ codec.graph.address = λ named. elim named as (λ b. (if b then change codec else codec).graph.address ≡ codec.graph.address) [ true ↦ ap (λ graph. graph.address) (keeps codec) | false ↦ refl ] in

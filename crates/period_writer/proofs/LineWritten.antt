@@ -1,11 +1,11 @@
 -- What a run appends to the line, byte by byte.
-use Rattle.std.proofs.Common.{◌≡◌, ◌≤◌, ◌<◌, ◌+◌, ◌-◌, ◌%◌, ◌==◌, ◌⊎◌, inl, inr, ℕ, zero, suc, Bool, true, false, List, [], ◌∷◌, ◌++◌, take, drop, length, replicate, min, refl, sym, ap, subst, ◌∙◌, arith, rules, if◌then◌else◌, length-append}
+use Rattle.std.proofs.Common.{◌≡◌, ◌≤◌, ◌<◌, ◌+◌, ◌-◌, ◌==◌, ◌⊎◌, inl, inr, ℕ, zero, suc, Bool, true, false, List, [], ◌∷◌, ◌++◌, take, drop, length, replicate, min, refl, sym, ap, subst, ◌∙◌, arith, rules, if◌then◌else◌, length-append}
 use Rattle.std.specs.Prelude.{slice_index}
 use Rattle.std.proofs.lemmas.List.{length-replicate, length-take-le, get_or_append_left, get_or-append_right, get_or-replicate}
 use Rattle.period_writer.specs.declared.course.Course.{Course}
 use Rattle.period_writer.specs.Courses.{IsCourse}
-use Rattle.period_writer.specs.Runs.{Measures, RunFacts, Tally, whole_blocks, run_reach, run_room, run_sound, run_sound_end, tally_if, course_opened}
-use Rattle.period_writer.specs.Lines.{IsLine, line_of, sound_and_silence}
+use Rattle.period_writer.specs.Runs.{Measures, RunFacts, Tally, whole_blocks, run_reach, run_room, run_sound, tally_if}
+use Rattle.period_writer.specs.Lines.{line_of, sound_and_silence}
 use Rattle.period_writer.specs.Playing.{run_bytes}
 use Rattle.period_writer.specs.Owning.{IsWritten}
 use Rattle.period_writer.proofs.LineLaws.{run_longer, run_fits, line_kept, line_grows}

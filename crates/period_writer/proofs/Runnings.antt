@@ -1,5 +1,5 @@
 -- Runs, put together from their parts.
-use Rattle.std.proofs.Common.{◌≡◌, ◌+◌, ◌-◌, ◌∙◌, ℕ, Bool, false, List, Option, length, drop, ap, subst, arith, if◌then◌else◌}
+use Rattle.std.proofs.Common.{◌≡◌, ◌+◌, ◌-◌, ◌∙◌, ℕ, Bool, false, List, [], ◌∷◌, slice_index, refl, Option, length, drop, ap, subst, arith, if◌then◌else◌}
 use Rattle.hda_registers.specs.declared.shapes.Width.TheVariants.{Four}
 use Rattle.hda_registers.specs.declared.places.TheConstants.{WALCLK}
 use Rattle.hda_world.specs.Events.{Read}
@@ -7,6 +7,7 @@ use Rattle.hda_world.specs.Tellings.{Telling, Accessed, Between, Makes}
 use Rattle.hda_world.proofs.Callers.{row_one, row_more, row_both}
 use Rattle.period_writer.specs.declared.course.Course.{Course}
 use Rattle.period_writer.specs.declared.course.Ran.{Ran}
+use Rattle.period_writer.specs.declared.course.Ran.TheVariants.{Playing, Drained, Late}
 use Rattle.period_writer.specs.declared.course.Run.{Run}
 use Rattle.period_writer.specs.declared.course.Span.{Span}
 use Rattle.period_writer.specs.declared.geometry.Geometry.{Geometry}
@@ -14,7 +15,7 @@ use Rattle.period_writer.specs.declared.registers.TheConstants.{POSITION}
 use Rattle.period_writer.specs.Rings.{period_bytes, ring_bytes}
 use Rattle.period_writer.specs.Lines.{sound_and_silence}
 use Rattle.period_writer.specs.Places.{line_writes}
-use Rattle.period_writer.specs.Runs.{Tally, Measures, measures, facts_of, run_reach, run_sound, position_from, tally_after}
+use Rattle.period_writer.specs.Runs.{Tally, Measures, measures, facts_of, run_reach, run_sound, position_from, tally_after, Stretch, taken_up, taken_up_if}
 use Rattle.period_writer.specs.Starting.{reset_accesses, entry_writes, run_accesses}
 use Rattle.period_writer.specs.Playing.{Starts, Plays, run_bytes, stop_accesses}
 
@@ -79,3 +80,36 @@ starts_so geometry list periods budget left from in_reset ready to reach sound p
       tally_is = subst (λ (n : ℕ). tally' ≡ tally_after (measures geometry) tally (facts_of budget n from 0 to)) all after;
       pcm_is = rest ∙ ap (λ (n : ℕ). drop n pcm) sounds';
     }
+
+-- ---- the same by what a stretch of accesses read
+
+taken_by : (ran : Ran) → ran ≡ Playing → (m : Measures) (total : ℕ) (tally : Tally) (budget from to : ℕ) (lpibs : List ℕ)
+    → taken_up_if ran (from ∷ to ∷ []) m total (record { budget = budget; clocks = from ∷ to ∷ []; lpibs = lpibs }) tally
+    ≡ tally_after m tally (facts_of budget (total - tally.course.used) from (slice_index lpibs 0) to)
+taken_by Playing is m total tally budget from to lpibs = refl
+taken_by Drained is m total tally budget from to lpibs = cc
+taken_by (Late early late) is m total tally budget from to lpibs = cc
+
+pub first_taken_up : (m : Measures) (total : ℕ) (tally : Tally) (budget from to : ℕ) → tally.course.ran ≡ Playing
+    → taken_up m total tally (record { budget = budget; clocks = from ∷ to ∷ []; lpibs = [] }) ≡ tally_after m tally (facts_of budget (total - tally.course.used) from 0 to)
+first_taken_up m total tally budget from to is = taken_by tally.course.ran is m total tally budget from to []
+
+pub later_taken_up : (m : Measures) (total : ℕ) (tally : Tally) (budget from lpib to : ℕ) → tally.course.ran ≡ Playing
+    → taken_up m total tally (record { budget = budget; clocks = from ∷ to ∷ []; lpibs = lpib ∷ [] }) ≡ tally_after m tally (facts_of budget (total - tally.course.used) from lpib to)
+later_taken_up m total tally budget from lpib to is = taken_by tally.course.ran is m total tally budget from to (lpib ∷ [])
+
+none_by : (ran : Ran) (m : Measures) (total : ℕ) (tally : Tally) (stretch : Stretch) → taken_up_if ran [] m total stretch tally ≡ tally
+none_by Playing m total tally stretch = refl
+none_by Drained m total tally stretch = refl
+none_by (Late from to) m total tally stretch = refl
+
+one_by : (ran : Ran) (from : ℕ) (m : Measures) (total : ℕ) (tally : Tally) (stretch : Stretch) → taken_up_if ran (from ∷ []) m total stretch tally ≡ tally
+one_by Playing from m total tally stretch = refl
+one_by Drained from m total tally stretch = refl
+one_by (Late early late) from m total tally stretch = refl
+
+pub none_taken_up : (m : Measures) (total : ℕ) (tally : Tally) (budget : ℕ) (lpibs : List ℕ) → taken_up m total tally (record { budget = budget; clocks = []; lpibs = lpibs }) ≡ tally
+none_taken_up m total tally budget lpibs = none_by tally.course.ran m total tally (record { budget = budget; clocks = []; lpibs = lpibs })
+
+pub one_taken_up : (m : Measures) (total : ℕ) (tally : Tally) (budget from : ℕ) (lpibs : List ℕ) → taken_up m total tally (record { budget = budget; clocks = from ∷ []; lpibs = lpibs }) ≡ tally
+one_taken_up m total tally budget from lpibs = one_by tally.course.ran from m total tally (record { budget = budget; clocks = from ∷ []; lpibs = lpibs })

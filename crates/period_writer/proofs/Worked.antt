@@ -9,7 +9,7 @@ use Rattle.period_writer.specs.declared.course.Run.{Run}
 use Rattle.period_writer.specs.declared.course.Span.{Span}
 use Rattle.period_writer.specs.declared.course.Ran.TheVariants.{Playing, Drained, Late}
 use Rattle.period_writer.specs.Rings.{limit_of, ring_bytes, fault_of}
-use Rattle.period_writer.specs.Runs.{Measures, Stretch, tally_of}
+use Rattle.period_writer.specs.Runs.{Measures, Stretch, tally_of_stretches}
 use Rattle.period_writer.specs.Lines.{line_of}
 
 abbrev stereo : Rate → Format
@@ -51,7 +51,7 @@ abbrev silence : (start end : ℕ) → Span
 silence start end = record { start = start; end = end }
 
 -- two frames of sound: the second run finds them played
-pub short_sound : let tally = tally_of small 8 (first 8 12500 ∷ later 0 16 14500 ∷ []) in
+pub short_sound : let tally = tally_of_stretches small 8 (first 8 12500 ∷ later 0 16 14500 ∷ []) in
     tally ≡ record {
       runs = run 0 12500 8 8 ∷ run 16 14500 0 0 ∷ [];
       silences = silence 8 784 ∷ [];
@@ -59,14 +59,14 @@ pub short_sound : let tally = tally_of small 8 (first 8 12500 ∷ later 0 16 145
     }
 short_sound = refl
 
-pub short_line : (a b c d : ℕ) → line_of (tally_of (record { ring = 12; block = 4; limit = 1 }) 4 (first 8 0 ∷ [])) (a ∷ b ∷ c ∷ d ∷ []) ≡ a ∷ b ∷ c ∷ d ∷ 0 ∷ 0 ∷ 0 ∷ 0 ∷ 0 ∷ 0 ∷ 0 ∷ 0 ∷ []
+pub short_line : (a b c d : ℕ) → line_of (tally_of_stretches (record { ring = 12; block = 4; limit = 1 }) 4 (first 8 0 ∷ [])) (a ∷ b ∷ c ∷ d ∷ []) ≡ a ∷ b ∷ c ∷ d ∷ 0 ∷ 0 ∷ 0 ∷ 0 ∷ 0 ∷ 0 ∷ 0 ∷ 0 ∷ []
 short_line a b c d = refl
 
 -- just on time: 144 frames after the first run, when 576 bytes were sent, and then one more run, which finds the link at the ring's start
 abbrev on_time : List Stretch
 on_time = first 768 12500 ∷ later 768 576 84500 ∷ later 0 0 108500 ∷ []
 
-pub on_time_tally : tally_of small 768 on_time ≡ record {
+pub on_time_tally : tally_of_stretches small 768 on_time ≡ record {
   runs = run 0 12500 768 768 ∷ run 576 84500 768 0 ∷ run 768 108500 0 0 ∷ [];
   silences = silence 768 1536 ∷ [];
   course = record { started = true; at = 768; from = 108500; reach = 1536; used = 768; sound_end = 768; ran = Drained };
@@ -74,7 +74,7 @@ pub on_time_tally : tally_of small 768 on_time ≡ record {
 on_time_tally = refl
 
 -- one link frame later the second run is late
-pub late_tally : tally_of small 768 (first 768 12500 ∷ later 768 576 85000 ∷ later 0 0 108500 ∷ []) ≡ record {
+pub late_tally : tally_of_stretches small 768 (first 768 12500 ∷ later 768 576 85000 ∷ later 0 0 108500 ∷ []) ≡ record {
   runs = run 0 12500 768 768 ∷ [];
   silences = [];
   course = record { started = true; at = 0; from = 12500; reach = 768; used = 768; sound_end = 768; ran = Late 12500 85000 };
@@ -82,7 +82,7 @@ pub late_tally : tally_of small 768 (first 768 12500 ∷ later 768 576 85000 ∷
 late_tally = refl
 
 -- sound that comes too late for its place leaves a silence before it
-pub two_silences : tally_of small 784 (first 400 12500 ∷ later 1000 384 60500 ∷ later 0 0 108500 ∷ later 0 384 156500 ∷ []) ≡ record {
+pub two_silences : tally_of_stretches small 784 (first 400 12500 ∷ later 1000 384 60500 ∷ later 0 0 108500 ∷ later 0 384 156500 ∷ []) ≡ record {
   runs = run 0 12500 400 400 ∷ run 384 60500 1000 384 ∷ run 768 108500 0 0 ∷ run 1152 156500 0 0 ∷ [];
   silences = silence 400 768 ∷ silence 1152 1920 ∷ [];
   course = record { started = true; at = 1152; from = 156500; reach = 1920; used = 784; sound_end = 1152; ran = Drained };
@@ -90,7 +90,7 @@ pub two_silences : tally_of small 784 (first 400 12500 ∷ later 1000 384 60500 
 two_silences = refl
 
 -- a budget below a block writes nothing, and the link may stand still
-pub no_block : tally_of small 8 (first 3 12500 ∷ later 0 0 12500 ∷ []) ≡ record {
+pub no_block : tally_of_stretches small 8 (first 3 12500 ∷ later 0 0 12500 ∷ []) ≡ record {
   runs = run 0 12500 3 0 ∷ run 0 12500 0 0 ∷ [];
   silences = silence 0 768 ∷ [];
   course = record { started = true; at = 0; from = 12500; reach = 768; used = 0; sound_end = 0; ran = Playing };
@@ -98,7 +98,7 @@ pub no_block : tally_of small 8 (first 3 12500 ∷ later 0 0 12500 ∷ []) ≡ r
 no_block = refl
 
 -- no sound at all: the second run has drained
-pub no_sound : tally_of small 0 (first 8 12500 ∷ later 0 0 12500 ∷ []) ≡ record {
+pub no_sound : tally_of_stretches small 0 (first 8 12500 ∷ later 0 0 12500 ∷ []) ≡ record {
   runs = run 0 12500 8 0 ∷ run 0 12500 0 0 ∷ [];
   silences = silence 0 768 ∷ [];
   course = record { started = true; at = 0; from = 12500; reach = 768; used = 0; sound_end = 0; ran = Drained };

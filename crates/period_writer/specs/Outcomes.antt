@@ -3,6 +3,7 @@ use Rattle.std.specs.Prelude.{◌≡◌, ◌≤◌, ◌<◌, ℕ, ◌*◌, ◌%�
 use Rattle.hda_registers.specs.Fields.{is_running}
 use Rattle.hda_registers.specs.declared.shapes.Width.TheVariants.{Four}
 use Rattle.hda_registers.specs.declared.places.TheConstants.{WALCLK}
+use Rattle.stream_moves.specs.Streams.{begun}
 use Rattle.hda_world.specs.Worlds.{World}
 use Rattle.hda_world.specs.Events.{Event, Read}
 use Rattle.hda_world.specs.Tellings.{Telling, Went, Makes, world_of}
@@ -13,8 +14,8 @@ use Rattle.period_writer.specs.Runs.{RunFacts, Tally, measures, facts_of, run_at
 use Rattle.period_writer.specs.Lines.{line_of}
 use Rattle.period_writer.specs.Starting.{rise_accesses}
 use Rattle.period_writer.specs.Playing.{run_bytes, play_accesses}
-use Rattle.period_writer.specs.Standing.{Ring, IsRing, AreBesideRirb}
-use Rattle.period_writer.specs.Owning.{IsOwned, IsPlaying}
+use Rattle.period_writer.specs.Standing.{Ring, AreBesideRirb}
+use Rattle.period_writer.specs.Owning.{IsOwned, IsWritten, IsPlaying}
 
 -- WALCLK did not wrap since CRST rose
 abbrev pub HasNotWrapped : World → Type 0
@@ -25,6 +26,8 @@ HasNotWrapped world = 500 * world.frames < 2 ^ 32
 -- the stream was stopped after all sound was sent: what was fetched is the line, and zeros from its end on
 pub record HasDrained (ring : Ring) (pcm : List ℕ) (tally : Tally) (world : World) : Type 0 where
   pub stopped : is_running world.registers.output ≡ false
+  pub no_error : world.registers.output.descriptor_error ≡ 0
+  pub written : IsWritten pcm tally
   pub sent : tally.course.at ≤ world.output.left
   pub fetched : (at : ℕ) → at < length world.output.entered → at < tally.course.reach
       → slice_index world.output.entered at ≡ slice_index (line_of tally pcm) at
@@ -33,49 +36,53 @@ pub record HasDrained (ring : Ring) (pcm : List ℕ) (tally : Tally) (world : Wo
 -- the stream was stopped by a late run: what was fetched is the line up to the last recorded reach
 pub record WasLate (ring : Ring) (pcm : List ℕ) (tally : Tally) (world : World) : Type 0 where
   pub stopped : is_running world.registers.output ≡ false
+  pub no_error : world.registers.output.descriptor_error ≡ 0
+  pub written : IsWritten pcm tally
   pub fetched : (at : ℕ) → at < length world.output.entered → at < tally.course.reach
       → slice_index world.output.entered at ≡ slice_index (line_of tally pcm) at
 
--- how a run that ended so left the ring, where these were recorded before it and after it
-abbrev pub HasEnded : Ran → Ring → (pcm : List ℕ) → (tally tally' : Tally) → World → Type 0
-HasEnded Playing ring pcm tally tally' world = IsPlaying ring pcm tally' world
-HasEnded Drained ring pcm tally tally' world = HasDrained ring pcm tally' world
-HasEnded (Late from to) ring pcm tally tally' world = WasLate ring pcm tally world
+-- how a run with this answer left the ring, where these were recorded before it and after it
+abbrev pub EndsAs : Ran → Ring → (pcm : List ℕ) → (tally tally' : Tally) → World → Type 0
+EndsAs Playing ring pcm tally tally' world = IsPlaying ring pcm tally' world
+EndsAs Drained ring pcm tally tally' world = HasDrained ring pcm tally' world
+EndsAs (Late from to) ring pcm tally tally' world = WasLate ring pcm tally world
 
--- a run that read this: at each moment of it the device owns what the last recorded run left it, and the run writes elsewhere
-pub record RunTells (ring : Ring) (pcm : List ℕ) (tally : Tally) (answer : Ran) (tally' : Tally) (old new : Telling) : Type 0 where
+-- a run with this budget that read these clocks and this LPIB: at each moment of it the device owns what the last recorded run left it,
+-- and the run writes elsewhere
+pub record RunTells (ring : Ring) (pcm : List ℕ) (budget : ℕ) (tally : Tally) (answer : Ran) (tally' : Tally) (old new : Telling) : Type 0 where
   pub facts : RunFacts
+  pub budget_is : facts.budget ≡ budget
+  pub left_is : facts.left ≡ length (drop tally.course.used pcm)
   pub events : List Event
   pub made : Makes (play_accesses ring.geometry ring.periods tally.course facts (drop tally.course.used pcm) answer) old new
   pub recorded : tally' ≡ tally_after (measures ring.geometry) tally facts
   pub went : Went old new events
-  pub moments : AtEach (IsOwned ring (line_of tally pcm) tally.course.reach tally.course.at (run_at (measures ring.geometry) tally.course facts)) events (world_of old)
-  pub ends : HasEnded answer ring pcm tally tally' (world_of new)
+  pub moments : AtEach (IsOwned ring (line_of tally pcm) tally.course.reach tally.course.at (run_at (measures ring.geometry) tally.course facts) tally.course.from) events (world_of old)
+  pub ends : EndsAs answer ring pcm tally tally' (world_of new)
 
 -- it does so from each world in which the writer plays, while WALCLK has not wrapped
-abbrev pub RunTellsOf : Ring → (pcm : List ℕ) → (tally : Tally) → (answer : Ran) → (tally' : Tally) → Telling → Telling → Type 0
-RunTellsOf ring pcm tally answer tally' old new =
-    IsPlaying ring pcm tally (world_of old) → HasNotWrapped (world_of new) → RunTells ring pcm tally answer tally' old new
+abbrev pub RunTellsOf : Ring → (pcm : List ℕ) → (budget : ℕ) → (tally : Tally) → (answer : Ran) → (tally' : Tally) → Telling → Telling → Type 0
+RunTellsOf ring pcm budget tally answer tally' old new =
+    IsPlaying ring pcm tally (world_of old) → HasNotWrapped (world_of new) → RunTells ring pcm budget tally answer tally' old new
 
 -- ---- the first run
 
 -- a first run may begin: the controller is out of reset, the input stream does not run, WALCLK counts the link frames, the FIFO is the
--- geometry's, the ring's blocks lie in the region, and RIRB lies outside them
+-- geometry's, and RIRB lies outside the ring's blocks
 pub record CanBegin (ring : Ring) (world : World) : Type 0 where
   pub out : (world.registers.global.controller_reset == 1) ≡ true
   pub input_stopped : is_running world.registers.input ≡ false
   pub clock : world.registers.global.wall_clock ≡ (500 * world.frames) % 2 ^ 32
   pub fifo : world.registers.shape.fifo ≡ ring.geometry.fifo
-  pub ring_is : IsRing ring (length world.memory)
   pub beside : AreBesideRirb ring world.registers.global.rirb_base world.registers.shape
 
--- a first run: from the rise of RUN on the writer plays, and at each moment the device owns what it was left
-pub record StartTells (ring : Ring) (pcm : List ℕ) (tally tally' : Tally) (old new : Telling) : Type 0 where
+-- a first run: from the rise of RUN on, with which the stream begins anew, the writer plays, and at each moment the device owns what it
+-- was left
+pub record StartTells (ring : Ring) (pcm : List ℕ) (budget : ℕ) (tally tally' : Tally) (old new : Telling) : Type 0 where
   pub from : ℕ
   pub in_reset : ℕ
   pub ready : ℕ
   pub to : ℕ
-  pub budget : ℕ
   pub risen : Telling
   pub events : List Event
   pub before : let facts = facts_of budget (length pcm) from 0 to in
@@ -83,10 +90,11 @@ pub record StartTells (ring : Ring) (pcm : List ℕ) (tally tally' : Tally) (old
   pub after : Makes (Read WALCLK Four to ∷ []) risen new
   pub recorded : tally' ≡ tally_after (measures ring.geometry) tally (facts_of budget (length pcm) from 0 to)
   pub rises : IsPlaying ring pcm tally' (world_of risen)
+  pub anew : (world_of risen).output ≡ begun
   pub went : Went risen new events
-  pub moments : AtEach (IsOwned ring (line_of tally' pcm) tally'.course.reach 0 0) events (world_of risen)
+  pub moments : AtEach (IsOwned ring (line_of tally' pcm) tally'.course.reach 0 0 tally'.course.from) events (world_of risen)
   pub plays : IsPlaying ring pcm tally' (world_of new)
 
-abbrev pub StartTellsOf : Ring → (pcm : List ℕ) → (tally tally' : Tally) → Telling → Telling → Type 0
-StartTellsOf ring pcm tally tally' old new =
-    CanBegin ring (world_of old) → HasNotWrapped (world_of new) → StartTells ring pcm tally tally' old new
+abbrev pub StartTellsOf : Ring → (pcm : List ℕ) → (budget : ℕ) → (tally tally' : Tally) → Telling → Telling → Type 0
+StartTellsOf ring pcm budget tally tally' old new =
+    CanBegin ring (world_of old) → HasNotWrapped (world_of new) → StartTells ring pcm budget tally tally' old new

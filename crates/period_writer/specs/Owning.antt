@@ -10,7 +10,7 @@ use Rattle.period_writer.specs.declared.course.Ran.TheVariants.{Playing}
 use Rattle.period_writer.specs.Places.{place_of}
 use Rattle.period_writer.specs.Runs.{Tally}
 use Rattle.period_writer.specs.Lines.{IsLine, line_of}
-use Rattle.period_writer.specs.Standing.{Ring, Stands, Paced, bytes_in, extent_of}
+use Rattle.period_writer.specs.Standing.{Ring, Stands, Paced, bytes_in, size_of, limit_in, extent_of}
 
 -- ---- a moment
 
@@ -43,9 +43,11 @@ WritesBehind ring from to world (Read at width value) = Unit {0}
 WritesBehind ring from to world (Write at width value) = Unit {0}
 WritesBehind ring from to world (DmaRead at bytes) = Unit {0}
 
--- a moment of a run that finds the link at the second of these positions, after the last recorded one found it at the first
-pub record IsOwned (ring : Ring) (line : List ℕ) (reach from to : ℕ) (world : World) (event : Event) : Type 0 where
+-- a moment of a run that finds the link at the second of these positions, after the last recorded one found it at the first and read this
+-- clock first. While no more link frames passed since then than the limit says, nothing past the reach was fetched
+pub record IsOwned (ring : Ring) (line : List ℕ) (reach from to clock : ℕ) (world : World) (event : Event) : Type 0 where
   pub owns : Owns ring line reach world
+  pub within : 500 * world.frames ≤ clock + 500 * limit_in ring → length world.output.entered ≤ reach
   pub behind : WritesBehind ring from to world event
 
 -- ---- between runs
@@ -64,6 +66,7 @@ pub record IsPlaying (ring : Ring) (pcm : List ℕ) (tally : Tally) (world : Wor
   pub clock_from : tally.course.from ≡ 500 * since
   pub started : tally.course.started ≡ true
   pub plays : tally.course.ran ≡ Playing
+  pub reach_is : tally.course.reach ≡ tally.course.at + size_of ring
   pub written : IsWritten pcm tally
   pub stands : Stands ring (extent_of (line_of tally pcm) tally.course.at tally.course.reach tally.course.reach) world
   pub paced : Paced ring true (record { at = tally.course.at; since = since }) world

@@ -1,4 +1,4 @@
--- How the driver plays on. High Definition Audio 1.0a, 4.5.4; the order of the accesses is this project's own.
+-- How the driver plays on. This project's own.
 use Rattle.std.specs.Prelude.{◌≡◌, ℕ, List, [], ◌∷◌, ◌++◌, length, drop, Option}
 use Rattle.hda_registers.specs.declared.shapes.Width.TheVariants.{One, Four}
 use Rattle.hda_registers.specs.declared.places.TheConstants.{WALCLK}

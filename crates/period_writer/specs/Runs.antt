@@ -167,5 +167,5 @@ abbrev pub tally_on : Measures → (total : ℕ) → Tally → List Stretch → 
 tally_on m total tally [] = tally
 tally_on m total tally (stretch ∷ stretches) = tally_on m total (taken_up m total tally stretch) stretches
 
-abbrev pub tally_of : Measures → (total : ℕ) → List Stretch → Tally
-tally_of m total stretches = tally_on m total tally_opened stretches
+abbrev pub tally_of_stretches : Measures → (total : ℕ) → List Stretch → Tally
+tally_of_stretches m total stretches = tally_on m total tally_opened stretches

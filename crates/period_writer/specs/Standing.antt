@@ -13,7 +13,7 @@ use Rattle.stream_moves.specs.Streams.{StreamState}
 use Rattle.hda_world.specs.Worlds.{World}
 use Rattle.hda_world.specs.Streaming.{IsWithinFifo}
 use Rattle.period_writer.specs.declared.geometry.Geometry.{Geometry}
-use Rattle.period_writer.specs.Rings.{period_bytes, ring_bytes, list_bytes}
+use Rattle.period_writer.specs.Rings.{period_bytes, ring_bytes, list_bytes, limit_of}
 use Rattle.period_writer.specs.Blocks.{AreApart, IsBesideAll}
 use Rattle.period_writer.specs.Places.{place_of}
 
@@ -31,6 +31,10 @@ bytes_in ring = period_bytes ring.geometry.period
 
 abbrev pub size_of : Ring → ℕ
 size_of ring = ring_bytes ring.geometry.periods ring.geometry.period
+
+-- how many link frames may pass from one run to the next
+abbrev pub limit_in : Ring → ℕ
+limit_in ring = limit_of ring.geometry.periods ring.geometry.period ring.geometry.fifo ring.geometry.format
 
 -- its blocks are those of a pool over a region of so many bytes: aligned, inside, and apart
 pub record IsRing (ring : Ring) (region : ℕ) : Type 0 where

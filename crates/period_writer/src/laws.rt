@@ -1,5 +1,5 @@
 //! Laws of the line, each the contract of a function that does nothing.
-ghost use Rattle.std.specs.Prelude.{◌≡◌, ◌++◌, ℕ, List, drop, false};
+ghost use Rattle.std.specs.Prelude.{◌≡◌, ◌≤◌, ◌+◌, ◌++◌, ℕ, List, drop, true, false};
 ghost use Rattle.period_writer.specs.Courses.{IsCourse};
 ghost use Rattle.period_writer.specs.Lines.{IsLine, line_of};
 ghost use Rattle.period_writer.specs.Playing.{run_bytes};
@@ -14,6 +14,15 @@ pub fn runs_append_to_the_line()
     ensures kept { (m : Measures) (runs : ℕ) (tally : Tally) (facts : RunFacts) → IsCourse m.ring runs tally.course → IsLine tally → IsLine (tally_if false m tally facts) }
     ensures grows { (m : Measures) (runs : ℕ) (tally : Tally) (facts : RunFacts) (pcm : List ℕ) → IsCourse m.ring runs tally.course → IsLine tally
         → line_of (tally_if false m tally facts) pcm ≡ line_of tally pcm ++ run_bytes m tally.course facts (drop tally.course.used pcm) }
+{}
+
+/// Where a run stands is kept by runs: the line ends one ring ahead of the last one, and neither the sound nor its end is past that.
+pub fn runs_keep_the_course()
+    ensures opened { (ring : ℕ) → IsCourse ring 0 tally_opened.course }
+    ensures kept { (m : Measures) (runs : ℕ) (tally : Tally) (facts : RunFacts) → 1 ≤ m.ring → IsCourse m.ring runs tally.course
+        → IsCourse m.ring (runs + 1) (tally_if false m tally facts).course }
+    ensures late { (m : Measures) (runs : ℕ) (tally : Tally) (facts : RunFacts) → IsCourse m.ring runs tally.course
+        → IsCourse m.ring runs (tally_if true m tally facts).course }
 {}
 
 /// Where the registers of the output stream's descriptor stand (HDA 1.0a, 3.3.35 to 3.3.42).

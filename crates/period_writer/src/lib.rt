@@ -12,10 +12,15 @@ mod memory;
 mod pieces;
 mod records;
 mod registers;
+mod ring_laws;
 mod turns;
 mod writer;
 
 pub use course::{Course, Ran, Run, Span};
 pub use geometry::{Geometry, GeometryFault, PERIOD_UNIT};
-pub use laws::{registers_are_the_descriptors, runs_append_to_the_line};
+pub use laws::{registers_are_the_descriptors, runs_append_to_the_line, runs_keep_the_course};
+pub use ring_laws::{
+    events_between_runs_keep_the_ring, runs_are_taken_up, steps_keep_the_ring,
+    the_device_owns_what_it_was_left, the_limit_bounds_what_is_fetched,
+};
 pub use writer::{OpenFault, Writer};

@@ -1,9 +1,10 @@
 //! How the stream plays on.
-ghost use Rattle.std.specs.Prelude.{◌≡◌, ◌≤◌, ◌<◌, ◌+◌, true, length, vec_len};
+ghost use Rattle.std.specs.Prelude.{◌≡◌, ◌≤◌, ◌<◌, ◌+◌, ℕ, List, true, drop, length, vec_len};
 ghost use Rattle.hda_world.specs.Tellings.{Between, Makes};
 ghost use Rattle.period_writer.specs.Rings.{ring_bytes};
 ghost use Rattle.period_writer.specs.Playing.{Plays, stop_accesses};
-ghost use Rattle.period_writer.specs.Writers.{tally_of, periods_of};
+ghost use Rattle.period_writer.specs.Outcomes.{RunTellsOf};
+ghost use Rattle.period_writer.specs.Writers.{tally_of, periods_of, ring_of};
 
 use super::Writer;
 use crate::course::Ran;
@@ -30,11 +31,16 @@ fn stop_if<P: Platform>(platform: &mut P, ran: Ran)
 
 impl Writer {
     /// A later run, which may write so many bytes of sound: reads where the link is, and makes the line longer up to one ring ahead of
-    /// that, by sound and then silence (HDA 1.0a, 4.5.4).
+    /// that, by sound and then silence. This project's own.
     ///
     /// `Late` exactly where more than the geometry's limit of link frames passed between the clock that the run before read first and
     /// the one that this run reads last. Then it is not recorded. Else `Drained` exactly where no sound is left and the link is past
     /// the last of it. In both cases the stream is stopped.
+    ///
+    /// On a platform that tells, where the writer plays, the supply is that of the first run, and WALCLK has not wrapped: at each moment
+    /// until the stop all that the device fetched below the reach of the last recorded run is the line, and what it fetches next of it
+    /// stands in the ring; the run writes only to places of positions that were fetched. After `Playing` the writer plays on with the
+    /// longer line; after `Drained` all sound was sent, and what was fetched past the line is silence.
     pub fn run<P: Platform>(&mut self, platform: &mut P, supply: &mut Supply, budget: u32) -> Ran
         requires started { self.old.course.started ≡ true }
         requires playing { self.old.course.ran ≡ Ran.Playing }
@@ -42,6 +48,8 @@ impl Writer {
         requires room { 5 + self.old.geometry.periods ≤ P.spare_accesses platform.old }
         requires bytes_room { ring_bytes self.old.geometry.periods self.old.geometry.period ≤ P.spare_bytes platform.old }
         ensures plays { Plays self.old.geometry (periods_of self.old) budget supply.old (tally_of self.old) result (tally_of self.new) supply.new (P.told platform.old) (P.told platform.new) }
+        ensures tells { (pcm : List ℕ) → supply.old ≡ drop self.old.course.used pcm
+            → Between (RunTellsOf (ring_of self.old) pcm budget (tally_of self.old) result (tally_of self.new)) (P.told platform.old) (P.told platform.new) }
         ensures geometry { self.new.geometry ≡ self.old.geometry }
         ensures list { self.new.list ≡ self.old.list }
         ensures periods { self.new.periods.items ≡ self.old.periods.items }

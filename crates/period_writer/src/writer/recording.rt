@@ -3,7 +3,7 @@ ghost use Rattle.std.specs.Prelude.{◌≡◌, ◌≤◌, ◌<◌, ◌+◌, ◌-
 ghost use Rattle.hda_world.specs.Tellings.{Between, Makes};
 ghost use Rattle.period_writer.specs.Rings.{period_bytes, ring_bytes};
 ghost use Rattle.period_writer.specs.Lines.{sound_and_silence};
-ghost use Rattle.period_writer.specs.Places.{line_writes};
+ghost use Rattle.period_writer.specs.Places.{line_writes, touched};
 ghost use Rattle.period_writer.specs.Runs as runs;
 ghost use Rattle.period_writer.specs.Writers.{tally_of, measures_of, periods_of};
 
@@ -28,7 +28,7 @@ impl Writer {
         requires small { turn.reach < 2 ^ 61 }
         requires sound { turn.sound ≤ turn.reach - self.old.course.reach }
         requires left { turn.sound ≤ length supply.old }
-        requires room { self.old.geometry.periods + 1 ≤ P.spare_accesses platform.old }
+        requires room { touched (period_bytes self.old.geometry.period) self.old.course.reach turn.reach ≤ P.spare_accesses platform.old }
         requires bytes_room { turn.reach - self.old.course.reach ≤ P.spare_bytes platform.old }
         ensures made { Between (Makes (line_writes (period_bytes self.old.geometry.period) (periods_of self.old) self.old.course.reach turn.reach (sound_and_silence turn.sound (turn.reach - self.old.course.reach) supply.old))) (P.told platform.old) (P.told platform.new) }
         ensures supply { supply.new ≡ drop turn.sound supply.old }
@@ -40,7 +40,7 @@ impl Writer {
         ensures silences { self.new.silences ≡ self.old.silences }
         ensures course { self.new.course ≡ self.old.course }
         ensures fixed { P.fixed platform.new ≡ P.fixed platform.old }
-        ensures accesses { P.spare_accesses platform.old ≤ P.spare_accesses platform.new + (self.old.geometry.periods + 1) }
+        ensures accesses { P.spare_accesses platform.new + touched (period_bytes self.old.geometry.period) self.old.course.reach turn.reach ≡ P.spare_accesses platform.old }
         ensures bytes { P.spare_bytes platform.new + (turn.reach - self.old.course.reach) ≡ P.spare_bytes platform.old }
     {
         let part = Part {

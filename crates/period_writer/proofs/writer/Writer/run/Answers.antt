@@ -2,8 +2,9 @@ use Rattle.std.proofs.Common.{◌≡◌, ◌+◌, ◌∙◌, Bool, ap, subst, ar
 use Rattle.period_writer.specs.declared.geometry.Geometry.{Geometry}
 use Rattle.period_writer.specs.Rings.{ring_bytes}
 use Rattle.period_writer.specs.Runs.{Tally, measures, facts_of, tally_after}
-use Rattle.period_writer.specs.Writers.{tally_of, periods_of}
-use Rattle.period_writer.proofs.CourseLaws.{position_small, ring_small}
+use Rattle.period_writer.specs.Writers.{tally_of, periods_of, ring_of}
+use Rattle.period_writer.proofs.RunClause.{run_tells_of}
+use Rattle.period_writer.proofs.CourseLaws.{position_small, ring_small, touched_in_ring}
 use Rattle.period_writer.proofs.Runnings.{plays_so, tally_same}
 use Rattle.period_writer.proofs.writer.Writer.run.Goals as goal
 
@@ -16,6 +17,26 @@ write_turn-requires-clause-small g c =
     is.reach ∙ ap (λ (started : Bool). if started then c.args.self.now.course.at + ring_bytes c.args.self.now.geometry.periods c.args.self.now.geometry.period else 0) c.requires.started in
     omega (arith, ring, at, reach, c.turn_of-turn.ensures.room)
 
+pub write_turn-requires-clause-room : goal.write_turn-requires-clause-room
+write_turn-requires-clause-room g c =
+    let few = touched_in_ring c.args.self.now.geometry.periods c.args.self.now.geometry.period c.args.self.now.course.reach c.turn_of-turn.result.reach c.args.self.now.geometry.some c.turn_of-turn.ensures.room in
+    omega (arith, few, c.requires.room, c.read-from.ensures.accesses, c.read-lpib.ensures.accesses)
+
+pub read-to-requires : goal.read-to-requires
+read-to-requires g c =
+    let few = touched_in_ring c.args.self.now.geometry.periods c.args.self.now.geometry.period c.args.self.now.course.reach c.turn_of-turn.result.reach c.args.self.now.geometry.some c.turn_of-turn.ensures.room in
+    record { room = omega (arith, few, c.requires.room, c.read-from.ensures.accesses, c.read-lpib.ensures.accesses, c.write_turn.ensures.accesses) }
+
+pub stop_if-requires : goal.stop_if-requires
+stop_if-requires g c =
+    let few = touched_in_ring c.args.self.now.geometry.periods c.args.self.now.geometry.period c.args.self.now.course.reach c.turn_of-turn.result.reach c.args.self.now.geometry.some c.turn_of-turn.ensures.room in
+    omega (arith, few, c.requires.room, c.read-from.ensures.accesses, c.read-lpib.ensures.accesses, c.write_turn.ensures.accesses, c.read-to.ensures.accesses)
+
+pub returns-clause-accesses : goal.returns-clause-accesses
+returns-clause-accesses g c =
+    let few = touched_in_ring c.args.self.now.geometry.periods c.args.self.now.geometry.period c.args.self.now.course.reach c.turn_of-turn.result.reach c.args.self.now.geometry.some c.turn_of-turn.ensures.room in
+    omega (arith, few, c.read-from.ensures.accesses, c.read-lpib.ensures.accesses, c.write_turn.ensures.accesses, c.read-to.ensures.accesses, c.stop_if.ensures.accesses)
+
 pub returns-clause-plays : goal.returns-clause-plays
 returns-clause-plays g c =
     let same = tally_same c.write_turn.new.self.runs.items c.args.self.now.runs.items c.write_turn.new.self.silences.items c.args.self.now.silences.items c.write_turn.new.self.course c.args.self.now.course
@@ -26,3 +47,8 @@ returns-clause-plays g c =
     (tally_of c.args.self.now) (tally_of c.conclude-ran.new.self) c.conclude-ran.result (g.P.Platform.told c.args.platform.now) (g.P.Platform.told c.read-from.new.self) (g.P.Platform.told c.read-lpib.new.self) (g.P.Platform.told c.write_turn.new.platform) (g.P.Platform.told c.read-to.new.self) (g.P.Platform.told c.stop_if.new.platform)
     c.left.ensures c.turn_of-turn.ensures.reach c.turn_of-turn.ensures.sound after c.conclude-ran.ensures.answer c.write_turn.ensures.supply
     c.read-from.ensures.told c.read-lpib.ensures.told c.write_turn.ensures.made c.read-to.ensures.told c.stop_if.ensures.made
+
+pub returns-clause-tells : goal.returns-clause-tells
+returns-clause-tells g c pcm lent =
+    run_tells_of (ring_of c.args.self.now) pcm c.args.self.now.runs.len c.args.budget (tally_of c.args.self.now) (tally_of c.conclude-ran.new.self) c.conclude-ran.result c.args.supply.now c.write_turn.new.supply
+    (g.P.Platform.told c.args.platform.now) (g.P.Platform.told c.stop_if.new.platform) c.args.self.now.course_is lent (returns-clause-plays g c)

@@ -1,4 +1,4 @@
-use Rattle.std.proofs.Common.{◌≡◌, ◌+◌, ◌∙◌, ℕ, Bool, List, ap, subst, if◌then◌else◌}
+use Rattle.std.proofs.Common.{◌≡◌, ◌+◌, ◌∙◌, ℕ, Bool, List, length, ap, subst, arith, if◌then◌else◌}
 use Rattle.dma_pool.specs.declared.blocks.Lent.{Lent}
 use Rattle.hda_world.specs.Tellings.{Between, Makes}
 use Rattle.period_writer.specs.declared.geometry.Geometry.{Geometry}
@@ -6,9 +6,37 @@ use Rattle.period_writer.specs.Rings.{ring_bytes}
 use Rattle.period_writer.specs.Blocks.{addresses_of}
 use Rattle.period_writer.specs.Starting.{entry_writes, run_accesses}
 use Rattle.period_writer.specs.Runs.{Tally, measures, facts_of, tally_after}
-use Rattle.period_writer.specs.Writers.{tally_of, periods_of}
+use Rattle.period_writer.specs.Writers.{tally_of, periods_of, ring_of}
+use Rattle.period_writer.proofs.FreshWriters.{has_words, is_fresh, has_ring}
+use Rattle.hda_world.specs.declared.world.TheConstants.{REGION_BYTES}
+use Rattle.period_writer.proofs.Started.{starts_tell}
+use Rattle.period_writer.proofs.CourseLaws.{touched_at_first}
 use Rattle.period_writer.proofs.Runnings.{starts_so, tally_same}
 use Rattle.period_writer.proofs.writer.Writer.start.Goals as goal
+
+pub write_turn-requires-clause-room : goal.write_turn-requires-clause-room
+write_turn-requires-clause-room g c =
+    let is = touched_at_first c.args.self.now.geometry.periods c.args.self.now.geometry.period c.args.self.now.runs.len _ c.turn_of-turn.result.reach c.args.self.now.course c.args.self.now.geometry.some_periods c.args.self.now.geometry.some c.args.self.now.course_is c.requires.fresh c.turn_of-turn.ensures.reach in
+    let entries : length c.deref.result.now ≡ c.args.self.now.geometry.periods = ap length c.deref.ensures.value ∙ c.args.self.now.number in
+    omega (arith, is, entries, c.requires.room, c.read-from.ensures.accesses, c.reset_stream.ensures.accesses, c.write_list.ensures.accesses)
+
+pub set_stream-requires : goal.set_stream-requires
+set_stream-requires g c =
+    let is = touched_at_first c.args.self.now.geometry.periods c.args.self.now.geometry.period c.args.self.now.runs.len _ c.turn_of-turn.result.reach c.args.self.now.course c.args.self.now.geometry.some_periods c.args.self.now.geometry.some c.args.self.now.course_is c.requires.fresh c.turn_of-turn.ensures.reach in
+    let entries : length c.deref.result.now ≡ c.args.self.now.geometry.periods = ap length c.deref.ensures.value ∙ c.args.self.now.number in
+    omega (arith, is, entries, c.requires.room, c.read-from.ensures.accesses, c.reset_stream.ensures.accesses, c.write_list.ensures.accesses, c.write_turn.ensures.accesses)
+
+pub read-to-requires : goal.read-to-requires
+read-to-requires g c =
+    let is = touched_at_first c.args.self.now.geometry.periods c.args.self.now.geometry.period c.args.self.now.runs.len _ c.turn_of-turn.result.reach c.args.self.now.course c.args.self.now.geometry.some_periods c.args.self.now.geometry.some c.args.self.now.course_is c.requires.fresh c.turn_of-turn.ensures.reach in
+    let entries : length c.deref.result.now ≡ c.args.self.now.geometry.periods = ap length c.deref.ensures.value ∙ c.args.self.now.number in
+    record { room = omega (arith, is, entries, c.requires.room, c.read-from.ensures.accesses, c.reset_stream.ensures.accesses, c.write_list.ensures.accesses, c.write_turn.ensures.accesses, c.set_stream.ensures.accesses) }
+
+pub returns-clause-accesses : goal.returns-clause-accesses
+returns-clause-accesses g c =
+    let is = touched_at_first c.args.self.now.geometry.periods c.args.self.now.geometry.period c.args.self.now.runs.len _ c.turn_of-turn.result.reach c.args.self.now.course c.args.self.now.geometry.some_periods c.args.self.now.geometry.some c.args.self.now.course_is c.requires.fresh c.turn_of-turn.ensures.reach in
+    let entries : length c.deref.result.now ≡ c.args.self.now.geometry.periods = ap length c.deref.ensures.value ∙ c.args.self.now.number in
+    omega (arith, is, entries, c.read-from.ensures.accesses, c.reset_stream.ensures.accesses, c.write_list.ensures.accesses, c.write_turn.ensures.accesses, c.set_stream.ensures.accesses, c.read-to.ensures.accesses)
 
 pub returns-clause-starts : goal.returns-clause-starts
 returns-clause-starts g c =
@@ -28,3 +56,8 @@ returns-clause-starts g c =
     (tally_of c.args.self.now) (tally_of c.conclude-ran.new.self) (g.P.Platform.told c.args.platform.now) (g.P.Platform.told c.read-from.new.self) (g.P.Platform.told c.reset_stream.new.platform) (g.P.Platform.told c.write_list.new.platform) (g.P.Platform.told c.write_turn.new.platform) (g.P.Platform.told c.set_stream.new.platform) (g.P.Platform.told c.read-to.new.self)
     c.requires.fresh none c.left.ensures c.turn_of-turn.ensures.reach c.turn_of-turn.ensures.sound after c.write_turn.ensures.supply
     c.read-from.ensures.told reset.made entries c.write_turn.ensures.made run c.read-to.ensures.told
+
+pub returns-clause-tells : goal.returns-clause-tells
+returns-clause-tells g c =
+    starts_tell (ring_of c.args.self.now) c.args.budget REGION_BYTES c.args.supply.now c.write_turn.new.supply (tally_of c.args.self.now) (tally_of c.conclude-ran.new.self) (g.P.Platform.told c.args.platform.now) (g.P.Platform.told c.read-to.new.self)
+    (has_words c.args.self.now) (is_fresh c.args.self.now c.requires.fresh) (has_ring c.args.self.now) (g.met.P.Platform.whole c.args.platform.now) (returns-clause-starts g c)

@@ -1,18 +1,14 @@
-use Rattle.std.proofs.Common.{◌≡◌, ◌≤◌, ◌+◌, ℕ, List, arith, sym, subst, length}
+use Rattle.std.proofs.Common.{◌≡◌, ◌≤◌, ◌+◌, ℕ, List, sym, subst, length}
 use Rattle.std.specs.Prelude.{All}
 use Rattle.dma_pool.specs.declared.blocks.Lent.{Lent}
 use Rattle.period_writer.specs.Rings.{period_bytes, list_bytes}
 use Rattle.period_writer.specs.Blocks.{AreApart, IsBesideAll, addresses_of}
 use Rattle.period_writer.specs.Places.{touched}
-use Rattle.period_writer.proofs.CourseLaws.{touched_few}
 use Rattle.period_writer.proofs.writer.Writer.write_turn.Goals as goal
 
 pub write_part-requires-clause-room : goal.write_part-requires-clause-room
 write_part-requires-clause-room g c =
-    let some : 1 ≤ period_bytes c.args.self.now.geometry.period = let one = c.args.self.now.geometry.some in omega (arith, one) in
-    let few = subst (λ (bytes : ℕ). touched bytes c.args.self.now.course.reach c.args.turn.reach ≤ c.args.self.now.geometry.periods + 1) (sym c.args.self.now.buffer_size)
-    (touched_few (period_bytes c.args.self.now.geometry.period) c.args.self.now.geometry.periods c.args.self.now.course.reach c.args.turn.reach some c.requires.within) in
-    omega (arith, few, c.requires.room)
+    subst (λ (bytes : ℕ). touched bytes c.args.self.now.course.reach c.args.turn.reach ≤ g.P.Platform.spare_accesses c.args.platform.now) (sym c.args.self.now.buffer_size) c.requires.room
 
 pub invariant_of-self-clause-number : goal.invariant_of-self-clause-number
 invariant_of-self-clause-number g c = subst (λ (lents : List Lent). length lents ≡ c.args.self.now.geometry.periods) (sym c.write_part.ensures.periods) c.args.self.now.number
@@ -29,7 +25,4 @@ invariant_of-self-clause-beside g c =
 
 pub returns-clause-accesses : goal.returns-clause-accesses
 returns-clause-accesses g c =
-    let some : 1 ≤ period_bytes c.args.self.now.geometry.period = let one = c.args.self.now.geometry.some in omega (arith, one) in
-    let few = subst (λ (bytes : ℕ). touched bytes c.args.self.now.course.reach c.args.turn.reach ≤ c.args.self.now.geometry.periods + 1) (sym c.args.self.now.buffer_size)
-    (touched_few (period_bytes c.args.self.now.geometry.period) c.args.self.now.geometry.periods c.args.self.now.course.reach c.args.turn.reach some c.requires.within) in
-    omega (arith, few, c.write_part.ensures.accesses)
+    subst (λ (bytes : ℕ). g.P.Platform.spare_accesses c.write_part.new.platform + touched bytes c.args.self.now.course.reach c.args.turn.reach ≡ g.P.Platform.spare_accesses c.args.platform.now) c.args.self.now.buffer_size c.write_part.ensures.accesses

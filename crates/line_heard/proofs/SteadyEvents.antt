@@ -1,0 +1,85 @@
+-- Accesses beside the rings and the stream keep what is steady.
+use Rattle.std.proofs.Common.{◌≡◌, ◌≢◌, ◌≤◌, ◌<◌, ◌/◌, ◌⊎◌, inl, inr, ℕ, Bool, true, false, List, [], ◌∷◌, length, drop, Some, refl, sym, ap, subst, ◌∙◌, arith}
+use Rattle.std.specs.Prelude.{All}
+use Rattle.std.proofs.lemmas.List.Elements.{All-head, All-tail}
+use Rattle.codec_graph.specs.CodecStates.{CodecState}
+use Rattle.hda_registers.specs.declared.shapes.Width.{Width}
+use Rattle.hda_registers.specs.declared.shapes.Width.TheVariants.{One}
+use Rattle.hda_registers.specs.Fields.{Fields, Descriptor, is_out_of_reset}
+use Rattle.hda_registers.specs.Access.{written, placed, stream_written}
+use Rattle.hda_registers.specs.Laws.{IsBesideStreams}
+use Rattle.hda_registers.proofs.Callers.{leaves-streams, changes-input, status-output, ignored}
+use Rattle.stream_format.specs.Layouts.{Layout, layout_of}
+use Rattle.hda_world.specs.Worlds.{World}
+use Rattle.hda_world.specs.Events.{Event, Stepped, Begin, End, Read, Write, DmaRead, DmaWrite, happens, after, after_write}
+use Rattle.hda_world.proofs.Callers.{kept_step, beside_write, beside_rings}
+use Rattle.codec_sound.specs.HeardLists.{block_size}
+use Rattle.line_heard.specs.Steady.{settings_of, IsSteadyFrame, Steady, IsStatusOrStop, LeavesSteady}
+use Rattle.line_heard.proofs.Steadying.{steady_kept}
+
+-- the stream's tag and its format word are the same
+record KeepsStream (old new : Fields) : Type 0 where
+  tag : new.output.tag ≡ old.output.tag
+  format : new.output.format ≡ old.output.format
+
+same_output : (old new : Fields) → new.output ≡ old.output → KeepsStream old new
+same_output old new same = record { tag = ap (λ (d : Descriptor). d.tag) same; format = ap (λ (d : Descriptor). d.format) same }
+
+-- the stop leaves them
+write_stop : (f : Fields) → is_out_of_reset f.global ≡ true
+    → written f 0xA0 One 0 ≡ record f { output = record f.output { stream_reset = 0; run = 0; completion_interrupt = 0; fifo_interrupt = 0; descriptor_interrupt = 0 } }
+unfolding written placed stream_written
+write_stop f out = rw out refl
+
+stop_keeps : (f : Fields) (out : Bool) → is_out_of_reset f.global ≡ out → KeepsStream f (written f 0xA0 One 0)
+stop_keeps f true is = subst (KeepsStream f) (sym (write_stop f is)) (record { tag = refl; format = refl })
+stop_keeps f false is = same_output f (written f 0xA0 One 0) (ap (λ (g : Fields). g.output) (ignored f 0xA0 One 0 is (λ e. cc)))
+
+written_keeps : (f : Fields) (at value : ℕ) (width : Width) → at / 4 ≢ 2 → IsBesideStreams at ⊎ IsStatusOrStop at width value → KeepsStream f (written f at width value)
+written_keeps f at value width other (inl beside) = same_output f (written f at width value) (leaves-streams f at width value other beside).output
+written_keeps f at value width other (inr (one, inl input)) =
+    subst (λ (at : ℕ). KeepsStream f (written f at width value)) (sym input) (same_output f (written f 0x83 width value) (changes-input f 0x83 width value (omega arith) (omega arith)).output)
+written_keeps f at value width other (inr (one, inr (inl output))) =
+    subst (λ (at : ℕ). KeepsStream f (written f at width value)) (sym output)
+    (subst (λ (w : Width). KeepsStream f (written f 0xA3 w value)) (sym one)
+    (let status = status-output f value in record { tag = ap (λ (d : Descriptor). d.tag) status; format = ap (λ (d : Descriptor). d.format) status }))
+written_keeps f at value width other (inr (one, inr (inr (control, none)))) =
+    subst (λ (at : ℕ). KeepsStream f (written f at width value)) (sym control)
+    (subst (λ (w : Width). KeepsStream f (written f 0xA0 w value)) (sym one)
+    (subst (λ (v : ℕ). KeepsStream f (written f 0xA0 One v)) (sym none) (stop_keeps f (is_out_of_reset f.global) refl)))
+
+not_control : (at : ℕ) → (at < 0x08) ⊎ (0x0C ≤ at) → at / 4 ≢ 2
+not_control at (inl low) is = absurd (omega (arith, low, is))
+not_control at (inr high) is = absurd (omega (arith, high, is))
+
+module _ (codecs : List CodecState) (tag word : ℕ) (layout : Layout) (from : ℕ) (known : layout_of word ≡ Some layout) where
+  abbrev Holds : World → Type 0
+  Holds = Steady codecs tag word (block_size layout) from
+
+  write_kept : (world : World) (at value : ℕ) (width : Width) → LeavesSteady (Write at width value) → Holds world → Holds (after_write at width value world)
+  write_kept world at value width (beside, streams) steady =
+      let plain = beside_write world at value width beside in
+      let rings = beside_rings world at value width beside in
+      let keeps = written_keeps world.registers at value width (not_control at beside.control) streams in
+      record {
+        settings = ap (λ (w : World). settings_of w.codecs) plain ∙ steady.settings;
+        idle = rings.corb_read_pointer ∙ steady.idle ∙ sym rings.corb_write_pointer;
+        tag_is = ap (λ (w : World). w.registers.output.tag) plain ∙ keeps.tag ∙ steady.tag_is;
+        word_is = ap (λ (w : World). w.registers.output.format) plain ∙ keeps.format ∙ steady.word_is;
+        begun = subst (λ (w : World). from ≤ length w.carried) (sym plain) steady.begun;
+        frames = subst (λ (w : World). All (IsSteadyFrame codecs tag word (block_size layout)) (drop from w.carried)) (sym plain) steady.frames;
+      }
+
+  event_kept : (event : Event) (world : World) → LeavesSteady event → Holds world → Holds (happens world event)
+  event_kept (Stepped step) world leaves steady = kept_step Holds (steady_kept codecs tag word layout from known) step world steady
+  event_kept Begin world leaves steady = steady
+  event_kept End world leaves steady = steady
+  event_kept (Read at width value) world leaves steady = steady
+  event_kept (Write at width value) world leaves steady = write_kept world at value width leaves steady
+  event_kept (DmaRead at bytes) world leaves steady = steady
+  event_kept (DmaWrite at bytes) world leaves steady = steady
+
+  pub events_steady : (events : List Event) (world : World) → All LeavesSteady events → Holds world → Holds (after events world)
+  events_steady [] world all steady = steady
+  events_steady (event ∷ events) world all steady =
+      events_steady events (happens world event) (All-tail LeavesSteady event events all) (event_kept event world (All-head LeavesSteady event events all) steady)

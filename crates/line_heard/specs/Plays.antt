@@ -1,0 +1,51 @@
+-- What it means that a pin's list is a line of bytes that was played. This project's own, over the blocks and samples of High Definition
+-- Audio 1.0a, 4.5.1.
+use Rattle.std.specs.Prelude.{◌≡◌, ◌≤◌, ◌<◌, ℕ, ◌+◌, ◌*◌, Bool, true, false, not, List, ◌++◌, length, map, filter, replicate, get_or}
+use Rattle.std.specs.List.{range_with_len}
+use Rattle.stream_format.specs.Layouts.{Layout}
+use Rattle.codec_sound.specs.declared.signals.Signal.TheVariants.{Pair}
+use Rattle.codec_sound.specs.declared.heard.Heard.{Heard}
+use Rattle.codec_sound.specs.declared.heard.Heard.TheVariants.{Sound, Quiet, Hole, Altered}
+use Rattle.codec_sound.specs.HeardLists.{block_at, block_size, item_of}
+
+-- the two samples of a pair in the block of some bytes at this place, counted from 0
+abbrev pub sound_at : Layout → (pair : ℕ) → (bytes : List ℕ) → (place : ℕ) → Heard
+sound_at layout pair bytes place = item_of layout (Pair pair) (block_at (block_size layout) bytes place)
+
+-- those of the first so many blocks
+abbrev pub sounds : Layout → (pair : ℕ) → (bytes : List ℕ) → (count : ℕ) → List Heard
+sounds layout pair bytes count = map (sound_at layout pair bytes) (range_with_len 0 count)
+
+abbrev pub is_hole : Heard → Bool
+is_hole Hole = true
+is_hole Quiet = false
+is_hole Altered = false
+is_hole (Sound left right) = false
+
+abbrev pub without_holes : List Heard → List Heard
+without_holes list = filter (λ item. not (is_hole item)) list
+
+-- but for its holes the list is the pair's samples of some whole blocks of the line, from its first one on, each once and in order. Where
+-- the line has drained, zeros may follow it
+pub record Plays (layout : Layout) (pair : ℕ) (line : List ℕ) (drained : Bool) (list : List Heard) : Type 0 where
+  pub count : ℕ
+  pub zeros : ℕ
+  pub none : drained ≡ false → zeros ≡ 0
+  pub within : count * block_size layout ≤ length line + zeros
+  pub are : without_holes list ≡ sounds layout pair (line ++ replicate zeros 0) count
+
+-- but for its holes the list has the line's blocks below a position of it
+abbrev pub PlaysBelow : Layout → (pair : ℕ) → (line : List ℕ) → (reach : ℕ) → List Heard → Type 0
+PlaysBelow layout pair line reach list =
+    (place : ℕ) → place < length (without_holes list) → (place + 1) * block_size layout ≤ reach
+    → get_or (without_holes list) place Hole ≡ sound_at layout pair line place
+
+-- nothing was heard
+abbrev pub is_silent : Heard → Bool
+is_silent Quiet = true
+is_silent Hole = true
+is_silent Altered = false
+is_silent (Sound left right) = false
+
+abbrev pub IsSilent : Heard → Type 0
+IsSilent item = is_silent item ≡ true

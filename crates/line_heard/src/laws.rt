@@ -1,0 +1,71 @@
+//! Laws of what is heard, each the contract of a function that does nothing.
+ghost use Rattle.std.specs.Prelude.{◌≡◌, ◌≤◌, ◌+◌, ◌*◌, ℕ, true, false, List, Some, All, length, drop};
+ghost use Rattle.codec_graph.specs.CodecStates.{CodecState};
+ghost use Rattle.device_steps.specs.declared.Step.{Step};
+ghost use Rattle.hda_world.specs.Worlds.{World, codec_at};
+ghost use Rattle.hda_world.specs.Steps.{after_steps};
+ghost use Rattle.hda_world.specs.Events.{Event, after};
+ghost use Rattle.hda_world.specs.Streaming.{HasSent};
+ghost use Rattle.stream_format.specs.Layouts.{Layout, layout, layout_of};
+ghost use Rattle.stream_format.specs.Words.{format_word};
+ghost use Rattle.stream_moves.specs.Streams.{begun};
+ghost use Rattle.codec_sound.specs.declared.signals.Signal.TheVariants.{Pair, Silence};
+ghost use Rattle.codec_sound.specs.HeardLists.{block_size, signal_with, heard};
+ghost use Rattle.period_writer.specs.Runs.{Tally};
+ghost use Rattle.period_writer.specs.Lines.{line_of};
+ghost use Rattle.period_writer.specs.Standing.{Ring, limit_in};
+ghost use Rattle.period_writer.specs.Owning.{IsPlaying};
+ghost use Rattle.period_writer.specs.Outcomes.{HasDrained, WasLate};
+ghost use Rattle.line_heard.specs.Plays.{Plays, PlaysBelow, IsSilent};
+ghost use Rattle.line_heard.specs.Steady.{Steady, LeavesSteady};
+
+/// While CORB has no command that was not fetched, no step of the device changes a setting.
+pub fn steps_keep_it_steady()
+    ensures { (codecs : List CodecState) (tag word : ℕ) (layout : Layout) (from : ℕ) (steps : List Step) (world : World)
+        → layout_of word ≡ Some layout → Steady codecs tag word (block_size layout) from world
+        → Steady codecs tag word (block_size layout) from (after_steps steps world) }
+{}
+
+/// Nor does a read, a mark, a write of memory, or a write beside GCTL, the rings and the descriptors; a write of a descriptor's status
+/// and the one that stops the stream leave its tag and its format too.
+pub fn accesses_beside_keep_it_steady()
+    ensures { (codecs : List CodecState) (tag word : ℕ) (layout : Layout) (from : ℕ) (events : List Event) (world : World)
+        → layout_of word ≡ Some layout → All LeavesSteady events → Steady codecs tag word (block_size layout) from world
+        → Steady codecs tag word (block_size layout) from (after events world) }
+{}
+
+/// A stream is steady where a first run has just set it going and CORB has no command that was not fetched, and what link frames carry of
+/// it from there on is what is fetched.
+pub fn a_started_stream_is_steady()
+    ensures steady { (ring : Ring) (pcm : List ℕ) (tally : Tally) (world : World) → IsPlaying ring pcm tally world
+        → world.registers.global.corb_read_pointer ≡ world.registers.global.corb_write_pointer
+        → Steady world.codecs 1 (format_word ring.geometry.format) (block_size (layout ring.geometry.format)) (length world.carried) world }
+    ensures sent { (world : World) → world.output ≡ begun → HasSent (length world.carried) world }
+{}
+
+/// A pin that hears a pair of a steady stream heard, but for its holes, the pair's samples of the line that a writer plays, from its
+/// first block on, each once and in order, while no more link frames passed than the limit says. After the line drained it heard the
+/// whole of what was sent of it, and then zeros; after a late run it heard the line below the last recorded reach.
+pub fn the_line_is_heard()
+    ensures playing { (codecs : List CodecState) (tag word : ℕ) (layout : Layout) (from : ℕ) (world : World) (address pin pair : ℕ)
+        (ring : Ring) (pcm : List ℕ) (tally : Tally) → layout_of word ≡ Some layout → Steady codecs tag word (block_size layout) from world
+        → HasSent from world → signal_with (codec_at address codecs) tag word (Some layout) pin ≡ Pair pair → IsPlaying ring pcm tally world
+        → 500 * world.frames ≤ tally.course.from + 500 * limit_in ring
+        → Plays layout pair (line_of tally pcm) false (heard address pin (drop from world.carried)) }
+    ensures drained { (codecs : List CodecState) (tag word : ℕ) (layout : Layout) (from : ℕ) (world : World) (address pin pair : ℕ)
+        (ring : Ring) (pcm : List ℕ) (tally : Tally) → layout_of word ≡ Some layout → Steady codecs tag word (block_size layout) from world
+        → HasSent from world → signal_with (codec_at address codecs) tag word (Some layout) pin ≡ Pair pair → HasDrained ring pcm tally world
+        → Plays layout pair (line_of tally pcm) true (heard address pin (drop from world.carried)) }
+    ensures late { (codecs : List CodecState) (tag word : ℕ) (layout : Layout) (from : ℕ) (world : World) (address pin pair : ℕ)
+        (ring : Ring) (pcm : List ℕ) (tally : Tally) → layout_of word ≡ Some layout → Steady codecs tag word (block_size layout) from world
+        → HasSent from world → signal_with (codec_at address codecs) tag word (Some layout) pin ≡ Pair pair → WasLate ring pcm tally world
+        → PlaysBelow layout pair (line_of tally pcm) tally.course.reach (heard address pin (drop from world.carried)) }
+{}
+
+/// A pin that hears silence of a steady stream heard nothing but quiet blocks and holes.
+pub fn silent_pins_hear_nothing()
+    ensures { (codecs : List CodecState) (tag word : ℕ) (layout : Layout) (from : ℕ) (world : World) (address pin : ℕ)
+        → layout_of word ≡ Some layout → Steady codecs tag word (block_size layout) from world
+        → signal_with (codec_at address codecs) tag word (Some layout) pin ≡ Silence
+        → All IsSilent (heard address pin (drop from world.carried)) }
+{}

@@ -1,0 +1,267 @@
+//! A play over the scripted platform: the writer's first run and later ones over the small ring, and what came of them.
+ghost use Rattle.std.specs.Prelude.{◌≡◌, false, true};
+
+use crate::scripted::{Access, Answer, Scripted};
+use dma_pool::Pool;
+use period_writer::{Geometry, Ran, Writer};
+use std::alloc::{AllocError, Global};
+use std::test::Fail;
+use stream_format::{Bits, Format, Rate};
+use wav_reader::{Supply, read_wav};
+
+/// The head of a WAV file at 48 kHz with 16 bits and two channels, up to the length of its sound.
+const HEAD: &[u8] =
+    b"RIFF\0\0\0\0WAVEfmt \x10\0\0\0\x01\0\x02\0\x80\xbb\0\0\0\xee\x02\0\x04\0\x10\0data";
+
+/// The clock, and LPIB of the output stream.
+const CLOCK: u16 = 0x30;
+
+const POSITION: u16 = 0xA4;
+
+/// In a pool of which nothing was taken the list stands first, and then the small ring, after the list's granule.
+const LIST_PLACE: usize = 0;
+
+const RING_PLACE: usize = 128;
+
+/// A later run: the clock that it reads first, LPIB, the clock that it reads last, and its budget.
+pub type Turn = (u32, u32, u32, u32);
+
+/// What is read and asked for: the frames of sound, the two clocks and the budget of the first run, the later runs, and the value of
+/// all other reads.
+#[derive(Drop)]
+pub struct Script {
+    pub frames: u32,
+    pub first: (u32, u32, u32),
+    pub turns: &'static [Turn],
+    pub otherwise: u32,
+}
+
+/// A recorded run: `at`, `from`, `to`, `budget` and `written`.
+pub type RunRow = (u64, u32, u32, u32, u64);
+
+/// What came of a play.
+#[derive(Drop)]
+pub struct Played {
+    /// What each later run answered.
+    pub rans: Vec<Ran>,
+    pub runs: Vec<RunRow>,
+    pub silences: Vec<(u64, u64)>,
+    /// The bytes of the ring after each run, one after another.
+    pub rings: Vec<u8>,
+    /// The bytes of the list's first two entries.
+    pub list: Vec<u8>,
+    pub accesses: Vec<Access>,
+    /// How much room the first run left of that which it asks for.
+    pub room: (usize, usize),
+    /// How many bytes of sound are left.
+    pub left: u64,
+    /// How many answers were not asked for, and how many granules are free in the end.
+    pub rest: (usize, u32),
+}
+
+/// Byte `at` of the sound, never 0.
+pub fn sound_at(at: u32) -> u8 {
+    (at % 255) as u8 + 1
+}
+
+/// So many frames of sound.
+pub fn supply_of(alloc: Global, frames: u32) -> Result<Supply, Fail> {
+    let len = frames.saturating_mul(4);
+    let mut bytes = Vec::from_slice(alloc, HEAD)?;
+    bytes.extend_from_slice(&len.to_le_bytes())?;
+    for at in 0..len {
+        bytes.push(sound_at(at))?;
+    }
+    Ok(Supply::whole(read_wav(alloc, bytes.as_slice())?))
+}
+
+/// Sound from a rate on, of 16 bits and two channels.
+pub fn format_at(rate: Rate) -> Format {
+    Format {
+        rate,
+        bits: Bits::B16,
+        channels: 2,
+    }
+}
+
+/// Two periods of 384 bytes for a FIFO of 192, at 48 kHz: 768 bytes, of which 576 are 144 link frames of 4.
+pub fn small_ring() -> Result<Geometry, Fail> {
+    Ok(Geometry::new(2, 1, 192, format_at(Rate::R48))?)
+}
+
+/// The answers to the reads of the clock and of LPIB in a play, in order.
+fn answers_of(alloc: Global, script: &Script) -> Result<Vec<Answer>, AllocError> {
+    let (from, to, _) = script.first;
+    let mut answers = Vec::new(alloc);
+    for value in [from, to] {
+        answers.push(Answer { at: CLOCK, value })?;
+    }
+    for (from, lpib, to, _) in script.turns {
+        answers.push(Answer {
+            at: CLOCK,
+            value: *from,
+        })?;
+        answers.push(Answer {
+            at: POSITION,
+            value: *lpib,
+        })?;
+        answers.push(Answer {
+            at: CLOCK,
+            value: *to,
+        })?;
+    }
+    Ok(answers)
+}
+
+/// The first run, with the room that it asks for and no more.
+pub fn start(
+    platform: &mut Scripted,
+    writer: &mut Writer,
+    supply: &mut Supply,
+    geometry: &Geometry,
+    budget: u32,
+)
+    requires fresh { writer.old.course.started ≡ false }
+    requires geometry { writer.old.geometry ≡ geometry.now }
+    ensures geometry { writer.new.geometry ≡ writer.old.geometry }
+    ensures list { writer.new.list ≡ writer.old.list }
+    ensures periods { writer.new.periods.items ≡ writer.old.periods.items }
+{
+    let periods = usize::from(geometry.periods());
+    platform.make_room(13 + 2 * periods, 16 * periods + geometry.ring() as usize);
+    writer.start(platform, supply, budget);
+}
+
+/// A later run, with the room that it asks for and no more, where the stream plays and there is room to record it.
+pub fn run(
+    platform: &mut Scripted,
+    writer: &mut Writer,
+    supply: &mut Supply,
+    geometry: &Geometry,
+    budget: u32,
+) -> Option<Ran>
+    requires geometry { writer.old.geometry ≡ geometry.now }
+    ensures geometry { writer.new.geometry ≡ writer.old.geometry }
+    ensures list { writer.new.list ≡ writer.old.list }
+    ensures periods { writer.new.periods.items ≡ writer.old.periods.items }
+{
+    let course = writer.course();
+    if course.started && course.ran == Ran::Playing && writer.has_free_record() {
+        platform.make_room(
+            5 + usize::from(geometry.periods()),
+            geometry.ring() as usize,
+        );
+        return Some(writer.run(platform, supply, budget));
+    }
+    None
+}
+
+/// The later runs, with what they answer and leave in the ring.
+fn run_all(
+    platform: &mut Scripted,
+    writer: &mut Writer,
+    supply: &mut Supply,
+    geometry: &Geometry,
+    script: &Script,
+    played: &mut Played,
+) -> Result<(), AllocError>
+    requires geometry { writer.old.geometry ≡ geometry.now }
+    ensures geometry { writer.new.geometry ≡ writer.old.geometry }
+    ensures list { writer.new.list ≡ writer.old.list }
+    ensures periods { writer.new.periods.items ≡ writer.old.periods.items }
+{
+    for (_, _, _, budget) in script.turns {
+        if let Some(ran) = run(platform, writer, supply, geometry, *budget) {
+            played.rans.push(ran)?;
+            platform.copy_memory(RING_PLACE, 768, &mut played.rings)?;
+        }
+    }
+    Ok(())
+}
+
+/// All runs of a script.
+fn play_all(
+    platform: &mut Scripted,
+    writer: &mut Writer,
+    supply: &mut Supply,
+    geometry: &Geometry,
+    script: &Script,
+    played: &mut Played,
+) -> Result<(), AllocError>
+    requires fresh { writer.old.course.started ≡ false }
+    requires geometry { writer.old.geometry ≡ geometry.now }
+    ensures geometry { writer.new.geometry ≡ writer.old.geometry }
+    ensures list { writer.new.list ≡ writer.old.list }
+    ensures periods { writer.new.periods.items ≡ writer.old.periods.items }
+{
+    let (_, _, budget) = script.first;
+    start(platform, writer, supply, geometry, budget);
+    played.room = platform.room();
+    platform.copy_memory(RING_PLACE, 768, &mut played.rings)?;
+    run_all(platform, writer, supply, geometry, script, played)?;
+    record(platform, writer, played)
+}
+
+/// What the writer and the platform recorded.
+fn record(platform: &Scripted, writer: &Writer, played: &mut Played) -> Result<(), AllocError> {
+    for run in writer.runs() {
+        played
+            .runs
+            .push((run.at, run.from, run.to, run.budget, run.written))?;
+    }
+    for silence in writer.silences() {
+        played.silences.push((silence.start, silence.end))?;
+    }
+    platform.copy_memory(LIST_PLACE, 32, &mut played.list)?;
+    played.accesses.extend_from_slice(platform.accesses())?;
+    Ok(())
+}
+
+/// Nothing came yet.
+fn nothing(alloc: Global) -> Played {
+    Played {
+        rans: Vec::new(alloc),
+        runs: Vec::new(alloc),
+        silences: Vec::new(alloc),
+        rings: Vec::new(alloc),
+        list: Vec::new(alloc),
+        accesses: Vec::new(alloc),
+        room: (0, 0),
+        left: 0,
+        rest: (0, 0),
+    }
+}
+
+/// Plays a script over the small ring, in a pool of 64 granules.
+pub fn play(alloc: Global, script: &Script) -> Result<Played, Fail> {
+    play_over(alloc, small_ring()?, Pool::new(alloc, 64)?, script)
+}
+
+/// Plays a script over a ring, in a pool of which nothing was taken.
+pub fn play_over(
+    alloc: Global,
+    geometry: Geometry,
+    mut pool: Pool,
+    script: &Script,
+) -> Result<Played, Fail> {
+    let mut supply = supply_of(alloc, script.frames)?;
+    let answers = answers_of(alloc, script)?;
+    let mut platform = Scripted::new(alloc, answers, script.otherwise, true)?;
+    let mut played = nothing(alloc);
+    let Ok(mut writer) = Writer::open(alloc, &mut pool, geometry, 8) else {
+        return Err(Fail::from("no writer"));
+    };
+    let outcome = play_all(
+        &mut platform,
+        &mut writer,
+        &mut supply,
+        &geometry,
+        script,
+        &mut played,
+    );
+    writer.close(&mut pool);
+    outcome?;
+    played.left = supply.left();
+    played.rest = (platform.answers_left(), pool.free());
+    Ok(played)
+}
