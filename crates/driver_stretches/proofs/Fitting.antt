@@ -3,20 +3,22 @@ use Rattle.std.proofs.Common.{◌≡◌, ◌+◌, ◌*◌, ◌%◌, ℕ, List, [
 use Rattle.std.specs.Prelude.{All}
 use Rattle.std.proofs.lemmas.Grind.{flat_map-append}
 use Rattle.std.proofs.lemmas.List.Elements.{All-head, All-tail}
-use Rattle.verb_codes.specs.Words.{has_bit}
+use Rattle.verb_codes.specs.Words.{has_bit, bits_of}
 use Rattle.hda_registers.specs.declared.shapes.Width.TheVariants.{One, Two, Four}
-use Rattle.hda_registers.specs.declared.places.TheConstants.{STATESTS, WALCLK, CORBSIZE, RIRBSIZE, RIRBWP, RIRBSTS}
+use Rattle.hda_registers.specs.declared.places.TheConstants.{STATESTS, WALCLK, CORBSIZE, RIRBSIZE, RIRBWP, RIRBSTS, INTSTS}
 use Rattle.hda_registers.specs.Fields.{entries_of}
 use Rattle.ring_entries.specs.declared.entries.TheConstants.{RESPONSE_BYTES}
-use Rattle.hda_world.specs.Events.{Read, Write}
+use Rattle.hda_world.specs.Events.{Event, Read, Write}
 use Rattle.command_engine.specs.declared.ring_places.RingPlaces.{RingPlaces}
 use Rattle.command_engine.specs.Starting.{StartReads, rings_read, settings_if}
 use Rattle.command_engine.specs.Polling.{PollReads, AreNew, entry_reads, batch_accesses, poll_accesses, new_entries}
+use Rattle.driver_progress.specs.declared.registers.TheConstants.{STREAM_STATUS}
 use Rattle.driver_progress.specs.Requests.{Request, Gets, Puts, Fetches, requests_of, requests_in}
 use Rattle.driver_progress.specs.Tasks.{Task}
 use Rattle.driver_progress.specs.Seen.{Seen, seen_by, values_of}
 use Rattle.driver_progress.specs.States.{State}
-use Rattle.driver_progress.specs.Expected.{has_settled, rings_seen, settles, sets_rings, fetches, polls}
+use Rattle.driver_progress.specs.Expected.{has_settled, rings_seen, settles, sets_rings, fetches, polls, clears, interrupted_if}
+use Rattle.driver_stretches.specs.Interrupts.{clear_accesses}
 use Rattle.driver_stretches.specs.Settling.{start_if}
 
 -- ---- settling
@@ -65,3 +67,30 @@ pub poll_fits : (rirb : ℕ) (rings : RingPlaces) (reads : PollReads) (seen : Se
 poll_fits rirb rings reads seen new flag pointer =
     ap (λ (rest : List Request). Gets RIRBSTS One ∷ rest) (poll_by (has_bit reads.flag 0) rirb rings reads seen.pointer new.number new.whole pointer)
     ∙ ap (λ (flag : ℕ). Gets RIRBSTS One ∷ (if has_bit flag 0 then Gets RIRBWP Two ∷ (fetches rirb (entries_of rings.rirb) (new_entries rings seen.pointer) (rings.read + 1) ++ Puts RIRBSTS One 1 ∷ []) else [])) (sym flag)
+
+-- ---- interrupts
+
+cleared_by : (is : Bool) (stream : ℕ) (seen : Seen) → (is ≡ true → seen.stream ≡ stream)
+    → requests_of (if is then Read STREAM_STATUS One stream ∷ Write STREAM_STATUS One (4 * bits_of stream 2 3) ∷ [] else [])
+    ≡ (if is then Gets STREAM_STATUS One ∷ Puts STREAM_STATUS One (4 * bits_of seen.stream 2 3) ∷ [] else [])
+cleared_by true stream seen same = ap (λ (stream : ℕ). Gets STREAM_STATUS One ∷ Puts STREAM_STATUS One (4 * bits_of stream 2 3) ∷ []) (sym (same refl))
+cleared_by false stream seen same = refl
+
+clear_fits : (interrupts stream : ℕ) (seen : Seen) → seen.interrupts ≡ interrupts → (has_bit interrupts 1 ≡ true → seen.stream ≡ stream) → requests_of (clear_accesses interrupts stream) ≡ clears seen
+clear_fits interrupts stream seen is same =
+    cleared_by (has_bit interrupts 1) stream seen same
+    ∙ ap (λ (interrupts : ℕ). if has_bit interrupts 1 then Gets STREAM_STATUS One ∷ Puts STREAM_STATUS One (4 * bits_of seen.stream 2 3) ∷ [] else []) (sym is)
+
+looked_by : (on : Bool) (interrupts stream : ℕ) (seen : Seen) (called : List Event) → seen.interrupts ≡ interrupts → (has_bit interrupts 1 ≡ true → seen.stream ≡ stream)
+    → requests_of (if on then clear_accesses interrupts stream ++ called else []) ≡ (if on then clears seen ++ requests_of called else [])
+looked_by true interrupts stream seen called is same =
+    flat_map-append requests_in (clear_accesses interrupts stream) called ∙ ap (λ (front : List Request). front ++ requests_of called) (clear_fits interrupts stream seen is same)
+looked_by false interrupts stream seen called is same = refl
+
+-- a look for interrupts, and what is done where there is one
+pub interrupt_fits : (interrupts stream : ℕ) (seen : Seen) (called : List Event) → seen.interrupts ≡ interrupts → (has_bit interrupts 1 ≡ true → seen.stream ≡ stream)
+    → requests_of (Read INTSTS Four interrupts ∷ (if has_bit interrupts 31 then clear_accesses interrupts stream ++ called else [])) ≡ interrupted_if true seen (requests_of called)
+interrupt_fits interrupts stream seen called is same =
+    ap (λ (rest : List Request). Gets INTSTS Four ∷ rest)
+    (looked_by (has_bit interrupts 31) interrupts stream seen called is same
+    ∙ ap (λ (interrupts : ℕ). if has_bit interrupts 31 then clears seen ++ requests_of called else []) (sym is))

@@ -32,7 +32,7 @@ access_leads Before After event steps_keep leads old new accessed before =
 
 -- ---- before the reset
 
-can_reset_steps : (corb rirb : ℕ) (steps : List Step) (world : World) → CanReset corb rirb world → CanReset corb rirb (after_steps steps world)
+pub can_reset_steps : (corb rirb : ℕ) (steps : List Step) (world : World) → CanReset corb rirb world → CanReset corb rirb (after_steps steps world)
 can_reset_steps corb rirb steps world can =
     let leaves : StepsLeave world (after_steps steps world) = steps_leave steps world in
     record {

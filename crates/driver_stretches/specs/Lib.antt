@@ -5,3 +5,4 @@ pub mod Interrupts
 pub mod Shutting
 pub mod Beginning
 pub mod Announcing
+pub mod Answers

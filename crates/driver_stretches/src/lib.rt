@@ -11,7 +11,7 @@ mod shutting;
 
 pub use commands::{Asked, ask};
 pub use interrupts::has_interrupt;
-pub use laws::stretches_are_expected;
+pub use laws::{a_reset_stays, answers_agree, polls_are_noted, stretches_are_expected};
 pub use resetting::reset;
 pub use settling::{SETTLING_TICKS, Settled, settle};
 pub use shutting::shut;
