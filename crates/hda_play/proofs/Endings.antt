@@ -1,5 +1,5 @@
 -- What the words and the statuses of the program come to.
-use Rattle.std.proofs.Common.{◌≡◌, ℕ, ◌+◌, ◌<◌, ◌≤◌, inl, inr, ◌≢◌, Bool, true, false, if◌then◌else◌, Result, Ok, Err, List, ◌++◌, length, get_or, take, take_all, append-nil, min, Option, Some, refl, sym, ap, subst, ◌∙◌, arith}
+use Rattle.std.proofs.Common.{◌≡◌, ℕ, ◌≤◌, inl, inr, ◌≢◌, Bool, true, false, if◌then◌else◌, Result, Ok, Err, List, length, Option, Some, refl, sym, ap, subst, ◌∙◌, arith}
 use Rattle.std.specs.List.{list_any}
 use Rattle.stream_format.specs.declared.format.Format.{Format}
 use Rattle.route_planner.specs.declared.routes.Plan.{Plan}
