@@ -1,5 +1,4 @@
 use Rattle.std.proofs.Common.{Contains, ◌≢◌, subst}
-use Rattle.dma_pool.specs.declared.runs.Run.{Run}
 use Rattle.dma_pool.specs.Blocks.{run_at}
 use Rattle.writer_tests.proofs.pools.+make_holes.Goals as goal
 
