@@ -17,3 +17,7 @@ mod rings;
 mod rows;
 #[cfg(test)]
 mod scripted;
+#[cfg(test)]
+mod sizes;
+#[cfg(test)]
+mod values;

@@ -257,25 +257,27 @@ fn supplies_end_where_they_end(rt: HostRuntime) -> Result<(), Fail> {
 }
 
 /// What a budget lets the first run write, where the room is 768.
-const FIRST_BUDGETS: [(u32, u64); 8] = [
+const FIRST_BUDGETS: [(u32, u64); 9] = [
     (0, 0),
     (1, 0),
     (3, 0),
     (764, 764),
     (767, 764),
     (768, 768),
+    (769, 768),
     (772, 768),
     (0xFFFF_FFFF, 768),
 ];
 
 /// What a budget lets a later run write, where the room is 384.
-const LATER_BUDGETS: [(&[Turn], u64); 8] = [
+const LATER_BUDGETS: [(&[Turn], u64); 9] = [
     (&[(0, 384, 0, 0)], 0),
     (&[(0, 384, 0, 1)], 0),
     (&[(0, 384, 0, 3)], 0),
     (&[(0, 384, 0, 380)], 380),
     (&[(0, 384, 0, 383)], 380),
     (&[(0, 384, 0, 384)], 384),
+    (&[(0, 384, 0, 385)], 384),
     (&[(0, 384, 0, 388)], 384),
     (&[(0, 384, 0, 0xFFFF_FFFF)], 384),
 ];

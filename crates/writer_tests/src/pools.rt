@@ -5,12 +5,20 @@ ghost use Rattle.dma_pool.specs.Blocks.{run_at};
 
 use crate::play::{Script, play_over, small_ring};
 use crate::rings::free_in;
-use crate::scripted::Access::{Memory, Write};
+use crate::rows::{Bytes, bytes_of};
+use crate::scripted::Access::{self, Memory, Read, Write};
 use dma_pool::{Block, NoRun, Pool};
 use hda_registers::Width::Four;
 use std::alloc::Global;
+use std::mem::replace;
 use std::process::Abort;
 use std::test::Fail;
+
+/// The granules that stay taken where the list's granule and both periods have just their holes.
+const HOLES: [usize; 5] = [1, 5, 9, 10, 11];
+
+/// One more, in the hole of the second period.
+const FEWER: [usize; 6] = [1, 5, 8, 9, 10, 11];
 
 /// Stops the test where a place has a block.
 fn for_none(rt: &impl Abort, place: Option<Block>) {
@@ -74,32 +82,45 @@ fn take_some(rt: &impl Abort, pool: &mut Pool, bytes: u32) -> Block
     }
 }
 
-/// Takes granules 0, 1, 2 to 4, 5, so many bytes from 6 on, and the rest, and gives the first, third and fifth of these blocks back.
-fn make_holes(rt: &impl Abort, pool: &mut Pool, hole: u32, rest: u32) -> [Block; 3]
-    requires hole { 1 ≤ hole }
-    requires rest { 1 ≤ rest }
-{
-    let first = take_some(rt, pool, 128);
-    let second = take_some(rt, pool, 128);
-    let third = take_some(rt, pool, 384);
-    let fourth = take_some(rt, pool, 128);
-    let fifth = take_some(rt, pool, hole);
-    let sixth = take_some(rt, pool, rest);
-    pool.give(fifth);
-    pool.give(third);
-    pool.give(first);
-    [second, fourth, sixth]
+/// Puts a block to a place, which has to have none.
+fn put(rt: &impl Abort, place: &mut Option<Block>, block: Block) {
+    match replace(place, Some(block)) {
+        None => {}
+        Some(_block) => panic!(rt; "a place has a block"),
+    }
 }
 
-/// A pool of 12 granules of which 1, 5 and from 9 on, or from 8 on, are taken. The blocks are kept beside it.
-fn holed(rt: &impl Abort, alloc: Global, hole: u32, rest: u32) -> (Pool, [Block; 3])
-    requires hole { 1 ≤ hole }
-    requires rest { 1 ≤ rest }
+/// Takes a granule for each place from an index on, one after another, and then gives those back that aren't to be kept, the last one
+/// first. The others stand in their places.
+fn make_holes(
+    rt: &impl Abort,
+    pool: &mut Pool,
+    keeps: &[usize],
+    into: &mut [Option<Block>],
+    index: usize,
+)
+    ensures kept { (run : Run) → Contains pool.old.taken run → Contains pool.new.taken run }
 {
+    if index < into.len() {
+        let block = take_some(rt, pool, 128);
+        make_holes(rt, pool, keeps, into, index + 1);
+        if keeps.contains(&index) {
+            put(rt, &mut into[index], block);
+        } else {
+            pool.give(block);
+        }
+    }
+}
+
+/// A pool of 12 granules, all of which were taken, and of which these stay taken. The blocks are kept beside it.
+fn holed(rt: &impl Abort, alloc: Global, keeps: &[usize]) -> (Pool, [Option<Block>; 12]) {
     let Ok(mut pool) = Pool::new(alloc, 12) else {
         panic!(rt; "no memory");
     };
-    let kept = make_holes(rt, &mut pool, hole, rest);
+    let mut kept = [
+        None, None, None, None, None, None, None, None, None, None, None, None,
+    ];
+    make_holes(rt, &mut pool, keeps, &mut kept, 0);
     (pool, kept)
 }
 
@@ -124,6 +145,69 @@ fn stands_at(alloc: Global, pool: Pool, places: [u32; 3], free: u32) -> Result<b
     Ok(all.get(5..9) == Some(wanted.as_slice()) && named && played.rest.1 == free)
 }
 
+/// Later runs over a ring whose periods stand at 256 and 768, each on from the one before: in the first period, from it to the second,
+/// and from the second round to the first.
+const SCATTERED: [Access; 14] = [
+    Read(0x30, Four),
+    Read(0xA4, Four),
+    Memory(256, 200),
+    Read(0x30, Four),
+    Read(0x30, Four),
+    Read(0xA4, Four),
+    Memory(456, 184),
+    Memory(768, 116),
+    Read(0x30, Four),
+    Read(0x30, Four),
+    Read(0xA4, Four),
+    Memory(884, 268),
+    Memory(256, 100),
+    Read(0x30, Four),
+];
+
+/// Memory from 128 to 896 after the first run and each later one: a granule that stays taken, the first period, another such granule,
+/// and the first third of the second period.
+const SCATTERED_BYTES: [Bytes; 20] = [
+    (128, None),
+    (384, Some(0)),
+    (128, None),
+    (128, Some(384)),
+    (128, None),
+    (200, Some(768)),
+    (184, Some(200)),
+    (128, None),
+    (128, Some(384)),
+    (128, None),
+    (384, Some(768)),
+    (128, None),
+    (116, Some(1_152)),
+    (12, Some(500)),
+    (128, None),
+    (100, Some(1_536)),
+    (284, Some(868)),
+    (128, None),
+    (116, Some(1_152)),
+    (12, Some(1_268)),
+];
+
+/// Whether later runs over a pool with two holes for the periods write there, and nowhere else.
+fn runs_scattered(alloc: Global, pool: Pool) -> Result<bool, Fail> {
+    let script = Script {
+        frames: 512,
+        first: (0, 0, 768),
+        turns: &[(0, 200, 0, 768), (0, 500, 0, 768), (0, 100, 0, 768)],
+        otherwise: 0,
+    };
+    let played = play_over(alloc, small_ring()?, pool, &script)?;
+    let bytes = bytes_of(alloc, &SCATTERED_BYTES)?;
+    let later = played.accesses.as_slice().get(17..);
+    Ok(
+        later == Some(SCATTERED.as_slice())
+            && played.rings.as_slice() == bytes.as_slice()
+            && played.left == 412
+            && played.rest == (0, 7),
+    )
+}
+
 /// The value of an answer, which has to be there.
 fn value_of<T>(rt: &impl Abort, answer: Result<T, Fail>) -> T {
     match answer {
@@ -146,7 +230,7 @@ fn the_list_stands_where_there_is_room(rt: HostRuntime) {
 #[test]
 #[should_panic(expected = "the ring stands in the holes")]
 fn a_ring_stands_in_holes(rt: HostRuntime) {
-    let (pool, _kept) = holed(&rt, rt.alloc(), 384, 384);
+    let (pool, _kept) = holed(&rt, rt.alloc(), &HOLES);
     assert!(rt; value_of(&rt, stands_at(rt.alloc(), pool, [0, 256, 768], 7)));
     panic!(rt; "the ring stands in the holes");
 }
@@ -154,9 +238,17 @@ fn a_ring_stands_in_holes(rt: HostRuntime) {
 #[test]
 #[should_panic(expected = "as many are free as before")]
 fn a_ring_takes_all_holes_or_none(rt: HostRuntime) {
-    let (pool, _kept) = holed(&rt, rt.alloc(), 384, 384);
+    let (pool, _kept) = holed(&rt, rt.alloc(), &HOLES);
     assert!(rt; value_of(&rt, free_in(rt.alloc(), pool)) == (Some(0), 7));
-    let (pool, _also_kept) = holed(&rt, rt.alloc(), 256, 512);
+    let (pool, _also_kept) = holed(&rt, rt.alloc(), &FEWER);
     assert!(rt; value_of(&rt, free_in(rt.alloc(), pool)) == (None, 6));
     panic!(rt; "as many are free as before");
+}
+
+#[test]
+#[should_panic(expected = "later runs write to the holes")]
+fn later_runs_write_to_the_holes(rt: HostRuntime) {
+    let (pool, _kept) = holed(&rt, rt.alloc(), &HOLES);
+    assert!(rt; value_of(&rt, runs_scattered(rt.alloc(), pool)));
+    panic!(rt; "later runs write to the holes");
 }

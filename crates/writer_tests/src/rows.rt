@@ -22,7 +22,7 @@ pub struct Row {
 }
 
 /// The bytes that a list describes.
-fn bytes_of(alloc: Global, parts: &[Bytes]) -> Result<Vec<u8>, AllocError> {
+pub fn bytes_of(alloc: Global, parts: &[Bytes]) -> Result<Vec<u8>, AllocError> {
     let mut bytes = Vec::new(alloc);
     for (len, sound) in parts {
         push_bytes(&mut bytes, *len, *sound)?;
