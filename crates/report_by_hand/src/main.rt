@@ -18,40 +18,46 @@ fn push_report(text: &mut String, alloc: Global, head: &str, played: &Played) ->
     text.push_str(lines.as_str()).ok()
 }
 
+/// Appends the text of a run that was put together, where memory sufficed for it, after the line that says what it is.
+fn push_made(text: &mut String, alloc: Global, head: &str, made: Option<Played>) -> Option<()> {
+    let played = made?;
+    push_report(text, alloc, head, &played)
+}
+
+/// The texts of walks.
+fn push_walks(text: &mut String, alloc: Global) -> Option<()> {
+    push_made(text, alloc, "-- set up", walks::set_up(alloc))?;
+    push_made(text, alloc, "-- jacks", walks::jacks(alloc))?;
+    push_made(text, alloc, "-- unanswered", walks::unanswered(alloc))
+}
+
+/// The texts of plays.
+fn push_plays(text: &mut String, alloc: Global) -> Option<()> {
+    push_made(text, alloc, "-- two frames", plays::two_frames(alloc))?;
+    push_made(text, alloc, "-- a hole", plays::hole(alloc))?;
+    push_made(
+        text,
+        alloc,
+        "-- silence inside",
+        plays::silence_inside(alloc),
+    )?;
+    push_made(text, alloc, "-- no whole block", plays::no_block(alloc))?;
+    push_made(text, alloc, "-- no frame", plays::no_frame(alloc))?;
+    push_made(text, alloc, "-- late", plays::late(alloc))
+}
+
+/// The texts of what pins heard beyond that.
+fn push_heard(text: &mut String, alloc: Global) -> Option<()> {
+    push_made(text, alloc, "-- kinds", heard::kinds(alloc))?;
+    push_made(text, alloc, "-- 24 bits", heard::wide(alloc))
+}
+
 /// What is printed. `None` where memory is wanting.
 fn text(alloc: Global) -> Option<String> {
     let mut text = String::new(alloc);
-    push_report(&mut text, alloc, "-- set up", &walks::set_up(alloc)?)?;
-    push_report(&mut text, alloc, "-- jacks", &walks::jacks(alloc)?)?;
-    push_report(
-        &mut text,
-        alloc,
-        "-- unanswered",
-        &walks::unanswered(alloc)?,
-    )?;
-    push_report(
-        &mut text,
-        alloc,
-        "-- two frames",
-        &plays::two_frames(alloc)?,
-    )?;
-    push_report(&mut text, alloc, "-- a hole", &plays::hole(alloc)?)?;
-    push_report(
-        &mut text,
-        alloc,
-        "-- silence inside",
-        &plays::silence_inside(alloc)?,
-    )?;
-    push_report(
-        &mut text,
-        alloc,
-        "-- no whole block",
-        &plays::no_block(alloc)?,
-    )?;
-    push_report(&mut text, alloc, "-- no frame", &plays::no_frame(alloc)?)?;
-    push_report(&mut text, alloc, "-- late", &plays::late(alloc)?)?;
-    push_report(&mut text, alloc, "-- kinds", &heard::kinds(alloc)?)?;
-    push_report(&mut text, alloc, "-- 24 bits", &heard::wide(alloc)?)?;
+    push_walks(&mut text, alloc)?;
+    push_plays(&mut text, alloc)?;
+    push_heard(&mut text, alloc)?;
     Some(text)
 }
 

@@ -76,13 +76,19 @@ fn push_frames(heard: &mut Items<Heard>, first: u8, frames: u8) -> Option<()> {
     Some(())
 }
 
+/// Appends so many frames of silence that was played.
+fn push_silence(heard: &mut Items<Heard>, frames: u8) -> Option<()> {
+    for _ in 0..frames {
+        heard.push(Heard::Sound(0, 0)).ok()?;
+    }
+    Some(())
+}
+
 /// 196 frames of which the driver wrote 100 first, and the others behind the silence that it had written after them.
 pub(crate) fn silence_inside(alloc: Global) -> Option<Played> {
     let mut heard = Items::new(alloc);
     push_frames(&mut heard, 1, 100)?;
-    for _ in 0..92 {
-        heard.push(Heard::Sound(0, 0)).ok()?;
-    }
+    push_silence(&mut heard, 92)?;
     push_frames(&mut heard, 101, 96)?;
     let runs = [
         run(0, 12_500, 400, 400),
