@@ -1,18 +1,20 @@
 -- Accesses beside the rings and the stream keep what is steady.
-use Rattle.std.proofs.Common.{◌≡◌, ◌≢◌, ◌≤◌, ◌<◌, ◌/◌, ◌⊎◌, inl, inr, ℕ, Bool, true, false, List, [], ◌∷◌, length, drop, Some, refl, sym, ap, subst, ◌∙◌, arith}
-use Rattle.std.specs.Prelude.{All}
+use Rattle.std.proofs.Common.{◌≡◌, ◌≢◌, ◌≤◌, ◌<◌, ◌-◌, ◌/◌, ◌==◌, if◌then◌else◌, ◌⊎◌, inl, inr, ℕ, Bool, true, false, List, [], ◌∷◌, length, drop, Some, refl, sym, ap, subst, ◌∙◌, arith}
+use Rattle.std.specs.Prelude.{All, nat_lt}
+use Rattle.std.proofs.lemmas.Bool.{ne_eqb}
 use Rattle.std.proofs.lemmas.List.Elements.{All-head, All-tail}
 use Rattle.codec_graph.specs.CodecStates.{CodecState}
+use Rattle.hda_registers.specs.declared.shapes.Shape.{Shape}
 use Rattle.hda_registers.specs.declared.shapes.Width.{Width}
 use Rattle.hda_registers.specs.declared.shapes.Width.TheVariants.{One}
-use Rattle.hda_registers.specs.Fields.{Fields, Descriptor, is_out_of_reset}
-use Rattle.hda_registers.specs.Access.{written, placed, stream_written}
+use Rattle.hda_registers.specs.Fields.{Fields, Global, Descriptor, reset_fields, is_out_of_reset}
+use Rattle.hda_registers.specs.Access.{access_of, written, placed, is_taken, global_written, stream_written}
 use Rattle.hda_registers.specs.Laws.{IsBesideStreams}
-use Rattle.hda_registers.proofs.Callers.{leaves-streams, changes-input, status-output, ignored}
+use Rattle.hda_registers.proofs.Callers.{leaves-streams, changes-input, status-output, ignored, keeps-reset, keeps-left}
 use Rattle.stream_format.specs.Layouts.{Layout, layout_of}
 use Rattle.hda_world.specs.Worlds.{World}
 use Rattle.hda_world.specs.Events.{Event, Stepped, Begin, End, Read, Write, DmaRead, DmaWrite, happens, after, after_write}
-use Rattle.hda_world.proofs.Callers.{kept_step, beside_write, beside_rings}
+use Rattle.hda_world.proofs.Callers.{kept_step, plain_write}
 use Rattle.codec_sound.specs.HeardLists.{block_size}
 use Rattle.line_heard.specs.Steady.{settings_of, IsSteadyFrame, Steady, IsStatusOrStop, LeavesSteady}
 use Rattle.line_heard.proofs.Steadying.{steady_kept}
@@ -48,9 +50,51 @@ written_keeps f at value width other (inr (one, inr (inr (control, none)))) =
     (subst (λ (w : Width). KeepsStream f (written f 0xA0 w value)) (sym one)
     (subst (λ (v : ℕ). KeepsStream f (written f 0xA0 One v)) (sym none) (stop_keeps f (is_out_of_reset f.global) refl)))
 
-not_control : (at : ℕ) → (at < 0x08) ⊎ (0x0C ≤ at) → at / 4 ≢ 2
-not_control at (inl low) is = absurd (omega (arith, low, is))
-not_control at (inr high) is = absurd (omega (arith, high, is))
+-- ---- CORB's pointers
+
+-- both pointers are the same
+record KeepsPointers (old new : Fields) : Type 0 where
+  read : new.global.corb_read_pointer ≡ old.global.corb_read_pointer
+  write : new.global.corb_write_pointer ≡ old.global.corb_write_pointer
+
+global_pointers : (shape : Shape) (at : ℕ) (w : Width) (v : ℕ) (g : Global) → (18 == at / 4) ≡ false
+    → ((global_written shape (access_of at w v) g).corb_read_pointer ≡ g.corb_read_pointer) × ((global_written shape (access_of at w v) g).corb_write_pointer ≡ g.corb_write_pointer)
+unfolding global_written
+global_pointers shape at w v g elsewhere = (rw elsewhere refl, rw elsewhere refl)
+
+global_reset : (shape : Shape) (at : ℕ) (w : Width) (v : ℕ) (g : Global) → (2 == at / 4) ≡ false → (global_written shape (access_of at w v) g).controller_reset ≡ g.controller_reset
+unfolding global_written
+global_reset shape at w v g elsewhere = rw elsewhere refl
+
+with_pointers : (f : Fields) (g : Global) (out : Bool) → out ≡ true → (g.corb_read_pointer ≡ f.global.corb_read_pointer) × (g.corb_write_pointer ≡ f.global.corb_write_pointer)
+    → KeepsPointers f (if out then record f { global = g } else reset_fields f.shape g.state_status)
+with_pointers f g true is same = record { read = same.0; write = same.1 }
+with_pointers f g false is same = cc
+
+placed_pointers : (f : Fields) (at : ℕ) (w : Width) (v : ℕ) → at / 4 ≢ 2 → at / 4 ≢ 18 → is_out_of_reset f.global ≡ true → (low : Bool) → nat_lt at 0x80 ≡ low → KeepsPointers f (placed f at w v)
+unfolding placed
+placed_pointers f at w v control corb out true is =
+    let same = global_pointers f.shape at w v f.global (ne_eqb 18 (at / 4) (λ e. corb (sym e))) in
+    let still = ap (λ n. n == 1) (global_reset f.shape at w v f.global (ne_eqb 2 (at / 4) (λ e. control (sym e)))) ∙ out in
+    rw is (with_pointers f (global_written f.shape (access_of at w v) f.global) _ still same)
+placed_pointers f at w v control corb out false is = rw is (beyond f (stream_written (access_of (at - 0x80) w v) f.input) (stream_written (access_of (at - 0xA0) w v) f.output) (nat_lt at 0xA0) (nat_lt at 0xC0)) where
+  beyond : (f : Fields) (input output : Descriptor) (a b : Bool) → KeepsPointers f (if a then record f { input = input } else (if b then record f { output = output } else f))
+  beyond f input output true b = record { read = refl; write = refl }
+  beyond f input output false true = record { read = refl; write = refl }
+  beyond f input output false false = record { read = refl; write = refl }
+
+taken_or : (f new : Fields) (taken : Bool) → KeepsPointers f new → KeepsPointers f (if taken then new else f)
+taken_or f new true keeps = keeps
+taken_or f new false keeps = record { read = refl; write = refl }
+
+written_pointers : (f : Fields) (at : ℕ) (w : Width) (v : ℕ) → at / 4 ≢ 2 → at / 4 ≢ 18 → (out : Bool) → is_out_of_reset f.global ≡ out → KeepsPointers f (written f at w v)
+unfolding written
+written_pointers f at w v control corb true is = taken_or f (placed f at w v) (is_taken f at w) (placed_pointers f at w v control corb is (nat_lt at 0x80) refl)
+written_pointers f at w v control corb false is = subst (KeepsPointers f) (sym (ignored f at w v is control)) (record { read = refl; write = refl })
+
+not_pointers : (at : ℕ) → (at < 0x40) ⊎ (0x50 ≤ at) → at / 4 ≢ 18
+not_pointers at (inl low) is = absurd (omega (arith, low, is))
+not_pointers at (inr high) is = absurd (omega (arith, high, is))
 
 module _ (codecs : List CodecState) (tag word : ℕ) (layout : Layout) (from : ℕ) (known : layout_of word ≡ Some layout) where
   abbrev Holds : World → Type 0
@@ -58,12 +102,12 @@ module _ (codecs : List CodecState) (tag word : ℕ) (layout : Layout) (from : �
 
   write_kept : (world : World) (at value : ℕ) (width : Width) → LeavesSteady (Write at width value) → Holds world → Holds (after_write at width value world)
   write_kept world at value width (beside, streams) steady =
-      let plain = beside_write world at value width beside in
-      let rings = beside_rings world at value width beside in
-      let keeps = written_keeps world.registers at value width (not_control at beside.control) streams in
+      let plain = plain_write world at value width (keeps-reset world.registers at width value beside.control) (keeps-left world.registers at width value beside.control) in
+      let pointers = written_pointers world.registers at width value beside.control (not_pointers at beside.corb) (is_out_of_reset world.registers.global) refl in
+      let keeps = written_keeps world.registers at value width beside.control streams in
       record {
         settings = ap (λ (w : World). settings_of w.codecs) plain ∙ steady.settings;
-        idle = rings.corb_read_pointer ∙ steady.idle ∙ sym rings.corb_write_pointer;
+        idle = ap (λ (w : World). w.registers.global.corb_read_pointer) plain ∙ pointers.read ∙ steady.idle ∙ sym (ap (λ (w : World). w.registers.global.corb_write_pointer) plain ∙ pointers.write);
         tag_is = ap (λ (w : World). w.registers.output.tag) plain ∙ keeps.tag ∙ steady.tag_is;
         word_is = ap (λ (w : World). w.registers.output.format) plain ∙ keeps.format ∙ steady.word_is;
         begun = subst (λ (w : World). from ≤ length w.carried) (sym plain) steady.begun;

@@ -1,11 +1,11 @@
 -- That no setting changes while the output stream plays: no command is under way, and each link frame found the codecs as they are. This
 -- project's own.
-use Rattle.std.specs.Prelude.{◌≡◌, ◌≤◌, ◌⊎◌, ℕ, ◌*◌, List, length, map, drop, All}
+use Rattle.std.specs.Prelude.{◌≡◌, ◌≢◌, ◌≤◌, ◌<◌, ◌⊎◌, ℕ, ◌*◌, ◌/◌, List, length, map, drop, All}
 use Rattle.codec_graph.specs.declared.raw.RawCodec.{RawCodec}
 use Rattle.codec_graph.specs.CodecStates.{CodecState}
 use Rattle.codec_graph.specs.Settings.{Entries}
 use Rattle.hda_registers.specs.Fields.{Descriptor}
-use Rattle.hda_registers.specs.Laws.{IsBesideStreams, IsBesideRings}
+use Rattle.hda_registers.specs.Laws.{IsBesideStreams}
 use Rattle.hda_registers.specs.declared.shapes.Width.{Width}
 use Rattle.hda_registers.specs.declared.shapes.Width.TheVariants.{One}
 use Rattle.hda_world.specs.Worlds.{World, CarriedFrame}
@@ -42,9 +42,14 @@ Steady codecs tag word block from world =
 abbrev pub IsStatusOrStop : (at : ℕ) → Width → (value : ℕ) → Type 0
 IsStatusOrStop at width value = (width ≡ One) × ((at ≡ 0x83) ⊎ ((at ≡ 0xA3) ⊎ ((at ≡ 0xA0) × (value ≡ 0))))
 
--- an event writes neither GCTL nor a register of CORB or RIRB, and of the descriptors nothing but a status or the stop
+-- a place that is neither in GCTL nor in a register of CORB
+pub record IsBesideCommands (at : ℕ) : Type 0 where
+  pub control : at / 4 ≢ 2
+  pub corb : (at < 0x40) ⊎ (0x50 ≤ at)
+
+-- an event writes neither GCTL nor a register of CORB, and of the descriptors nothing but a status or the stop
 abbrev pub LeavesSteady : Event → Type 0
-LeavesSteady (Write at width value) = IsBesideRings at × (IsBesideStreams at ⊎ IsStatusOrStop at width value)
+LeavesSteady (Write at width value) = IsBesideCommands at × (IsBesideStreams at ⊎ IsStatusOrStop at width value)
 LeavesSteady (Stepped step) = Unit {0}
 LeavesSteady Begin = Unit {0}
 LeavesSteady End = Unit {0}

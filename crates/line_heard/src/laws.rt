@@ -26,8 +26,8 @@ pub fn steps_keep_it_steady()
         → Steady codecs tag word (block_size layout) from (after_steps steps world) }
 {}
 
-/// Nor does a read, a mark, a write of memory, or a write beside GCTL, the rings and the descriptors; a write of a descriptor's status
-/// and the one that stops the stream leave its tag and its format too.
+/// Nor does a read, a mark, a write of memory, or a write beside GCTL, the registers of CORB and the descriptors; a write of a descriptor's
+/// status and the one that stops the stream leave its tag and its format too.
 pub fn accesses_beside_keep_it_steady()
     ensures { (codecs : List CodecState) (tag word : ℕ) (layout : Layout) (from : ℕ) (events : List Event) (world : World)
         → layout_of word ≡ Some layout → All LeavesSteady events → Steady codecs tag word (block_size layout) from world
@@ -44,8 +44,8 @@ pub fn a_started_stream_is_steady()
 {}
 
 /// A pin that hears a pair of a steady stream heard, but for its holes, the pair's samples of the line that a writer plays, from its
-/// first block on, each once and in order, while no more link frames passed than the limit says. After the line drained it heard the
-/// whole of what was sent of it, and then zeros; after a late run it heard the line below the last recorded reach.
+/// first block on, each once and in order, while no more link frames passed than the limit says. After the line drained zeros may follow
+/// it; after a late run the list has the line below the last recorded reach.
 pub fn the_line_is_heard()
     ensures playing { (codecs : List CodecState) (tag word : ℕ) (layout : Layout) (from : ℕ) (world : World) (address pin pair : ℕ)
         (ring : Ring) (pcm : List ℕ) (tally : Tally) → layout_of word ≡ Some layout → Steady codecs tag word (block_size layout) from world
