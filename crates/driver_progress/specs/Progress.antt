@@ -106,7 +106,8 @@ FitsIf false task course = Unit {0}
 abbrev pub state_of : Task → List DriverLine → Telling → State
 state_of task lines telling = (ended_if (course_of task lines telling).within task (course_of task lines telling)).state
 
--- all accesses of the journal were to be made, each in its stretch
+-- in each stretch just those accesses were made that were to be made; accesses outside of stretches are not looked at, and two closing
+-- stretches are none of a driver's
 pub record IsProgress (task : Task) (lines : List DriverLine) (telling : Telling) : Type 0 where
   pub conforms : Conforms task telling.journal telling.start (course_opened lines)
   pub last : FitsIf (course_of task lines telling).within task (course_of task lines telling)

@@ -32,7 +32,7 @@ pub enum PlayFault {
         /// How many link frames might have passed between them.
         limit: u32,
     },
-    /// The schedule ended before all commands were sent.
+    /// The schedule ended before all commands were answered, or before the sound began.
     CommandsLeft {
         /// How many were sent.
         sent: u32,
