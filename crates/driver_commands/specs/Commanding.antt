@@ -1,0 +1,87 @@
+-- What a driver does at a call while commands are sent, and where that leads. This project's own.
+use Rattle.std.specs.Prelude.{◌≡◌, ℕ, ◌+◌, Bool, true, false, List, [], Option, Some, None}
+use Rattle.verb_codes.specs.declared.verbs.Command.{Command}
+use Rattle.hda_world.specs.Events.{Event}
+use Rattle.hda_world.specs.Tellings.{Telling, Between, Makes}
+use Rattle.command_engine.specs.declared.ring_places.RingPlaces.{RingPlaces}
+use Rattle.command_engine.specs.declared.answers.Outstanding.{Outstanding}
+use Rattle.command_engine.specs.declared.answers.Poll.{Poll}
+use Rattle.command_engine.specs.declared.answers.Poll.TheVariants as polls
+use Rattle.command_engine.specs.Polling.{PollReads, AreNew, poll_of, found_by, rings_polled}
+use Rattle.command_engine.specs.Submitting.{submit_accesses, rings_submitted}
+use Rattle.codec_agenda.specs.declared.agenda.Agenda.{Agenda}
+use Rattle.driver_progress.specs.declared.phase.Phase.{Phase}
+use Rattle.driver_progress.specs.declared.phase.Phase.TheVariants.{Unanswered}
+use Rattle.driver_progress.specs.Requests.{requests_of}
+use Rattle.driver_progress.specs.Tasks.{Task, Order, DriverLine}
+use Rattle.driver_progress.specs.Seen.{seen_by, values_of}
+use Rattle.driver_progress.specs.States.{State}
+use Rattle.driver_progress.specs.Next.{next, expected}
+use Rattle.driver_stretches.specs.Commands.{ask_accesses}
+use Rattle.driver_commands.specs.declared.answering.Answer.{Answer}
+use Rattle.driver_commands.specs.Standing.{phase_of, goes_on, order_in}
+
+-- ---- the look for an answer
+
+-- the command that was outstanding was not answered in its time
+abbrev pub unanswered_if : Option Outstanding → (issued noticed : ℕ) → Phase → Phase
+unanswered_if None issued noticed phase = phase
+unanswered_if (Some command) issued noticed phase = Unanswered command.codec command.word issued noticed
+
+-- where a look led by what it found: from this phase and this agenda
+abbrev pub LedTo : Poll → Option Outstanding → (phase : Phase) → (old : Agenda) → (phase' : Phase) → (new : Agenda) → Type 0
+LedTo polls.Idle outstanding phase old phase' new = (phase' ≡ phase) × (new ≡ old)
+LedTo (polls.Answered word) outstanding phase old phase' new = goes_on phase' ≡ true → phase' ≡ phase_of new
+LedTo polls.Waiting outstanding phase old phase' new = (phase' ≡ phase) × (new ≡ old)
+LedTo (polls.Unanswered issued noticed) outstanding phase old phase' new = (phase' ≡ unanswered_if outstanding issued noticed phase) × (new ≡ old)
+
+-- whether the next command may be submitted then
+abbrev pub leaves_free : Poll → (phase' : Phase) → Bool
+leaves_free polls.Idle phase' = true
+leaves_free (polls.Answered word) phase' = goes_on phase'
+leaves_free polls.Waiting phase' = false
+leaves_free (polls.Unanswered issued noticed) phase' = false
+
+abbrev pub poll_by : RingPlaces → PollReads → (clock : ℕ) → Poll
+poll_by rings reads clock = poll_of rings.outstanding (found_by rings reads) clock
+
+pub record Looks (rirb : ℕ) (rings : RingPlaces) (phase : Phase) (old : Agenda) (answer : Answer) (rings' : RingPlaces) (new : Agenda) (before after : Option Telling) : Type 0 where
+  pub reads : PollReads
+  pub new_ones : AreNew rings reads
+  pub made : Between (Makes (ask_accesses rirb answer.clock rings reads)) before after
+  pub rings_are : rings' ≡ rings_polled rings reads
+  pub led : LedTo (poll_by rings reads answer.clock) rings.outstanding phase old answer.phase new
+  pub free : answer.is_free ≡ leaves_free (poll_by rings reads answer.clock) answer.phase
+
+-- ---- and the next command
+
+abbrev pub order_if : (free : Bool) → Option Command → Option Order
+order_if true command = order_in command
+order_if false command = None
+
+abbrev pub submit_made : (corb : ℕ) → RingPlaces → Option Order → List Event
+submit_made corb rings None = []
+submit_made corb rings (Some order) = submit_accesses corb rings order.word
+
+abbrev pub rings_with : Option Order → (clock : ℕ) → RingPlaces → RingPlaces
+rings_with None clock rings = rings
+rings_with (Some order) clock rings = rings_submitted rings (record { codec = order.codec; word = order.word; issued = clock })
+
+-- ---- a stretch, against what is to be done
+
+pub record IsStretch (task : Task) (state : State) (turn : Option DriverLine) (made : List Event) (found : Bool) (state' : State) : Type 0 where
+  pub fits : requests_of made ≡ expected task state turn (seen_by (values_of made) found)
+  pub leads : state' ≡ next task state turn (seen_by (values_of made) found)
+
+-- a call that is not for an interrupt
+abbrev pub run_of : (budget : ℕ) → DriverLine
+run_of budget = record { irq = false; budget = budget }
+
+-- the state after a call: the phase, and one command more if one was submitted
+abbrev pub sent_with : Option Order → (sent : ℕ) → ℕ
+sent_with None sent = sent
+sent_with (Some order) sent = sent + 1
+
+abbrev pub state_with : State → Phase → Option Order → (clock : ℕ) → RingPlaces → State
+state_with state phase order clock rings =
+    record state { phase = phase; sent = sent_with order state.sent; rings = rings_with order clock rings }

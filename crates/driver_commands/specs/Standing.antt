@@ -1,0 +1,90 @@
+-- Where a driver stands, by what comes next on its agenda. This project's own.
+use Rattle.std.specs.Prelude.{◌≡◌, ℕ, ◌-◌, Bool, true, false, List, slice_get, slice_index, length, Option, Some, None}
+use Rattle.std.specs.Option.{is_some}
+use Rattle.verb_codes.specs.declared.verbs.Command.{Command}
+use Rattle.codec_graph.specs.declared.raw.RawCodec.{RawCodec}
+use Rattle.route_planner.specs.declared.routes.Plan.{Plan}
+use Rattle.command_engine.specs.declared.answers.Outstanding.{Outstanding}
+use Rattle.driver_progress.specs.declared.phase.Phase.{Phase}
+use Rattle.driver_progress.specs.declared.phase.Phase.TheVariants.{Reset, Settling, Walking, SettingUp, Ready, Playing, Drained, NothingRouted, Unanswered, Late, Malformed, Failed}
+use Rattle.driver_progress.specs.Tasks.{Task, Order, order_of}
+use Rattle.driver_progress.specs.Next.{phase_of_answers}
+use Rattle.codec_agenda.specs.declared.agenda.Agenda.{Agenda}
+use Rattle.codec_agenda.specs.Agendas.{next_of, LedBy, TellsFault, TellsNoRoute}
+
+abbrev pub next_on : Agenda → Option Command
+next_on agenda = next_of agenda.walk agenda.verbs.items agenda.answered
+
+-- the phase where this command comes next, in a walk or not
+abbrev pub phase_at : (asks walks : Bool) → Phase
+phase_at false walks = Ready
+phase_at true true = Walking
+phase_at true false = SettingUp
+
+abbrev pub phase_of : Agenda → Phase
+phase_of agenda = phase_at (is_some (next_on agenda)) (is_some agenda.walk)
+
+-- whether commands are sent in a phase
+abbrev pub is_asking : Phase → Bool
+is_asking Reset = false
+is_asking Settling = false
+is_asking Walking = true
+is_asking SettingUp = true
+is_asking Ready = false
+is_asking Playing = false
+is_asking Drained = false
+is_asking NothingRouted = false
+is_asking (Unanswered codec command issued noticed) = false
+is_asking (Late from to limit) = false
+is_asking (Malformed codec fault) = false
+is_asking Failed = false
+
+-- whether an answer leads on in a phase that it led to
+abbrev pub goes_on : Phase → Bool
+goes_on Reset = false
+goes_on Settling = false
+goes_on Walking = true
+goes_on SettingUp = true
+goes_on Ready = true
+goes_on Playing = false
+goes_on Drained = false
+goes_on NothingRouted = false
+goes_on (Unanswered codec command issued noticed) = false
+goes_on (Late from to limit) = false
+goes_on (Malformed codec fault) = false
+goes_on Failed = false
+
+-- an answer led to this phase
+pub record LeadsOn (IsPlanBy : RawCodec → Plan → Type 0) (verbs_by : RawCodec → Plan → List Command) (answer : ℕ) (old new : Agenda) (phase : Phase) : Type 0 where
+  pub led : goes_on phase ≡ true → LedBy IsPlanBy verbs_by old.walk answer old new
+  pub phase_is : goes_on phase ≡ true → phase ≡ phase_of new
+
+-- where no command comes after the answer that led to it
+abbrev pub EndsBy : (IsPlanBy : RawCodec → Plan → Type 0) (answer : ℕ) (old new : Agenda) → Phase → Type 0
+EndsBy IsPlanBy answer old new Reset = ⊥
+EndsBy IsPlanBy answer old new Settling = ⊥
+EndsBy IsPlanBy answer old new Walking = Unit {0}
+EndsBy IsPlanBy answer old new SettingUp = Unit {0}
+EndsBy IsPlanBy answer old new Ready = Unit {0}
+EndsBy IsPlanBy answer old new Playing = ⊥
+EndsBy IsPlanBy answer old new Drained = ⊥
+EndsBy IsPlanBy answer old new NothingRouted = TellsNoRoute IsPlanBy old.walk answer old.addresses.items old.graphs.items new
+EndsBy IsPlanBy answer old new (Unanswered codec command issued noticed) = ⊥
+EndsBy IsPlanBy answer old new (Late from to limit) = ⊥
+EndsBy IsPlanBy answer old new (Malformed codec fault) =
+    (codec ≡ slice_index old.addresses.items (length old.graphs.items)) × TellsFault old.walk answer fault
+EndsBy IsPlanBy answer old new Failed = ⊥
+
+-- how many commands were answered, where so many were sent
+abbrev pub answers_of : (sent : ℕ) → Option Outstanding → ℕ
+answers_of sent None = sent
+answers_of sent (Some command) = sent - 1
+
+abbrev pub order_in : Option Command → Option Order
+order_in None = None
+order_in (Some command) = Some (order_of command)
+
+-- the task's command after so many is the agenda's, and so is the phase
+pub record Agrees (task : Task) (count : ℕ) (agenda : Agenda) : Type 0 where
+  pub order : order_in (next_on agenda) ≡ slice_get task.orders count
+  pub phase : phase_of agenda ≡ phase_of_answers task count

@@ -1,0 +1,23 @@
+//! The addresses of codecs.
+ghost use Rattle.std.specs.Prelude.{◌≡◌, ◌≤◌, ◌<◌, All, IfOk, length};
+ghost use Rattle.driver_commands.specs.Addresses as spec;
+
+use std::alloc::{AllocError, Global};
+use verb_codes::has_bit;
+
+/// How many addresses a codec may have: 0 to 14 (HDA 1.0a, 3.3.9).
+const ADDRESSES: u8 = 15;
+
+/// The addresses whose bits are set, ascending.
+pub fn addresses_in(alloc: Global, bits: u16) -> Result<Vec<u8>, AllocError>
+    ensures value { IfOk result (λ addresses. addresses.items ≡ spec.addresses_in bits) }
+    ensures few { IfOk result (λ addresses. All (λ address. address ≤ 14) addresses.items) }
+{
+    let mut addresses = Vec::new(alloc);
+    for address in 0..ADDRESSES {
+        if has_bit(u32::from(bits), u32::from(address)) {
+            addresses.push(address)?;
+        }
+    }
+    Ok(addresses)
+}
