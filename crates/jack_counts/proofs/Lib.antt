@@ -1,0 +1,4 @@
+mod AllJacks
+mod Counting
+pub mod OfPins
+mod Steps

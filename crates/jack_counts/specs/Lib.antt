@@ -1,0 +1,3 @@
+pub mod Jacks
+pub mod Listed
+pub mod Counted
