@@ -17,13 +17,13 @@ use Rattle.driver_stretches.specs.Commands.{ask_accesses}
 use Rattle.driver_stretches.proofs.Fitting.{poll_fits}
 use Rattle.driver_commands.specs.Commanding.{submit_made}
 
--- all accesses of a call
-abbrev pub call_made : (corb rirb clock : ℕ) → RingPlaces → PollReads → Option Order → List Event
-call_made corb rirb clock rings reads order = ask_accesses rirb clock rings reads ++ submit_made corb (rings_polled rings reads) order
+-- all accesses of a call that goes on with these
+abbrev pub call_made : (rirb clock : ℕ) → RingPlaces → PollReads → (rest : List Event) → List Event
+call_made rirb clock rings reads rest = ask_accesses rirb clock rings reads ++ rest
 
 -- ---- what is read of a register
 
-none_submitted : (register corb : ℕ) (rings : RingPlaces) (order : Option Order) → values_of (submit_made corb rings order) register ≡ []
+pub none_submitted : (register corb : ℕ) (rings : RingPlaces) (order : Option Order) → values_of (submit_made corb rings order) register ≡ []
 none_submitted register corb rings None = refl
 none_submitted register corb rings (Some order) = refl
 
@@ -37,13 +37,13 @@ flat_one : (register : ℕ) (event : Event) (rest : List Event) → values_of re
 flat_one register event rest none = ap (λ (values : List ℕ). value_in register event ++ values) none
 
 -- after the read of RIRBSTS only RIRBWP is read
-batch_reads : (written : Bool) (register corb rirb : ℕ) (rings : RingPlaces) (reads : PollReads) (order : Option Order)
-    → values_of ((if written then batch_accesses rirb rings reads.pointer reads.entries else []) ++ submit_made corb (rings_polled rings reads) order) register
+batch_reads : (written : Bool) (register rirb : ℕ) (rings : RingPlaces) (reads : PollReads) (rest : List Event) → values_of rest register ≡ []
+    → values_of ((if written then batch_accesses rirb rings reads.pointer reads.entries else []) ++ rest) register
     ≡ values_of (if written then Read RIRBWP Two reads.pointer ∷ [] else []) register
-batch_reads false register corb rirb rings reads order = none_submitted register corb (rings_polled rings reads) order
-batch_reads true register corb rirb rings reads order =
-    flat_one register (Read RIRBWP Two reads.pointer) ((entry_reads rirb (entries_of rings.rirb) (rings.read + 1) reads.entries ++ Write RIRBSTS One 1 ∷ []) ++ submit_made corb (rings_polled rings reads) order)
-    (none_read register rirb (entries_of rings.rirb) (rings.read + 1) reads.entries (submit_made corb (rings_polled rings reads) order) ∙ none_submitted register corb (rings_polled rings reads) order)
+batch_reads false register rirb rings reads rest none = none
+batch_reads true register rirb rings reads rest none =
+    flat_one register (Read RIRBWP Two reads.pointer) ((entry_reads rirb (entries_of rings.rirb) (rings.read + 1) reads.entries ++ Write RIRBSTS One 1 ∷ []) ++ rest)
+    (none_read register rirb (entries_of rings.rirb) (rings.read + 1) reads.entries rest ∙ none)
 
 -- ---- what the stretch saw
 
@@ -51,32 +51,30 @@ no_pointer : (written : Bool) (pointer : ℕ) → values_of (if written then Rea
 no_pointer true pointer = refl
 no_pointer false pointer = refl
 
-pub one_clock : (corb rirb clock : ℕ) (rings : RingPlaces) (reads : PollReads) (order : Option Order) → values_of (call_made corb rirb clock rings reads order) WALCLK ≡ clock ∷ []
-one_clock corb rirb clock rings reads order =
-    ap (λ (values : List ℕ). clock ∷ values) (batch_reads (has_bit reads.flag 0) WALCLK corb rirb rings reads order ∙ no_pointer (has_bit reads.flag 0) reads.pointer)
+pub one_clock : (rirb clock : ℕ) (rings : RingPlaces) (reads : PollReads) (rest : List Event) → values_of rest WALCLK ≡ [] → values_of (call_made rirb clock rings reads rest) WALCLK ≡ clock ∷ []
+one_clock rirb clock rings reads rest none =
+    ap (λ (values : List ℕ). clock ∷ values) (batch_reads (has_bit reads.flag 0) WALCLK rirb rings reads rest none ∙ no_pointer (has_bit reads.flag 0) reads.pointer)
 
-pointer_by : (written : Bool) (corb rirb : ℕ) (rings : RingPlaces) (reads : PollReads) (order : Option Order) → written ≡ true
-    → slice_index (values_of ((if written then batch_accesses rirb rings reads.pointer reads.entries else []) ++ submit_made corb (rings_polled rings reads) order) RIRBWP) 0 ≡ reads.pointer
-pointer_by true corb rirb rings reads order is = refl
-pointer_by false corb rirb rings reads order is = cc
+pointer_by : (written : Bool) (rirb : ℕ) (rings : RingPlaces) (reads : PollReads) (rest : List Event) → written ≡ true
+    → slice_index (values_of ((if written then batch_accesses rirb rings reads.pointer reads.entries else []) ++ rest) RIRBWP) 0 ≡ reads.pointer
+pointer_by true rirb rings reads rest is = refl
+pointer_by false rirb rings reads rest is = cc
 
-pub pointer_seen : (corb rirb clock : ℕ) (rings : RingPlaces) (reads : PollReads) (order : Option Order) (found : Bool) → has_bit reads.flag 0 ≡ true
-    → (seen_by (values_of (call_made corb rirb clock rings reads order)) found).pointer ≡ reads.pointer
-pointer_seen corb rirb clock rings reads order found is = pointer_by (has_bit reads.flag 0) corb rirb rings reads order is
+pub pointer_seen : (rirb clock : ℕ) (rings : RingPlaces) (reads : PollReads) (rest : List Event) (found : Bool) → has_bit reads.flag 0 ≡ true
+    → (seen_by (values_of (call_made rirb clock rings reads rest)) found).pointer ≡ reads.pointer
+pointer_seen rirb clock rings reads rest found is = pointer_by (has_bit reads.flag 0) rirb rings reads rest is
 
 -- ---- its accesses are those that are expected
 
-submit_fits : (blocks : Blocks) (rings : RingPlaces) (reads : PollReads) (order : Option Order) → requests_of (submit_made blocks.corb (rings_polled rings reads) order) ≡ submits blocks rings order
+pub submit_fits : (blocks : Blocks) (rings : RingPlaces) (reads : PollReads) (order : Option Order) → requests_of (submit_made blocks.corb (rings_polled rings reads) order) ≡ submits blocks rings order
 submit_fits blocks rings reads None = refl
 submit_fits blocks rings reads (Some order) = refl
 
-pub call_fits : (blocks : Blocks) (clock : ℕ) (rings : RingPlaces) (reads : PollReads) (order : Option Order) (found : Bool) → AreNew rings reads
-    → requests_of (call_made blocks.corb blocks.rirb clock rings reads order)
-    ≡ Gets WALCLK Four ∷ (polls blocks.rirb rings (seen_by (values_of (call_made blocks.corb blocks.rirb clock rings reads order)) found) ++ submits blocks rings order)
-call_fits blocks clock rings reads order found new =
-    let seen = seen_by (values_of (call_made blocks.corb blocks.rirb clock rings reads order)) found in
-    ap (λ (rest : List Request). Gets WALCLK Four ∷ rest)
-    (flat_map-append requests_in (poll_accesses blocks.rirb rings reads) (submit_made blocks.corb (rings_polled rings reads) order)
-    ∙ ap (λ (front : List Request). front ++ requests_of (submit_made blocks.corb (rings_polled rings reads) order))
-    (poll_fits blocks.rirb rings reads seen new refl (pointer_seen blocks.corb blocks.rirb clock rings reads order found))
-    ∙ ap (λ (back : List Request). polls blocks.rirb rings seen ++ back) (submit_fits blocks rings reads order))
+pub call_fits : (rirb clock : ℕ) (rings : RingPlaces) (reads : PollReads) (rest : List Event) (found : Bool) → AreNew rings reads
+    → requests_of (call_made rirb clock rings reads rest)
+    ≡ Gets WALCLK Four ∷ (polls rirb rings (seen_by (values_of (call_made rirb clock rings reads rest)) found) ++ requests_of rest)
+call_fits rirb clock rings reads rest found new =
+    let seen = seen_by (values_of (call_made rirb clock rings reads rest)) found in
+    ap (λ (later : List Request). Gets WALCLK Four ∷ later)
+    (flat_map-append requests_in (poll_accesses rirb rings reads) rest
+    ∙ ap (λ (front : List Request). front ++ requests_of rest) (poll_fits rirb rings reads seen new refl (pointer_seen rirb clock rings reads rest found)))

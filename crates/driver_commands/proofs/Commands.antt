@@ -20,8 +20,18 @@ use Rattle.driver_progress.specs.States.{State}
 use Rattle.driver_progress.specs.Expected.{submits, asks, runs, is_free, next_order}
 use Rattle.driver_progress.specs.Next.{outstanding_if, polled, phase_polled, phase_of_answers, after_poll, submitted_if, after_commands, led, tally_next}
 use Rattle.driver_commands.specs.Standing.{next_on, phase_of, is_asking, Agrees}
+use Rattle.hda_registers.specs.declared.places.TheConstants.{WALCLK}
 use Rattle.driver_commands.specs.Commanding.{LedTo, leaves_free, order_if, IsStretch, run_of, state_with}
-use Rattle.driver_commands.proofs.Asked.{call_made, one_clock, pointer_seen, call_fits}
+use Rattle.driver_stretches.specs.Shutting.{shut_accesses}
+use Rattle.driver_commands.specs.Commanding.{submit_made}
+use Rattle.driver_commands.proofs.Asked.{call_made, none_submitted, one_clock, pointer_seen, submit_fits, call_fits}
+use Rattle.hda_world.specs.Events.{Event}
+use Rattle.driver_progress.specs.Expected.{closes, shuts}
+use Rattle.driver_progress.specs.Next.{closed}
+use Rattle.driver_progress.specs.Seen.{values_of}
+use Rattle.std.proofs.Common.{List}
+use Rattle.driver_progress.specs.Requests.{Request}
+use Rattle.std.specs.Option.{is_some}
 
 -- ---- while commands are sent
 
@@ -135,26 +145,81 @@ rings_same rings reads seen found flag pointer answered outstanding =
     ∙ ap (λ (read : ℕ). record rings { read = read; outstanding = outstanding_if seen.answered rings.outstanding }) (read_same (has_bit reads.flag 0) seen.pointer reads.pointer (entries_of rings.rirb) rings.read pointer)
     ∙ ap (λ (left : Option Outstanding). record rings { read = read_to rings reads; outstanding = left }) (ap (λ (found : Bool). outstanding_if found rings.outstanding) answered ∙ sym outstanding)
 
+-- the state after the look
+looked_same : (task : Task) (state : State) (clock : ℕ) (reads : PollReads) (phase' : Phase) (order : Option Order) (rest : List Event)
+    → Comes task state clock state.rings.outstanding (found_by state.rings reads) phase' order
+    → record state { phase = phase'; rings = rings_polled state.rings reads }
+    ≡ after_poll task state (seen_by (values_of (call_made task.blocks.rirb clock state.rings reads rest)) (is_some (found_by state.rings reads)))
+looked_same task state clock reads phase' order rest comes =
+    let found = is_some (found_by state.rings reads) in
+    let seen = seen_by (values_of (call_made task.blocks.rirb clock state.rings reads rest)) found in
+    let rings = rings_same state.rings reads seen found refl (pointer_seen task.blocks.rirb clock state.rings reads rest found) refl comes.outstanding_is in
+    ap (λ (phase : Phase). record state { phase = phase; rings = rings_polled state.rings reads }) comes.phase_is
+    ∙ ap (λ (rings : RingPlaces). record state { phase = phase_polled task state clock (outstanding_if found state.rings.outstanding); rings = rings }) (sym rings)
+
 pub stretch : (task : Task) (state : State) (budget clock : ℕ) (reads : PollReads) (phase' : Phase) (order : Option Order)
     → is_asking state.phase ≡ true → AreNew state.rings reads → Comes task state clock state.rings.outstanding (found_by state.rings reads) phase' order
-    → IsStretch task state (Some (run_of budget)) (call_made task.blocks.corb task.blocks.rirb clock state.rings reads order) (is_some (found_by state.rings reads))
+    → IsStretch task state (Some (run_of budget)) (call_made task.blocks.rirb clock state.rings reads (submit_made task.blocks.corb (rings_polled state.rings reads) order)) (is_some (found_by state.rings reads))
     (state_with state phase' order clock (rings_polled state.rings reads))
 stretch task state budget clock reads phase' order asking new comes =
-    let made = call_made task.blocks.corb task.blocks.rirb clock state.rings reads order in
+    let rest = submit_made task.blocks.corb (rings_polled state.rings reads) order in
     let found = is_some (found_by state.rings reads) in
-    let seen = seen_by (values_of made) found in
-    let pointer = pointer_seen task.blocks.corb task.blocks.rirb clock state.rings reads order found in
+    let seen = seen_by (values_of (call_made task.blocks.rirb clock state.rings reads rest)) found in
     let line = Some (run_of budget) in
     let tally = tally_next task state line seen in
-    let rings = rings_same state.rings reads seen found refl pointer refl comes.outstanding_is in
-    let kept = once task state line seen clock (one_clock task.blocks.corb task.blocks.rirb clock state.rings reads order) in record {
-  fits = call_fits task.blocks clock state.rings reads order found new
+    let kept = once task state line seen clock (one_clock task.blocks.rirb clock state.rings reads rest (none_submitted WALCLK task.blocks.corb (rings_polled state.rings reads) order)) in record {
+  fits = call_fits task.blocks.rirb clock state.rings reads rest found new
+    ∙ ap (λ (later : List Request). asks task state seen later) (submit_fits task.blocks state.rings reads order)
     ∙ ap (λ (order : Option Order). asks task state seen (submits task.blocks state.rings order)) comes.order_is
     ∙ sym (runs_asks task state budget seen tally state.phase asking);
   leads = state_same state phase' order clock (rings_polled state.rings reads)
-    ∙ ap (λ (phase : Phase). record (submitted_if order clock (record state { phase = phase; rings = rings_polled state.rings reads })) { tally = state.tally }) comes.phase_is
-    ∙ ap (λ (rings : RingPlaces). record (submitted_if order clock (record state { phase = phase_polled task state clock (outstanding_if found state.rings.outstanding); rings = rings })) { tally = state.tally }) (sym rings)
+    ∙ ap (λ (looked : State). record (submitted_if order clock looked) { tally = state.tally }) (looked_same task state clock reads phase' order rest comes)
     ∙ ap (λ (order : Option Order). record (submitted_if order clock (after_poll task state seen)) { tally = state.tally }) comes.order_is
     ∙ ap (λ (tally : Tally). record (after_commands task state seen) { tally = tally }) (sym kept)
     ∙ ap (λ (state' : State). record state' { tally = tally }) (sym (led_asks task state seen tally state.phase asking));
+}
+
+-- ---- the closing stretch
+
+closes_asks : (task : Task) (state : State) (seen : Seen) (phase : Phase) → is_asking phase ≡ true → closes task state seen phase ≡ asks task state seen shuts
+closes_asks task state seen Reset is = cc
+closes_asks task state seen Settling is = cc
+closes_asks task state seen Walking is = refl
+closes_asks task state seen SettingUp is = refl
+closes_asks task state seen Ready is = cc
+closes_asks task state seen Playing is = cc
+closes_asks task state seen Drained is = cc
+closes_asks task state seen NothingRouted is = cc
+closes_asks task state seen (Unanswered codec command issued noticed) is = cc
+closes_asks task state seen (Late from to limit) is = cc
+closes_asks task state seen (Malformed codec fault) is = cc
+closes_asks task state seen Failed is = cc
+
+closed_asks : (task : Task) (state : State) (seen : Seen) (tally : Tally) (phase : Phase) → is_asking phase ≡ true → closed task state seen tally phase ≡ after_poll task state seen
+closed_asks task state seen tally Reset is = cc
+closed_asks task state seen tally Settling is = cc
+closed_asks task state seen tally Walking is = refl
+closed_asks task state seen tally SettingUp is = refl
+closed_asks task state seen tally Ready is = cc
+closed_asks task state seen tally Playing is = cc
+closed_asks task state seen tally Drained is = cc
+closed_asks task state seen tally NothingRouted is = cc
+closed_asks task state seen tally (Unanswered codec command issued noticed) is = cc
+closed_asks task state seen tally (Late from to limit) is = cc
+closed_asks task state seen tally (Malformed codec fault) is = cc
+closed_asks task state seen tally Failed is = cc
+
+pub closing : (task : Task) (state : State) (clock : ℕ) (reads : PollReads) (phase' : Phase) (order : Option Order)
+    → is_asking state.phase ≡ true → AreNew state.rings reads → Comes task state clock state.rings.outstanding (found_by state.rings reads) phase' order
+    → IsStretch task state None (call_made task.blocks.rirb clock state.rings reads shut_accesses) (is_some (found_by state.rings reads))
+    (record state { phase = phase'; rings = rings_polled state.rings reads })
+closing task state clock reads phase' order asking new comes =
+    let found = is_some (found_by state.rings reads) in
+    let seen = seen_by (values_of (call_made task.blocks.rirb clock state.rings reads shut_accesses)) found in
+    let tally = tally_next task state None seen in
+    let kept = once task state None seen clock (one_clock task.blocks.rirb clock state.rings reads shut_accesses refl) in record {
+  fits = call_fits task.blocks.rirb clock state.rings reads shut_accesses found new ∙ sym (closes_asks task state seen state.phase asking);
+  leads = ap (λ (looked : State). record looked { tally = state.tally }) (looked_same task state clock reads phase' order shut_accesses comes)
+    ∙ ap (λ (tally : Tally). record (after_poll task state seen) { tally = tally }) (sym kept)
+    ∙ ap (λ (state' : State). record state' { tally = tally }) (sym (closed_asks task state seen tally state.phase asking));
 }

@@ -1,11 +1,15 @@
 -- What a driver does at a call while commands are sent, and where that leads. This project's own.
-use Rattle.std.specs.Prelude.{◌≡◌, ℕ, ◌+◌, Bool, true, false, List, [], Option, Some, None}
+use Rattle.std.specs.Prelude.{◌≡◌, ℕ, ◌+◌, Bool, true, false, List, [], Option, Some, None, ◌++◌}
 use Rattle.verb_codes.specs.declared.verbs.Command.{Command}
 use Rattle.hda_world.specs.Events.{Event}
 use Rattle.hda_world.specs.Tellings.{Telling, Between, Makes}
 use Rattle.command_engine.specs.declared.ring_places.RingPlaces.{RingPlaces}
 use Rattle.command_engine.specs.declared.answers.Outstanding.{Outstanding}
 use Rattle.command_engine.specs.declared.answers.Poll.{Poll}
+use Rattle.command_engine.specs.declared.answers.Event as told
+use Rattle.command_engine.specs.Entries.{responses_in, events_of}
+use Rattle.jack_counts.specs.declared.jacks.Jacks.{Jacks}
+use Rattle.jack_counts.specs.Counted.{IsCount}
 use Rattle.command_engine.specs.declared.answers.Poll.TheVariants as polls
 use Rattle.command_engine.specs.Polling.{PollReads, AreNew, poll_of, found_by, rings_polled}
 use Rattle.command_engine.specs.Submitting.{submit_accesses, rings_submitted}
@@ -45,12 +49,14 @@ leaves_free (polls.Unanswered issued noticed) phase' = false
 abbrev pub poll_by : RingPlaces → PollReads → (clock : ℕ) → Poll
 poll_by rings reads clock = poll_of rings.outstanding (found_by rings reads) clock
 
-pub record Looks (rirb : ℕ) (rings : RingPlaces) (phase : Phase) (old : Agenda) (answer : Answer) (rings' : RingPlaces) (new : Agenda) (before after : Option Telling) : Type 0 where
+pub record Looks (rirb : ℕ) (rings : RingPlaces) (phase : Phase) (old : Agenda) (jacks : Jacks) (answer : Answer) (rings' : RingPlaces) (new : Agenda) (jacks' : Jacks) (before after : Option Telling) : Type 0 where
   pub reads : PollReads
   pub new_ones : AreNew rings reads
   pub made : Between (Makes (ask_accesses rirb answer.clock rings reads)) before after
   pub rings_are : rings' ≡ rings_polled rings reads
   pub led : LedTo (poll_by rings reads answer.clock) rings.outstanding phase old answer.phase new
+  -- of all that was told unasked until now
+  pub counted : (events : List told.Event) → IsCount events jacks → IsCount (events ++ events_of (responses_in reads.entries)) jacks'
   pub free : answer.is_free ≡ leaves_free (poll_by rings reads answer.clock) answer.phase
 
 -- ---- and the next command

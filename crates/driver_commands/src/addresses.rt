@@ -1,5 +1,5 @@
 //! The addresses of codecs.
-ghost use Rattle.std.specs.Prelude.{◌≡◌, ◌≤◌, ◌<◌, All, IfOk, length};
+ghost use Rattle.std.specs.Prelude.{◌≡◌, ◌≢◌, ◌≤◌, ◌<◌, ◌^◌, All, IfOk, length};
 ghost use Rattle.driver_commands.specs.Addresses as spec;
 
 use std::alloc::{AllocError, Global};
@@ -8,9 +8,13 @@ use verb_codes::has_bit;
 /// How many addresses a codec may have: 0 to 14 (HDA 1.0a, 3.3.9).
 const ADDRESSES: u8 = 15;
 
-/// The addresses whose bits are set, ascending.
+/// The addresses whose bits are set, ascending: bit n for address n.
+///
+/// # Errors
+/// Want of memory.
 pub fn addresses_in(alloc: Global, bits: u16) -> Result<Vec<u8>, AllocError>
     ensures value { IfOk result (λ addresses. addresses.items ≡ spec.addresses_in bits) }
+    ensures some { IfOk result (λ addresses. bits ≢ 0 → bits < 2 ^ 15 → 0 < length addresses.items) }
     ensures few { IfOk result (λ addresses. All (λ address. address ≤ 14) addresses.items) }
 {
     let mut addresses = Vec::new(alloc);

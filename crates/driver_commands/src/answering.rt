@@ -1,5 +1,5 @@
 //! A look for the answer to the outstanding command, and where it leads.
-ghost use Rattle.std.specs.Prelude.{◌≡◌, ◌≤◌, ◌+◌, [], IfOk, IsSome};
+ghost use Rattle.std.specs.Prelude.{◌≡◌, ◌≤◌, ◌+◌, [], true, None, IfOk, IsSome};
 ghost use Rattle.driver_commands.specs.Standing as standing;
 ghost use Rattle.driver_commands.specs.Commanding as spec;
 
@@ -9,6 +9,7 @@ use command_engine::{Engine, Outstanding, Poll};
 use driver_progress::Phase;
 use driver_stretches::{Asked, ask};
 use hda_platform::Platform;
+use jack_counts::{Jacks, events_are_of_pins};
 use route_setup::Setter;
 use std::alloc::AllocError;
 
@@ -24,22 +25,28 @@ pub struct Answer {
 }
 
 /// Reads the clock, and looks for the answer to the outstanding command, which is the one that comes next on the agenda. An answer leads
-/// the agenda on.
+/// the agenda on. What codecs told unasked is counted.
 ///
 /// # Errors
 /// Want of memory.
 pub fn look_for_answer<P: Platform, T: Setter>(
     platform: &mut P,
     engine: &mut Engine,
+    jacks: &mut Jacks,
     agenda: &mut Agenda,
     setter: &T,
     phase: Phase,
 ) -> Result<Answer, AllocError>
     requires asks { IsSome (standing.next_on agenda.old) }
     requires events { engine.old.events.items ≡ [] }
+    requires few { jacks.old.taken + 256 ≤ 4294967295 }
     requires room { 259 ≤ P.spare_accesses platform.old }
     requires bytes_room { 2040 ≤ P.spare_bytes platform.old }
-    ensures looks { IfOk result (λ answer. spec.Looks engine.old.rirb.address engine.old.rings phase agenda.old answer engine.new.rings agenda.new (P.told platform.old) (P.told platform.new)) }
+    ensures looks { IfOk result (λ answer. spec.Looks engine.old.rirb.address engine.old.rings phase agenda.old jacks.old answer engine.new.rings agenda.new jacks.new (P.told platform.old) (P.told platform.new)) }
+    ensures idle { IfOk result (λ answer. answer.is_free ≡ true → engine.new.rings.outstanding ≡ None) }
+    ensures started { engine.new.rings.started ≡ engine.old.rings.started }
+    ensures events { engine.new.events.items ≡ [] }
+    ensures taken { jacks.new.taken ≤ jacks.old.taken + 256 }
     ensures corb { engine.new.corb ≡ engine.old.corb }
     ensures rirb { engine.new.rirb ≡ engine.old.rirb }
     ensures addresses { agenda.new.addresses ≡ agenda.old.addresses }
@@ -50,6 +57,8 @@ pub fn look_for_answer<P: Platform, T: Setter>(
 {
     let outstanding = engine.outstanding();
     let Asked { clock, poll } = ask(platform, engine);
+    events_are_of_pins();
+    jacks.take_events(engine);
     let phase = phase_after(agenda, setter, outstanding, phase, poll)?;
     let is_free = leaves_free(poll, phase);
     Ok(Answer {

@@ -7,6 +7,7 @@ ghost use Rattle.driver_progress.specs.declared.phase.Phase.{Phase};
 ghost use Rattle.driver_progress.specs.Tasks.{Task};
 ghost use Rattle.driver_progress.specs.States.{State};
 ghost use Rattle.driver_stretches.specs.Commands.{ask_accesses};
+ghost use Rattle.driver_stretches.specs.Shutting.{shut_accesses};
 ghost use Rattle.driver_commands.specs.Standing.{Agrees, is_asking, phase_of, next_on};
 ghost use Rattle.driver_commands.specs.Commanding.{LedTo, poll_by, leaves_free, order_if, submit_made, IsStretch, state_with, run_of};
 
@@ -14,7 +15,7 @@ ghost use Rattle.driver_commands.specs.Commanding.{LedTo, poll_by, leaves_free, 
 /// The accesses of a look for an answer and of the submission after it are those that are expected of a call, and where both led is where
 /// progress says: for every task whose next command and phase are the agenda's, before the look and after each answer.
 pub fn commands_are_expected()
-    ensures { (task : Task) (state : State) (budget clock : ℕ) (reads : PollReads) (phase' : Phase) (old new : Agenda) (free : Bool)
+    ensures runs { (task : Task) (state : State) (budget clock : ℕ) (reads : PollReads) (phase' : Phase) (old new : Agenda) (free : Bool)
         → is_asking state.phase ≡ true → AreNew state.rings reads
         → LedTo (poll_by state.rings reads clock) state.rings.outstanding state.phase old phase' new
         → free ≡ leaves_free (poll_by state.rings reads clock) phase'
@@ -25,4 +26,13 @@ pub fn commands_are_expected()
             (ask_accesses task.blocks.rirb clock state.rings reads ++ submit_made task.blocks.corb (rings_polled state.rings reads) (order_if free (next_on new)))
             (is_some (found_by state.rings reads))
             (state_with state phase' (order_if free (next_on new)) clock (rings_polled state.rings reads)) }
+    ensures closes { (task : Task) (state : State) (clock : ℕ) (reads : PollReads) (phase' : Phase) (old new : Agenda) (free : Bool)
+        → is_asking state.phase ≡ true → AreNew state.rings reads
+        → LedTo (poll_by state.rings reads clock) state.rings.outstanding state.phase old phase' new
+        → free ≡ leaves_free (poll_by state.rings reads clock) phase'
+        → state.phase ≡ phase_of old
+        → (is_some (found_by state.rings reads) ≡ true → free ≡ true)
+        → (free ≡ true → Agrees task state.sent new)
+        → IsStretch task state None (ask_accesses task.blocks.rirb clock state.rings reads ++ shut_accesses) (is_some (found_by state.rings reads))
+            (record state { phase = phase'; rings = rings_polled state.rings reads }) }
 {}
