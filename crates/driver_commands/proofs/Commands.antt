@@ -35,7 +35,7 @@ use Rattle.std.specs.Option.{is_some}
 
 -- ---- while commands are sent
 
-runs_asks : (task : Task) (state : State) (budget : ℕ) (seen : Seen) (tally : Tally) (phase : Phase) → is_asking phase ≡ true
+pub runs_asks : (task : Task) (state : State) (budget : ℕ) (seen : Seen) (tally : Tally) (phase : Phase) → is_asking phase ≡ true
     → runs task state budget seen tally phase ≡ asks task state seen (submits task.blocks state.rings (next_order task state seen))
 runs_asks task state budget seen tally Reset is = cc
 runs_asks task state budget seen tally Settling is = cc
@@ -121,10 +121,10 @@ comes task state clock None (Some word) phase' old new free led is at ends agree
 }
 comes task state clock (Some command) (Some word) phase' old new free led is at ends agrees =
     let free_is = ends refl in record {
-  order_is = free_order task state.sent free new free_is (agrees free_is);
-  phase_is = led (sym is ∙ free_is) ∙ (agrees free_is).phase;
-  outstanding_is = refl;
-}
+      order_is = free_order task state.sent free new free_is (agrees free_is);
+      phase_is = led.1 (sym is ∙ free_is) ∙ (agrees free_is).phase;
+      outstanding_is = refl;
+    }
 comes task state clock (Some command) None phase' old new free led is at ends agrees = record {
   order_is = ap (λ (free : Bool). order_if free (next_on new)) (is ∙ not_free command clock (nat_le (command.issued + answer_limit) clock) phase');
   phase_is = not_late task state clock command (nat_le (command.issued + answer_limit) clock) phase' old new led;
@@ -134,7 +134,7 @@ comes task state clock (Some command) None phase' old new free led is at ends ag
 -- ---- the stretch
 
 -- a stretch that reads the clock once is no run
-once : (task : Task) (state : State) (turn : Option DriverLine) (seen : Seen) (clock : ℕ) → seen.clocks ≡ clock ∷ [] → tally_next task state turn seen ≡ state.tally
+pub once : (task : Task) (state : State) (turn : Option DriverLine) (seen : Seen) (clock : ℕ) → seen.clocks ≡ clock ∷ [] → tally_next task state turn seen ≡ state.tally
 once task state turn seen clock is =
     ap (λ (clocks : List ℕ). tally_next task state turn (record seen { clocks = clocks })) is ∙ one_read state.tally.course.ran clock _ _ _ state.tally
 
@@ -168,16 +168,16 @@ stretch task state budget clock reads phase' order asking new comes =
     let line = Some (run_of budget) in
     let tally = tally_next task state line seen in
     let kept = once task state line seen clock (one_clock task.blocks.rirb clock state.rings reads rest (none_submitted WALCLK task.blocks.corb (rings_polled state.rings reads) order)) in record {
-  fits = call_fits task.blocks.rirb clock state.rings reads rest found new
-    ∙ ap (λ (later : List Request). asks task state seen later) (submit_fits task.blocks state.rings reads order)
-    ∙ ap (λ (order : Option Order). asks task state seen (submits task.blocks state.rings order)) comes.order_is
-    ∙ sym (runs_asks task state budget seen tally state.phase asking);
-  leads = state_same state phase' order clock (rings_polled state.rings reads)
-    ∙ ap (λ (looked : State). record (submitted_if order clock looked) { tally = state.tally }) (looked_same task state clock reads phase' order rest comes)
-    ∙ ap (λ (order : Option Order). record (submitted_if order clock (after_poll task state seen)) { tally = state.tally }) comes.order_is
-    ∙ ap (λ (tally : Tally). record (after_commands task state seen) { tally = tally }) (sym kept)
-    ∙ ap (λ (state' : State). record state' { tally = tally }) (sym (led_asks task state seen tally state.phase asking));
-}
+      fits = call_fits task.blocks.rirb clock state.rings reads rest found new
+          ∙ ap (λ (later : List Request). asks task state seen later) (submit_fits task.blocks state.rings reads order)
+          ∙ ap (λ (order : Option Order). asks task state seen (submits task.blocks state.rings order)) comes.order_is
+          ∙ sym (runs_asks task state budget seen tally state.phase asking);
+      leads = state_same state phase' order clock (rings_polled state.rings reads)
+          ∙ ap (λ (looked : State). record (submitted_if order clock looked) { tally = state.tally }) (looked_same task state clock reads phase' order rest comes)
+          ∙ ap (λ (order : Option Order). record (submitted_if order clock (after_poll task state seen)) { tally = state.tally }) comes.order_is
+          ∙ ap (λ (tally : Tally). record (after_commands task state seen) { tally = tally }) (sym kept)
+          ∙ ap (λ (state' : State). record state' { tally = tally }) (sym (led_asks task state seen tally state.phase asking));
+    }
 
 -- ---- the closing stretch
 
@@ -218,8 +218,8 @@ closing task state clock reads phase' order asking new comes =
     let seen = seen_by (values_of (call_made task.blocks.rirb clock state.rings reads shut_accesses)) found in
     let tally = tally_next task state None seen in
     let kept = once task state None seen clock (one_clock task.blocks.rirb clock state.rings reads shut_accesses refl) in record {
-  fits = call_fits task.blocks.rirb clock state.rings reads shut_accesses found new ∙ sym (closes_asks task state seen state.phase asking);
-  leads = ap (λ (looked : State). record looked { tally = state.tally }) (looked_same task state clock reads phase' order shut_accesses comes)
-    ∙ ap (λ (tally : Tally). record (after_poll task state seen) { tally = tally }) (sym kept)
-    ∙ ap (λ (state' : State). record state' { tally = tally }) (sym (closed_asks task state seen tally state.phase asking));
-}
+      fits = call_fits task.blocks.rirb clock state.rings reads shut_accesses found new ∙ sym (closes_asks task state seen state.phase asking);
+      leads = ap (λ (looked : State). record looked { tally = state.tally }) (looked_same task state clock reads phase' order shut_accesses comes)
+          ∙ ap (λ (tally : Tally). record (after_poll task state seen) { tally = tally }) (sym kept)
+          ∙ ap (λ (state' : State). record state' { tally = tally }) (sym (closed_asks task state seen tally state.phase asking));
+    }

@@ -1,3 +1,3 @@
 mod Asked
-mod Commands
+pub mod Commands
 mod Events

@@ -23,7 +23,7 @@ use Rattle.driver_progress.specs.States.{State}
 use Rattle.driver_progress.specs.Next.{next, expected}
 use Rattle.driver_stretches.specs.Commands.{ask_accesses}
 use Rattle.driver_commands.specs.declared.answering.Answer.{Answer}
-use Rattle.driver_commands.specs.Standing.{phase_of, goes_on, order_in}
+use Rattle.driver_commands.specs.Standing.{phase_of, goes_on, can_follow, order_in}
 
 -- ---- the look for an answer
 
@@ -35,7 +35,7 @@ unanswered_if (Some command) issued noticed phase = Unanswered command.codec com
 -- where a look led by what it found: from this phase and this agenda
 abbrev pub LedTo : Poll → Option Outstanding → (phase : Phase) → (old : Agenda) → (phase' : Phase) → (new : Agenda) → Type 0
 LedTo polls.Idle outstanding phase old phase' new = (phase' ≡ phase) × (new ≡ old)
-LedTo (polls.Answered word) outstanding phase old phase' new = goes_on phase' ≡ true → phase' ≡ phase_of new
+LedTo (polls.Answered word) outstanding phase old phase' new = (can_follow phase' ≡ true) × (goes_on phase' ≡ true → phase' ≡ phase_of new)
 LedTo polls.Waiting outstanding phase old phase' new = (phase' ≡ phase) × (new ≡ old)
 LedTo (polls.Unanswered issued noticed) outstanding phase old phase' new = (phase' ≡ unanswered_if outstanding issued noticed phase) × (new ≡ old)
 

@@ -54,6 +54,21 @@ goes_on (Late from to limit) = false
 goes_on (Malformed codec fault) = false
 goes_on Failed = false
 
+-- whether an answer can lead to a phase: to more commands, to none, or to an end
+abbrev pub can_follow : Phase → Bool
+can_follow Reset = false
+can_follow Settling = false
+can_follow Walking = true
+can_follow SettingUp = true
+can_follow Ready = true
+can_follow Playing = false
+can_follow Drained = false
+can_follow NothingRouted = true
+can_follow (Unanswered codec command issued noticed) = false
+can_follow (Late from to limit) = false
+can_follow (Malformed codec fault) = true
+can_follow Failed = false
+
 -- an answer led to this phase
 pub record LeadsOn (IsPlanBy : RawCodec → Plan → Type 0) (verbs_by : RawCodec → Plan → List Command) (answer : ℕ) (old new : Agenda) (phase : Phase) : Type 0 where
   pub led : goes_on phase ≡ true → LedBy IsPlanBy verbs_by old.walk answer old new

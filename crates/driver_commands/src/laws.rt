@@ -11,7 +11,6 @@ ghost use Rattle.driver_stretches.specs.Shutting.{shut_accesses};
 ghost use Rattle.driver_commands.specs.Standing.{Agrees, is_asking, phase_of, next_on};
 ghost use Rattle.driver_commands.specs.Commanding.{LedTo, poll_by, leaves_free, order_if, submit_made, IsStretch, state_with, run_of};
 
-
 /// The accesses of a look for an answer and of the submission after it are those that are expected of a call, and where both led is where
 /// progress says: for every task whose next command and phase are the agenda's, before the look and after each answer.
 pub fn commands_are_expected()
@@ -23,9 +22,9 @@ pub fn commands_are_expected()
         → (is_some (found_by state.rings reads) ≡ true → free ≡ true)
         → (free ≡ true → Agrees task state.sent new)
         → IsStretch task state (Some (run_of budget))
-            (ask_accesses task.blocks.rirb clock state.rings reads ++ submit_made task.blocks.corb (rings_polled state.rings reads) (order_if free (next_on new)))
-            (is_some (found_by state.rings reads))
-            (state_with state phase' (order_if free (next_on new)) clock (rings_polled state.rings reads)) }
+        (ask_accesses task.blocks.rirb clock state.rings reads ++ submit_made task.blocks.corb (rings_polled state.rings reads) (order_if free (next_on new)))
+        (is_some (found_by state.rings reads))
+        (state_with state phase' (order_if free (next_on new)) clock (rings_polled state.rings reads)) }
     ensures closes { (task : Task) (state : State) (clock : ℕ) (reads : PollReads) (phase' : Phase) (old new : Agenda) (free : Bool)
         → is_asking state.phase ≡ true → AreNew state.rings reads
         → LedTo (poll_by state.rings reads clock) state.rings.outstanding state.phase old phase' new
@@ -34,5 +33,5 @@ pub fn commands_are_expected()
         → (is_some (found_by state.rings reads) ≡ true → free ≡ true)
         → (free ≡ true → Agrees task state.sent new)
         → IsStretch task state None (ask_accesses task.blocks.rirb clock state.rings reads ++ shut_accesses) (is_some (found_by state.rings reads))
-            (record state { phase = phase'; rings = rings_polled state.rings reads }) }
+        (record state { phase = phase'; rings = rings_polled state.rings reads }) }
 {}

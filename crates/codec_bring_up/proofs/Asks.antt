@@ -1,0 +1,170 @@
+-- A call while commands are sent leads where progress says.
+use Rattle.std.proofs.Common.{◌≡◌, ℕ, ◌++◌, Bool, true, false, Option, Some, None, refl, sym, ap, subst, ◌∙◌, arith}
+use Rattle.std.specs.Option.{is_some}
+use Rattle.command_engine.specs.declared.ring_places.RingPlaces.{RingPlaces}
+use Rattle.command_engine.specs.declared.answers.Outstanding.{Outstanding}
+use Rattle.command_engine.specs.declared.answers.Poll.{Poll}
+use Rattle.command_engine.specs.declared.answers.Poll.TheVariants as polls
+use Rattle.command_engine.specs.Polling.{PollReads, AreNew, poll_of, found_by, rings_polled}
+use Rattle.codec_agenda.specs.declared.agenda.Agenda.{Agenda}
+use Rattle.driver_progress.specs.declared.phase.Phase.{Phase}
+use Rattle.driver_progress.specs.declared.phase.Phase.TheVariants.{Reset, Settling, Walking, SettingUp, Ready, Playing, Drained, NothingRouted, Unanswered, Late, Malformed, Failed}
+use Rattle.driver_progress.specs.Tasks.{Task, Order}
+use Rattle.driver_progress.specs.States.{State}
+use Rattle.driver_stretches.specs.Commands.{ask_accesses}
+use Rattle.driver_commands.specs.Standing.{Agrees, answers_of, is_asking, goes_on, can_follow, phase_of, next_on}
+use Rattle.driver_commands.specs.Commanding.{LedTo, poll_by, leaves_free, unanswered_if, order_if, submit_made, rings_with, sent_with, state_with, IsStretch, run_of}
+use Rattle.driver_commands.proofs.Commands.{comes, stretch}
+use Rattle.codec_bring_up.specs.declared.bringing.BringUp.{BringUp}
+use Rattle.codec_bring_up.specs.Phases.{is_early}
+use Rattle.codec_bring_up.specs.Calls.{AgreesIn, sent_if}
+
+-- ---- phases
+
+pub asking_goes_on : (phase : Phase) → is_asking phase ≡ true → goes_on phase ≡ true
+asking_goes_on Reset is = cc
+asking_goes_on Settling is = cc
+asking_goes_on Walking is = refl
+asking_goes_on SettingUp is = refl
+asking_goes_on Ready is = cc
+asking_goes_on Playing is = cc
+asking_goes_on Drained is = cc
+asking_goes_on NothingRouted is = cc
+asking_goes_on (Unanswered codec command issued noticed) is = cc
+asking_goes_on (Late from to limit) is = cc
+asking_goes_on (Malformed codec fault) is = cc
+asking_goes_on Failed is = cc
+
+asking_early : (phase : Phase) → is_asking phase ≡ true → is_early phase ≡ true
+asking_early Reset is = refl
+asking_early Settling is = refl
+asking_early Walking is = refl
+asking_early SettingUp is = refl
+asking_early Ready is = refl
+asking_early Playing is = cc
+asking_early Drained is = cc
+asking_early NothingRouted is = refl
+asking_early (Unanswered codec command issued noticed) is = refl
+asking_early (Late from to limit) is = cc
+asking_early (Malformed codec fault) is = refl
+asking_early Failed is = refl
+
+follows_early : (phase : Phase) → can_follow phase ≡ true → is_early phase ≡ true
+follows_early Reset is = refl
+follows_early Settling is = refl
+follows_early Walking is = refl
+follows_early SettingUp is = refl
+follows_early Ready is = refl
+follows_early Playing is = cc
+follows_early Drained is = cc
+follows_early NothingRouted is = refl
+follows_early (Unanswered codec command issued noticed) is = refl
+follows_early (Late from to limit) is = cc
+follows_early (Malformed codec fault) is = refl
+follows_early Failed is = refl
+
+follows_on : (phase : Phase) (task : Task) (bring_up : BringUp) → AgreesIn phase task bring_up → can_follow phase ≡ true → goes_on phase ≡ true
+follows_on Reset task bring_up agrees is = cc
+follows_on Settling task bring_up agrees is = cc
+follows_on Walking task bring_up agrees is = refl
+follows_on SettingUp task bring_up agrees is = refl
+follows_on Ready task bring_up agrees is = refl
+follows_on Playing task bring_up agrees is = cc
+follows_on Drained task bring_up agrees is = cc
+follows_on NothingRouted task bring_up agrees is = absurd agrees
+follows_on (Unanswered codec command issued noticed) task bring_up agrees is = cc
+follows_on (Late from to limit) task bring_up agrees is = cc
+follows_on (Malformed codec fault) task bring_up agrees is = absurd agrees
+follows_on Failed task bring_up agrees is = cc
+
+agrees_then : (phase : Phase) (task : Task) (bring_up : BringUp) → AgreesIn phase task bring_up → goes_on phase ≡ true → Agrees task (answers_of bring_up.sent bring_up.engine.rings.outstanding) bring_up.agenda
+agrees_then Reset task bring_up agrees is = cc
+agrees_then Settling task bring_up agrees is = cc
+agrees_then Walking task bring_up agrees is = agrees
+agrees_then SettingUp task bring_up agrees is = agrees
+agrees_then Ready task bring_up agrees is = agrees
+agrees_then Playing task bring_up agrees is = cc
+agrees_then Drained task bring_up agrees is = cc
+agrees_then NothingRouted task bring_up agrees is = cc
+agrees_then (Unanswered codec command issued noticed) task bring_up agrees is = cc
+agrees_then (Late from to limit) task bring_up agrees is = cc
+agrees_then (Malformed codec fault) task bring_up agrees is = cc
+agrees_then Failed task bring_up agrees is = cc
+
+-- ---- what a look leaves
+
+given_up : (outstanding : Option Outstanding) (issued noticed : ℕ) (phase : Phase) → is_early phase ≡ true → is_early (unanswered_if outstanding issued noticed phase) ≡ true
+given_up None issued noticed phase early = early
+given_up (Some command) issued noticed phase early = refl
+
+not_asking : false ≡ true → ⊥
+not_asking is = cc
+
+given_up_asks : (outstanding : Option Outstanding) (issued noticed : ℕ) (phase phase' : Phase) → phase' ≡ unanswered_if outstanding issued noticed phase → is_asking phase' ≡ true → phase' ≡ phase
+given_up_asks None issued noticed phase phase' is asking = is
+given_up_asks (Some command) issued noticed phase phase' is asking = absurd (not_asking (sym (ap is_asking is) ∙ asking))
+
+pub led_stays : (poll : Poll) (outstanding : Option Outstanding) (phase phase' : Phase) (old new : Agenda) → phase ≡ phase_of old → LedTo poll outstanding phase old phase' new → is_asking phase' ≡ true → phase' ≡ phase_of new
+led_stays polls.Idle outstanding phase phase' old new at led asking = led.0 ∙ at ∙ ap phase_of (sym led.1)
+led_stays (polls.Answered word) outstanding phase phase' old new at led asking = led.1 (asking_goes_on phase' asking)
+led_stays polls.Waiting outstanding phase phase' old new at led asking = led.0 ∙ at ∙ ap phase_of (sym led.1)
+led_stays (polls.Unanswered issued noticed) outstanding phase phase' old new at led asking = given_up_asks outstanding issued noticed phase phase' led.0 asking ∙ at ∙ ap phase_of (sym led.1)
+
+pub led_early : (poll : Poll) (outstanding : Option Outstanding) (phase phase' : Phase) (old new : Agenda) → is_asking phase ≡ true → LedTo poll outstanding phase old phase' new → is_early phase' ≡ true
+led_early polls.Idle outstanding phase phase' old new asking led = ap is_early led.0 ∙ asking_early phase asking
+led_early (polls.Answered word) outstanding phase phase' old new asking led = follows_early phase' led.0
+led_early polls.Waiting outstanding phase phase' old new asking led = ap is_early led.0 ∙ asking_early phase asking
+led_early (polls.Unanswered issued noticed) outstanding phase phase' old new asking led = ap is_early led.0 ∙ given_up outstanding issued noticed phase (asking_early phase asking)
+
+free_goes_on : (poll : Poll) (outstanding : Option Outstanding) (phase phase' : Phase) (old new : Agenda) → is_asking phase ≡ true → LedTo poll outstanding phase old phase' new → leaves_free poll phase' ≡ true → goes_on phase' ≡ true
+free_goes_on polls.Idle outstanding phase phase' old new asking led free = ap goes_on led.0 ∙ asking_goes_on phase asking
+free_goes_on (polls.Answered word) outstanding phase phase' old new asking led free = free
+free_goes_on polls.Waiting outstanding phase phase' old new asking led free = cc
+free_goes_on (polls.Unanswered issued noticed) outstanding phase phase' old new asking led free = cc
+
+found_free : (outstanding : Option Outstanding) (found : Option ℕ) (clock : ℕ) (phase phase' : Phase) (old new : Agenda) (free : Bool) → LedTo (poll_of outstanding found clock) outstanding phase old phase' new
+    → free ≡ leaves_free (poll_of outstanding found clock) phase' → (can_follow phase' ≡ true → goes_on phase' ≡ true) → is_some found ≡ true → free ≡ true
+found_free None found clock phase phase' old new free led is goes some = is
+found_free (Some command) None clock phase phase' old new free led is goes some = cc
+found_free (Some command) (Some word) clock phase phase' old new free led is goes some = is ∙ goes led.0
+
+-- ---- and a submission
+
+pub started_with : (order : Option Order) (clock : ℕ) (rings : RingPlaces) → (rings_with order clock rings).started ≡ rings.started
+started_with None clock rings = refl
+started_with (Some order) clock rings = refl
+
+sent_same : (order : Option Order) (sent : ℕ) → sent_if (is_some order) sent ≡ sent_with order sent
+sent_same None sent = refl
+sent_same (Some order) sent = refl
+
+count_same : (order : Option Order) (sent clock : ℕ) (rings : RingPlaces) → rings.outstanding ≡ None → answers_of (sent_with order sent) (rings_with order clock rings).outstanding ≡ sent
+count_same None sent clock rings none = ap (λ (outstanding : Option Outstanding). answers_of sent outstanding) none
+count_same (Some order) sent clock rings none = omega arith
+
+-- a call leads on: of the driver with these bring_up after it
+pub command_with : (task : Task) (state : State) (budget clock : ℕ) (reads : PollReads) (phase' : Phase) (old new : Agenda) (free submits : Bool) (corb rirb sent' : ℕ) (polled rings' : RingPlaces) (bring_up : BringUp)
+    → task.blocks.corb ≡ corb → task.blocks.rirb ≡ rirb → is_asking state.phase ≡ true → state.phase ≡ phase_of old → AreNew state.rings reads
+    → LedTo (poll_by state.rings reads clock) state.rings.outstanding state.phase old phase' new
+    → free ≡ leaves_free (poll_by state.rings reads clock) phase' → polled ≡ rings_polled state.rings reads → (free ≡ true → polled.outstanding ≡ None)
+    → submits ≡ is_some (order_if free (next_on new)) → sent' ≡ sent_if submits state.sent → rings' ≡ rings_with (order_if free (next_on new)) clock polled
+    → bring_up.sent ≡ sent' → bring_up.engine.rings ≡ rings' → bring_up.agenda ≡ new → AgreesIn phase' task bring_up
+    → IsStretch task state (Some (run_of budget)) (ask_accesses rirb clock state.rings reads ++ submit_made corb polled (order_if free (next_on new))) (is_some (found_by state.rings reads))
+    (record state { phase = phase'; sent = sent'; rings = rings' })
+command_with task state budget clock reads phase' old new free submits corb rirb sent' polled rings' bring_up of_corb of_rirb asking at fresh led is polled_is idle submitted sent_is rings_is of_sent of_rings of_agenda agrees =
+    let order = order_if free (next_on new) in
+    let found = is_some (found_by state.rings reads) in
+    let line = Some (run_of budget) in
+    let sent = sent_is ∙ ap (λ (submits : Bool). sent_if submits state.sent) submitted ∙ sent_same order state.sent in
+    let free_agrees = λ (free_is : free ≡ true).
+    let there = agrees_then phase' task bring_up agrees (free_goes_on (poll_by state.rings reads clock) state.rings.outstanding state.phase phase' old new asking led (sym is ∙ free_is)) in
+    let counted = ap (λ (sent : ℕ). answers_of sent bring_up.engine.rings.outstanding) (of_sent ∙ sent) ∙ ap (λ (rings : RingPlaces). answers_of (sent_with order state.sent) rings.outstanding) (of_rings ∙ rings_is) ∙ count_same order state.sent clock polled (idle free_is) in
+    subst (λ (agenda : Agenda). Agrees task state.sent agenda) of_agenda (subst (λ (count : ℕ). Agrees task count bring_up.agenda) counted there) in
+    let leads = comes task state clock state.rings.outstanding (found_by state.rings reads) phase' old new free led is at
+    (found_free state.rings.outstanding (found_by state.rings reads) clock state.phase phase' old new free led is (follows_on phase' task bring_up agrees)) free_agrees in
+    let one = stretch task state budget clock reads phase' order asking fresh leads in
+    let two = subst (λ (rirb : ℕ). IsStretch task state line (ask_accesses rirb clock state.rings reads ++ submit_made task.blocks.corb (rings_polled state.rings reads) order) found (state_with state phase' order clock (rings_polled state.rings reads))) of_rirb one in
+    let three = subst (λ (corb : ℕ). IsStretch task state line (ask_accesses rirb clock state.rings reads ++ submit_made corb (rings_polled state.rings reads) order) found (state_with state phase' order clock (rings_polled state.rings reads))) of_corb two in
+    let four = subst (λ (polled : RingPlaces). IsStretch task state line (ask_accesses rirb clock state.rings reads ++ submit_made corb polled order) found (state_with state phase' order clock polled)) (sym polled_is) three in
+    let five = subst (λ (rings : RingPlaces). IsStretch task state line (ask_accesses rirb clock state.rings reads ++ submit_made corb polled order) found (record state { phase = phase'; sent = sent_with order state.sent; rings = rings })) (sym rings_is) four in
+    subst (λ (sent : ℕ). IsStretch task state line (ask_accesses rirb clock state.rings reads ++ submit_made corb polled order) found (record state { phase = phase'; sent = sent; rings = rings' })) (sym sent) five

@@ -1,0 +1,54 @@
+use Rattle.std.proofs.Common.{ap, ◌∙◌, false}
+use Rattle.driver_progress.specs.Expected.{has_settled}
+use Rattle.codec_bring_up.proofs.Settles.{found_some, found_started, begins_phase, settle_with}
+use Rattle.driver_stretches.specs.Settling.{settle_accesses}
+use Rattle.driver_stretches.specs.declared.settling.Settled.TheVariants.{TooEarly, NoCodec, Codecs}
+use Rattle.codec_bring_up.specs.Calls.{state_of}
+use Rattle.codec_bring_up.proofs.bringing.BringUp.settle.Goals as goal
+
+pub new-requires-clause-some : goal.new-requires-clause-some
+new-requires-clause-some g c =
+    let settles = c.in-Codecs.ensures.settles in
+    let some = found_some (has_settled c.args.self.now.kept settles.clock) settles.reads c.in-Codecs.codecs settles.answer_is in
+    c.in_ok-addresses-in-Codecs.ensures.some some.0 some.1
+
+pub invariant_of-self-in-Codecs-2-clause-led : goal.invariant_of-self-in-Codecs-2-clause-led
+invariant_of-self-in-Codecs-2-clause-led g c = λ asking.
+    let agenda = c.in_ok-self-in-Codecs.field-0 in
+    let begins = c.in_ok-self-in-Codecs.ensures.begins in
+    begins_phase agenda.walk begins.under_way agenda.verbs.items agenda.answered _ _ begins.is agenda.under_way
+
+pub invariant_of-self-in-Codecs-2-clause-started : goal.invariant_of-self-in-Codecs-2-clause-started
+invariant_of-self-in-Codecs-2-clause-started g c = λ asking.
+    let settles = c.in-Codecs.ensures.settles in
+    ap (λ rings. rings.started) settles.rings_are ∙ found_started (has_settled c.args.self.now.kept settles.clock) settles.reads c.args.self.now.engine.rings c.in-Codecs.codecs settles.answer_is
+
+pub returns-in-TooEarly-clause-leads : goal.returns-in-TooEarly-clause-leads
+returns-in-TooEarly-clause-leads g c =
+    let old = c.args.self.now in
+    let settles = c.in-TooEarly.ensures.settles in record {
+      made = settle_accesses old.kept settles.clock old.engine.corb.address old.engine.rirb.address settles.reads;
+      found = false;
+      by = settles.made;
+      is = λ task budget of agrees. settle_with task (state_of old) budget settles.clock settles.reads TooEarly c.settle.new.engine.rings old.engine.corb.address old.engine.rirb.address of.corb of.rirb c.requires.phase settles.answer_is settles.rings_are;
+    }
+
+pub returns-in-NoCodec-clause-leads : goal.returns-in-NoCodec-clause-leads
+returns-in-NoCodec-clause-leads g c =
+    let old = c.args.self.now in
+    let settles = c.in-NoCodec.ensures.settles in record {
+      made = settle_accesses old.kept settles.clock old.engine.corb.address old.engine.rirb.address settles.reads;
+      found = false;
+      by = settles.made;
+      is = λ task budget of agrees. settle_with task (state_of old) budget settles.clock settles.reads NoCodec c.settle.new.engine.rings old.engine.corb.address old.engine.rirb.address of.corb of.rirb c.requires.phase settles.answer_is settles.rings_are;
+    }
+
+pub returns-in_ok-self-in-Codecs-clause-leads : goal.returns-in_ok-self-in-Codecs-clause-leads
+returns-in_ok-self-in-Codecs-clause-leads g c =
+    let old = c.args.self.now in
+    let settles = c.in-Codecs.ensures.settles in record {
+      made = settle_accesses old.kept settles.clock old.engine.corb.address old.engine.rirb.address settles.reads;
+      found = false;
+      by = settles.made;
+      is = λ task budget of agrees. settle_with task (state_of old) budget settles.clock settles.reads (Codecs c.in-Codecs.codecs) c.settle.new.engine.rings old.engine.corb.address old.engine.rirb.address of.corb of.rirb c.requires.phase settles.answer_is settles.rings_are;
+    }

@@ -1,0 +1,37 @@
+//! The bring-up.
+ghost use Rattle.std.specs.Prelude.{◌≡◌, ◌≤◌, ◌*◌, [], true, false};
+ghost use Rattle.driver_commands.specs.Standing.{is_asking, phase_of};
+ghost use Rattle.codec_bring_up.specs.Phases.{is_early};
+
+mod calling;
+mod opening;
+
+use codec_agenda::Agenda;
+use command_engine::Engine;
+use driver_progress::Phase;
+use jack_counts::Jacks;
+use std::alloc::Global;
+use stream_format::Format;
+
+/// How far the bring-up of the codecs has come: both rings, which command comes next, and what codecs told unasked. This project's own.
+pub struct BringUp {
+    alloc: Global,
+    format: Format,
+    engine: Engine,
+    agenda: Agenda,
+    jacks: Jacks,
+    phase: Phase,
+    /// The clock of the reset, in ticks of 1/24,000,000 s.
+    kept: u32,
+    /// How many commands were submitted.
+    sent: u32,
+    /// How many of its calls looked for an answer.
+    looks: u32,
+    pub ghost led: { is_asking phase ≡ true → phase ≡ phase_of agenda },
+    pub ghost started: { is_asking phase ≡ true → engine.rings.started ≡ true },
+    pub ghost quiet: { engine.events.items ≡ [] },
+    pub ghost early: { is_early phase ≡ true },
+    pub ghost sent_within: { sent ≤ looks },
+    pub ghost few_looks: { looks ≤ 1000000 },
+    pub ghost few_jacks: { jacks.taken ≤ 256 * looks },
+}

@@ -1,0 +1,73 @@
+//! How a bring-up begins and ends.
+ghost use Rattle.std.specs.Prelude.{◌≡◌, [], IfOk};
+ghost use Rattle.driver_progress.specs.declared.phase.Phase.TheVariants as phases;
+ghost use Rattle.jack_counts.specs.Counted.{IsCount};
+
+use super::BringUp;
+use codec_agenda::Agenda;
+use codec_graph::Graph;
+use command_engine::Engine;
+use driver_progress::Phase;
+use jack_counts::Jacks;
+use std::alloc::{AllocError, Global};
+use stream_format::Format;
+
+impl BringUp {
+    /// A bring-up for a stream of this format, by an engine without events. Nothing was done yet.
+    ///
+    /// # Errors
+    /// Want of memory, with the engine.
+    pub fn new(alloc: Global, format: Format, engine: Engine) -> Result<BringUp, Engine>
+        requires quiet { engine.events.items ≡ [] }
+        ensures phase { IfOk result (λ bring_up. bring_up.phase ≡ phases.Reset) }
+        ensures engine { IfOk result (λ bring_up. bring_up.engine ≡ engine) }
+        ensures format { IfOk result (λ bring_up. bring_up.format ≡ format) }
+        ensures kept { IfOk result (λ bring_up. bring_up.kept ≡ 0) }
+        ensures sent { IfOk result (λ bring_up. bring_up.sent ≡ 0) }
+        ensures looks { IfOk result (λ bring_up. bring_up.looks ≡ 0) }
+        ensures jacks { IfOk result (λ bring_up. IsCount [] bring_up.jacks) }
+    {
+        match Jacks::new(alloc) {
+            Ok(jacks) => Ok(BringUp {
+                alloc,
+                format,
+                engine,
+                agenda: Agenda::empty(alloc, format),
+                jacks,
+                phase: Phase::Reset,
+                kept: 0,
+                sent: 0,
+                looks: 0,
+            }),
+            Err(_) => Err(engine),
+        }
+    }
+
+    /// How far it has come.
+    pub fn phase(&self) -> Phase
+        ensures { result ≡ self.now.phase }
+    {
+        self.phase
+    }
+
+    /// How many commands were submitted.
+    pub fn sent(&self) -> u32
+        ensures { result ≡ self.now.sent }
+    {
+        self.sent
+    }
+
+    /// How many of its calls looked for an answer, at most 1,000,000.
+    pub fn looks(&self) -> u32
+        ensures { result ≡ self.now.looks }
+    {
+        self.looks
+    }
+
+    /// The graphs of the codecs that were walked.
+    pub fn graphs(&self) -> &[Graph]
+        ensures { result.now ≡ self.now.agenda.graphs.items }
+    {
+        self.agenda.graphs()
+    }
+}
