@@ -12,9 +12,10 @@ use Rattle.driver_progress.specs.declared.phase.Phase.TheVariants.{Reset, Settli
 use Rattle.driver_progress.specs.Tasks.{Task, Order}
 use Rattle.driver_progress.specs.States.{State}
 use Rattle.driver_stretches.specs.Commands.{ask_accesses}
+use Rattle.driver_stretches.specs.Shutting.{shut_accesses}
 use Rattle.driver_commands.specs.Standing.{Agrees, answers_of, is_asking, goes_on, can_follow, phase_of, next_on}
 use Rattle.driver_commands.specs.Commanding.{LedTo, poll_by, leaves_free, unanswered_if, order_if, submit_made, rings_with, sent_with, state_with, IsStretch, run_of}
-use Rattle.driver_commands.proofs.Commands.{comes, stretch}
+use Rattle.driver_commands.proofs.Commands.{comes, stretch, closing}
 use Rattle.codec_bring_up.specs.declared.bringing.BringUp.{BringUp}
 use Rattle.codec_bring_up.specs.Phases.{is_early}
 use Rattle.codec_bring_up.specs.Calls.{AgreesIn, sent_if}
@@ -168,3 +169,22 @@ command_with task state budget clock reads phase' old new free submits corb rirb
     let four = subst (λ (polled : RingPlaces). IsStretch task state line (ask_accesses rirb clock state.rings reads ++ submit_made corb polled order) found (state_with state phase' order clock polled)) (sym polled_is) three in
     let five = subst (λ (rings : RingPlaces). IsStretch task state line (ask_accesses rirb clock state.rings reads ++ submit_made corb polled order) found (record state { phase = phase'; sent = sent_with order state.sent; rings = rings })) (sym rings_is) four in
     subst (λ (sent : ℕ). IsStretch task state line (ask_accesses rirb clock state.rings reads ++ submit_made corb polled order) found (record state { phase = phase'; sent = sent; rings = rings' })) (sym sent) five
+
+-- and so does the last call
+pub end_with : (task : Task) (state : State) (clock : ℕ) (reads : PollReads) (phase' : Phase) (old new : Agenda) (free : Bool) (rirb : ℕ) (polled : RingPlaces) (bring_up : BringUp)
+    → task.blocks.rirb ≡ rirb → is_asking state.phase ≡ true → state.phase ≡ phase_of old → AreNew state.rings reads
+    → LedTo (poll_by state.rings reads clock) state.rings.outstanding state.phase old phase' new
+    → free ≡ leaves_free (poll_by state.rings reads clock) phase' → polled ≡ rings_polled state.rings reads → (free ≡ true → polled.outstanding ≡ None)
+    → bring_up.sent ≡ state.sent → bring_up.engine.rings ≡ polled → bring_up.agenda ≡ new → AgreesIn phase' task bring_up
+    → IsStretch task state None (ask_accesses rirb clock state.rings reads ++ shut_accesses) (is_some (found_by state.rings reads)) (record state { phase = phase'; rings = polled })
+end_with task state clock reads phase' old new free rirb polled bring_up of_rirb asking at fresh led is polled_is idle of_sent of_rings of_agenda agrees =
+    let found = is_some (found_by state.rings reads) in
+    let free_agrees = λ (free_is : free ≡ true).
+    let there = agrees_then phase' task bring_up agrees (free_goes_on (poll_by state.rings reads clock) state.rings.outstanding state.phase phase' old new asking led (sym is ∙ free_is)) in
+    let counted = ap (λ (sent : ℕ). answers_of sent bring_up.engine.rings.outstanding) of_sent ∙ ap (λ (rings : RingPlaces). answers_of state.sent rings.outstanding) of_rings ∙ ap (λ (outstanding : Option Outstanding). answers_of state.sent outstanding) (idle free_is) in
+    subst (λ (agenda : Agenda). Agrees task state.sent agenda) of_agenda (subst (λ (count : ℕ). Agrees task count bring_up.agenda) counted there) in
+    let leads = comes task state clock state.rings.outstanding (found_by state.rings reads) phase' old new free led is at
+    (found_free state.rings.outstanding (found_by state.rings reads) clock state.phase phase' old new free led is (follows_on phase' task bring_up agrees)) free_agrees in
+    let one = closing task state clock reads phase' (order_if free (next_on new)) asking fresh leads in
+    let two = subst (λ (rirb : ℕ). IsStretch task state None (ask_accesses rirb clock state.rings reads ++ shut_accesses) found (record state { phase = phase'; rings = rings_polled state.rings reads })) of_rirb one in
+    subst (λ (polled : RingPlaces). IsStretch task state None (ask_accesses rirb clock state.rings reads ++ shut_accesses) found (record state { phase = phase'; rings = polled })) (sym polled_is) two

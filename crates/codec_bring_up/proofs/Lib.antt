@@ -1,2 +1,3 @@
 pub mod Settles
 pub mod Asks
+pub mod Still

@@ -1,5 +1,5 @@
 -- What a call of a driver does, against what is to be done. This project's own.
-use Rattle.std.specs.Prelude.{◌≡◌, ◌≤◌, ℕ, ◌+◌, Bool, true, false, List, Option, Some}
+use Rattle.std.specs.Prelude.{◌≡◌, ◌≤◌, ℕ, ◌+◌, Bool, true, false, List, Option, Some, None}
 use Rattle.hda_world.specs.Events.{Event}
 use Rattle.hda_world.specs.Tellings.{Telling, Between, Makes}
 use Rattle.period_writer.specs.Runs.{tally_opened}
@@ -56,3 +56,10 @@ pub record IsKept (old new : BringUp) : Type 0 where
   pub rirb : new.engine.rirb ≡ old.engine.rirb
   pub format : new.format ≡ old.format
   pub looks : new.looks ≤ old.looks + 1
+
+-- the last call
+pub record Ends (old new : BringUp) (before after : Option Telling) : Type 0 where
+  pub made : List Event
+  pub found : Bool
+  pub by : Between (Makes made) before after
+  pub is : (task : Task) → IsTaskOf old task → AgreesIn new.phase task new → IsStretch task (state_of old) None made found (state_of new)

@@ -5,11 +5,14 @@ ghost use Rattle.codec_bring_up.specs.Phases.{is_early};
 
 mod calling;
 mod opening;
+mod phases;
+mod running;
 
 use codec_agenda::Agenda;
 use command_engine::Engine;
 use driver_progress::Phase;
 use jack_counts::Jacks;
+pub use opening::BroughtUp;
 use std::alloc::Global;
 use stream_format::Format;
 
@@ -32,6 +35,6 @@ pub struct BringUp {
     pub ghost quiet: { engine.events.items ≡ [] },
     pub ghost early: { is_early phase ≡ true },
     pub ghost sent_within: { sent ≤ looks },
-    pub ghost few_looks: { looks ≤ 1000000 },
+    pub ghost few_looks: { looks ≤ 1000001 },
     pub ghost few_jacks: { jacks.taken ≤ 256 * looks },
 }

@@ -4,4 +4,4 @@
 
 mod bringing;
 
-pub use bringing::BringUp;
+pub use bringing::{BringUp, BroughtUp};

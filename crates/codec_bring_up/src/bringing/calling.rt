@@ -15,7 +15,7 @@ use std::alloc::AllocError;
 
 impl BringUp {
     /// Resets the controller.
-    fn reset<P: Platform>(&mut self, platform: &mut P)
+    pub(crate) fn reset<P: Platform>(&mut self, platform: &mut P)
         requires phase { self.old.phase ≡ phases.Reset }
         requires room { 5 ≤ P.spare_accesses platform.old }
         ensures leads { spec.Leads false self.old self.new (P.told platform.old) (P.told platform.new) }
@@ -34,7 +34,7 @@ impl BringUp {
     ///
     /// # Errors
     /// Want of memory.
-    fn settle<P: Platform>(&mut self, platform: &mut P) -> Result<(), AllocError>
+    pub(crate) fn settle<P: Platform>(&mut self, platform: &mut P) -> Result<(), AllocError>
         requires phase { self.old.phase ≡ phases.Settling }
         requires room { 17 ≤ P.spare_accesses platform.old }
         ensures leads { OnOk result (spec.Leads false self.old self.new (P.told platform.old) (P.told platform.new)) }
@@ -61,7 +61,7 @@ impl BringUp {
     ///
     /// # Errors
     /// Want of memory.
-    fn command<P: Platform, T: Setter>(
+    pub(crate) fn command<P: Platform, T: Setter>(
         &mut self,
         platform: &mut P,
         setter: &T,

@@ -1,16 +1,31 @@
 //! How a bring-up begins and ends.
-ghost use Rattle.std.specs.Prelude.{◌≡◌, [], IfOk};
+ghost use Rattle.std.specs.Prelude.{◌≡◌, [], List, All, IfOk, OnErr};
 ghost use Rattle.driver_progress.specs.declared.phase.Phase.TheVariants as phases;
+ghost use Rattle.command_engine.specs.declared.answers.Event.{Event};
 ghost use Rattle.jack_counts.specs.Counted.{IsCount};
+ghost use Rattle.jack_counts.specs.Jacks.{IsOfPin, Counts};
 
 use super::BringUp;
 use codec_agenda::Agenda;
 use codec_graph::Graph;
 use command_engine::Engine;
-use driver_progress::Phase;
+use driver_progress::{Jack, Phase};
 use jack_counts::Jacks;
-use std::alloc::{AllocError, Global};
+use route_planner::Plan;
+use std::alloc::Global;
 use stream_format::Format;
+
+/// What is left of a bring-up that is over.
+pub struct BroughtUp {
+    /// The driver's side of both rings.
+    pub engine: Engine,
+    /// The graphs of the codecs that were walked.
+    pub graphs: Vec<Graph>,
+    /// Their plans, once all were walked.
+    pub plans: Vec<Plan>,
+    /// How often codecs told of what was plugged in, ascending by codec and tag.
+    pub jacks: Vec<Jack>,
+}
 
 impl BringUp {
     /// A bring-up for a stream of this format, by an engine without events. Nothing was done yet.
@@ -69,5 +84,27 @@ impl BringUp {
         ensures { result.now ≡ self.now.agenda.graphs.items }
     {
         self.agenda.graphs()
+    }
+
+    /// What is left of it.
+    pub fn parts(self) -> BroughtUp
+        ensures engine { result.engine ≡ self.engine }
+        ensures graphs { result.graphs ≡ self.agenda.graphs }
+        ensures plans { result.plans ≡ self.agenda.plans }
+        ensures jacks { (events : List Event) → IsCount events self.jacks → All IsOfPin events → Counts events result.jacks.items }
+    {
+        let BringUp {
+            engine,
+            agenda,
+            jacks,
+            ..
+        } = self;
+        let (graphs, plans) = agenda.parts();
+        BroughtUp {
+            engine,
+            graphs,
+            plans,
+            jacks: jacks.into_list(),
+        }
     }
 }

@@ -1,0 +1,142 @@
+//! A call, a call for an interrupt, and the last one.
+ghost use Rattle.std.specs.Prelude.{◌≡◌, ◌≤◌, ◌<◌, ◌+◌, true, false, OnOk, OnErr};
+ghost use Rattle.driver_progress.specs.declared.phase.Phase.TheVariants as phases;
+ghost use Rattle.driver_commands.specs.Standing as standing;
+ghost use Rattle.codec_bring_up.specs.Calls as spec;
+
+use super::BringUp;
+use super::phases::{is_active, is_asking, is_reset};
+use driver_commands::look_for_answer;
+use driver_progress::Phase;
+use driver_stretches::{has_interrupt, shut};
+use hda_platform::Platform;
+use route_setup::Setter;
+use std::alloc::AllocError;
+
+impl BringUp {
+    /// One call. In the first the controller is reset; then it looks whether the codecs had their time, and from then on for the answer to
+    /// each command, after which the next is submitted. Once all codecs are set up, or it ended before that, nothing is done. The setter is
+    /// the same at each call.
+    ///
+    /// # Errors
+    /// Want of memory. Then it is over, in the phase `Failed`.
+    pub fn run<P: Platform, T: Setter>(
+        &mut self,
+        platform: &mut P,
+        setter: &T,
+    ) -> Result<(), AllocError>
+        requires few { self.old.looks < 1000000 }
+        requires room { 261 ≤ P.spare_accesses platform.old }
+        requires bytes_room { 2044 ≤ P.spare_bytes platform.old }
+        ensures leads { OnOk result (spec.Leads false self.old self.new (P.told platform.old) (P.told platform.new)) }
+        ensures kept { spec.IsKept self.old self.new }
+        ensures failed { OnErr result (self.new.phase ≡ phases.Failed) }
+        ensures fixed { P.fixed platform.new ≡ P.fixed platform.old }
+        ensures accesses { P.spare_accesses platform.old ≤ P.spare_accesses platform.new + 261 }
+        ensures bytes { P.spare_bytes platform.old ≤ P.spare_bytes platform.new + 2044 }
+    {
+        if is_asking(self.phase) {
+            return self.command(platform, setter);
+        }
+        match self.phase {
+            Phase::Reset => {
+                self.reset(platform);
+                Ok(())
+            }
+            Phase::Settling => self.settle(platform),
+            _ => Ok(()),
+        }
+    }
+
+    /// One call for an interrupt: where there is one, what [`BringUp::run`] does; else nothing but the look for it.
+    ///
+    /// # Errors
+    /// Want of memory. Then it is over, in the phase `Failed`.
+    pub fn irq<P: Platform, T: Setter>(
+        &mut self,
+        platform: &mut P,
+        setter: &T,
+    ) -> Result<(), AllocError>
+        requires few { self.old.looks < 1000000 }
+        requires room { 264 ≤ P.spare_accesses platform.old }
+        requires bytes_room { 2044 ≤ P.spare_bytes platform.old }
+        ensures leads { OnOk result (spec.Leads true self.old self.new (P.told platform.old) (P.told platform.new)) }
+        ensures kept { spec.IsKept self.old self.new }
+        ensures failed { OnErr result (self.new.phase ≡ phases.Failed) }
+        ensures fixed { P.fixed platform.new ≡ P.fixed platform.old }
+        ensures accesses { P.spare_accesses platform.old ≤ P.spare_accesses platform.new + 264 }
+        ensures bytes { P.spare_bytes platform.old ≤ P.spare_bytes platform.new + 2044 }
+    {
+        if !is_active(self.phase) {
+            return Ok(());
+        }
+        if has_interrupt(platform) {
+            self.run(platform, setter)
+        } else {
+            Ok(())
+        }
+    }
+
+    /// The last call: it looks once more for an answer where one may come, submits nothing, stops both rings and leaves the controller in
+    /// reset.
+    ///
+    /// # Errors
+    /// Want of memory. The controller is left in reset also then.
+    pub fn end<P: Platform, T: Setter>(
+        &mut self,
+        platform: &mut P,
+        setter: &T,
+    ) -> Result<(), AllocError>
+        requires few { self.old.looks ≤ 1000000 }
+        requires room { 262 ≤ P.spare_accesses platform.old }
+        requires bytes_room { 2040 ≤ P.spare_bytes platform.old }
+        ensures ends { OnOk result (spec.Ends self.old self.new (P.told platform.old) (P.told platform.new)) }
+        ensures kept { spec.IsKept self.old self.new }
+        ensures failed { OnErr result (self.new.phase ≡ phases.Failed) }
+        ensures fixed { P.fixed platform.new ≡ P.fixed platform.old }
+        ensures accesses { P.spare_accesses platform.old ≤ P.spare_accesses platform.new + 262 }
+        ensures bytes { P.spare_bytes platform.old ≤ P.spare_bytes platform.new + 2040 }
+    {
+        if is_asking(self.phase) {
+            return self.end_commands(platform, setter);
+        }
+        if is_reset(self.phase) {
+            return Ok(());
+        }
+        shut(platform);
+        Ok(())
+    }
+
+    /// The last call while commands are sent.
+    fn end_commands<P: Platform, T: Setter>(
+        &mut self,
+        platform: &mut P,
+        setter: &T,
+    ) -> Result<(), AllocError>
+        requires phase { standing.is_asking self.old.phase ≡ true }
+        requires few { self.old.looks ≤ 1000000 }
+        requires room { 262 ≤ P.spare_accesses platform.old }
+        requires bytes_room { 2040 ≤ P.spare_bytes platform.old }
+        ensures ends { OnOk result (spec.Ends self.old self.new (P.told platform.old) (P.told platform.new)) }
+        ensures kept { spec.IsKept self.old self.new }
+        ensures failed { OnErr result (self.new.phase ≡ phases.Failed) }
+        ensures fixed { P.fixed platform.new ≡ P.fixed platform.old }
+        ensures accesses { P.spare_accesses platform.old ≤ P.spare_accesses platform.new + 262 }
+        ensures bytes { P.spare_bytes platform.old ≤ P.spare_bytes platform.new + 2040 }
+    {
+        let phase = self.phase;
+        self.phase = Phase::Failed;
+        self.looks += 1;
+        let answer = look_for_answer(
+            platform,
+            &mut self.engine,
+            &mut self.jacks,
+            &mut self.agenda,
+            setter,
+            phase,
+        );
+        shut(platform);
+        self.phase = answer?.phase;
+        Ok(())
+    }
+}
