@@ -94,10 +94,15 @@ impl BringUp {
         ensures jacks { (events : List Event) → IsCount events self.jacks → All IsOfPin events → Counts events result.jacks.items }
     {
         let BringUp {
+            alloc: _,
+            format: _,
             engine,
             agenda,
             jacks,
-            ..
+            phase: _,
+            kept: _,
+            sent: _,
+            looks: _,
         } = self;
         let (graphs, plans) = agenda.parts();
         BroughtUp {
