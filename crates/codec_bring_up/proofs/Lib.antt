@@ -1,3 +1,4 @@
 pub mod Settles
 pub mod Asks
 pub mod Still
+pub mod Leading

@@ -1,18 +1,21 @@
 -- A look whether the codecs had their time leads where progress says.
 use Rattle.std.proofs.Common.{◌≡◌, ◌≢◌, ◌<◌, ◌^◌, ℕ, List, [], ◌∷◌, Bool, true, false, if◌then◌else◌, Option, Some, None, refl, sym, ap, subst, ◌∙◌, arith, IsSome}
-use Rattle.std.specs.Prelude.{◌==◌}
+use Rattle.std.specs.Prelude.{◌==◌, slice_index}
 use Rattle.std.specs.Option.{is_some, ForSome}
 use Rattle.std.proofs.Math.Nat.{mod-lt}
 use Rattle.hda_registers.specs.declared.shapes.RingSize.{RingSize}
 use Rattle.hda_registers.specs.declared.shapes.Width.TheVariants.{Four}
-use Rattle.hda_registers.specs.declared.places.TheConstants.{WALCLK}
+use Rattle.hda_registers.specs.declared.places.TheConstants.{WALCLK, STATESTS}
 use Rattle.hda_world.specs.Events.{Read}
 use Rattle.verb_codes.specs.declared.verbs.Command.{Command}
 use Rattle.codec_walk.specs.declared.walk.Walk.{Walk}
 use Rattle.codec_walk.specs.Dialogues.{question}
 use Rattle.codec_walk.specs.Remaining.{remaining}
+use Rattle.codec_agenda.specs.declared.agenda.Agenda.{Agenda}
+use Rattle.driver_commands.specs.Addresses.{addresses_in}
+use Rattle.codec_bring_up.specs.Calls.{Begins}
 use Rattle.codec_agenda.specs.Sound.{IsUnderWay}
-use Rattle.codec_agenda.specs.Agendas.{next_of}
+use Rattle.codec_agenda.specs.Agendas.{next_of, BeginsWalk}
 use Rattle.command_engine.specs.declared.ring_places.RingPlaces.{RingPlaces}
 use Rattle.command_engine.specs.Sizes.{largest_size}
 use Rattle.command_engine.specs.Starting.{StartReads, codecs_in, rings_of, rings_read, codecs_if, rings_if, settings_if}
@@ -29,7 +32,7 @@ use Rattle.driver_stretches.specs.declared.settling.Settled.TheVariants.{TooEarl
 use Rattle.driver_stretches.specs.Settling.{start_if, settle_accesses, codecs_found, found_if, rings_after}
 use Rattle.driver_stretches.proofs.Fitting.{settle_fits_by}
 use Rattle.driver_commands.specs.Standing.{phase_at}
-use Rattle.driver_commands.specs.Commanding.{IsStretch, run_of}
+use Rattle.driver_commands.specs.Commanding.{IsStretch, run_of, entries_in}
 use Rattle.driver_commands.proofs.Commands.{once}
 
 -- ---- what was found
@@ -41,16 +44,16 @@ codecs_not : (codecs bits : ℕ) (none : Bool) → (codecs == 0) ≡ none → Co
 codecs_not codecs bits true is found = cc
 codecs_not codecs bits false is found = (cc, λ zero. not_zero (sym (ap (λ (codecs : ℕ). codecs == 0) zero) ∙ is))
 
-codecs_some : (found : Option RingPlaces) (status bits : ℕ) → Codecs bits ≡ codecs_found (codecs_if found status) → (bits ≢ 0) × (bits < 2 ^ 15) × (is_some found ≡ true)
+codecs_some : (found : Option RingPlaces) (status bits : ℕ) → Codecs bits ≡ codecs_found (codecs_if found status) → (bits ≢ 0) × (bits < 2 ^ 15) × (is_some found ≡ true) × (bits ≡ codecs_in status)
 codecs_some None status bits is = cc
 codecs_some (Some rings) status bits is =
     let codecs = codecs_not (codecs_in status) bits (codecs_in status == 0) refl is in
     let below = mod-lt status {m = 2 ^ 15} (omega arith) in
-    (λ zero. codecs.1 (sym codecs.0 ∙ zero), omega arith, refl)
+    (λ zero. codecs.1 (sym codecs.0 ∙ zero), omega arith, refl, codecs.0)
 
-pub found_some : (settled : Bool) (reads : StartReads) (bits : ℕ) → Codecs bits ≡ found_if settled reads → (bits ≢ 0) × (bits < 2 ^ 15) × (is_some (rings_read reads) ≡ true) × (settled ≡ true)
+pub found_some : (settled : Bool) (reads : StartReads) (bits : ℕ) → Codecs bits ≡ found_if settled reads → (bits ≢ 0) × (bits < 2 ^ 15) × (is_some (rings_read reads) ≡ true) × (settled ≡ true) × (bits ≡ codecs_in reads.status)
 found_some false reads bits is = cc
-found_some true reads bits is = let some = codecs_some (rings_read reads) reads.status bits is in (some.0, some.1, some.2, refl)
+found_some true reads bits is = let some = codecs_some (rings_read reads) reads.status bits is in (some.0, some.1, some.2, refl, some.3)
 
 begun_by : (none : Bool) (corb rirb : Option RingSize) (rings : RingPlaces) → is_some (if none then None else rings_of corb rirb) ≡ true → (rings_if (if none then None else rings_of corb rirb) rings).started ≡ true
 begun_by true corb rirb rings is = cc
@@ -138,3 +141,27 @@ pub settle_with : (task : Task) (state : State) (budget clock : ℕ) (reads : St
 settle_with task state budget clock reads answer rings' corb rirb of_corb of_rirb settling is rings =
     let After = λ (corb : ℕ) (rirb : ℕ). IsStretch task state (Some (run_of budget)) (settle_accesses state.kept clock corb rirb reads) false (record state { phase = phase_settled answer state.phase; rings = rings' }) in
     subst (λ (rirb : ℕ). After corb rirb) of_rirb (subst (λ (corb : ℕ). After corb task.blocks.rirb) of_corb (settle_stretch task state budget clock reads answer rings' settling is rings))
+
+-- ---- what is read
+
+pub status_read : (settled : Bool) (clock corb rirb : ℕ) (reads : StartReads) → settled ≡ true → slice_index (values_of (Read WALCLK Four clock ∷ start_if settled corb rirb reads) STATESTS) 0 ≡ reads.status
+status_read true clock corb rirb reads is = refl
+status_read false clock corb rirb reads is = cc
+
+settings_entries : (found : Option RingPlaces) (corb rirb : ℕ) (reads : StartReads) → entries_in (settings_if found corb rirb reads) ≡ []
+settings_entries None corb rirb reads = refl
+settings_entries (Some rings) corb rirb reads = refl
+
+start_entries : (settled : Bool) (clock corb rirb : ℕ) (reads : StartReads) → entries_in (Read WALCLK Four clock ∷ start_if settled corb rirb reads) ≡ []
+start_entries false clock corb rirb reads = refl
+start_entries true clock corb rirb reads = settings_entries (rings_read reads) corb rirb reads
+
+pub settle_entries : (kept clock corb rirb : ℕ) (reads : StartReads) → entries_in (settle_accesses kept clock corb rirb reads) ≡ []
+settle_entries kept clock corb rirb reads = start_entries (has_settled kept clock) clock corb rirb reads
+
+pub begins_with : (settled : Bool) (reads : StartReads) (bits clock corb rirb : ℕ) (addresses : List ℕ) (agenda : Agenda) → Codecs bits ≡ found_if settled reads → addresses ≡ addresses_in bits
+    → agenda.addresses.items ≡ addresses → BeginsWalk addresses [] agenda → Begins (slice_index (values_of (Read WALCLK Four clock ∷ start_if settled corb rirb reads) STATESTS) 0) agenda
+begins_with settled reads bits clock corb rirb addresses agenda is are asked begins =
+    let found = found_some settled reads bits is in
+    let same = are ∙ ap (λ (bits : ℕ). addresses_in bits) (found.4 ∙ ap (λ (status : ℕ). codecs_in status) (sym (status_read settled clock corb rirb reads found.3))) in
+    record { addresses = asked ∙ same; begins = subst (λ (addresses : List ℕ). BeginsWalk addresses [] agenda) same begins }

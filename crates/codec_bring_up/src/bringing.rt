@@ -30,6 +30,7 @@ pub struct BringUp {
     sent: u32,
     /// How many of its calls looked for an answer.
     looks: u32,
+    pub ghost formats: { agenda.format ≡ format },
     pub ghost led: { is_asking phase ≡ true → phase ≡ phase_of agenda },
     pub ghost started: { is_asking phase ≡ true → engine.rings.started ≡ true },
     pub ghost quiet: { engine.events.items ≡ [] },

@@ -1,3 +1,4 @@
 mod Asked
 pub mod Commands
 mod Events
+pub mod Entries

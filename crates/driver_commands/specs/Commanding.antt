@@ -1,17 +1,20 @@
 -- What a driver does at a call while commands are sent, and where that leads. This project's own.
-use Rattle.std.specs.Prelude.{◌≡◌, ℕ, ◌+◌, Bool, true, false, List, [], Option, Some, None, ◌++◌}
+use Rattle.std.specs.Prelude.{◌≡◌, ℕ, ◌+◌, Bool, true, false, List, [], Option, Some, None, ◌++◌, ◌∷◌}
 use Rattle.verb_codes.specs.declared.verbs.Command.{Command}
-use Rattle.hda_world.specs.Events.{Event}
+use Rattle.std.specs.List.{flat_map}
+use Rattle.codec_graph.specs.declared.raw.RawCodec.{RawCodec}
+use Rattle.route_planner.specs.declared.routes.Plan.{Plan}
+use Rattle.hda_world.specs.Events.{Event, Stepped, Begin, End, Read, Write, DmaRead, DmaWrite}
 use Rattle.hda_world.specs.Tellings.{Telling, Between, Makes}
 use Rattle.command_engine.specs.declared.ring_places.RingPlaces.{RingPlaces}
 use Rattle.command_engine.specs.declared.answers.Outstanding.{Outstanding}
 use Rattle.command_engine.specs.declared.answers.Poll.{Poll}
 use Rattle.command_engine.specs.declared.answers.Event as told
-use Rattle.command_engine.specs.Entries.{responses_in, events_of}
+use Rattle.command_engine.specs.Entries.{responses_in, events_of, answer_among}
 use Rattle.jack_counts.specs.declared.jacks.Jacks.{Jacks}
 use Rattle.jack_counts.specs.Counted.{IsCount}
 use Rattle.command_engine.specs.declared.answers.Poll.TheVariants as polls
-use Rattle.command_engine.specs.Polling.{PollReads, AreNew, poll_of, found_by, rings_polled}
+use Rattle.command_engine.specs.Polling.{PollReads, AreNew, asked_of, poll_of, found_by, rings_polled}
 use Rattle.command_engine.specs.Submitting.{submit_accesses, rings_submitted}
 use Rattle.codec_agenda.specs.declared.agenda.Agenda.{Agenda}
 use Rattle.driver_progress.specs.declared.phase.Phase.{Phase}
@@ -23,7 +26,31 @@ use Rattle.driver_progress.specs.States.{State}
 use Rattle.driver_progress.specs.Next.{next, expected}
 use Rattle.driver_stretches.specs.Commands.{ask_accesses}
 use Rattle.driver_commands.specs.declared.answering.Answer.{Answer}
-use Rattle.driver_commands.specs.Standing.{phase_of, goes_on, can_follow, order_in}
+use Rattle.driver_commands.specs.Standing.{phase_of, goes_on, can_follow, order_in, LeadsOn, EndsBy}
+
+-- ---- what is read of RIRB
+
+-- the entry that an event read of the memory, if it did
+abbrev pub entry_in : Event → List (List ℕ)
+entry_in (Stepped step) = []
+entry_in Begin = []
+entry_in End = []
+entry_in (Read at width value) = []
+entry_in (Write at width value) = []
+entry_in (DmaRead at bytes) = bytes ∷ []
+entry_in (DmaWrite at bytes) = []
+
+abbrev pub entries_in : List Event → List (List ℕ)
+entries_in events = flat_map entry_in events
+
+-- the answer to the outstanding command among them
+abbrev pub answer_in : RingPlaces → List Event → Option ℕ
+answer_in rings events = answer_among (asked_of rings.outstanding) (responses_in (entries_in events))
+
+-- what was told unasked until now, and with them
+abbrev pub with_told : List told.Event → (entries : List (List ℕ)) → List told.Event
+with_told events [] = events
+with_told events (entry ∷ entries) = events ++ events_of (responses_in (entry ∷ entries))
 
 -- ---- the look for an answer
 
@@ -46,17 +73,25 @@ leaves_free (polls.Answered word) phase' = goes_on phase'
 leaves_free polls.Waiting phase' = false
 leaves_free (polls.Unanswered issued noticed) phase' = false
 
+-- and where an answer led the agenda
+abbrev pub Taken : (IsPlanBy : RawCodec → Plan → Type 0) (verbs_by : RawCodec → Plan → List Command) → Poll → (old : Agenda) → (phase' : Phase) → (new : Agenda) → Type 0
+Taken IsPlanBy verbs_by polls.Idle old phase' new = Unit {0}
+Taken IsPlanBy verbs_by (polls.Answered word) old phase' new = LeadsOn IsPlanBy verbs_by word old new phase' × EndsBy IsPlanBy word old new phase'
+Taken IsPlanBy verbs_by polls.Waiting old phase' new = Unit {0}
+Taken IsPlanBy verbs_by (polls.Unanswered issued noticed) old phase' new = Unit {0}
+
 abbrev pub poll_by : RingPlaces → PollReads → (clock : ℕ) → Poll
 poll_by rings reads clock = poll_of rings.outstanding (found_by rings reads) clock
 
-pub record Looks (rirb : ℕ) (rings : RingPlaces) (phase : Phase) (old : Agenda) (jacks : Jacks) (answer : Answer) (rings' : RingPlaces) (new : Agenda) (jacks' : Jacks) (before after : Option Telling) : Type 0 where
+pub record Looks (IsPlanBy : RawCodec → Plan → Type 0) (verbs_by : RawCodec → Plan → List Command) (rirb : ℕ) (rings : RingPlaces) (phase : Phase) (old : Agenda) (jacks : Jacks) (answer : Answer) (rings' : RingPlaces) (new : Agenda) (jacks' : Jacks) (before after : Option Telling) : Type 0 where
   pub reads : PollReads
   pub new_ones : AreNew rings reads
   pub made : Between (Makes (ask_accesses rirb answer.clock rings reads)) before after
   pub rings_are : rings' ≡ rings_polled rings reads
   pub led : LedTo (poll_by rings reads answer.clock) rings.outstanding phase old answer.phase new
   -- of all that was told unasked until now
-  pub counted : (events : List told.Event) → IsCount events jacks → IsCount (events ++ events_of (responses_in reads.entries)) jacks'
+  pub counted : (events : List told.Event) → IsCount events jacks → IsCount (with_told events reads.entries) jacks'
+  pub taken : Taken IsPlanBy verbs_by (poll_by rings reads answer.clock) old answer.phase new
   pub free : answer.is_free ≡ leaves_free (poll_by rings reads answer.clock) answer.phase
 
 -- ---- and the next command

@@ -3,7 +3,7 @@ ghost use Rattle.std.specs.Prelude.{◌≡◌, ◌≤◌, ◌+◌, [], true, Non
 ghost use Rattle.driver_commands.specs.Standing as standing;
 ghost use Rattle.driver_commands.specs.Commanding as spec;
 
-use crate::answers::take_answer;
+use crate::answers::{TAG, take_answer};
 use codec_agenda::Agenda;
 use command_engine::{Engine, Outstanding, Poll};
 use driver_progress::Phase;
@@ -42,7 +42,7 @@ pub fn look_for_answer<P: Platform, T: Setter>(
     requires few { jacks.old.taken + 256 ≤ 4294967295 }
     requires room { 259 ≤ P.spare_accesses platform.old }
     requires bytes_room { 2040 ≤ P.spare_bytes platform.old }
-    ensures looks { IfOk result (λ answer. spec.Looks engine.old.rirb.address engine.old.rings phase agenda.old jacks.old answer engine.new.rings agenda.new jacks.new (P.told platform.old) (P.told platform.new)) }
+    ensures looks { IfOk result (λ answer. spec.Looks (λ graph. T.IsPlanBy setter.now graph agenda.old.format) (λ graph plan. T.verbs_by setter.now graph plan agenda.old.format TAG) engine.old.rirb.address engine.old.rings phase agenda.old jacks.old answer engine.new.rings agenda.new jacks.new (P.told platform.old) (P.told platform.new)) }
     ensures idle { IfOk result (λ answer. answer.is_free ≡ true → engine.new.rings.outstanding ≡ None) }
     ensures started { engine.new.rings.started ≡ engine.old.rings.started }
     ensures events { engine.new.events.items ≡ [] }
@@ -78,6 +78,7 @@ fn phase_after<T: Setter>(
 ) -> Result<Phase, AllocError>
     requires asks { IsSome (standing.next_on agenda.old) }
     ensures led { IfOk result (λ after. spec.LedTo poll outstanding phase agenda.old after agenda.new) }
+    ensures taken { IfOk result (λ after. spec.Taken (λ graph. T.IsPlanBy setter.now graph agenda.old.format) (λ graph plan. T.verbs_by setter.now graph plan agenda.old.format TAG) poll agenda.old after agenda.new) }
     ensures addresses { agenda.new.addresses ≡ agenda.old.addresses }
     ensures format { agenda.new.format ≡ agenda.old.format }
 {

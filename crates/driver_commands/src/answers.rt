@@ -8,7 +8,7 @@ use route_setup::Setter;
 use std::alloc::AllocError;
 
 /// The tag of the stream that is played. This project's own.
-const TAG: u8 = 1;
+pub const TAG: u8 = 1;
 
 /// The phase of a driver that is led by an agenda: codecs are walked or set up while commands are left.
 pub(crate) fn phase_of(agenda: &Agenda) -> Phase

@@ -6,7 +6,7 @@ ghost use Rattle.codec_bring_up.specs.Calls as spec;
 
 use super::BringUp;
 use codec_agenda::Agenda;
-use driver_commands::{addresses_in, look_for_answer, submit_next};
+use driver_commands::{TAG, addresses_in, look_for_answer, submit_next};
 use driver_progress::Phase;
 use driver_stretches::{Settled, reset, settle};
 use hda_platform::Platform;
@@ -18,7 +18,7 @@ impl BringUp {
     pub(crate) fn reset<P: Platform>(&mut self, platform: &mut P)
         requires phase { self.old.phase ≡ phases.Reset }
         requires room { 5 ≤ P.spare_accesses platform.old }
-        ensures leads { spec.Leads false self.old self.new (P.told platform.old) (P.told platform.new) }
+        ensures leads { spec.LeadsUnread self.old self.new (P.told platform.old) (P.told platform.new) }
         ensures kept { spec.IsKept self.old self.new }
         ensures fixed { P.fixed platform.new ≡ P.fixed platform.old }
         ensures accesses { P.spare_accesses platform.old ≤ P.spare_accesses platform.new + 5 }
@@ -37,7 +37,7 @@ impl BringUp {
     pub(crate) fn settle<P: Platform>(&mut self, platform: &mut P) -> Result<(), AllocError>
         requires phase { self.old.phase ≡ phases.Settling }
         requires room { 17 ≤ P.spare_accesses platform.old }
-        ensures leads { OnOk result (spec.Leads false self.old self.new (P.told platform.old) (P.told platform.new)) }
+        ensures leads { OnOk result (spec.LeadsUnread self.old self.new (P.told platform.old) (P.told platform.new)) }
         ensures kept { spec.IsKept self.old self.new }
         ensures failed { OnErr result (self.new.phase ≡ phases.Failed) }
         ensures fixed { P.fixed platform.new ≡ P.fixed platform.old }
@@ -70,7 +70,7 @@ impl BringUp {
         requires few { self.old.looks < 1000000 }
         requires room { 261 ≤ P.spare_accesses platform.old }
         requires bytes_room { 2044 ≤ P.spare_bytes platform.old }
-        ensures leads { OnOk result (spec.Leads false self.old self.new (P.told platform.old) (P.told platform.new)) }
+        ensures leads { OnOk result (spec.Leads (λ graph. T.IsPlanBy setter.now graph self.old.agenda.format) (λ graph plan. T.verbs_by setter.now graph plan self.old.agenda.format TAG) false self.old self.new (P.told platform.old) (P.told platform.new)) }
         ensures kept { spec.IsKept self.old self.new }
         ensures failed { OnErr result (self.new.phase ≡ phases.Failed) }
         ensures fixed { P.fixed platform.new ≡ P.fixed platform.old }

@@ -6,7 +6,7 @@ ghost use Rattle.codec_bring_up.specs.Calls as spec;
 
 use super::BringUp;
 use super::phases::{is_active, is_asking, is_reset};
-use driver_commands::look_for_answer;
+use driver_commands::{TAG, look_for_answer};
 use driver_progress::Phase;
 use driver_stretches::{has_interrupt, shut};
 use hda_platform::Platform;
@@ -28,7 +28,7 @@ impl BringUp {
         requires few { self.old.looks < 1000000 }
         requires room { 261 ≤ P.spare_accesses platform.old }
         requires bytes_room { 2044 ≤ P.spare_bytes platform.old }
-        ensures leads { OnOk result (spec.Leads false self.old self.new (P.told platform.old) (P.told platform.new)) }
+        ensures leads { OnOk result (spec.Leads (λ graph. T.IsPlanBy setter.now graph self.old.agenda.format) (λ graph plan. T.verbs_by setter.now graph plan self.old.agenda.format TAG) false self.old self.new (P.told platform.old) (P.told platform.new)) }
         ensures kept { spec.IsKept self.old self.new }
         ensures failed { OnErr result (self.new.phase ≡ phases.Failed) }
         ensures fixed { P.fixed platform.new ≡ P.fixed platform.old }
@@ -60,7 +60,7 @@ impl BringUp {
         requires few { self.old.looks < 1000000 }
         requires room { 264 ≤ P.spare_accesses platform.old }
         requires bytes_room { 2044 ≤ P.spare_bytes platform.old }
-        ensures leads { OnOk result (spec.Leads true self.old self.new (P.told platform.old) (P.told platform.new)) }
+        ensures leads { OnOk result (spec.Leads (λ graph. T.IsPlanBy setter.now graph self.old.agenda.format) (λ graph plan. T.verbs_by setter.now graph plan self.old.agenda.format TAG) true self.old self.new (P.told platform.old) (P.told platform.new)) }
         ensures kept { spec.IsKept self.old self.new }
         ensures failed { OnErr result (self.new.phase ≡ phases.Failed) }
         ensures fixed { P.fixed platform.new ≡ P.fixed platform.old }
@@ -90,7 +90,7 @@ impl BringUp {
         requires few { self.old.looks ≤ 1000000 }
         requires room { 262 ≤ P.spare_accesses platform.old }
         requires bytes_room { 2040 ≤ P.spare_bytes platform.old }
-        ensures ends { OnOk result (spec.Ends self.old self.new (P.told platform.old) (P.told platform.new)) }
+        ensures ends { OnOk result (spec.Ends (λ graph. T.IsPlanBy setter.now graph self.old.agenda.format) (λ graph plan. T.verbs_by setter.now graph plan self.old.agenda.format TAG) self.old self.new (P.told platform.old) (P.told platform.new)) }
         ensures kept { spec.IsKept self.old self.new }
         ensures failed { OnErr result (self.new.phase ≡ phases.Failed) }
         ensures fixed { P.fixed platform.new ≡ P.fixed platform.old }
@@ -117,7 +117,7 @@ impl BringUp {
         requires few { self.old.looks ≤ 1000000 }
         requires room { 262 ≤ P.spare_accesses platform.old }
         requires bytes_room { 2040 ≤ P.spare_bytes platform.old }
-        ensures ends { OnOk result (spec.Ends self.old self.new (P.told platform.old) (P.told platform.new)) }
+        ensures ends { OnOk result (spec.Ends (λ graph. T.IsPlanBy setter.now graph self.old.agenda.format) (λ graph plan. T.verbs_by setter.now graph plan self.old.agenda.format TAG) self.old self.new (P.told platform.old) (P.told platform.new)) }
         ensures kept { spec.IsKept self.old self.new }
         ensures failed { OnErr result (self.new.phase ≡ phases.Failed) }
         ensures fixed { P.fixed platform.new ≡ P.fixed platform.old }

@@ -1,9 +1,10 @@
-use Rattle.std.proofs.Common.{ap, ◌∙◌, false}
+use Rattle.std.proofs.Common.{◌≡◌, refl, sym, ap, ◌∙◌}
+use Rattle.driver_progress.specs.declared.phase.Phase.TheVariants as phases
 use Rattle.driver_progress.specs.Expected.{has_settled}
-use Rattle.codec_bring_up.proofs.Settles.{found_some, found_started, begins_phase, settle_with}
 use Rattle.driver_stretches.specs.Settling.{settle_accesses}
 use Rattle.driver_stretches.specs.declared.settling.Settled.TheVariants.{TooEarly, NoCodec, Codecs}
 use Rattle.codec_bring_up.specs.Calls.{state_of}
+use Rattle.codec_bring_up.proofs.Settles.{found_some, found_started, begins_phase, settle_with, settle_entries, begins_with}
 use Rattle.codec_bring_up.proofs.bringing.BringUp.settle.Goals as goal
 
 pub new-requires-clause-some : goal.new-requires-clause-some
@@ -23,14 +24,19 @@ invariant_of-self-in-Codecs-2-clause-started g c = λ asking.
     let settles = c.in-Codecs.ensures.settles in
     ap (λ rings. rings.started) settles.rings_are ∙ found_started (has_settled c.args.self.now.kept settles.clock) settles.reads c.args.self.now.engine.rings c.in-Codecs.codecs settles.answer_is
 
+not_walking : phases.Walking ≡ phases.Settling → ⊥
+not_walking is = cc
+
 pub returns-in-TooEarly-clause-leads : goal.returns-in-TooEarly-clause-leads
 returns-in-TooEarly-clause-leads g c =
     let old = c.args.self.now in
     let settles = c.in-TooEarly.ensures.settles in record {
       made = settle_accesses old.kept settles.clock old.engine.corb.address old.engine.rirb.address settles.reads;
-      found = false;
       by = settles.made;
       is = λ task budget of agrees. settle_with task (state_of old) budget settles.clock settles.reads TooEarly c.settle.new.engine.rings old.engine.corb.address old.engine.rirb.address of.corb of.rirb c.requires.phase settles.answer_is settles.rings_are;
+      unread = settle_entries old.kept settles.clock old.engine.corb.address old.engine.rirb.address settles.reads;
+      jacks = refl;
+      begun = λ was is. absurd (not_walking (sym is ∙ was));
     }
 
 pub returns-in-NoCodec-clause-leads : goal.returns-in-NoCodec-clause-leads
@@ -38,9 +44,11 @@ returns-in-NoCodec-clause-leads g c =
     let old = c.args.self.now in
     let settles = c.in-NoCodec.ensures.settles in record {
       made = settle_accesses old.kept settles.clock old.engine.corb.address old.engine.rirb.address settles.reads;
-      found = false;
       by = settles.made;
       is = λ task budget of agrees. settle_with task (state_of old) budget settles.clock settles.reads NoCodec c.settle.new.engine.rings old.engine.corb.address old.engine.rirb.address of.corb of.rirb c.requires.phase settles.answer_is settles.rings_are;
+      unread = settle_entries old.kept settles.clock old.engine.corb.address old.engine.rirb.address settles.reads;
+      jacks = refl;
+      begun = λ was is. absurd (not_walking (sym is ∙ was));
     }
 
 pub returns-in_ok-self-in-Codecs-clause-leads : goal.returns-in_ok-self-in-Codecs-clause-leads
@@ -48,7 +56,9 @@ returns-in_ok-self-in-Codecs-clause-leads g c =
     let old = c.args.self.now in
     let settles = c.in-Codecs.ensures.settles in record {
       made = settle_accesses old.kept settles.clock old.engine.corb.address old.engine.rirb.address settles.reads;
-      found = false;
       by = settles.made;
       is = λ task budget of agrees. settle_with task (state_of old) budget settles.clock settles.reads (Codecs c.in-Codecs.codecs) c.settle.new.engine.rings old.engine.corb.address old.engine.rirb.address of.corb of.rirb c.requires.phase settles.answer_is settles.rings_are;
+      unread = settle_entries old.kept settles.clock old.engine.corb.address old.engine.rirb.address settles.reads;
+      jacks = refl;
+      begun = λ was is. begins_with (has_settled old.kept settles.clock) settles.reads c.in-Codecs.codecs settles.clock old.engine.corb.address old.engine.rirb.address c.in_ok-addresses-in-Codecs.addresses.items c.in_ok-self-in-Codecs.field-0 settles.answer_is c.in_ok-addresses-in-Codecs.ensures.value c.in_ok-self-in-Codecs.ensures.addresses c.in_ok-self-in-Codecs.ensures.begins;
     }
