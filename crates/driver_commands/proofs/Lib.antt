@@ -1,3 +1,4 @@
+mod Agreeing
 mod Asked
 pub mod Commands
 mod Events

@@ -1,15 +1,23 @@
 //! Laws of a driver's calls while commands are sent, each the contract of a function that does nothing.
-ghost use Rattle.std.specs.Prelude.{◌≡◌, ℕ, ◌+◌, Bool, true, false, ◌++◌, Some, None};
+ghost use Rattle.std.specs.Prelude.{◌≡◌, ℕ, ◌+◌, Bool, true, false, ◌++◌, Some, None, List, All};
 ghost use Rattle.std.specs.Option.{is_some};
 ghost use Rattle.command_engine.specs.Polling.{PollReads, AreNew, found_by, rings_polled};
+ghost use Rattle.verb_codes.specs.declared.verbs.Command.{Command};
+ghost use Rattle.codec_graph.specs.declared.raw.RawCodec.{RawCodec};
+ghost use Rattle.codec_graph.specs.Cycles.{IsWellFormed};
+ghost use Rattle.stream_format.specs.declared.format.Format.{Format};
+ghost use Rattle.codec_agenda.specs.Following.{Follows};
 ghost use Rattle.codec_agenda.specs.declared.agenda.Agenda.{Agenda};
 ghost use Rattle.driver_progress.specs.declared.phase.Phase.{Phase};
-ghost use Rattle.driver_progress.specs.Tasks.{Task};
+ghost use Rattle.driver_progress.specs.Tasks.{Task, IsTaskFor};
 ghost use Rattle.driver_progress.specs.States.{State};
 ghost use Rattle.driver_stretches.specs.Commands.{ask_accesses};
 ghost use Rattle.driver_stretches.specs.Shutting.{shut_accesses};
 ghost use Rattle.driver_commands.specs.Standing.{Agrees, is_asking, phase_of, next_on};
 ghost use Rattle.driver_commands.specs.Commanding.{LedTo, poll_by, leaves_free, order_if, submit_made, IsStretch, state_with, run_of};
+
+use codec_agenda::agendas_ask_in_order;
+use route_setup::Setter;
 
 /// The accesses of a look for an answer and of the submission after it are those that are expected of a call, and where both led is where
 /// progress says: for every task whose next command and phase are the agenda's, before the look and after each answer.
@@ -35,3 +43,11 @@ pub fn commands_are_expected()
         → IsStretch task state None (ask_accesses task.blocks.rirb clock state.rings reads ++ shut_accesses) (is_some (found_by state.rings reads))
         (record state { phase = phase'; rings = rings_polled state.rings reads }) }
 {}
+
+/// An agenda that follows the commands of a task's codecs agrees with the task: its next command and its phase are the task's.
+pub fn agendas_agree<T: Setter>()
+    ensures { (setter : T) (format : Format) (verbs : RawCodec → List Command) (graphs : List RawCodec) (count : ℕ) (agenda : Agenda) (task : Task) → All IsWellFormed graphs
+        → Follows (λ graph. T.IsPlanBy setter graph format) verbs graphs count agenda → IsTaskFor verbs graphs task → Agrees task count agenda }
+{
+    agendas_ask_in_order::<T>();
+}

@@ -10,5 +10,5 @@ mod submitting;
 pub use addresses::addresses_in;
 pub use answering::{Answer, look_for_answer};
 pub use answers::TAG;
-pub use laws::commands_are_expected;
+pub use laws::{agendas_agree, commands_are_expected};
 pub use submitting::submit_next;
