@@ -14,6 +14,7 @@ use Rattle.command_engine.specs.Entries.{responses_in, events_of, answer_among}
 use Rattle.jack_counts.specs.declared.jacks.Jacks.{Jacks}
 use Rattle.jack_counts.specs.Counted.{IsCount}
 use Rattle.command_engine.specs.declared.answers.Poll.TheVariants as polls
+use Rattle.command_engine.specs.Told.{PollTellsOf}
 use Rattle.command_engine.specs.Polling.{PollReads, AreNew, asked_of, poll_of, found_by, rings_polled}
 use Rattle.command_engine.specs.Submitting.{submit_accesses, rings_submitted}
 use Rattle.codec_agenda.specs.declared.agenda.Agenda.{Agenda}
@@ -83,10 +84,12 @@ Taken IsPlanBy verbs_by (polls.Unanswered issued noticed) old phase' new = Unit 
 abbrev pub poll_by : RingPlaces → PollReads → (clock : ℕ) → Poll
 poll_by rings reads clock = poll_of rings.outstanding (found_by rings reads) clock
 
-pub record Looks (IsPlanBy : RawCodec → Plan → Type 0) (verbs_by : RawCodec → Plan → List Command) (rirb : ℕ) (rings : RingPlaces) (phase : Phase) (old : Agenda) (jacks : Jacks) (answer : Answer) (rings' : RingPlaces) (new : Agenda) (jacks' : Jacks) (before after : Option Telling) : Type 0 where
+pub record Looks (IsPlanBy : RawCodec → Plan → Type 0) (verbs_by : RawCodec → Plan → List Command) (corb rirb : ℕ) (rings : RingPlaces) (phase : Phase) (old : Agenda) (jacks : Jacks) (answer : Answer) (rings' : RingPlaces) (new : Agenda) (jacks' : Jacks) (before after : Option Telling) : Type 0 where
   pub reads : PollReads
   pub new_ones : AreNew rings reads
   pub made : Between (Makes (ask_accesses rirb answer.clock rings reads)) before after
+  -- where it is told and the engine stood to the world: the answer belongs to the outstanding command
+  pub tells : Between (PollTellsOf answer.clock corb rirb rings (poll_by rings reads answer.clock) rings' (events_of (responses_in reads.entries))) before after
   pub rings_are : rings' ≡ rings_polled rings reads
   pub led : LedTo (poll_by rings reads answer.clock) rings.outstanding phase old answer.phase new
   -- of all that was told unasked until now

@@ -42,7 +42,7 @@ pub fn look_for_answer<P: Platform, T: Setter>(
     requires few { jacks.old.taken + 256 ≤ 4294967295 }
     requires room { 259 ≤ P.spare_accesses platform.old }
     requires bytes_room { 2040 ≤ P.spare_bytes platform.old }
-    ensures looks { IfOk result (λ answer. spec.Looks (λ graph. T.IsPlanBy setter.now graph agenda.old.format) (λ graph plan. T.verbs_by setter.now graph plan agenda.old.format TAG) engine.old.rirb.address engine.old.rings phase agenda.old jacks.old answer engine.new.rings agenda.new jacks.new (P.told platform.old) (P.told platform.new)) }
+    ensures looks { IfOk result (λ answer. spec.Looks (λ graph. T.IsPlanBy setter.now graph agenda.old.format) (λ graph plan. T.verbs_by setter.now graph plan agenda.old.format TAG) engine.old.corb.address engine.old.rirb.address engine.old.rings phase agenda.old jacks.old answer engine.new.rings agenda.new jacks.new (P.told platform.old) (P.told platform.new)) }
     ensures idle { IfOk result (λ answer. answer.is_free ≡ true → engine.new.rings.outstanding ≡ None) }
     ensures started { engine.new.rings.started ≡ engine.old.rings.started }
     ensures events { engine.new.events.items ≡ [] }
