@@ -1,6 +1,6 @@
 -- What calls read leads the agenda and the counts on.
-use Rattle.std.proofs.Common.{◌≡◌, ◌*◌, ℕ, List, [], ◌∷◌, ◌++◌, Bool, true, false, if◌then◌else◌, Option, Some, None, refl, sym, ap, subst, ◌∙◌}
-use Rattle.std.specs.Prelude.{not, ◌&&◌, ◌+◌, nat_le}
+use Rattle.std.proofs.Common.{◌≡◌, ◌*◌, ℕ, List, [], ◌∷◌, ◌++◌, Bool, true, false, if◌then◌else◌, Option, Some, None, refl, sym, ap, subst, ◌∙◌, arith, inr}
+use Rattle.std.specs.Prelude.{not, ◌&&◌, ◌+◌, nat_le, map, drop}
 use Rattle.std.specs.List.{find}
 use Rattle.std.specs.Option.{option_map}
 use Rattle.std.specs.Option.{is_some}
@@ -16,6 +16,10 @@ use Rattle.command_engine.specs.declared.answers.Event as told
 use Rattle.command_engine.specs.declared.answers.Outstanding.{Outstanding}
 use Rattle.command_engine.specs.declared.answers.Poll.TheVariants as polls
 use Rattle.command_engine.specs.declared.ring_places.RingPlaces.{RingPlaces}
+use Rattle.hda_world.specs.Worlds.{World}
+use Rattle.command_engine.specs.Belonging.{Belongs, as_held}
+use Rattle.command_engine.specs.Told.{PollTellsOf, found_since}
+use Rattle.command_engine.specs.Told as submitted
 use Rattle.command_engine.specs.Entries.{responses_in, answer_among, answers_it}
 use Rattle.command_engine.specs.Polling.{PollReads, AreNew, asked_of, poll_of, found_by, answer_limit}
 use Rattle.codec_agenda.specs.declared.agenda.Agenda.{Agenda}
@@ -31,16 +35,19 @@ use Rattle.driver_commands.specs.Commanding.{IsStretch, LedTo, Taken, poll_by, e
 use Rattle.driver_commands.proofs.Entries.{asked_entries}
 use Rattle.driver_progress.specs.Tasks.{Order, Task, DriverLine}
 use Rattle.driver_progress.specs.States.{State}
-use Rattle.hda_world.specs.Tellings.{Telling}
+use Rattle.hda_world.specs.Tellings.{Between, Telling, world_of, MakesBy, Makes}
+use Rattle.hda_world.proofs.Callers.{accessed_then}
+use Rattle.command_engine.specs.Courses.{Stands, AreBeside}
+use Rattle.command_engine.proofs.Callers.{responses_apart, keeps_standing, event_keeps}
 use Rattle.codec_bring_up.specs.declared.bringing.BringUp.{BringUp}
-use Rattle.codec_bring_up.specs.Calls.{ReadsOn, LeadsUnread, Leads}
+use Rattle.codec_bring_up.specs.Calls.{ReadsOn, LeadsUnread, Leads, Stays}
 
 -- ---- where nothing is read
 
 answer_none : (rings : RingPlaces) (made : List Event) → entries_in made ≡ [] → answer_in rings made ≡ None
 answer_none rings made none = ap (λ (entries : List (List ℕ)). answer_among (asked_of rings.outstanding) (responses_in entries)) none
 
-not_true : false ≡ true → ⊥
+pub not_true : false ≡ true → ⊥
 not_true is = cc
 
 not_some : (word : ℕ) → None ≡ Some word → ⊥
@@ -148,4 +155,92 @@ leads_unread {IsPlanBy} {verbs_by} {old} {new} {before} {after} asks leads = rec
   is = λ task budget of agrees. same_found (sym (answer_none old.engine.rings leads.made leads.unread)) (leads.is task budget of agrees);
   reads = reads_none IsPlanBy verbs_by leads.made old new leads.unread (λ asking. absurd (not_true (sym asks ∙ asking))) leads.jacks;
   begun = leads.begun;
+  stays = λ asking. absurd (not_true (sym asks ∙ asking));
 }
+
+-- ---- how the engine stands
+
+poll_same_by : (command : Outstanding) (clock value : ℕ) (late : Bool) → polls.Answered value ≡ (if late then polls.Unanswered command.issued clock else polls.Waiting) → ⊥
+poll_same_by command clock value true is = cc
+poll_same_by command clock value false is = cc
+
+poll_same : (outstanding : Option Outstanding) (found other : Option ℕ) (clock : ℕ) → (outstanding ≡ None → found ≡ other) → poll_of outstanding found clock ≡ poll_of outstanding other clock → found ≡ other
+poll_same None found other clock none is = none refl
+poll_same (Some command) None None clock none is = refl
+poll_same (Some command) (Some value) None clock none is = absurd (poll_same_by command clock value (nat_le (command.issued + answer_limit) clock) is)
+poll_same (Some command) None (Some value) clock none is = absurd (poll_same_by command clock value (nat_le (command.issued + answer_limit) clock) (sym is))
+poll_same (Some command) (Some value) (Some other) clock none is = let same : value ≡ other = cc in ap (λ (value : ℕ). Some value) same
+
+since_none : (read : ℕ) (rings : RingPlaces) (world : World) → rings.outstanding ≡ None → found_since read rings world ≡ None
+since_none read rings world none = ap (λ (outstanding : Option Outstanding). answer_among (asked_of outstanding) (map as_held (drop read world.written))) none ∙ none_asked (map as_held (drop read world.written))
+
+pub command_stays : (old new : BringUp) (rirb clock : ℕ) (reads : PollReads) (rest : List Event) (polled : RingPlaces) (events : List told.Event) (before middle after : Telling) → AreNew old.engine.rings reads → entries_in rest ≡ []
+    → PollTellsOf clock old.engine.corb.address old.engine.rirb.address old.engine.rings (poll_by old.engine.rings reads clock) polled events before middle
+    → submitted.LeadsOn old.engine.corb.address old.engine.rirb.address polled new.engine.rings middle after
+    → Stays old new (ask_accesses rirb clock old.engine.rings reads ++ rest) before after
+command_stays old new rirb clock reads rest polled events before middle after fresh none tells leads from read stands =
+    let rings = old.engine.rings in
+    let polls = tells from read stands in
+    let found = poll_same rings.outstanding (found_by rings reads) (found_since read rings (world_of middle)) clock
+    (λ none. outstanding_none rings reads none ∙ sym (since_none read rings (world_of middle) none)) polls.answer_is in record {
+      middle = world_of middle;
+      belongs = subst (λ (found : Option ℕ). Belongs from rings.outstanding (world_of middle).codecs (world_of middle).commands found) (sym found ∙ found_in rirb clock rings reads rest fresh none) polls.belongs;
+      from' = _;
+      read' = _;
+      stands = leads _ _ polls.stands;
+    }
+
+-- a row of accesses beside the engine keeps it
+row_stands : (from read corb rirb : ℕ) (rings : RingPlaces) (made : List Event) (old new : Telling) → AreBeside corb rirb made → MakesBy made old new → Stands from read corb rirb rings (world_of old) → Stands from read corb rirb rings (world_of new)
+row_stands from read corb rirb rings [] old new beside none stands = subst (λ (new : Telling). Stands from read corb rirb rings (world_of new)) (sym none) stands
+row_stands from read corb rirb rings (event ∷ made) old new beside makes stands =
+    row_stands from read corb rirb rings made makes.0 new beside.1 makes.2
+    (accessed_then (Stands from read corb rirb rings) (Stands from read corb rirb rings) event (keeps_standing from read corb rirb rings responses_apart)
+    (λ world there honest. event_keeps from read corb rirb rings responses_apart event world beside.0 there) old makes.0 makes.1 stands)
+
+interrupts_beside : (on clears : Bool) (corb rirb interrupts stream : ℕ)
+    → AreBeside corb rirb (Read INTSTS Four interrupts ∷ (if on then (if clears then Read STREAM_STATUS One stream ∷ Write STREAM_STATUS One (4 * bits_of stream 2 3) ∷ [] else []) else []))
+interrupts_beside true true corb rirb interrupts stream = (tt {0}, (tt {0}, (record { control = inr (omega arith); rings = inr (omega arith) }, tt {0})))
+interrupts_beside true false corb rirb interrupts stream = (tt {0}, tt {0})
+interrupts_beside false clears corb rirb interrupts stream = (tt {0}, tt {0})
+
+interrupts_stand : (from read corb rirb : ℕ) (rings : RingPlaces) (interrupts stream : ℕ) (old new : Telling) → Makes (interrupt_accesses interrupts stream) old new → Stands from read corb rirb rings (world_of old) → Stands from read corb rirb rings (world_of new)
+interrupts_stand from read corb rirb rings interrupts stream old new makes stands =
+    row_stands from read corb rirb rings (interrupt_accesses interrupts stream) old new (interrupts_beside (has_bit interrupts 31) (has_bit interrupts 1) corb rirb interrupts stream) makes.by stands
+
+-- a look for interrupts alone
+pub interrupts_stay : (old : BringUp) (interrupts stream : ℕ) (before after : Telling) → entries_in (interrupt_accesses interrupts stream) ≡ [] → Makes (interrupt_accesses interrupts stream) before after → Stays old old (interrupt_accesses interrupts stream) before after
+interrupts_stay old interrupts stream before after none makes from read stands = record {
+  middle = world_of after;
+  belongs = subst (λ (found : Option ℕ). Belongs from old.engine.rings.outstanding (world_of after).codecs (world_of after).commands found) (sym (answer_none old.engine.rings (interrupt_accesses interrupts stream) none)) (tt {0});
+  from' = from;
+  read' = read;
+  stands = interrupts_stand from read old.engine.corb.address old.engine.rirb.address old.engine.rings interrupts stream before after makes stands;
+}
+
+-- and before a call
+pub interrupted_stays : (old new : BringUp) (interrupts stream : ℕ) (made : List Event) (before middle after : Telling) → Makes (interrupt_accesses interrupts stream) before middle → Stays old new made middle after
+    → Stays old new (interrupt_accesses interrupts stream ++ made) before after
+interrupted_stays old new interrupts stream made before middle after makes stays from read stands =
+    let later = stays from read (interrupts_stand from read old.engine.corb.address old.engine.rirb.address old.engine.rings interrupts stream before middle makes stands) in
+    let found = ap (λ (entries : List (List ℕ)). answer_among (asked_of old.engine.rings.outstanding) (responses_in entries)) (sym (interrupt_entries interrupts stream made)) in record {
+      middle = later.middle;
+      belongs = subst (λ (found : Option ℕ). Belongs from old.engine.rings.outstanding later.middle.codecs later.middle.commands found) found later.belongs;
+      from' = later.from';
+      read' = later.read';
+      stands = later.stands;
+    }
+
+interrupts_unread : (on clears : Bool) (interrupts stream : ℕ)
+    → entries_in (Read INTSTS Four interrupts ∷ (if on then (if clears then Read STREAM_STATUS One stream ∷ Write STREAM_STATUS One (4 * bits_of stream 2 3) ∷ [] else []) else [])) ≡ []
+interrupts_unread true true interrupts stream = refl
+interrupts_unread true false interrupts stream = refl
+interrupts_unread false clears interrupts stream = refl
+
+pub no_entries_looked : (interrupts stream : ℕ) → entries_in (interrupt_accesses interrupts stream) ≡ []
+no_entries_looked interrupts stream = interrupts_unread (has_bit interrupts 31) (has_bit interrupts 1) interrupts stream
+
+-- a submission by blocks at the same addresses
+pub at_blocks : {corb corb' rirb rirb' : ℕ} {rings rings' : RingPlaces} {before after : Option Telling} → corb ≡ corb' → rirb ≡ rirb' → Between (submitted.LeadsOn corb rirb rings rings') before after → Between (submitted.LeadsOn corb' rirb' rings rings') before after
+at_blocks {corb} {corb'} {rirb} {rirb'} {rings} {rings'} {before} {after} of_corb of_rirb leads =
+    subst (λ (rirb : ℕ). Between (submitted.LeadsOn corb' rirb rings rings') before after) of_rirb (subst (λ (corb : ℕ). Between (submitted.LeadsOn corb rirb rings rings') before after) of_corb leads)

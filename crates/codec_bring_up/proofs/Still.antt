@@ -284,3 +284,17 @@ pub interrupted_stretch : (task : Task) (state : State) (budget : ℕ) (made : L
 interrupted_stretch task state budget made found state' interrupts stream on active run =
     subst (λ (events : List Event). IsStretch task state (Some (irq_of budget)) events found state') (ap (λ (on : Bool). Read INTSTS Four interrupts ∷ ((if on then clear_accesses interrupts stream else []) ++ made)) (sym on))
     (clears_first task state budget made found state' interrupts stream on active run)
+
+pub asking_active : (phase : Phase) → is_asking phase ≡ true → is_active phase ≡ true
+asking_active Reset is = refl
+asking_active Settling is = refl
+asking_active Walking is = refl
+asking_active SettingUp is = refl
+asking_active Ready is = refl
+asking_active Playing is = refl
+asking_active Drained is = cc
+asking_active NothingRouted is = cc
+asking_active (Unanswered codec command issued noticed) is = cc
+asking_active (Late from to limit) is = cc
+asking_active (Malformed codec fault) is = cc
+asking_active Failed is = cc

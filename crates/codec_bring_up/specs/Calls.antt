@@ -13,7 +13,10 @@ use Rattle.driver_progress.specs.Seen.{values_of}
 use Rattle.driver_commands.specs.Addresses.{addresses_in}
 use Rattle.std.specs.Prelude.{◌≡◌, ◌≤◌, ℕ, ◌+◌, Bool, true, false, List, Option, Some, None, slice_index, []}
 use Rattle.hda_world.specs.Events.{Event}
-use Rattle.hda_world.specs.Tellings.{Telling, Between, Makes}
+use Rattle.hda_world.specs.Worlds.{World}
+use Rattle.hda_world.specs.Tellings.{Telling, world_of, Between, Makes}
+use Rattle.command_engine.specs.Courses.{Stands}
+use Rattle.command_engine.specs.Belonging.{Belongs}
 use Rattle.period_writer.specs.Runs.{tally_opened}
 use Rattle.driver_progress.specs.declared.phase.Phase.{Phase}
 use Rattle.driver_progress.specs.declared.phase.Phase.TheVariants.{Reset, Settling, Walking, SettingUp, Ready, Playing, Drained, NothingRouted, Unanswered, Late, Malformed, Failed}
@@ -78,6 +81,19 @@ pub record LeadsUnread (old new : BringUp) (before after : Option Telling) : Typ
   pub jacks : new.jacks ≡ old.jacks
   pub begun : old.phase ≡ Settling → new.phase ≡ Walking → Begins (slice_index (values_of made STATESTS) 0) new.agenda
 
+-- where the engine stood to the world, it stands to it after the call; the answer among the entries that were read belongs to the command
+-- that was outstanding, as codecs were at a moment of the call
+pub record StaysBy (old new : BringUp) (made : List Event) (from : ℕ) (after : World) : Type 0 where
+  pub middle : World
+  pub belongs : Belongs from old.engine.rings.outstanding middle.codecs middle.commands (answer_in old.engine.rings made)
+  pub from' : ℕ
+  pub read' : ℕ
+  pub stands : Stands from' read' old.engine.corb.address old.engine.rirb.address new.engine.rings after
+
+abbrev pub Stays : (old new : BringUp) (made : List Event) → Telling → Telling → Type 0
+Stays old new made before after =
+    (from read : ℕ) → Stands from read old.engine.corb.address old.engine.rirb.address old.engine.rings (world_of before) → StaysBy old new made from (world_of after)
+
 -- a call, for an interrupt or not: it makes just the accesses that are to be made, and leads where it is to lead, for every task that
 -- agrees with the agenda after it
 pub record Leads (IsPlanBy : RawCodec → Plan → Type 0) (verbs_by : RawCodec → Plan → List Command) (irq : Bool) (old new : BringUp) (before after : Option Telling) : Type 0 where
@@ -87,6 +103,7 @@ pub record Leads (IsPlanBy : RawCodec → Plan → Type 0) (verbs_by : RawCodec 
       → IsStretch task (state_of old) (Some (record { irq = irq; budget = budget })) made (is_some (answer_in old.engine.rings made)) (state_of new)
   pub reads : ReadsOn IsPlanBy verbs_by made old new
   pub begun : old.phase ≡ Settling → new.phase ≡ Walking → Begins (slice_index (values_of made STATESTS) 0) new.agenda
+  pub stays : is_asking old.phase ≡ true → Between (Stays old new made) before after
 
 -- what calls keep: the rings' blocks and the format; each looks for an answer once at most
 pub record IsKept (old new : BringUp) : Type 0 where

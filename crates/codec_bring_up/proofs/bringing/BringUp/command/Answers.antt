@@ -1,5 +1,5 @@
 use Rattle.std.proofs.Common.{◌≡◌, ◌++◌, true, false, refl, sym, ap, ◌∙◌}
-use Rattle.hda_world.proofs.Callers.{row_both}
+use Rattle.hda_world.proofs.Callers.{row_both, told_both, told_map}
 use Rattle.driver_progress.specs.declared.phase.Phase.{Phase}
 use Rattle.driver_progress.specs.declared.phase.Phase.TheVariants as phases
 use Rattle.driver_stretches.specs.Commands.{ask_accesses}
@@ -7,7 +7,7 @@ use Rattle.driver_commands.specs.Standing.{is_asking, next_on}
 use Rattle.driver_commands.specs.Commanding.{order_if, submit_made, poll_by}
 use Rattle.codec_bring_up.specs.Calls.{state_of}
 use Rattle.codec_bring_up.proofs.Asks.{led_stays, led_early, started_with, command_with}
-use Rattle.codec_bring_up.proofs.Leading.{submits_none, found_in, same_found, reads_look}
+use Rattle.codec_bring_up.proofs.Leading.{submits_none, found_in, same_found, reads_look, command_stays, at_blocks}
 use Rattle.codec_bring_up.proofs.bringing.BringUp.command.Goals as goal
 
 no_asking : false ≡ true → ⊥
@@ -44,6 +44,7 @@ returns-clause-leads g c =
     let order = order_if answer.is_free (next_on agenda) in
     let rest = submit_made looked.corb.address looked.rings order in
     let none = submits_none looked.corb.address looked.rings order in
+    let submitted = at_blocks (ap (λ corb. corb.address) c.in_ok-answer.ensures.corb) (ap (λ rirb. rirb.address) c.in_ok-answer.ensures.rirb) c.submit_next-submits.ensures.tells in
     let made = ask_accesses old.engine.rirb.address answer.clock old.engine.rings looks.reads ++ rest in record {
       made = made;
       by = row_both looks.made c.submit_next-submits.ensures.made;
@@ -54,4 +55,7 @@ returns-clause-leads g c =
           c.submit_next-submits.ensures.submitted c.sent_after-self.ensures c.submit_next-submits.ensures.rings refl refl refl agrees);
       reads = reads_look _ _ old.engine.rirb.address answer.clock looks.reads rest old _ looks.new_ones none looks.led looks.taken looks.counted;
       begun = λ was is. absurd (not_asking old.phase was c.requires.phase);
+      stays = λ asking. told_map (λ before after both.
+          command_stays old _ old.engine.rirb.address answer.clock looks.reads rest looked.rings _ before both.0 after looks.new_ones none both.1 both.2)
+          (told_both looks.tells submitted);
     }
