@@ -299,11 +299,22 @@ module _ (asks : Asks) (tells : Tells) (counts : Counts) (P : RawCodec → Plan 
 
 -- ---- an answer
 
+-- a walk that is not at its end has commands left
+walks_on : (graphs : List RawCodec) (count : ℕ) (agenda : Agenda) (under_way : Walk) → FollowsWalk graphs count agenda under_way → count < length (flat_map walk_commands graphs)
+walks_on graphs count agenda under_way stands =
+    let all = ap (λ (graphs : List RawCodec). length (flat_map walk_commands graphs)) stands.split
+    ∙ ap length (flat_map-append walk_commands stands.done (stands.current ∷ stands.rest))
+    ∙ length-append (flat_map walk_commands stands.done) (walk_commands stands.current ++ flat_map walk_commands stands.rest) in
+    let later = length-append (walk_commands stands.current) (flat_map walk_commands stands.rest) in
+    let few = stands.few in
+    let is = stands.count_is in
+    omega (arith, all, later, few, is)
+
 led_by : Asks → Tells → Counts → (P : RawCodec → Plan → Type 0) (v : RawCodec → Plan → List Command) (verbs : RawCodec → List Command) (graphs : List RawCodec) → AreRight P v verbs graphs
     → (count answer : ℕ) (old new : Agenda) (walks : Option Walk) → FollowsBy P verbs graphs count old walks → old.addresses.items ≡ map (λ (graph : RawCodec). graph.address) graphs
-    → ((command : Command) → slice_get (commands_of verbs graphs) count ≡ Some command → CanReply graphs command answer) → LedBy P v walks answer old new → FollowsBy P verbs graphs (count + 1) new new.walk
+    → (count < length (flat_map walk_commands graphs) → (command : Command) → slice_get (commands_of verbs graphs) count ≡ Some command → CanReply graphs command answer) → LedBy P v walks answer old new → FollowsBy P verbs graphs (count + 1) new new.walk
 led_by asks tells counts P v verbs graphs right count answer old new (Some under_way) stands are reply led =
-    led_walk asks tells counts P v verbs graphs right count answer old under_way stands reply old.addresses.items new are led
+    led_walk asks tells counts P v verbs graphs right count answer old under_way stands (reply (walks_on graphs count old under_way stands)) old.addresses.items new are led
 led_by asks tells counts P v verbs graphs right count answer old new None stands are reply led =
     subst (FollowsBy P verbs graphs (count + 1) new) (sym led.no_walk) (record {
       graphs_are = led.graphs ∙ stands.graphs_are;
@@ -313,7 +324,7 @@ led_by asks tells counts P v verbs graphs right count answer old new None stands
     })
 
 pub leads_follow : Asks → Tells → Counts → (P : RawCodec → Plan → Type 0) (v : RawCodec → Plan → List Command) (verbs : RawCodec → List Command) (graphs : List RawCodec) → AreRight P v verbs graphs
-    → (count answer : ℕ) (old new : Agenda) → Follows P verbs graphs count old → ((command : Command) → slice_get (commands_of verbs graphs) count ≡ Some command → CanReply graphs command answer)
+    → (count answer : ℕ) (old new : Agenda) → Follows P verbs graphs count old → (count < length (flat_map walk_commands graphs) → (command : Command) → slice_get (commands_of verbs graphs) count ≡ Some command → CanReply graphs command answer)
     → LedBy P v old.walk answer old new → new.addresses ≡ old.addresses → Follows P verbs graphs (count + 1) new
 leads_follow asks tells counts P v verbs graphs right count answer old new follows reply led same = record {
   addresses = ap (λ addresses. addresses.items) same ∙ follows.addresses;
@@ -329,28 +340,28 @@ begins_follow counts P verbs first rest agenda are begins = record {
 
 fault_by : Asks → Tells → Counts → AreOne → (P : RawCodec → Plan → Type 0) (v : RawCodec → Plan → List Command) (verbs : RawCodec → List Command) (graphs : List RawCodec) → AreRight P v verbs graphs
     → (count answer : ℕ) (old : Agenda) (walks : Option Walk) (fault : WalkFault) → FollowsBy P verbs graphs count old walks
-    → ((command : Command) → slice_get (commands_of verbs graphs) count ≡ Some command → CanReply graphs command answer) → TellsFault walks answer fault → ⊥
+    → (count < length (flat_map walk_commands graphs) → (command : Command) → slice_get (commands_of verbs graphs) count ≡ Some command → CanReply graphs command answer) → TellsFault walks answer fault → ⊥
 fault_by asks tells counts one P v verbs graphs right count answer old (Some under_way) fault stands reply faulty =
-    no_fault asks tells counts P v verbs graphs right count answer old under_way stands reply fault one faulty
+    no_fault asks tells counts P v verbs graphs right count answer old under_way stands (reply (walks_on graphs count old under_way stands)) fault one faulty
 fault_by asks tells counts one P v verbs graphs right count answer old None fault stands reply faulty = faulty
 
 pub fault_never : Asks → Tells → Counts → AreOne → (P : RawCodec → Plan → Type 0) (v : RawCodec → Plan → List Command) (verbs : RawCodec → List Command) (graphs : List RawCodec) → AreRight P v verbs graphs
     → (count answer : ℕ) (old : Agenda) (fault : WalkFault) → Follows P verbs graphs count old
-    → ((command : Command) → slice_get (commands_of verbs graphs) count ≡ Some command → CanReply graphs command answer) → TellsFault old.walk answer fault → ⊥
+    → (count < length (flat_map walk_commands graphs) → (command : Command) → slice_get (commands_of verbs graphs) count ≡ Some command → CanReply graphs command answer) → TellsFault old.walk answer fault → ⊥
 fault_never asks tells counts one P v verbs graphs right count answer old fault follows reply faulty =
     fault_by asks tells counts one P v verbs graphs right count answer old old.walk fault follows.stands reply faulty
 
 route_by : Asks → Tells → Counts → (P : RawCodec → Plan → Type 0) (v : RawCodec → Plan → List Command) (verbs : RawCodec → List Command) (graphs : List RawCodec) → AreRight P v verbs graphs
     → (count answer : ℕ) (old new : Agenda) (walks : Option Walk) → FollowsBy P verbs graphs count old walks → old.addresses.items ≡ map (λ (graph : RawCodec). graph.address) graphs
-    → ((command : Command) → slice_get (commands_of verbs graphs) count ≡ Some command → CanReply graphs command answer)
+    → (count < length (flat_map walk_commands graphs) → (command : Command) → slice_get (commands_of verbs graphs) count ≡ Some command → CanReply graphs command answer)
     → TellsNoRoute P walks answer old.addresses.items old.graphs.items new → ⊥
 route_by asks tells counts P v verbs graphs right count answer old new (Some under_way) stands are reply nothing =
-    has_route_left asks tells counts P v verbs graphs right count answer old under_way stands reply old.addresses.items new are nothing
+    has_route_left asks tells counts P v verbs graphs right count answer old under_way stands (reply (walks_on graphs count old under_way stands)) old.addresses.items new are nothing
 route_by asks tells counts P v verbs graphs right count answer old new None stands are reply nothing = nothing
 
 pub route_there : Asks → Tells → Counts → (P : RawCodec → Plan → Type 0) (v : RawCodec → Plan → List Command) (verbs : RawCodec → List Command) (graphs : List RawCodec) → AreRight P v verbs graphs
     → (count answer : ℕ) (old new : Agenda) → Follows P verbs graphs count old
-    → ((command : Command) → slice_get (commands_of verbs graphs) count ≡ Some command → CanReply graphs command answer)
+    → (count < length (flat_map walk_commands graphs) → (command : Command) → slice_get (commands_of verbs graphs) count ≡ Some command → CanReply graphs command answer)
     → TellsNoRoute P old.walk answer old.addresses.items old.graphs.items new → ⊥
 route_there asks tells counts P v verbs graphs right count answer old new follows reply nothing =
     route_by asks tells counts P v verbs graphs right count answer old new old.walk follows.stands follows.addresses reply nothing

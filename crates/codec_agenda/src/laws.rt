@@ -1,5 +1,7 @@
 //! How an agenda follows the commands of its codecs, as the contract of a function that does nothing.
-ghost use Rattle.std.specs.Prelude.{◌≡◌, ℕ, ◌+◌, List, [], ◌∷◌, map, All, Some, slice_get};
+ghost use Rattle.std.specs.Prelude.{◌≡◌, ◌<◌, ℕ, ◌+◌, List, [], ◌∷◌, length, map, All, Some, slice_get};
+ghost use Rattle.std.specs.List.{flat_map};
+ghost use Rattle.codec_walk.specs.Commands.{walk_commands};
 ghost use Rattle.verb_codes.specs.declared.verbs.Command.{Command};
 ghost use Rattle.codec_graph.specs.declared.raw.RawCodec.{RawCodec};
 ghost use Rattle.codec_graph.specs.Cycles.{IsWellFormed};
@@ -23,8 +25,9 @@ pub fn agendas_ask_in_order<T: Setter>()
     asks_what_the_graph_has();
 }
 
-/// Where the graphs are well-formed and some plan of them has a route, an agenda follows their commands from its beginning on, and over
-/// every answer that the codecs can give: no answer is refused then, but for want of memory.
+/// Where the graphs are well-formed and some plan of them has a route, an agenda follows their commands from its beginning on, over every
+/// answer to a walk's command that the codecs can give, and over every answer to a verb: no answer is refused then, but for want of
+/// memory.
 pub fn agendas_follow<T: Setter>()
     ensures begins { (setter : T) (format : Format) (verbs : RawCodec → List Command) (first : RawCodec) (rest : List RawCodec) (agenda : Agenda)
         → agenda.addresses.items ≡ map (λ graph. graph.address) (first ∷ rest) → BeginsWalk agenda.addresses.items [] agenda
@@ -32,18 +35,18 @@ pub fn agendas_follow<T: Setter>()
     ensures leads { (setter : T) (format : Format) (verbs : RawCodec → List Command) (graphs : List RawCodec) (count answer : ℕ) (old new : Agenda)
         → AreRight (λ graph. T.IsPlanBy setter graph format) (λ graph plan. T.verbs_by setter graph plan format TAG) verbs graphs
         → Follows (λ graph. T.IsPlanBy setter graph format) verbs graphs count old
-        → ((command : Command) → slice_get (commands_of verbs graphs) count ≡ Some command → CanReply graphs command answer)
+        → (count < length (flat_map walk_commands graphs) → (command : Command) → slice_get (commands_of verbs graphs) count ≡ Some command → CanReply graphs command answer)
         → LedBy (λ graph. T.IsPlanBy setter graph format) (λ graph plan. T.verbs_by setter graph plan format TAG) old.walk answer old new → new.addresses ≡ old.addresses
         → Follows (λ graph. T.IsPlanBy setter graph format) verbs graphs (count + 1) new }
     ensures well_formed { (setter : T) (format : Format) (verbs : RawCodec → List Command) (graphs : List RawCodec) (count answer : ℕ) (old : Agenda) (fault : WalkFault)
         → AreRight (λ graph. T.IsPlanBy setter graph format) (λ graph plan. T.verbs_by setter graph plan format TAG) verbs graphs
         → Follows (λ graph. T.IsPlanBy setter graph format) verbs graphs count old
-        → ((command : Command) → slice_get (commands_of verbs graphs) count ≡ Some command → CanReply graphs command answer)
+        → (count < length (flat_map walk_commands graphs) → (command : Command) → slice_get (commands_of verbs graphs) count ≡ Some command → CanReply graphs command answer)
         → TellsFault old.walk answer fault → ⊥ }
     ensures routed { (setter : T) (format : Format) (verbs : RawCodec → List Command) (graphs : List RawCodec) (count answer : ℕ) (old new : Agenda)
         → AreRight (λ graph. T.IsPlanBy setter graph format) (λ graph plan. T.verbs_by setter graph plan format TAG) verbs graphs
         → Follows (λ graph. T.IsPlanBy setter graph format) verbs graphs count old
-        → ((command : Command) → slice_get (commands_of verbs graphs) count ≡ Some command → CanReply graphs command answer)
+        → (count < length (flat_map walk_commands graphs) → (command : Command) → slice_get (commands_of verbs graphs) count ≡ Some command → CanReply graphs command answer)
         → TellsNoRoute (λ graph. T.IsPlanBy setter graph format) old.walk answer old.addresses.items old.graphs.items new → ⊥ }
 {
     asks_what_the_graph_has();

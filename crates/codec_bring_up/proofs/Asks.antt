@@ -1,5 +1,6 @@
 -- A call while commands are sent leads where progress says.
-use Rattle.std.proofs.Common.{◌≡◌, ℕ, ◌++◌, Bool, true, false, Option, Some, None, refl, sym, ap, subst, ◌∙◌, arith}
+use Rattle.std.proofs.Common.{◌≡◌, ℕ, List, [], ◌++◌, Bool, true, false, Option, Some, None, refl, sym, ap, subst, ◌∙◌, arith}
+use Rattle.std.specs.Prelude.{◌&&◌, not}
 use Rattle.std.specs.Option.{is_some}
 use Rattle.command_engine.specs.declared.ring_places.RingPlaces.{RingPlaces}
 use Rattle.command_engine.specs.declared.answers.Outstanding.{Outstanding}
@@ -11,14 +12,16 @@ use Rattle.driver_progress.specs.declared.phase.Phase.{Phase}
 use Rattle.driver_progress.specs.declared.phase.Phase.TheVariants.{Reset, Settling, Walking, SettingUp, Ready, Playing, Drained, NothingRouted, Unanswered, Late, Malformed, Failed}
 use Rattle.driver_progress.specs.Tasks.{Task, Order}
 use Rattle.driver_progress.specs.States.{State}
+use Rattle.driver_progress.specs.Expected.{shuts}
+use Rattle.hda_world.specs.Events.{Event}
 use Rattle.driver_stretches.specs.Commands.{ask_accesses}
 use Rattle.driver_stretches.specs.Shutting.{shut_accesses}
-use Rattle.driver_commands.specs.Standing.{Agrees, answers_of, is_asking, goes_on, can_follow, phase_of, next_on}
-use Rattle.driver_commands.specs.Commanding.{LedTo, poll_by, leaves_free, unanswered_if, order_if, submit_made, rings_with, sent_with, state_with, IsStretch, run_of}
-use Rattle.driver_commands.proofs.Commands.{comes, stretch, closing}
-use Rattle.codec_bring_up.specs.declared.bringing.BringUp.{BringUp}
-use Rattle.codec_bring_up.specs.Phases.{is_early}
-use Rattle.codec_bring_up.specs.Calls.{AgreesIn, sent_if}
+use Rattle.driver_commands.specs.Standing.{Agrees, answers_of, phase_of, next_on}
+use Rattle.driver_commands.specs.Commanding.{LedTo, poll_by, leaves_free, unanswered_if, order_if, submit_made, rings_with, sent_with, state_with, IsStretch, IsLastLook, run_of}
+use Rattle.driver_commands.proofs.Callers.{comes, stretch, closing, last_look}
+use Rattle.driver_progress.specs.Phases.{is_asking, goes_on, can_follow, is_early}
+use Rattle.codec_bring_up.specs.Calls.{is_ended, sent_if}
+use Rattle.codec_bring_up.proofs.Leading.{outstanding_none}
 
 -- ---- phases
 
@@ -64,33 +67,32 @@ follows_early (Late from to limit) is = cc
 follows_early (Malformed codec fault) is = refl
 follows_early Failed is = refl
 
-follows_on : (phase : Phase) (task : Task) (bring_up : BringUp) → AgreesIn phase task bring_up → can_follow phase ≡ true → goes_on phase ≡ true
-follows_on Reset task bring_up agrees is = cc
-follows_on Settling task bring_up agrees is = cc
-follows_on Walking task bring_up agrees is = refl
-follows_on SettingUp task bring_up agrees is = refl
-follows_on Ready task bring_up agrees is = refl
-follows_on Playing task bring_up agrees is = cc
-follows_on Drained task bring_up agrees is = cc
-follows_on NothingRouted task bring_up agrees is = absurd agrees
-follows_on (Unanswered codec command issued noticed) task bring_up agrees is = cc
-follows_on (Late from to limit) task bring_up agrees is = cc
-follows_on (Malformed codec fault) task bring_up agrees is = absurd agrees
-follows_on Failed task bring_up agrees is = cc
+-- ---- whether an answer ended it
 
-agrees_then : (phase : Phase) (task : Task) (bring_up : BringUp) → AgreesIn phase task bring_up → goes_on phase ≡ true → Agrees task (answers_of bring_up.sent bring_up.engine.rings.outstanding) bring_up.agenda
-agrees_then Reset task bring_up agrees is = cc
-agrees_then Settling task bring_up agrees is = cc
-agrees_then Walking task bring_up agrees is = agrees
-agrees_then SettingUp task bring_up agrees is = agrees
-agrees_then Ready task bring_up agrees is = agrees
-agrees_then Playing task bring_up agrees is = cc
-agrees_then Drained task bring_up agrees is = cc
-agrees_then NothingRouted task bring_up agrees is = cc
-agrees_then (Unanswered codec command issued noticed) task bring_up agrees is = cc
-agrees_then (Late from to limit) task bring_up agrees is = cc
-agrees_then (Malformed codec fault) task bring_up agrees is = cc
-agrees_then Failed task bring_up agrees is = cc
+not_true : false ≡ true → ⊥
+not_true is = cc
+
+-- one that did not leads on
+not_ended : (asking found follows goes : Bool) → asking ≡ true → found ≡ true → (asking && (found && (follows && not goes))) ≡ false → follows ≡ true → goes ≡ true
+not_ended true true true true asks some ended follow = refl
+not_ended true true true false asks some ended follow = cc
+not_ended true true false goes asks some ended follow = cc
+not_ended true false follows goes asks some ended follow = cc
+not_ended false found follows goes asks some ended follow = cc
+
+-- and one that did does not
+ended_by : (asking found follows goes : Bool) → (asking && (found && (follows && not goes))) ≡ true → (asking ≡ true) × (found ≡ true) × (goes ≡ false)
+ended_by true true true false ended = (refl, refl, refl)
+ended_by true true true true ended = absurd (not_true ended)
+ended_by true true false goes ended = absurd (not_true ended)
+ended_by true false follows goes ended = absurd (not_true ended)
+ended_by false found follows goes ended = absurd (not_true ended)
+
+pub is_over : (old : Phase) (found : Bool) (new : Phase) → is_ended old found new ≡ true → (is_asking old ≡ true) × (found ≡ true) × (goes_on new ≡ false)
+is_over old found new ended = ended_by (is_asking old) found (can_follow new) (goes_on new) ended
+
+pub ended_there : (old new : Phase) (found found' : Option ℕ) (ended : Bool) → found ≡ found' → is_ended old (is_some found') new ≡ ended → is_ended old (is_some found) new ≡ ended
+ended_there old new found found' ended same is = subst (λ (found : Option ℕ). is_ended old (is_some found) new ≡ ended) (sym same) is
 
 -- ---- what a look leaves
 
@@ -98,18 +100,15 @@ given_up : (outstanding : Option Outstanding) (issued noticed : ℕ) (phase : Ph
 given_up None issued noticed phase early = early
 given_up (Some command) issued noticed phase early = refl
 
-not_asking : false ≡ true → ⊥
-not_asking is = cc
+given_up_goes : (outstanding : Option Outstanding) (issued noticed : ℕ) (phase phase' : Phase) → phase' ≡ unanswered_if outstanding issued noticed phase → goes_on phase' ≡ true → phase' ≡ phase
+given_up_goes None issued noticed phase phase' is goes = is
+given_up_goes (Some command) issued noticed phase phase' is goes = absurd (not_true (sym (ap goes_on is) ∙ goes))
 
-given_up_asks : (outstanding : Option Outstanding) (issued noticed : ℕ) (phase phase' : Phase) → phase' ≡ unanswered_if outstanding issued noticed phase → is_asking phase' ≡ true → phase' ≡ phase
-given_up_asks None issued noticed phase phase' is asking = is
-given_up_asks (Some command) issued noticed phase phase' is asking = absurd (not_asking (sym (ap is_asking is) ∙ asking))
-
-pub led_stays : (poll : Poll) (outstanding : Option Outstanding) (phase phase' : Phase) (old new : Agenda) → phase ≡ phase_of old → LedTo poll outstanding phase old phase' new → is_asking phase' ≡ true → phase' ≡ phase_of new
-led_stays polls.Idle outstanding phase phase' old new at led asking = led.0 ∙ at ∙ ap phase_of (sym led.1)
-led_stays (polls.Answered word) outstanding phase phase' old new at led asking = led.1 (asking_goes_on phase' asking)
-led_stays polls.Waiting outstanding phase phase' old new at led asking = led.0 ∙ at ∙ ap phase_of (sym led.1)
-led_stays (polls.Unanswered issued noticed) outstanding phase phase' old new at led asking = given_up_asks outstanding issued noticed phase phase' led.0 asking ∙ at ∙ ap phase_of (sym led.1)
+pub led_stays : (poll : Poll) (outstanding : Option Outstanding) (phase phase' : Phase) (old new : Agenda) → phase ≡ phase_of old → LedTo poll outstanding phase old phase' new → goes_on phase' ≡ true → phase' ≡ phase_of new
+led_stays polls.Idle outstanding phase phase' old new at led goes = led.0 ∙ at ∙ ap phase_of (sym led.1)
+led_stays (polls.Answered word) outstanding phase phase' old new at led goes = led.1 goes
+led_stays polls.Waiting outstanding phase phase' old new at led goes = led.0 ∙ at ∙ ap phase_of (sym led.1)
+led_stays (polls.Unanswered issued noticed) outstanding phase phase' old new at led goes = given_up_goes outstanding issued noticed phase phase' led.0 goes ∙ at ∙ ap phase_of (sym led.1)
 
 pub led_early : (poll : Poll) (outstanding : Option Outstanding) (phase phase' : Phase) (old new : Agenda) → is_asking phase ≡ true → LedTo poll outstanding phase old phase' new → is_early phase' ≡ true
 led_early polls.Idle outstanding phase phase' old new asking led = ap is_early led.0 ∙ asking_early phase asking
@@ -135,7 +134,7 @@ pub started_with : (order : Option Order) (clock : ℕ) (rings : RingPlaces) →
 started_with None clock rings = refl
 started_with (Some order) clock rings = refl
 
-sent_same : (order : Option Order) (sent : ℕ) → sent_if (is_some order) sent ≡ sent_with order sent
+pub sent_same : (order : Option Order) (sent : ℕ) → sent_if (is_some order) sent ≡ sent_with order sent
 sent_same None sent = refl
 sent_same (Some order) sent = refl
 
@@ -143,26 +142,26 @@ count_same : (order : Option Order) (sent clock : ℕ) (rings : RingPlaces) → 
 count_same None sent clock rings none = ap (λ (outstanding : Option Outstanding). answers_of sent outstanding) none
 count_same (Some order) sent clock rings none = omega arith
 
--- a call leads on: of the driver with these bring_up after it
-pub command_with : (task : Task) (state : State) (budget clock : ℕ) (reads : PollReads) (phase' : Phase) (old new : Agenda) (free submits : Bool) (corb rirb sent' : ℕ) (polled rings' : RingPlaces) (bring_up : BringUp)
+-- a call leads on
+pub command_with : (task : Task) (state : State) (budget clock : ℕ) (reads : PollReads) (phase' : Phase) (old new : Agenda) (free submits : Bool) (corb rirb sent' : ℕ) (polled rings' : RingPlaces)
     → task.blocks.corb ≡ corb → task.blocks.rirb ≡ rirb → is_asking state.phase ≡ true → state.phase ≡ phase_of old → AreNew state.rings reads
     → LedTo (poll_by state.rings reads clock) state.rings.outstanding state.phase old phase' new
     → free ≡ leaves_free (poll_by state.rings reads clock) phase' → polled ≡ rings_polled state.rings reads → (free ≡ true → polled.outstanding ≡ None)
     → submits ≡ is_some (order_if free (next_on new)) → sent' ≡ sent_if submits state.sent → rings' ≡ rings_with (order_if free (next_on new)) clock polled
-    → bring_up.sent ≡ sent' → bring_up.engine.rings ≡ rings' → bring_up.agenda ≡ new → AgreesIn phase' task bring_up
+    → is_ended state.phase (is_some (found_by state.rings reads)) phase' ≡ false → (goes_on phase' ≡ true → Agrees task (answers_of sent' rings'.outstanding) new)
     → IsStretch task state (Some (run_of budget)) (ask_accesses rirb clock state.rings reads ++ submit_made corb polled (order_if free (next_on new))) (is_some (found_by state.rings reads))
     (record state { phase = phase'; sent = sent'; rings = rings' })
-command_with task state budget clock reads phase' old new free submits corb rirb sent' polled rings' bring_up of_corb of_rirb asking at fresh led is polled_is idle submitted sent_is rings_is of_sent of_rings of_agenda agrees =
+command_with task state budget clock reads phase' old new free submits corb rirb sent' polled rings' of_corb of_rirb asking at fresh led is polled_is idle submitted sent_is rings_is ended agrees =
     let order = order_if free (next_on new) in
     let found = is_some (found_by state.rings reads) in
     let line = Some (run_of budget) in
     let sent = sent_is ∙ ap (λ (submits : Bool). sent_if submits state.sent) submitted ∙ sent_same order state.sent in
     let free_agrees = λ (free_is : free ≡ true).
-    let there = agrees_then phase' task bring_up agrees (free_goes_on (poll_by state.rings reads clock) state.rings.outstanding state.phase phase' old new asking led (sym is ∙ free_is)) in
-    let counted = ap (λ (sent : ℕ). answers_of sent bring_up.engine.rings.outstanding) (of_sent ∙ sent) ∙ ap (λ (rings : RingPlaces). answers_of (sent_with order state.sent) rings.outstanding) (of_rings ∙ rings_is) ∙ count_same order state.sent clock polled (idle free_is) in
-    subst (λ (agenda : Agenda). Agrees task state.sent agenda) of_agenda (subst (λ (count : ℕ). Agrees task count bring_up.agenda) counted there) in
+    let there = agrees (free_goes_on (poll_by state.rings reads clock) state.rings.outstanding state.phase phase' old new asking led (sym is ∙ free_is)) in
+    let counted = ap (λ (sent : ℕ). answers_of sent rings'.outstanding) sent ∙ ap (λ (rings : RingPlaces). answers_of (sent_with order state.sent) rings.outstanding) rings_is ∙ count_same order state.sent clock polled (idle free_is) in
+    subst (λ (count : ℕ). Agrees task count new) counted there in
     let leads = comes task state clock state.rings.outstanding (found_by state.rings reads) phase' old new free led is at
-    (found_free state.rings.outstanding (found_by state.rings reads) clock state.phase phase' old new free led is (follows_on phase' task bring_up agrees)) free_agrees in
+    (λ some. found_free state.rings.outstanding (found_by state.rings reads) clock state.phase phase' old new free led is (not_ended (is_asking state.phase) found (can_follow phase') (goes_on phase') asking some ended) some) free_agrees in
     let one = stretch task state budget clock reads phase' order asking fresh leads in
     let two = subst (λ (rirb : ℕ). IsStretch task state line (ask_accesses rirb clock state.rings reads ++ submit_made task.blocks.corb (rings_polled state.rings reads) order) found (state_with state phase' order clock (rings_polled state.rings reads))) of_rirb one in
     let three = subst (λ (corb : ℕ). IsStretch task state line (ask_accesses rirb clock state.rings reads ++ submit_made corb (rings_polled state.rings reads) order) found (state_with state phase' order clock (rings_polled state.rings reads))) of_corb two in
@@ -171,20 +170,54 @@ command_with task state budget clock reads phase' old new free submits corb rirb
     subst (λ (sent : ℕ). IsStretch task state line (ask_accesses rirb clock state.rings reads ++ submit_made corb polled order) found (record state { phase = phase'; sent = sent; rings = rings' })) (sym sent) five
 
 -- and so does the last call
-pub end_with : (task : Task) (state : State) (clock : ℕ) (reads : PollReads) (phase' : Phase) (old new : Agenda) (free : Bool) (rirb : ℕ) (polled : RingPlaces) (bring_up : BringUp)
+pub end_with : (task : Task) (state : State) (clock : ℕ) (reads : PollReads) (phase' : Phase) (old new : Agenda) (free : Bool) (rirb : ℕ) (polled : RingPlaces)
     → task.blocks.rirb ≡ rirb → is_asking state.phase ≡ true → state.phase ≡ phase_of old → AreNew state.rings reads
     → LedTo (poll_by state.rings reads clock) state.rings.outstanding state.phase old phase' new
     → free ≡ leaves_free (poll_by state.rings reads clock) phase' → polled ≡ rings_polled state.rings reads → (free ≡ true → polled.outstanding ≡ None)
-    → bring_up.sent ≡ state.sent → bring_up.engine.rings ≡ polled → bring_up.agenda ≡ new → AgreesIn phase' task bring_up
+    → is_ended state.phase (is_some (found_by state.rings reads)) phase' ≡ false → (goes_on phase' ≡ true → Agrees task (answers_of state.sent polled.outstanding) new)
     → IsStretch task state None (ask_accesses rirb clock state.rings reads ++ shut_accesses) (is_some (found_by state.rings reads)) (record state { phase = phase'; rings = polled })
-end_with task state clock reads phase' old new free rirb polled bring_up of_rirb asking at fresh led is polled_is idle of_sent of_rings of_agenda agrees =
+end_with task state clock reads phase' old new free rirb polled of_rirb asking at fresh led is polled_is idle ended agrees =
     let found = is_some (found_by state.rings reads) in
     let free_agrees = λ (free_is : free ≡ true).
-    let there = agrees_then phase' task bring_up agrees (free_goes_on (poll_by state.rings reads clock) state.rings.outstanding state.phase phase' old new asking led (sym is ∙ free_is)) in
-    let counted = ap (λ (sent : ℕ). answers_of sent bring_up.engine.rings.outstanding) of_sent ∙ ap (λ (rings : RingPlaces). answers_of state.sent rings.outstanding) of_rings ∙ ap (λ (outstanding : Option Outstanding). answers_of state.sent outstanding) (idle free_is) in
-    subst (λ (agenda : Agenda). Agrees task state.sent agenda) of_agenda (subst (λ (count : ℕ). Agrees task count bring_up.agenda) counted there) in
+    let there = agrees (free_goes_on (poll_by state.rings reads clock) state.rings.outstanding state.phase phase' old new asking led (sym is ∙ free_is)) in
+    let counted = ap (λ (outstanding : Option Outstanding). answers_of state.sent outstanding) (idle free_is) in
+    subst (λ (count : ℕ). Agrees task count new) counted there in
     let leads = comes task state clock state.rings.outstanding (found_by state.rings reads) phase' old new free led is at
-    (found_free state.rings.outstanding (found_by state.rings reads) clock state.phase phase' old new free led is (follows_on phase' task bring_up agrees)) free_agrees in
+    (λ some. found_free state.rings.outstanding (found_by state.rings reads) clock state.phase phase' old new free led is (not_ended (is_asking state.phase) found (can_follow phase') (goes_on phase') asking some ended) some) free_agrees in
     let one = closing task state clock reads phase' (order_if free (next_on new)) asking fresh leads in
     let two = subst (λ (rirb : ℕ). IsStretch task state None (ask_accesses rirb clock state.rings reads ++ shut_accesses) found (record state { phase = phase'; rings = rings_polled state.rings reads })) of_rirb one in
     subst (λ (polled : RingPlaces). IsStretch task state None (ask_accesses rirb clock state.rings reads ++ shut_accesses) found (record state { phase = phase'; rings = polled })) (sym polled_is) two
+
+-- ---- where an answer ends it
+
+free_false : (outstanding : Option Outstanding) (found : Option ℕ) (clock : ℕ) (phase' : Phase) → (outstanding ≡ None → found ≡ None) → is_some found ≡ true → goes_on phase' ≡ false → leaves_free (poll_of outstanding found clock) phase' ≡ false
+free_false None found clock phase' none some goes = absurd (not_true (sym (ap (λ (found : Option ℕ). is_some found) (none refl)) ∙ some))
+free_false (Some command) None clock phase' none some goes = cc
+free_false (Some command) (Some word) clock phase' none some goes = goes
+
+-- nothing is submitted after it
+pub command_last : (task : Task) (state : State) (clock : ℕ) (reads : PollReads) (phase' : Phase) (new : Agenda) (free submits : Bool) (corb rirb sent' : ℕ) (polled rings' : RingPlaces)
+    → task.blocks.rirb ≡ rirb → AreNew state.rings reads → free ≡ leaves_free (poll_by state.rings reads clock) phase' → polled ≡ rings_polled state.rings reads
+    → submits ≡ is_some (order_if free (next_on new)) → sent' ≡ sent_if submits state.sent → rings' ≡ rings_with (order_if free (next_on new)) clock polled
+    → is_ended state.phase (is_some (found_by state.rings reads)) phase' ≡ true
+    → IsLastLook task state false [] (ask_accesses rirb clock state.rings reads ++ submit_made corb polled (order_if free (next_on new))) (record state { phase = phase'; sent = sent'; rings = rings' })
+command_last task state clock reads phase' new free submits corb rirb sent' polled rings' of_rirb fresh is polled_is submitted sent_is rings_is ended =
+    let over = is_over state.phase (is_some (found_by state.rings reads)) phase' ended in
+    let none = is ∙ free_false state.rings.outstanding (found_by state.rings reads) clock phase' (outstanding_none state.rings reads) over.1 over.2 in
+    let order = ap (λ (free : Bool). order_if free (next_on new)) none in
+    let sent = sent_is ∙ ap (λ (submits : Bool). sent_if submits state.sent) (submitted ∙ ap (λ (order : Option Order). is_some order) order) in
+    let rings = rings_is ∙ ap (λ (order : Option Order). rings_with order clock polled) order ∙ polled_is in
+    let one = last_look task state clock reads [] phase' fresh over.1 in
+    let two = subst (λ (rirb : ℕ). IsLastLook task state false [] (ask_accesses rirb clock state.rings reads ++ []) (record state { phase = phase'; rings = rings_polled state.rings reads })) of_rirb one in
+    let three = subst (λ (made : List Event). IsLastLook task state false [] (ask_accesses rirb clock state.rings reads ++ made) (record state { phase = phase'; rings = rings_polled state.rings reads })) (sym (ap (λ (order : Option Order). submit_made corb polled order) order)) two in
+    let four = subst (λ (rings : RingPlaces). IsLastLook task state false [] (ask_accesses rirb clock state.rings reads ++ submit_made corb polled (order_if free (next_on new))) (record state { phase = phase'; rings = rings })) (sym rings) three in
+    subst (λ (sent : ℕ). IsLastLook task state false [] (ask_accesses rirb clock state.rings reads ++ submit_made corb polled (order_if free (next_on new))) (record state { phase = phase'; sent = sent; rings = rings' })) (sym sent) four
+
+-- or all is shut
+pub end_last : (task : Task) (state : State) (clock : ℕ) (reads : PollReads) (phase' : Phase) (rirb : ℕ) (polled : RingPlaces)
+    → task.blocks.rirb ≡ rirb → AreNew state.rings reads → polled ≡ rings_polled state.rings reads → is_ended state.phase (is_some (found_by state.rings reads)) phase' ≡ true
+    → IsLastLook task state false shuts (ask_accesses rirb clock state.rings reads ++ shut_accesses) (record state { phase = phase'; rings = polled })
+end_last task state clock reads phase' rirb polled of_rirb fresh polled_is ended =
+    let one = last_look task state clock reads shut_accesses phase' fresh (is_over state.phase (is_some (found_by state.rings reads)) phase' ended).1 in
+    let two = subst (λ (rirb : ℕ). IsLastLook task state false shuts (ask_accesses rirb clock state.rings reads ++ shut_accesses) (record state { phase = phase'; rings = rings_polled state.rings reads })) of_rirb one in
+    subst (λ (rings : RingPlaces). IsLastLook task state false shuts (ask_accesses rirb clock state.rings reads ++ shut_accesses) (record state { phase = phase'; rings = rings })) (sym polled_is) two

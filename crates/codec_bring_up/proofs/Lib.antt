@@ -1,4 +1,7 @@
+pub mod Callers
 pub mod Settles
+pub mod Leading
 pub mod Asks
 pub mod Still
-pub mod Leading
+pub mod Staying
+pub mod Unread

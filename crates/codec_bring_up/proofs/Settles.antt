@@ -30,10 +30,10 @@ use Rattle.driver_progress.specs.Next.{settled_if, walking_if, led, tally_next}
 use Rattle.driver_stretches.specs.declared.settling.Settled.{Settled}
 use Rattle.driver_stretches.specs.declared.settling.Settled.TheVariants.{TooEarly, NoCodec, Codecs}
 use Rattle.driver_stretches.specs.Settling.{start_if, settle_accesses, codecs_found, found_if, rings_after}
-use Rattle.driver_stretches.proofs.Fitting.{settle_fits_by}
+use Rattle.driver_stretches.proofs.Callers.{settle_fits_by}
 use Rattle.driver_commands.specs.Standing.{phase_at}
-use Rattle.driver_commands.specs.Commanding.{IsStretch, run_of, entries_in}
-use Rattle.driver_commands.proofs.Commands.{once}
+use Rattle.driver_commands.specs.Commanding.{IsStretch, run_of}
+use Rattle.driver_commands.proofs.Callers.{once}
 
 -- ---- what was found
 
@@ -148,20 +148,16 @@ pub status_read : (settled : Bool) (clock corb rirb : ℕ) (reads : StartReads) 
 status_read true clock corb rirb reads is = refl
 status_read false clock corb rirb reads is = cc
 
-settings_entries : (found : Option RingPlaces) (corb rirb : ℕ) (reads : StartReads) → entries_in (settings_if found corb rirb reads) ≡ []
-settings_entries None corb rirb reads = refl
-settings_entries (Some rings) corb rirb reads = refl
-
-start_entries : (settled : Bool) (clock corb rirb : ℕ) (reads : StartReads) → entries_in (Read WALCLK Four clock ∷ start_if settled corb rirb reads) ≡ []
-start_entries false clock corb rirb reads = refl
-start_entries true clock corb rirb reads = settings_entries (rings_read reads) corb rirb reads
-
-pub settle_entries : (kept clock corb rirb : ℕ) (reads : StartReads) → entries_in (settle_accesses kept clock corb rirb reads) ≡ []
-settle_entries kept clock corb rirb reads = start_entries (has_settled kept clock) clock corb rirb reads
-
 pub begins_with : (settled : Bool) (reads : StartReads) (bits clock corb rirb : ℕ) (addresses : List ℕ) (agenda : Agenda) → Codecs bits ≡ found_if settled reads → addresses ≡ addresses_in bits
     → agenda.addresses.items ≡ addresses → BeginsWalk addresses [] agenda → Begins (slice_index (values_of (Read WALCLK Four clock ∷ start_if settled corb rirb reads) STATESTS) 0) agenda
 begins_with settled reads bits clock corb rirb addresses agenda is are asked begins =
     let found = found_some settled reads bits is in
     let same = are ∙ ap (λ (bits : ℕ). addresses_in bits) (found.4 ∙ ap (λ (status : ℕ). codecs_in status) (sym (status_read settled clock corb rirb reads found.3))) in
     record { addresses = asked ∙ same; begins = subst (λ (addresses : List ℕ). BeginsWalk addresses [] agenda) same begins }
+
+-- the codecs that were found are those that the state change status names
+pub found_named : (settled : Bool) (reads : StartReads) (bits clock corb rirb : ℕ) → Codecs bits ≡ found_if settled reads
+    → bits ≡ codecs_in (slice_index (values_of (Read WALCLK Four clock ∷ start_if settled corb rirb reads) STATESTS) 0)
+found_named settled reads bits clock corb rirb is =
+    let found = found_some settled reads bits is in
+    found.4 ∙ ap (λ (status : ℕ). codecs_in status) (sym (status_read settled clock corb rirb reads found.3))

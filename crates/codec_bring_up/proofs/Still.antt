@@ -15,14 +15,13 @@ use Rattle.driver_progress.specs.Requests.{Request, Gets, requests_of}
 use Rattle.driver_progress.specs.Tasks.{Task, DriverLine}
 use Rattle.driver_progress.specs.Seen.{Seen, seen_by, values_of}
 use Rattle.driver_progress.specs.States.{State}
-use Rattle.driver_progress.specs.Expected.{runs, starts, is_active, clears, interrupted_if, closes, shuts}
-use Rattle.driver_progress.specs.Next.{led, closed, tally_next, next, expected}
+use Rattle.driver_progress.specs.Expected.{runs, starts, asks, clears, interrupted_if, closes, shuts}
+use Rattle.driver_progress.specs.Next.{led, closed, polled, tally_next, next, expected}
 use Rattle.driver_stretches.specs.Interrupts.{clear_accesses, interrupt_accesses}
 use Rattle.driver_stretches.specs.Shutting.{shut_accesses}
-use Rattle.driver_stretches.proofs.Fitting.{interrupt_fits}
-use Rattle.driver_commands.specs.Standing.{is_asking}
-use Rattle.driver_commands.specs.Commanding.{IsStretch, run_of}
-use Rattle.codec_bring_up.specs.Phases.{is_early, is_reset, is_settling}
+use Rattle.driver_stretches.proofs.Callers.{interrupt_fits}
+use Rattle.driver_commands.specs.Commanding.{IsStretch, IsLastLook, run_of}
+use Rattle.driver_progress.specs.Phases.{is_active, is_asking, is_early, is_reset, is_settling}
 
 -- ---- nothing is left to do
 
@@ -284,6 +283,27 @@ pub interrupted_stretch : (task : Task) (state : State) (budget : ℕ) (made : L
 interrupted_stretch task state budget made found state' interrupts stream on active run =
     subst (λ (events : List Event). IsStretch task state (Some (irq_of budget)) events found state') (ap (λ (on : Bool). Read INTSTS Four interrupts ∷ ((if on then clear_accesses interrupts stream else []) ++ made)) (sym on))
     (clears_first task state budget made found state' interrupts stream on active run)
+
+-- and where an answer ended it
+last_first : (task : Task) (state : State) (later : List Request) (made : List Event) (state' : State) (interrupts stream : ℕ) → has_bit interrupts 31 ≡ true
+    → IsLastLook task state false later made state' → IsLastLook task state true later (Read INTSTS Four interrupts ∷ (clear_accesses interrupts stream ++ made)) state'
+unfolding interrupted_seen
+last_first task state later made state' interrupts stream on last =
+    let seen = interrupted_seen (has_bit interrupts 1) interrupts stream made true in
+    let whole = seen_same (has_bit interrupts 1) interrupts stream made true in
+    let cleared = λ (is : has_bit interrupts 1 ≡ true). ap (λ (clears : Bool). if clears then stream else (seen_by (values_of made) true).stream) is in record {
+      fits = ap (λ (on : Bool). requests_of (Read INTSTS Four interrupts ∷ (if on then clear_accesses interrupts stream ++ made else []))) (sym on)
+          ∙ interrupt_fits interrupts stream seen made refl cleared
+          ∙ ap (λ (asked : List Request). interrupted_if true seen asked) last.fits
+          ∙ ap (λ (seen : Seen). interrupted_if true seen (asks task state seen later)) (sym whole);
+      leads = last.leads ∙ ap (λ (seen : Seen). record state { phase = state'.phase; rings = polled state.rings seen }) (sym whole);
+    }
+
+pub interrupted_last : (task : Task) (state : State) (later : List Request) (made : List Event) (state' : State) (interrupts stream : ℕ) → has_bit interrupts 31 ≡ true
+    → IsLastLook task state false later made state' → IsLastLook task state true later (interrupt_accesses interrupts stream ++ made) state'
+interrupted_last task state later made state' interrupts stream on last =
+    subst (λ (events : List Event). IsLastLook task state true later events state') (ap (λ (on : Bool). Read INTSTS Four interrupts ∷ ((if on then clear_accesses interrupts stream else []) ++ made)) (sym on))
+    (last_first task state later made state' interrupts stream on last)
 
 pub asking_active : (phase : Phase) → is_asking phase ≡ true → is_active phase ≡ true
 asking_active Reset is = refl

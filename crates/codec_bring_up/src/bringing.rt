@@ -1,7 +1,7 @@
 //! The bring-up.
 ghost use Rattle.std.specs.Prelude.{◌≡◌, ◌≤◌, ◌*◌, [], true, false};
-ghost use Rattle.driver_commands.specs.Standing.{is_asking, phase_of};
-ghost use Rattle.codec_bring_up.specs.Phases.{is_early};
+ghost use Rattle.driver_progress.specs.Phases.{is_asking, goes_on, is_early};
+ghost use Rattle.driver_commands.specs.Standing.{phase_of};
 
 mod calling;
 mod opening;
@@ -31,7 +31,7 @@ pub struct BringUp {
     /// How many of its calls looked for an answer.
     looks: u32,
     pub ghost formats: { agenda.format ≡ format },
-    pub ghost led: { is_asking phase ≡ true → phase ≡ phase_of agenda },
+    pub ghost led: { goes_on phase ≡ true → phase ≡ phase_of agenda },
     pub ghost started: { is_asking phase ≡ true → engine.rings.started ≡ true },
     pub ghost quiet: { engine.events.items ≡ [] },
     pub ghost early: { is_early phase ≡ true },

@@ -26,6 +26,8 @@ pub use Rattle.command_engine.proofs.Quiet.{reset_quiet}
 pub use Rattle.command_engine.proofs.Quiet.{risen_can_start, reset_can_start}
 -- a submission leads on
 pub use Rattle.command_engine.proofs.SubmitTellings.{submit_leaves}
+-- the engine stands where the command's word was written to CORB
+pub use Rattle.command_engine.proofs.SubmitTellings.{stored_stands}
 -- and so does a poll
 pub use Rattle.command_engine.proofs.PollTellings.{poll_leaves}
 -- where nothing happens, no access is made

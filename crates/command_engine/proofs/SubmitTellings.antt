@@ -64,7 +64,7 @@ module _ (from read corb rirb : ℕ) (rings : RingPlaces) (stands : EachStands) 
       by (inr next) = absurd next.is
 
   -- the word is written while nothing is left to fetch
-  stored_stands : (world : World) → Stands from read corb rirb rings world
+  pub stored_stands : (world : World) → Stands from read corb rirb rings world
       → StandsBy from read corb rirb rings (part_of world.registers) (stored world.memory at_entry (little_bytes 4 command.word)) world.codecs world.waiting world.commands world.written
   stored_stands world holds =
       let both = stored_outside at_entry (little_bytes 4 command.word) world.memory in

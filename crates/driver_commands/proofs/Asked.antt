@@ -14,7 +14,7 @@ use Rattle.driver_progress.specs.Tasks.{Blocks, Order}
 use Rattle.driver_progress.specs.Seen.{seen_by, values_of, value_in}
 use Rattle.driver_progress.specs.Expected.{polls, submits}
 use Rattle.driver_stretches.specs.Commands.{ask_accesses}
-use Rattle.driver_stretches.proofs.Fitting.{poll_fits}
+use Rattle.driver_stretches.proofs.Callers.{poll_fits}
 use Rattle.driver_commands.specs.Commanding.{submit_made}
 
 -- all accesses of a call that goes on with these

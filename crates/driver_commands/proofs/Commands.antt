@@ -16,12 +16,13 @@ use Rattle.driver_progress.specs.declared.phase.Phase.{Phase}
 use Rattle.driver_progress.specs.declared.phase.Phase.TheVariants.{Reset, Settling, Walking, SettingUp, Ready, Playing, Drained, NothingRouted, Unanswered, Late, Malformed, Failed}
 use Rattle.driver_progress.specs.Tasks.{Task, Order, DriverLine}
 use Rattle.driver_progress.specs.Seen.{Seen, seen_by, values_of}
+use Rattle.driver_progress.specs.Phases.{is_asking}
 use Rattle.driver_progress.specs.States.{State}
 use Rattle.driver_progress.specs.Expected.{submits, asks, runs, is_free, next_order}
 use Rattle.driver_progress.specs.Next.{outstanding_if, polled, phase_polled, phase_of_answers, after_poll, submitted_if, after_commands, led, tally_next}
-use Rattle.driver_commands.specs.Standing.{next_on, phase_of, is_asking, Agrees}
+use Rattle.driver_commands.specs.Standing.{next_on, phase_of, Agrees}
 use Rattle.hda_registers.specs.declared.places.TheConstants.{WALCLK}
-use Rattle.driver_commands.specs.Commanding.{LedTo, leaves_free, order_if, IsStretch, run_of, state_with}
+use Rattle.driver_commands.specs.Commanding.{LedTo, leaves_free, order_if, IsStretch, IsLastLook, run_of, state_with}
 use Rattle.driver_stretches.specs.Shutting.{shut_accesses}
 use Rattle.driver_commands.specs.Commanding.{submit_made}
 use Rattle.driver_commands.proofs.Asked.{call_made, none_submitted, one_clock, pointer_seen, submit_fits, call_fits}
@@ -29,9 +30,7 @@ use Rattle.hda_world.specs.Events.{Event}
 use Rattle.driver_progress.specs.Expected.{closes, shuts}
 use Rattle.driver_progress.specs.Next.{closed}
 use Rattle.driver_progress.specs.Seen.{values_of}
-use Rattle.std.proofs.Common.{List}
-use Rattle.driver_progress.specs.Requests.{Request}
-use Rattle.std.specs.Option.{is_some}
+use Rattle.driver_progress.specs.Requests.{Request, requests_of}
 
 -- ---- while commands are sent
 
@@ -222,4 +221,21 @@ closing task state clock reads phase' order asking new comes =
       leads = ap (λ (looked : State). record looked { tally = state.tally }) (looked_same task state clock reads phase' order shut_accesses comes)
           ∙ ap (λ (tally : Tally). record (after_poll task state seen) { tally = tally }) (sym kept)
           ∙ ap (λ (state' : State). record state' { tally = tally }) (sym (closed_asks task state seen tally state.phase asking));
+    }
+
+-- ---- a look after which no command comes
+
+still_none : (outstanding : Option Outstanding) (found : Option ℕ) → is_some found ≡ true → still_outstanding outstanding found ≡ outstanding_if true outstanding
+still_none None None some = cc
+still_none None (Some word) some = refl
+still_none (Some command) None some = cc
+still_none (Some command) (Some word) some = refl
+
+pub last_look : (task : Task) (state : State) (clock : ℕ) (reads : PollReads) (rest : List Event) (phase' : Phase) → AreNew state.rings reads → is_some (found_by state.rings reads) ≡ true
+    → IsLastLook task state false (requests_of rest) (call_made task.blocks.rirb clock state.rings reads rest) (record state { phase = phase'; rings = rings_polled state.rings reads })
+last_look task state clock reads rest phase' new some =
+    let seen = seen_by (values_of (call_made task.blocks.rirb clock state.rings reads rest)) true in record {
+      fits = call_fits task.blocks.rirb clock state.rings reads rest true new;
+      leads = ap (λ (rings : RingPlaces). record state { phase = phase'; rings = rings })
+          (sym (rings_same state.rings reads seen true refl (pointer_seen task.blocks.rirb clock state.rings reads rest true) refl (still_none state.rings.outstanding (found_by state.rings reads) some)));
     }

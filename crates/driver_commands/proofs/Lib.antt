@@ -1,3 +1,4 @@
+pub mod Callers
 mod Agreeing
 mod Asked
 pub mod Commands

@@ -20,14 +20,16 @@ use Rattle.command_engine.specs.Submitting.{submit_accesses, rings_submitted}
 use Rattle.codec_agenda.specs.declared.agenda.Agenda.{Agenda}
 use Rattle.driver_progress.specs.declared.phase.Phase.{Phase}
 use Rattle.driver_progress.specs.declared.phase.Phase.TheVariants.{Unanswered}
-use Rattle.driver_progress.specs.Requests.{requests_of}
+use Rattle.driver_progress.specs.Phases.{goes_on, can_follow}
+use Rattle.driver_progress.specs.Requests.{Request, requests_of}
 use Rattle.driver_progress.specs.Tasks.{Task, Order, DriverLine}
 use Rattle.driver_progress.specs.Seen.{seen_by, values_of}
 use Rattle.driver_progress.specs.States.{State}
-use Rattle.driver_progress.specs.Next.{next, expected}
+use Rattle.driver_progress.specs.Expected.{asks, interrupted_if}
+use Rattle.driver_progress.specs.Next.{next, expected, polled}
 use Rattle.driver_stretches.specs.Commands.{ask_accesses}
 use Rattle.driver_commands.specs.declared.answering.Answer.{Answer}
-use Rattle.driver_commands.specs.Standing.{phase_of, goes_on, can_follow, order_in, LeadsOn, EndsBy}
+use Rattle.driver_commands.specs.Standing.{phase_of, order_in, LeadsOn, EndsBy}
 
 -- ---- what is read of RIRB
 
@@ -116,6 +118,12 @@ rings_with (Some order) clock rings = rings_submitted rings (record { codec = or
 pub record IsStretch (task : Task) (state : State) (turn : Option DriverLine) (made : List Event) (found : Bool) (state' : State) : Type 0 where
   pub fits : requests_of made ≡ expected task state turn (seen_by (values_of made) found)
   pub leads : state' ≡ next task state turn (seen_by (values_of made) found)
+
+-- one in which an answer ends what is to be done: the look, with one for interrupts before it where the call is for them, and then just
+-- these accesses. RIRB is read, nothing is outstanding, and all else stays
+pub record IsLastLook (task : Task) (state : State) (irq : Bool) (later : List Request) (made : List Event) (state' : State) : Type 0 where
+  pub fits : requests_of made ≡ interrupted_if irq (seen_by (values_of made) true) (asks task state (seen_by (values_of made) true) later)
+  pub leads : state' ≡ record state { phase = state'.phase; rings = polled state.rings (seen_by (values_of made) true) }
 
 -- a call that is not for an interrupt
 abbrev pub run_of : (budget : ℕ) → DriverLine

@@ -7,6 +7,7 @@ use Rattle.route_planner.specs.declared.routes.Plan.{Plan}
 use Rattle.command_engine.specs.declared.answers.Outstanding.{Outstanding}
 use Rattle.driver_progress.specs.declared.phase.Phase.{Phase}
 use Rattle.driver_progress.specs.declared.phase.Phase.TheVariants.{Reset, Settling, Walking, SettingUp, Ready, Playing, Drained, NothingRouted, Unanswered, Late, Malformed, Failed}
+use Rattle.driver_progress.specs.Phases.{goes_on}
 use Rattle.driver_progress.specs.Tasks.{Task, Order, order_of}
 use Rattle.driver_progress.specs.Next.{phase_of_answers}
 use Rattle.codec_agenda.specs.declared.agenda.Agenda.{Agenda}
@@ -23,51 +24,6 @@ phase_at true false = SettingUp
 
 abbrev pub phase_of : Agenda → Phase
 phase_of agenda = phase_at (is_some (next_on agenda)) (is_some agenda.walk)
-
--- whether commands are sent in a phase
-abbrev pub is_asking : Phase → Bool
-is_asking Reset = false
-is_asking Settling = false
-is_asking Walking = true
-is_asking SettingUp = true
-is_asking Ready = false
-is_asking Playing = false
-is_asking Drained = false
-is_asking NothingRouted = false
-is_asking (Unanswered codec command issued noticed) = false
-is_asking (Late from to limit) = false
-is_asking (Malformed codec fault) = false
-is_asking Failed = false
-
--- whether an answer leads on in a phase that it led to
-abbrev pub goes_on : Phase → Bool
-goes_on Reset = false
-goes_on Settling = false
-goes_on Walking = true
-goes_on SettingUp = true
-goes_on Ready = true
-goes_on Playing = false
-goes_on Drained = false
-goes_on NothingRouted = false
-goes_on (Unanswered codec command issued noticed) = false
-goes_on (Late from to limit) = false
-goes_on (Malformed codec fault) = false
-goes_on Failed = false
-
--- whether an answer can lead to a phase: to more commands, to none, or to an end
-abbrev pub can_follow : Phase → Bool
-can_follow Reset = false
-can_follow Settling = false
-can_follow Walking = true
-can_follow SettingUp = true
-can_follow Ready = true
-can_follow Playing = false
-can_follow Drained = false
-can_follow NothingRouted = true
-can_follow (Unanswered codec command issued noticed) = false
-can_follow (Late from to limit) = false
-can_follow (Malformed codec fault) = true
-can_follow Failed = false
 
 -- an answer led to this phase
 pub record LeadsOn (IsPlanBy : RawCodec → Plan → Type 0) (verbs_by : RawCodec → Plan → List Command) (answer : ℕ) (old new : Agenda) (phase : Phase) : Type 0 where

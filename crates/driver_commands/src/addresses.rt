@@ -8,7 +8,10 @@ use verb_codes::has_bit;
 /// How many addresses a codec may have: 0 to 14 (HDA 1.0a, 3.3.9).
 const ADDRESSES: u8 = 15;
 
-/// The addresses whose bits are set, ascending: bit n for address n.
+/// How many codecs are walked at most. This project's own.
+const MOST_CODECS: usize = 4;
+
+/// The addresses whose bits are set, ascending, the four lowest where more are: bit n for address n.
 ///
 /// # Errors
 /// Want of memory.
@@ -19,7 +22,7 @@ pub fn addresses_in(alloc: Global, bits: u16) -> Result<Vec<u8>, AllocError>
 {
     let mut addresses = Vec::new(alloc);
     for address in 0..ADDRESSES {
-        if has_bit(u32::from(bits), u32::from(address)) {
+        if addresses.len() < MOST_CODECS && has_bit(u32::from(bits), u32::from(address)) {
             addresses.push(address)?;
         }
     }

@@ -1,5 +1,6 @@
 //! A look for the answer to the outstanding command, and where it leads.
 ghost use Rattle.std.specs.Prelude.{◌≡◌, ◌≤◌, ◌+◌, [], true, None, IfOk, IsSome};
+ghost use Rattle.driver_progress.specs.Phases as phases;
 ghost use Rattle.driver_commands.specs.Standing as standing;
 ghost use Rattle.driver_commands.specs.Commanding as spec;
 
@@ -121,7 +122,7 @@ fn leaves_free(poll: Poll, phase: Phase) -> bool
 
 /// Whether an answer that led to this phase leads on.
 fn goes_on(phase: Phase) -> bool
-    ensures { result ≡ standing.goes_on phase }
+    ensures { result ≡ phases.goes_on phase }
 {
     matches!(phase, Phase::Walking | Phase::SettingUp | Phase::Ready)
 }

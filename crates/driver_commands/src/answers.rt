@@ -1,5 +1,6 @@
 //! Where answers lead.
 ghost use Rattle.std.specs.Prelude.{◌≡◌, true, IfOk, IsSome};
+ghost use Rattle.driver_progress.specs.Phases.{can_follow};
 ghost use Rattle.driver_commands.specs.Standing as spec;
 
 use codec_agenda::{Agenda, AgendaFault};
@@ -35,7 +36,7 @@ pub(crate) fn take_answer<T: Setter>(
     requires { IsSome (spec.next_on agenda.old) }
     ensures leads_on { IfOk result (spec.LeadsOn (λ graph. T.IsPlanBy setter.now graph agenda.old.format)
         (λ graph plan. T.verbs_by setter.now graph plan agenda.old.format TAG) word agenda.old agenda.new) }
-    ensures follows { IfOk result (λ phase. spec.can_follow phase ≡ true) }
+    ensures follows { IfOk result (λ phase. can_follow phase ≡ true) }
     ensures ends { IfOk result (spec.EndsBy (λ graph. T.IsPlanBy setter.now graph agenda.old.format) word agenda.old agenda.new) }
     ensures addresses { agenda.new.addresses ≡ agenda.old.addresses }
     ensures format { agenda.new.format ≡ agenda.old.format }

@@ -10,17 +10,21 @@ ghost use Rattle.codec_agenda.specs.Following.{Follows};
 ghost use Rattle.codec_agenda.specs.declared.agenda.Agenda.{Agenda};
 ghost use Rattle.driver_progress.specs.declared.phase.Phase.{Phase};
 ghost use Rattle.driver_progress.specs.Tasks.{Task, IsTaskFor};
+ghost use Rattle.driver_progress.specs.Phases.{is_asking};
+ghost use Rattle.driver_progress.specs.Requests.{requests_of};
 ghost use Rattle.driver_progress.specs.States.{State};
+ghost use Rattle.hda_world.specs.Events.{Event};
 ghost use Rattle.driver_stretches.specs.Commands.{ask_accesses};
 ghost use Rattle.driver_stretches.specs.Shutting.{shut_accesses};
-ghost use Rattle.driver_commands.specs.Standing.{Agrees, is_asking, phase_of, next_on};
-ghost use Rattle.driver_commands.specs.Commanding.{LedTo, poll_by, leaves_free, order_if, submit_made, IsStretch, state_with, run_of};
+ghost use Rattle.driver_commands.specs.Standing.{Agrees, phase_of, next_on};
+ghost use Rattle.driver_commands.specs.Commanding.{LedTo, poll_by, leaves_free, order_if, submit_made, IsStretch, IsLastLook, state_with, run_of};
 
 use codec_agenda::agendas_ask_in_order;
 use route_setup::Setter;
 
 /// The accesses of a look for an answer and of the submission after it are those that are expected of a call, and where both led is where
-/// progress says: for every task whose next command and phase are the agenda's, before the look and after each answer.
+/// progress says: for every task whose next command and phase are the agenda's, before the look and after each answer. A look that finds an
+/// answer makes its accesses and then those that follow it, for every task.
 pub fn commands_are_expected()
     ensures runs { (task : Task) (state : State) (budget clock : ℕ) (reads : PollReads) (phase' : Phase) (old new : Agenda) (free : Bool)
         → is_asking state.phase ≡ true → AreNew state.rings reads
@@ -42,6 +46,8 @@ pub fn commands_are_expected()
         → (free ≡ true → Agrees task state.sent new)
         → IsStretch task state None (ask_accesses task.blocks.rirb clock state.rings reads ++ shut_accesses) (is_some (found_by state.rings reads))
         (record state { phase = phase'; rings = rings_polled state.rings reads }) }
+    ensures ends { (task : Task) (state : State) (clock : ℕ) (reads : PollReads) (rest : List Event) (phase' : Phase) → AreNew state.rings reads → is_some (found_by state.rings reads) ≡ true
+        → IsLastLook task state false (requests_of rest) (ask_accesses task.blocks.rirb clock state.rings reads ++ rest) (record state { phase = phase'; rings = rings_polled state.rings reads }) }
 {}
 
 /// An agenda that follows the commands of a task's codecs agrees with the task: its next command and its phase are the task's.

@@ -25,6 +25,7 @@ use Rattle.driver_progress.specs.Requests.{Request, Gets, Puts, Fetches, Stores,
 use Rattle.driver_progress.specs.Tasks.{Order, Blocks, Task, DriverLine}
 use Rattle.driver_progress.specs.Seen.{Seen, clock_of, interrupts_at, stream_interrupts_at}
 use Rattle.driver_progress.specs.States.{State}
+use Rattle.driver_progress.specs.Phases.{is_active}
 
 -- ---- the reset
 
@@ -139,21 +140,6 @@ runs task state budget seen tally (Unanswered codec command issued noticed) = []
 runs task state budget seen tally (Late from to limit) = []
 runs task state budget seen tally (Malformed codec fault) = []
 runs task state budget seen tally Failed = []
-
--- whether anything is done in a phase
-abbrev pub is_active : Phase → Bool
-is_active Reset = true
-is_active Settling = true
-is_active Walking = true
-is_active SettingUp = true
-is_active Ready = true
-is_active Playing = true
-is_active Drained = false
-is_active NothingRouted = false
-is_active (Unanswered codec command issued noticed) = false
-is_active (Late from to limit) = false
-is_active (Malformed codec fault) = false
-is_active Failed = false
 
 -- of an interrupt of the output stream the status bits that are set are cleared (3.3.36)
 abbrev pub clears : Seen → List Request

@@ -2,6 +2,7 @@ pub mod Requests
 pub mod Tasks
 pub mod States
 pub mod Seen
+pub mod Phases
 pub mod Expected
 pub mod Next
 pub mod Progress

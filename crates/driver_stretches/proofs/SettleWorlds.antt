@@ -14,10 +14,10 @@ use Rattle.hda_registers.specs.Table.{size_code}
 use Rattle.hda_registers.specs.Access.{value_at}
 use Rattle.hda_registers.proofs.Callers.{read-wall_clock, read-state_status, read-corb_size, read-rirb_size}
 use Rattle.device_steps.specs.declared.Step.{Step}
-use Rattle.hda_world.specs.Worlds.{World}
+use Rattle.hda_world.specs.Worlds.{World, TakenCommand}
 use Rattle.hda_world.specs.Steps.{after_steps}
 use Rattle.hda_world.specs.Events.{Read}
-use Rattle.hda_world.specs.Tellings.{Telling, world_of, Accessed, MakesBy, Makes, Between, BetweenBy}
+use Rattle.hda_world.specs.Tellings.{Telling, world_of, Accessed, MakesBy, Makes}
 use Rattle.hda_world.specs.Kept.{Kept}
 use Rattle.hda_world.specs.Discovery.{addresses_of, AreSet}
 use Rattle.hda_world.specs.Leaving.{StepsLeave}
@@ -33,6 +33,7 @@ use Rattle.driver_stretches.specs.Beginning.{AreOnly, IsSettling}
 use Rattle.driver_stretches.specs.Settling.{start_if, codecs_found, found_if}
 use Rattle.driver_stretches.specs.Announcing.{AreCodecs, IsStarted, StartLeads, LedBy}
 use Rattle.driver_stretches.proofs.ResetWorlds.{access_leads, settling_steps}
+use Rattle.driver_stretches.proofs.UntakenSteps.{untaken_steps}
 
 -- ---- the codecs had their time
 
@@ -69,7 +70,7 @@ late_by kept clock frames had is = let less = mod-le (500 * frames) (2 ^ 32) in 
     by : (ticks : ℕ) → ticks ≤ 500 * frames → clock ≡ ticks → 25 ≤ frames
     by ticks less is = omega (arith, had, less, is)
 
-addresses_stay : (steps : List Step) (world : World) → addresses_of (after_steps steps world).codecs ≡ addresses_of world.codecs
+pub addresses_stay : (steps : List Step) (world : World) → addresses_of (after_steps steps world).codecs ≡ addresses_of world.codecs
 addresses_stay steps world =
     let leaves : StepsLeave world (after_steps steps world) = steps_leave steps world in
     by (after_steps steps world).codecs ∙ ap (map (λ (graph : RawCodec). graph.address)) leaves.graphs ∙ sym (by world.codecs)
@@ -181,22 +182,22 @@ rirb_read corb rirb addresses reads world sized is = record {
 }
 
 -- what was found, by whether a codec is there
-found_by : (none : Bool) (corb rirb : ℕ) (rings : RingPlaces) (addresses : List ℕ) (reads : StartReads) (found new : World) → (codecs_in reads.status == 0) ≡ none → AreFound addresses reads found
-    → ((bits : ℕ) → found_if true reads ≡ Codecs bits → IsStarted corb rirb rings new) → LedBy corb rirb rings addresses (found_if true reads) new
-found_by true corb rirb rings addresses reads found new none is started =
+found_by : (none : Bool) (corb rirb : ℕ) (rings : RingPlaces) (addresses : List ℕ) (before : List TakenCommand) (reads : StartReads) (found new : World) → (codecs_in reads.status == 0) ≡ none → AreFound addresses reads found
+    → ((bits : ℕ) → found_if true reads ≡ Codecs bits → IsStarted corb rirb rings before new) → LedBy corb rirb rings addresses before (found_if true reads) new
+found_by true corb rirb rings addresses before reads found new none is started =
     let nothing : found_if true reads ≡ NoCodec = ap (λ (none : Bool). codecs_found (codecs_if (if none then None else rings_of (largest_size reads.corb_size) (largest_size reads.rirb_size)) reads.status)) none in
-    subst (λ (answer : Settled). LedBy corb rirb rings addresses answer new) (sym nothing)
+    subst (λ (answer : Settled). LedBy corb rirb rings addresses before answer new) (sym nothing)
     (none_there reads.status addresses (set_low reads.status addresses is.few is.set) (is_zero (codecs_in reads.status) none))
   where
     is_zero : (n : ℕ) → (n == 0) ≡ true → n ≡ 0
     is_zero n is = search (rules, tests)
-found_by false corb rirb rings addresses reads found new some is started =
+found_by false corb rirb rings addresses before reads found new some is started =
     let codecs : found_if true reads ≡ Codecs (codecs_in reads.status) =
     ap (λ (none : Bool). codecs_found (codecs_if (if none then None else rings_of (largest_size reads.corb_size) (largest_size reads.rirb_size)) reads.status)) some
     ∙ ap (λ (size : Option RingSize). codecs_found (codecs_if (rings_of size (largest_size reads.rirb_size)) reads.status)) is.corb_is.1
     ∙ ap (λ (size : Option RingSize). codecs_found (codecs_if (rings_of (Some is.corb_is.0) size) reads.status)) is.rirb_is.1
     ∙ ap (λ (none : Bool). if none then NoCodec else Codecs (codecs_in reads.status)) some in
-    subst (λ (answer : Settled). LedBy corb rirb rings addresses answer new) (sym codecs)
+    subst (λ (answer : Settled). LedBy corb rirb rings addresses before answer new) (sym codecs)
     (are_codecs reads.status addresses is.few is.set is.only, started (codecs_in reads.status) codecs)
 
 -- ---- the whole look
@@ -209,25 +210,32 @@ clock_read corb rirb kept clock world had settling is =
     had_by a b is = search (rules, tests)
 
 -- after the clock: it is settling still, and where the codecs had their time they announced themselves
-record IsLooked (corb rirb kept clock : ℕ) (addresses : List ℕ) (world : World) : Type 0 where
+record IsLooked (corb rirb kept clock : ℕ) (addresses : List ℕ) (commands : List TakenCommand) (world : World) : Type 0 where
   settling : IsSettling corb rirb world
   are : addresses_of world.codecs ≡ addresses
+  untaken : world.commands ≡ commands
   late : has_settled kept clock ≡ true → IsLate world
 
--- settling, with these codecs
-record IsSettlingOf (corb rirb : ℕ) (addresses : List ℕ) (world : World) : Type 0 where
+-- settling, with these codecs, which took just these commands
+record IsSettlingOf (corb rirb : ℕ) (addresses : List ℕ) (commands : List TakenCommand) (world : World) : Type 0 where
   settling : IsSettling corb rirb world
   are : addresses_of world.codecs ≡ addresses
+  untaken : world.commands ≡ commands
 
-settling_of_steps : (corb rirb : ℕ) (addresses : List ℕ) (steps : List Step) (world : World) → IsSettlingOf corb rirb addresses world → IsSettlingOf corb rirb addresses (after_steps steps world)
-settling_of_steps corb rirb addresses steps world is = record { settling = settling_steps corb rirb steps world is.settling; are = addresses_stay steps world ∙ is.are }
+settling_of_steps : (corb rirb : ℕ) (addresses : List ℕ) (commands : List TakenCommand) (steps : List Step) (world : World) → IsSettlingOf corb rirb addresses commands world → IsSettlingOf corb rirb addresses commands (after_steps steps world)
+settling_of_steps corb rirb addresses commands steps world is = record {
+  settling = settling_steps corb rirb steps world is.settling;
+  are = addresses_stay steps world ∙ is.are;
+  untaken = (untaken_steps commands steps world (record { stopped = is.settling.can_start.quiet.corb_stopped; commands_are = is.untaken })).commands_are;
+}
 
-looked : (corb rirb kept clock : ℕ) (old mid : Telling) → Accessed old mid (Read 0x30 Four clock) → IsSettling corb rirb (world_of old) → IsLooked corb rirb kept clock (addresses_of (world_of old).codecs) (world_of mid)
+looked : (corb rirb kept clock : ℕ) (old mid : Telling) → Accessed old mid (Read 0x30 Four clock) → IsSettling corb rirb (world_of old) → IsLooked corb rirb kept clock (addresses_of (world_of old).codecs) (world_of old).commands (world_of mid)
 looked corb rirb kept clock old mid accessed settling =
     let addresses = addresses_of (world_of old).codecs in
-    access_leads (IsSettlingOf corb rirb addresses) (IsLooked corb rirb kept clock addresses) (Read 0x30 Four clock) (settling_of_steps corb rirb addresses)
-    (λ world before honest. record { settling = before.settling; are = before.are; late = λ had. clock_read corb rirb kept clock world had before.settling honest })
-    old mid accessed (record { settling = settling; are = refl })
+    let commands = (world_of old).commands in
+    access_leads (IsSettlingOf corb rirb addresses commands) (IsLooked corb rirb kept clock addresses commands) (Read 0x30 Four clock) (settling_of_steps corb rirb addresses commands)
+    (λ world before honest. record { settling = before.settling; are = before.are; untaken = before.untaken; late = λ had. clock_read corb rirb kept clock world had before.settling honest })
+    old mid accessed (record { settling = settling; are = refl; untaken = refl })
 
 -- the three first reads of the start
 found_told : (corb rirb : ℕ) (addresses : List ℕ) (reads : StartReads) (mid new : Telling) → MakesBy (start_accesses corb rirb reads) mid new → IsAwake corb rirb addresses (world_of mid)
@@ -242,31 +250,20 @@ found_told corb rirb addresses reads mid new (one, first, (two, second, (three, 
     (world_of three, in_three)
 
 -- by whether the codecs had their time
-settle_by : (had : Bool) (corb rirb kept clock : ℕ) (rings : RingPlaces) (addresses : List ℕ) (reads : StartReads) (answer : Settled) (mid new : Telling) → has_settled kept clock ≡ had
-    → IsLooked corb rirb kept clock addresses (world_of mid) → MakesBy (start_if had corb rirb reads) mid new → answer ≡ found_if had reads → StartLeads corb rirb rings answer mid new
-    → LedBy corb rirb rings addresses answer (world_of new)
-settle_by false corb rirb kept clock rings addresses reads answer mid new had is none answer_is starts =
-    subst (λ (answer : Settled). LedBy corb rirb rings addresses answer (world_of new)) (sym answer_is)
-    (subst (λ (telling : Telling). IsSettling corb rirb (world_of telling)) (sym none) is.settling)
-settle_by true corb rirb kept clock rings addresses reads answer mid new had is makes answer_is starts =
+settle_by : (had : Bool) (corb rirb kept clock : ℕ) (rings : RingPlaces) (addresses : List ℕ) (commands : List TakenCommand) (reads : StartReads) (answer : Settled) (mid new : Telling) → has_settled kept clock ≡ had
+    → IsLooked corb rirb kept clock addresses commands (world_of mid) → MakesBy (start_if had corb rirb reads) mid new → answer ≡ found_if had reads → StartLeads corb rirb rings answer mid new
+    → LedBy corb rirb rings addresses commands answer (world_of new)
+settle_by false corb rirb kept clock rings addresses commands reads answer mid new had is none answer_is starts =
+    subst (λ (answer : Settled). LedBy corb rirb rings addresses commands answer (world_of new)) (sym answer_is)
+    (subst (λ (telling : Telling). IsSettling corb rirb (world_of telling) × ((world_of telling).commands ≡ commands)) (sym none) (is.settling, is.untaken))
+settle_by true corb rirb kept clock rings addresses commands reads answer mid new had is makes answer_is starts =
     let (there, found) = found_told corb rirb addresses reads mid new makes (record { settling = is.settling; late = is.late had; are = is.are }) in
-    subst (λ (answer : Settled). LedBy corb rirb rings addresses answer (world_of new)) (sym answer_is)
-    (found_by (codecs_in reads.status == 0) corb rirb rings addresses reads there (world_of new) refl found
-    (λ bits is_codecs. starts bits (answer_is ∙ is_codecs) is.settling.can_start))
+    subst (λ (answer : Settled). LedBy corb rirb rings addresses commands answer (world_of new)) (sym answer_is)
+    (found_by (codecs_in reads.status == 0) corb rirb rings addresses commands reads there (world_of new) refl found
+    (λ bits is_codecs. subst (λ (commands : List TakenCommand). IsStarted corb rirb rings commands (world_of new)) is.untaken (starts bits (answer_is ∙ is_codecs) is.settling.can_start)))
 
 pub settle_told : (corb rirb kept clock : ℕ) (rings : RingPlaces) (reads : StartReads) (answer : Settled) (old mid new : Telling) → Accessed old mid (Read 0x30 Four clock)
     → Makes (start_if (has_settled kept clock) corb rirb reads) mid new → answer ≡ found_if (has_settled kept clock) reads → StartLeads corb rirb rings answer mid new
-    → IsSettling corb rirb (world_of old) → LedBy corb rirb rings (addresses_of (world_of old).codecs) answer (world_of new)
+    → IsSettling corb rirb (world_of old) → LedBy corb rirb rings (addresses_of (world_of old).codecs) (world_of old).commands answer (world_of new)
 settle_told corb rirb kept clock rings reads answer old mid new accessed makes answer_is starts settling =
-    settle_by (has_settled kept clock) corb rirb kept clock rings (addresses_of (world_of old).codecs) reads answer mid new refl (looked corb rirb kept clock old mid accessed settling) makes.by answer_is starts
-
--- ---- two relations of what is told
-
-pair_by : (First Second : Telling → Telling → Type 0) (old new : Option Telling) → BetweenBy First old new → BetweenBy Second old new → BetweenBy (λ (a : Telling) (b : Telling). First a b × Second a b) old new
-pair_by First Second (Some a) (Some b) first second = (first, second)
-pair_by First Second None None first second = tt
-pair_by First Second (Some a) None first second = absurd first
-pair_by First Second None (Some b) first second = absurd first
-
-pub told_pair : {First Second : Telling → Telling → Type 0} {old new : Option Telling} → Between First old new → Between Second old new → Between (λ (a : Telling) (b : Telling). First a b × Second a b) old new
-told_pair {First} {Second} {old} {new} first second = record { is = pair_by First Second old new first.is second.is }
+    settle_by (has_settled kept clock) corb rirb kept clock rings (addresses_of (world_of old).codecs) (world_of old).commands reads answer mid new refl (looked corb rirb kept clock old mid accessed settling) makes.by answer_is starts

@@ -18,7 +18,7 @@ use Rattle.hda_world.specs.Steps.{discovered, passed}
 use Rattle.hda_world.specs.Kept.{Kept}
 use Rattle.hda_world.specs.Discovery.{addresses_of}
 use Rattle.hda_world.proofs.Callers.{frames_after, passed_global, graphs-with_codec}
-use Rattle.hda_world.proofs.Leaving.{graph-plugged}
+use Rattle.hda_world.proofs.Callers.{graph-plugged}
 use Rattle.driver_stretches.specs.Beginning.{AreOnly, HasOnly, KeepsTime}
 
 -- addresses are those of the graphs

@@ -4,7 +4,7 @@ use Rattle.std.specs.Prelude.{◌≡◌, ℕ, ◌*◌, ◌%◌, ◌^◌, true, L
 use Rattle.std.specs.Option.{is_some}
 use Rattle.std.specs.Int.{bit_at}
 use Rattle.hda_registers.specs.declared.places.TheConstants.{TICKS_PER_FRAME}
-use Rattle.hda_world.specs.Worlds.{World}
+use Rattle.hda_world.specs.Worlds.{World, TakenCommand}
 use Rattle.hda_world.specs.Tellings.{Telling, world_of}
 use Rattle.hda_world.specs.Discovery.{addresses_of, IsDiscovered}
 use Rattle.command_engine.specs.Courses.{HasBlocks, AscendByAddress}
@@ -20,6 +20,15 @@ HasOnly world = AreOnly world.registers.global.state_status (addresses_of world.
 -- the wall clock goes by the link frames since CRST rose
 abbrev pub KeepsTime : World → Type 0
 KeepsTime world = world.registers.global.wall_clock ≡ TICKS_PER_FRAME * world.frames % 2 ^ 32
+
+-- CORB's engine does not run, and just these commands were taken
+pub record IsUntaken (commands : List TakenCommand) (world : World) : Type 0 where
+  pub stopped : world.registers.global.corb_run ≡ 0
+  pub commands_are : world.commands ≡ commands
+
+-- where it does not run before, it does not after, and none was taken meanwhile
+abbrev pub LeavesUntaken : Telling → Telling → Type 0
+LeavesUntaken old new = (commands : List TakenCommand) → IsUntaken commands (world_of old) → IsUntaken commands (world_of new)
 
 -- before the first access: both rings' blocks lie in the region, codecs stand by address, and none but these announced itself
 pub record CanReset (corb rirb : ℕ) (world : World) : Type 0 where

@@ -6,3 +6,4 @@ pub mod Shutting
 pub mod Beginning
 pub mod Announcing
 pub mod Answers
+pub mod Unread

@@ -10,7 +10,7 @@ ghost use Rattle.std.specs.Option.{is_some};
 ghost use Rattle.ring_entries.specs.declared.response.Response.{Response};
 ghost use Rattle.hda_registers.specs.declared.shapes.Width.TheVariants.{Four};
 ghost use Rattle.hda_registers.specs.declared.places.TheConstants.{INTSTS};
-ghost use Rattle.hda_world.specs.Worlds.{World};
+ghost use Rattle.hda_world.specs.Worlds.{World, TakenCommand};
 ghost use Rattle.hda_world.specs.Events.{Event, Read};
 ghost use Rattle.hda_world.specs.Tellings.{Telling, world_of, Makes};
 ghost use Rattle.command_engine.specs.Courses.{Stands};
@@ -21,14 +21,14 @@ ghost use Rattle.driver_progress.specs.Progress.{course_of, course_opened, is_an
 ghost use Rattle.driver_progress.specs.Noting.{with_accesses};
 ghost use Rattle.device_steps.specs.declared.Step.{Step};
 ghost use Rattle.hda_world.specs.Steps.{after_steps};
-ghost use Rattle.driver_stretches.specs.Beginning.{CanReset, IsSettling};
+ghost use Rattle.driver_stretches.specs.Beginning.{CanReset, IsSettling, IsUntaken, LeavesUntaken};
 ghost use Rattle.driver_stretches.specs.Answers.{has_answer, AnswersAgree};
 ghost use Rattle.driver_progress.specs.Seen.{Seen, seen_by, values_of};
 ghost use Rattle.driver_progress.specs.States.{State};
 ghost use Rattle.driver_progress.specs.Expected as expected;
 ghost use Rattle.driver_stretches.specs.Resetting.{reset_accesses};
 ghost use Rattle.driver_stretches.specs.Settling.{settle_accesses};
-ghost use Rattle.driver_stretches.specs.Interrupts.{clear_accesses};
+ghost use Rattle.driver_stretches.specs.Interrupts.{clear_accesses, interrupt_accesses};
 ghost use Rattle.driver_stretches.specs.Shutting.{shut_accesses};
 
 /// The accesses are those that are expected: of a reset, of a look whether the codecs had their time, of a poll, of a look
@@ -68,8 +68,13 @@ pub fn answers_agree()
     ensures none { (submitted read : ℕ) (written : List Response) → submitted ≤ length written → read ≤ length written → AnswersAgree None submitted read written }
 {}
 
-/// Where a reset can be made, and where the codecs announce themselves after one, stays so over steps of the device.
+/// Where a reset can be made, and where the codecs announce themselves after one, stays so over steps of the device and over looks for
+/// interrupts. While CORB's engine does not run, no codec takes a command over either.
 pub fn a_reset_stays()
     ensures before { (corb rirb : ℕ) (steps : List Step) (world : World) → CanReset corb rirb world → CanReset corb rirb (after_steps steps world) }
     ensures later { (corb rirb : ℕ) (steps : List Step) (world : World) → IsSettling corb rirb world → IsSettling corb rirb (after_steps steps world) }
+    ensures untaken { (commands : List TakenCommand) (steps : List Step) (world : World) → IsUntaken commands world → IsUntaken commands (after_steps steps world) }
+    ensures before_looks { (corb rirb interrupts stream : ℕ) (old new : Telling) → Makes (interrupt_accesses interrupts stream) old new → CanReset corb rirb (world_of old) → CanReset corb rirb (world_of new) }
+    ensures untaken_looks { (interrupts stream : ℕ) (old new : Telling) → Makes (interrupt_accesses interrupts stream) old new → LeavesUntaken old new }
+    ensures later_looks { (corb rirb interrupts stream : ℕ) (old new : Telling) → Makes (interrupt_accesses interrupts stream) old new → IsSettling corb rirb (world_of old) → IsSettling corb rirb (world_of new) }
 {}

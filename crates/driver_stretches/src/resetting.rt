@@ -15,11 +15,12 @@ const OUT_OF_RESET: u32 = 0x101;
 /// where the controller did not come out of the reset (HDA 1.0a, 4.3).
 ///
 /// On a platform that tells, where the codecs stand by address and none but these announced itself, it comes out of it: the rings can be
-/// started then, and the wall clock goes by the link frames since.
+/// started then, and the wall clock goes by the link frames since. Where CORB's engine does not run before, no command is taken meanwhile.
 pub fn reset<P: Platform>(platform: &mut P) -> Option<u32>
     requires { 5 ≤ P.spare_accesses platform.old }
     ensures resets { spec.Resets result (P.told platform.old) (P.told platform.new) }
     ensures tells { Between (beginning.LeadsToSettling result) (P.told platform.old) (P.told platform.new) }
+    ensures untaken { Between beginning.LeavesUntaken (P.told platform.old) (P.told platform.new) }
     ensures fixed { P.fixed platform.new ≡ P.fixed platform.old }
     ensures accesses { P.spare_accesses platform.new + 5 ≡ P.spare_accesses platform.old }
     ensures bytes { P.spare_bytes platform.new ≡ P.spare_bytes platform.old }

@@ -33,7 +33,7 @@ fn has_settled(kept: u32, clock: u32) -> bool
 /// Looks at the clock, and sets the rings going once the codecs had their time since the clock that was kept of the reset.
 ///
 /// On a platform that tells, where the codecs announce themselves as a reset left them: too early nothing has changed. Else just the codecs
-/// on the link are found, where there is one, and the engine stands to the world as a start leaves it.
+/// on the link are found, where there is one, and the engine stands to the world as a start leaves it. No codec takes a command meanwhile.
 pub fn settle<P: Platform>(platform: &mut P, engine: &mut Engine, kept: u32) -> Settled
     requires { 17 ≤ P.spare_accesses platform.old }
     ensures settles { spec.Settles kept engine.old.corb.address engine.old.rirb.address engine.old.rings result engine.new.rings (P.told platform.old) (P.told platform.new) }

@@ -24,6 +24,8 @@ pub use Rattle.hda_world.proofs.Telling.{grew_both}
 pub use Rattle.hda_world.proofs.Telling.{grew_access}
 -- one relation of what is told and then another
 pub use Rattle.hda_world.proofs.Telling.{told_both}
+-- two relations of the same
+pub use Rattle.hda_world.proofs.Telling.{told_pair}
 -- a relation of what is told that leads to another
 pub use Rattle.hda_world.proofs.Telling.{told_map}
 -- an access before which the device made no step
@@ -44,6 +46,8 @@ pub use Rattle.hda_world.proofs.Rows.{grew_row}
 pub use Rattle.hda_world.proofs.Rows.{rows}
 -- what every move keeps and the access leads on, through an access
 pub use Rattle.hda_world.proofs.Accessing.{accessed_then}
+-- the world after steps and then an event, which is honest there
+pub use Rattle.hda_world.proofs.Accessing.{after-stepped, honest-stepped}
 -- what steps leave alone
 pub use Rattle.hda_world.proofs.Leaving.{steps_leave}
 -- what a write of a register leaves of the codecs and the histories
@@ -64,6 +68,8 @@ pub use Rattle.hda_world.proofs.Leaving.{beside_write}
 pub use Rattle.hda_world.proofs.Leaving.{beside_rings}
 -- a change of one codec leaves the others
 pub use Rattle.hda_world.proofs.Leaving.{found_apart}
+-- what is plugged in leaves a codec's graph
+pub use Rattle.hda_world.proofs.Leaving.{graph-plugged}
 -- and the graphs, where it keeps its own
 pub use Rattle.hda_world.proofs.Leaving.{graphs-with_codec}
 -- a step leaves the codecs that it does not name

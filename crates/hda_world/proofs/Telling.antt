@@ -45,6 +45,16 @@ both_by First Second None None (Some c) first second = absurd second
 pub told_both : {First Second : Telling → Telling → Type 0} {old middle new : Option Telling} → Between First old middle → Between Second middle new → Between (Then First Second) old new
 told_both {First} {Second} {old} {middle} {new} first second = record { is = both_by First Second old middle new first.is second.is }
 
+pair_by : (First Second : Telling → Telling → Type 0) (old new : Option Telling) → BetweenBy First old new → BetweenBy Second old new → BetweenBy (λ (old new : Telling). First old new × Second old new) old new
+pair_by First Second (Some a) (Some b) first second = (first, second)
+pair_by First Second None None first second = tt
+pair_by First Second (Some a) None first second = absurd first
+pair_by First Second None (Some b) first second = absurd first
+
+-- two relations of the same
+pub told_pair : {First Second : Telling → Telling → Type 0} {old new : Option Telling} → Between First old new → Between Second old new → Between (λ (old new : Telling). First old new × Second old new) old new
+told_pair {First} {Second} {old} {new} first second = record { is = pair_by First Second old new first.is second.is }
+
 map_by : (Before After : Telling → Telling → Type 0) → ((old new : Telling) → Before old new → After old new) → (old new : Option Telling) → BetweenBy Before old new → BetweenBy After old new
 map_by Before After leads (Some a) (Some b) before = leads a b before
 map_by Before After leads None None before = tt

@@ -23,4 +23,4 @@ pub use ring_laws::{
     events_between_runs_keep_the_ring, runs_are_taken_up, steps_keep_the_ring,
     the_device_owns_what_it_was_left, the_limit_bounds_what_is_fetched,
 };
-pub use writer::{OpenFault, Writer};
+pub use writer::{OpenFault, Records, Writer};

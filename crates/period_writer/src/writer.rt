@@ -23,6 +23,14 @@ pub enum OpenFault {
     OutOfMemory,
 }
 
+/// What a writer recorded.
+pub struct Records {
+    /// Its runs, in order.
+    pub runs: Vec<Run>,
+    /// The stretches of the line that are silence, apart from one another, ascending.
+    pub silences: Vec<Span>,
+}
+
 /// The driver's side of a ring of periods. It owns the list of buffers and a block for each period, which it gives back when it is
 /// closed, and keeps nothing of a platform between its calls.
 pub struct Writer {

@@ -1,14 +1,14 @@
 //! Calls.
 ghost use Rattle.std.specs.Prelude.{◌≡◌, ◌≤◌, ◌<◌, ◌+◌, ◌*◌, true, false, OnOk, OnErr};
 ghost use Rattle.driver_progress.specs.declared.phase.Phase.TheVariants as phases;
-ghost use Rattle.driver_commands.specs.Standing.{is_asking};
+ghost use Rattle.driver_progress.specs.Phases.{is_asking};
 ghost use Rattle.codec_bring_up.specs.Calls as spec;
 
 use super::BringUp;
 use codec_agenda::Agenda;
 use driver_commands::{TAG, addresses_in, look_for_answer, submit_next};
 use driver_progress::Phase;
-use driver_stretches::{Settled, reset, settle};
+use driver_stretches::{Settled, reset, settle, shut};
 use hda_platform::Platform;
 use route_setup::Setter;
 use std::alloc::AllocError;
@@ -97,6 +97,42 @@ impl BringUp {
         );
         self.sent = sent_after(self.sent, submits);
         self.phase = answer.phase;
+        Ok(())
+    }
+
+    /// The last call while commands are sent.
+    ///
+    /// # Errors
+    /// Want of memory.
+    pub(crate) fn end_commands<P: Platform, T: Setter>(
+        &mut self,
+        platform: &mut P,
+        setter: &T,
+    ) -> Result<(), AllocError>
+        requires phase { is_asking self.old.phase ≡ true }
+        requires few { self.old.looks ≤ 1000000 }
+        requires room { 262 ≤ P.spare_accesses platform.old }
+        requires bytes_room { 2040 ≤ P.spare_bytes platform.old }
+        ensures ends { OnOk result (spec.Ends (λ graph. T.IsPlanBy setter.now graph self.old.agenda.format) (λ graph plan. T.verbs_by setter.now graph plan self.old.agenda.format TAG) self.old self.new (P.told platform.old) (P.told platform.new)) }
+        ensures kept { spec.IsKept self.old self.new }
+        ensures failed { OnErr result (self.new.phase ≡ phases.Failed) }
+        ensures fixed { P.fixed platform.new ≡ P.fixed platform.old }
+        ensures accesses { P.spare_accesses platform.old ≤ P.spare_accesses platform.new + 262 }
+        ensures bytes { P.spare_bytes platform.old ≤ P.spare_bytes platform.new + 2040 }
+    {
+        let phase = self.phase;
+        self.phase = Phase::Failed;
+        self.looks += 1;
+        let answer = look_for_answer(
+            platform,
+            &mut self.engine,
+            &mut self.jacks,
+            &mut self.agenda,
+            setter,
+            phase,
+        );
+        shut(platform);
+        self.phase = answer?.phase;
         Ok(())
     }
 }

@@ -1,5 +1,5 @@
 //! How a bring-up begins and ends.
-ghost use Rattle.std.specs.Prelude.{◌≡◌, [], List, All, IfOk, OnErr};
+ghost use Rattle.std.specs.Prelude.{◌≡◌, [], List, All, IfOk, IfErr};
 ghost use Rattle.driver_progress.specs.declared.phase.Phase.TheVariants as phases;
 ghost use Rattle.command_engine.specs.declared.answers.Event.{Event};
 ghost use Rattle.jack_counts.specs.Counted.{IsCount};
@@ -34,6 +34,7 @@ impl BringUp {
     /// Want of memory, with the engine.
     pub fn new(alloc: Global, format: Format, engine: Engine) -> Result<BringUp, Engine>
         requires quiet { engine.events.items ≡ [] }
+        ensures given_back { IfErr result (λ given. given ≡ engine) }
         ensures phase { IfOk result (λ bring_up. bring_up.phase ≡ phases.Reset) }
         ensures engine { IfOk result (λ bring_up. bring_up.engine ≡ engine) }
         ensures format { IfOk result (λ bring_up. bring_up.format ≡ format) }
@@ -41,6 +42,8 @@ impl BringUp {
         ensures sent { IfOk result (λ bring_up. bring_up.sent ≡ 0) }
         ensures looks { IfOk result (λ bring_up. bring_up.looks ≡ 0) }
         ensures jacks { IfOk result (λ bring_up. IsCount [] bring_up.jacks) }
+        ensures graphs { IfOk result (λ bring_up. bring_up.agenda.graphs.items ≡ []) }
+        ensures plans { IfOk result (λ bring_up. bring_up.agenda.plans.items ≡ []) }
     {
         match Jacks::new(alloc) {
             Ok(jacks) => Ok(BringUp {
@@ -72,7 +75,7 @@ impl BringUp {
         self.sent
     }
 
-    /// How many of its calls looked for an answer, at most 1,000,000.
+    /// How many of its calls looked for an answer.
     pub fn looks(&self) -> u32
         ensures { result ≡ self.now.looks }
     {

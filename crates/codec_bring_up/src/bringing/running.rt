@@ -1,12 +1,12 @@
 //! A call, a call for an interrupt, and the last one.
 ghost use Rattle.std.specs.Prelude.{◌≡◌, ◌≤◌, ◌<◌, ◌+◌, true, false, OnOk, OnErr};
 ghost use Rattle.driver_progress.specs.declared.phase.Phase.TheVariants as phases;
-ghost use Rattle.driver_commands.specs.Standing as standing;
+ghost use Rattle.driver_progress.specs.Phases as progress;
 ghost use Rattle.codec_bring_up.specs.Calls as spec;
 
 use super::BringUp;
 use super::phases::{is_active, is_asking, is_reset};
-use driver_commands::{TAG, look_for_answer};
+use driver_commands::TAG;
 use driver_progress::Phase;
 use driver_stretches::{has_interrupt, shut};
 use hda_platform::Platform;
@@ -19,7 +19,7 @@ impl BringUp {
     /// the same at each call.
     ///
     /// # Errors
-    /// Want of memory. Then it is over, in the phase `Failed`.
+    /// Want of memory, in the phases where codecs are found and answers come. Then it is over, in the phase `Failed`.
     pub fn run<P: Platform, T: Setter>(
         &mut self,
         platform: &mut P,
@@ -31,6 +31,7 @@ impl BringUp {
         ensures leads { OnOk result (spec.Leads (λ graph. T.IsPlanBy setter.now graph self.old.agenda.format) (λ graph plan. T.verbs_by setter.now graph plan self.old.agenda.format TAG) false self.old self.new (P.told platform.old) (P.told platform.new)) }
         ensures kept { spec.IsKept self.old self.new }
         ensures failed { OnErr result (self.new.phase ≡ phases.Failed) }
+        ensures cause { OnErr result (spec.takes_memory self.old.phase ≡ true) }
         ensures fixed { P.fixed platform.new ≡ P.fixed platform.old }
         ensures accesses { P.spare_accesses platform.old ≤ P.spare_accesses platform.new + 261 }
         ensures bytes { P.spare_bytes platform.old ≤ P.spare_bytes platform.new + 2044 }
@@ -48,10 +49,11 @@ impl BringUp {
         }
     }
 
-    /// One call for an interrupt: where there is one, what [`BringUp::run`] does; else nothing but the look for it.
+    /// One call for an interrupt: where there is one, what [`BringUp::run`] does; else nothing but the look for it. Once it is over,
+    /// interrupts are not looked for.
     ///
     /// # Errors
-    /// Want of memory. Then it is over, in the phase `Failed`.
+    /// Want of memory, in the phases where codecs are found and answers come. Then it is over, in the phase `Failed`.
     pub fn irq<P: Platform, T: Setter>(
         &mut self,
         platform: &mut P,
@@ -63,6 +65,7 @@ impl BringUp {
         ensures leads { OnOk result (spec.Leads (λ graph. T.IsPlanBy setter.now graph self.old.agenda.format) (λ graph plan. T.verbs_by setter.now graph plan self.old.agenda.format TAG) true self.old self.new (P.told platform.old) (P.told platform.new)) }
         ensures kept { spec.IsKept self.old self.new }
         ensures failed { OnErr result (self.new.phase ≡ phases.Failed) }
+        ensures cause { OnErr result (spec.takes_memory self.old.phase ≡ true) }
         ensures fixed { P.fixed platform.new ≡ P.fixed platform.old }
         ensures accesses { P.spare_accesses platform.old ≤ P.spare_accesses platform.new + 264 }
         ensures bytes { P.spare_bytes platform.old ≤ P.spare_bytes platform.new + 2044 }
@@ -77,11 +80,11 @@ impl BringUp {
         }
     }
 
-    /// The last call: it looks once more for an answer where one may come, submits nothing, stops both rings and leaves the controller in
-    /// reset.
+    /// The last call: while commands are sent it looks once more for an answer. It submits nothing. Where the controller was reset before, it
+    /// stops both rings and leaves the controller in reset.
     ///
     /// # Errors
-    /// Want of memory. The controller is left in reset also then.
+    /// Want of memory, while commands are sent. Then it is over, in the phase `Failed`.
     pub fn end<P: Platform, T: Setter>(
         &mut self,
         platform: &mut P,
@@ -93,6 +96,7 @@ impl BringUp {
         ensures ends { OnOk result (spec.Ends (λ graph. T.IsPlanBy setter.now graph self.old.agenda.format) (λ graph plan. T.verbs_by setter.now graph plan self.old.agenda.format TAG) self.old self.new (P.told platform.old) (P.told platform.new)) }
         ensures kept { spec.IsKept self.old self.new }
         ensures failed { OnErr result (self.new.phase ≡ phases.Failed) }
+        ensures cause { OnErr result (progress.is_asking self.old.phase ≡ true) }
         ensures fixed { P.fixed platform.new ≡ P.fixed platform.old }
         ensures accesses { P.spare_accesses platform.old ≤ P.spare_accesses platform.new + 262 }
         ensures bytes { P.spare_bytes platform.old ≤ P.spare_bytes platform.new + 2040 }
@@ -104,39 +108,6 @@ impl BringUp {
             return Ok(());
         }
         shut(platform);
-        Ok(())
-    }
-
-    /// The last call while commands are sent.
-    fn end_commands<P: Platform, T: Setter>(
-        &mut self,
-        platform: &mut P,
-        setter: &T,
-    ) -> Result<(), AllocError>
-        requires phase { standing.is_asking self.old.phase ≡ true }
-        requires few { self.old.looks ≤ 1000000 }
-        requires room { 262 ≤ P.spare_accesses platform.old }
-        requires bytes_room { 2040 ≤ P.spare_bytes platform.old }
-        ensures ends { OnOk result (spec.Ends (λ graph. T.IsPlanBy setter.now graph self.old.agenda.format) (λ graph plan. T.verbs_by setter.now graph plan self.old.agenda.format TAG) self.old self.new (P.told platform.old) (P.told platform.new)) }
-        ensures kept { spec.IsKept self.old self.new }
-        ensures failed { OnErr result (self.new.phase ≡ phases.Failed) }
-        ensures fixed { P.fixed platform.new ≡ P.fixed platform.old }
-        ensures accesses { P.spare_accesses platform.old ≤ P.spare_accesses platform.new + 262 }
-        ensures bytes { P.spare_bytes platform.old ≤ P.spare_bytes platform.new + 2040 }
-    {
-        let phase = self.phase;
-        self.phase = Phase::Failed;
-        self.looks += 1;
-        let answer = look_for_answer(
-            platform,
-            &mut self.engine,
-            &mut self.jacks,
-            &mut self.agenda,
-            setter,
-            phase,
-        );
-        shut(platform);
-        self.phase = answer?.phase;
         Ok(())
     }
 }

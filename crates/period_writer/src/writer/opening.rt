@@ -6,7 +6,7 @@ ghost use Rattle.period_writer.specs.Blocks.{addresses_of};
 ghost use Rattle.period_writer.specs.Runs.{course_opened};
 ghost use Rattle.period_writer.specs.Opening as spec;
 
-use super::{OpenFault, Writer};
+use super::{OpenFault, Records, Writer};
 use crate::blocks::{empty_places, end_places, give_all, take_periods};
 use crate::course::{Course, Ran, Run, Span};
 use crate::geometry::Geometry;
@@ -128,18 +128,33 @@ impl Writer {
         requires periods { All (λ lent. Contains pool.old.taken (run_at lent.address (period_bytes self.geometry.period))) self.periods.items }
         ensures { spec.GivesBack self.geometry pool.old self.list.address (addresses_of self.periods.items) pool.new }
     {
+        let Records {
+            runs: _,
+            silences: _,
+        } = self.end(pool);
+    }
+
+    /// What [`Writer::close`] does, and what was recorded.
+    pub fn end(self, pool: &mut Pool) -> Records
+        requires list { Contains pool.old.taken (run_at self.list.address (list_bytes self.geometry.periods)) }
+        requires periods { All (λ lent. Contains pool.old.taken (run_at lent.address (period_bytes self.geometry.period))) self.periods.items }
+        ensures gives { spec.GivesBack self.geometry pool.old self.list.address (addresses_of self.periods.items) pool.new }
+        ensures runs { result.runs ≡ self.runs }
+        ensures silences { result.silences ≡ self.silences }
+    {
         let Writer {
             geometry,
             list,
             mut periods,
             buffer: _,
             records: _,
-            runs: _,
-            silences: _,
+            runs,
+            silences,
             course: _,
         } = self;
         give_all(pool, &mut periods, geometry.period_bytes());
         periods.destroy_empty();
         pool.give(list.back());
+        Records { runs, silences }
     }
 }

@@ -2,11 +2,11 @@ use Rattle.std.proofs.Common.{◌≡◌, Bool, subst}
 use Rattle.hda_world.specs.Events.{Read}
 use Rattle.hda_registers.specs.declared.shapes.Width.TheVariants.{Four}
 use Rattle.hda_world.specs.Tellings.{Telling, Accessed, Makes, Then, Between}
-use Rattle.hda_world.proofs.Callers.{told_both, told_map}
+use Rattle.hda_world.proofs.Callers.{told_both, told_map, told_pair}
 use Rattle.driver_progress.specs.Expected.{has_settled}
 use Rattle.driver_stretches.specs.Settling.{start_if, found_if}
 use Rattle.driver_stretches.specs.Announcing.{StartLeads, LeadsToRings}
-use Rattle.driver_stretches.proofs.SettleWorlds.{settle_told, told_pair}
+use Rattle.driver_stretches.proofs.SettleWorlds.{settle_told}
 use Rattle.driver_stretches.proofs.settling.settle.Goals as goal
 
 pub returns-clause-tells : goal.returns-clause-tells

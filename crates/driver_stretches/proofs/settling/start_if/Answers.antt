@@ -36,7 +36,7 @@ returns-then-settled-clause-tells g c =
     told_map {Before = Begins c.args.engine.now.corb.address c.args.engine.now.rirb.address c.start-codecs.result c.start-codecs.new.self.rings}
     {After = StartLeads c.args.engine.now.corb.address c.args.engine.now.rirb.address c.start-codecs.new.self.rings c.found.result} (λ (old : Telling) (new : Telling) begins bits is can.
     let some : c.start-codecs.result ≢ 0 = λ (none : c.start-codecs.result ≡ 0). no_codecs bits (sym (ap codecs_found none) ∙ sym c.found.ensures ∙ is) in
-    record { from = length (world_of old).commands; read = length (world_of old).written; stands = begins some can }) c.start-codecs.ensures.tells
+    record { read = length (world_of old).written; stands = begins some can }) c.start-codecs.ensures.tells
 
 pub returns-else-settled-clause-tells : goal.returns-else-settled-clause-tells
 returns-else-settled-clause-tells g c =

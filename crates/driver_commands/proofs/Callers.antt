@@ -1,0 +1,14 @@
+-- What proofs of the layers above cite.
+
+-- where a look for an answer leads
+pub use Rattle.driver_commands.proofs.Commands.{comes}
+-- a stretch that reads the clock once is no run
+pub use Rattle.driver_commands.proofs.Commands.{once}
+-- the accesses of a look and a submission are those that are expected, and lead where progress says
+pub use Rattle.driver_commands.proofs.Commands.{stretch}
+-- and so do those of the closing look
+pub use Rattle.driver_commands.proofs.Commands.{closing}
+-- and of a look after which no command comes
+pub use Rattle.driver_commands.proofs.Commands.{last_look}
+-- the entries that a look read of RIRB
+pub use Rattle.driver_commands.proofs.Entries.{asked_entries}

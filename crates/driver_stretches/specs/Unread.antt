@@ -1,0 +1,18 @@
+-- Which accesses look for no answer. This project's own.
+use Rattle.std.specs.Prelude.{◌≡◌, ◌==◌, false, List, [], ◌∷◌}
+use Rattle.hda_registers.specs.declared.places.TheConstants.{RIRBSTS}
+use Rattle.hda_world.specs.Events.{Event, Stepped, Begin, End, Read, Write, DmaRead, DmaWrite}
+
+-- an access that reads neither RIRBSTS nor the memory
+abbrev pub IsUnread : Event → Type 0
+IsUnread (Stepped step) = ⊥
+IsUnread Begin = ⊥
+IsUnread End = ⊥
+IsUnread (Read at width value) = (at == RIRBSTS) ≡ false
+IsUnread (Write at width value) = Unit {0}
+IsUnread (DmaRead at bytes) = ⊥
+IsUnread (DmaWrite at bytes) = Unit {0}
+
+abbrev pub AreUnread : List Event → Type 0
+AreUnread [] = Unit {0}
+AreUnread (event ∷ events) = IsUnread event × AreUnread events
