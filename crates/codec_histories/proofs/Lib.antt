@@ -1,0 +1,9 @@
+pub mod Words
+pub mod Codecs
+pub mod Remembering
+pub mod Readings
+pub mod Asking
+pub mod Addressed
+pub mod SettingUp
+pub mod WholeHistories
+pub mod Callers

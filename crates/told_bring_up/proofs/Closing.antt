@@ -1,0 +1,166 @@
+-- The last call of a bring-up that is told keeps to progress.
+use Rattle.std.proofs.Common.{◌≡◌, ◌≤◌, ℕ, Bool, true, false, List, [], ◌++◌, length, Option, Some, None, refl, sym, ap, subst, ◌∙◌, arith, append_assoc, length-append}
+use Rattle.std.specs.Option.{is_some}
+use Rattle.verb_codes.specs.declared.verbs.Command.{Command}
+use Rattle.codec_graph.specs.declared.raw.RawCodec.{RawCodec}
+use Rattle.route_planner.specs.declared.routes.Plan.{Plan}
+use Rattle.ring_entries.specs.declared.response.Response.{Response}
+use Rattle.hda_world.specs.Worlds.{TakenCommand}
+use Rattle.hda_world.specs.Events.{Event}
+use Rattle.hda_world.specs.Tellings.{Telling, world_of, Makes}
+use Rattle.command_engine.specs.declared.ring_places.RingPlaces.{RingPlaces}
+use Rattle.command_engine.specs.declared.answers.Outstanding.{Outstanding}
+use Rattle.command_engine.specs.Courses.{AscendFrom, graphs_in}
+use Rattle.command_engine.specs.Polling.{asked_of, still_outstanding}
+use Rattle.driver_progress.specs.declared.phase.Phase.{Phase}
+use Rattle.driver_progress.specs.declared.phase.Phase.TheVariants.{Reset, Settling, Walking, SettingUp, Ready, Playing, Drained, NothingRouted, Unanswered, Late, Malformed, Failed}
+use Rattle.driver_progress.specs.Phases.{is_asking, goes_on}
+use Rattle.driver_progress.specs.Tasks.{Task, DriverLine}
+use Rattle.driver_progress.specs.States.{State}
+use Rattle.driver_progress.specs.Progress.{Course, course_of}
+use Rattle.driver_progress.specs.Noting.{with_accesses}
+use Rattle.driver_progress.proofs.Callers.{ConformsTo}
+use Rattle.driver_stretches.specs.Answers.{AnswersAgree}
+use Rattle.driver_stretches.specs.Commands.{ask_accesses}
+use Rattle.driver_stretches.specs.Shutting.{shut_accesses}
+use Rattle.driver_stretches.specs.Unread.{AreUnread}
+use Rattle.driver_commands.specs.Standing.{Agrees, answers_of}
+use Rattle.driver_commands.specs.Commanding.{IsStretch, answer_in}
+use Rattle.codec_bring_up.specs.declared.bringing.BringUp.{BringUp}
+use Rattle.codec_bring_up.specs.Calls.{state_of, Ends, IsTaskOf}
+use Rattle.codec_bring_up.specs.Told.{LooksLast}
+use Rattle.codec_bring_up.proofs.Callers.{unread_none, answer_none}
+use Rattle.told_bring_up.specs.Stretches.{IsOpen, IsDone}
+use Rattle.told_bring_up.specs.Standing.{IsTaskOfCodecs, IsAsking, StandsIn}
+use Rattle.told_bring_up.proofs.Rows.{unread_row, unread_done, stretch_done}
+use Rattle.told_bring_up.proofs.Grows.{row_on}
+use Rattle.told_bring_up.proofs.Looking.{look_noted}
+use Rattle.told_bring_up.proofs.Noting.{Laws, answered_same}
+use Rattle.told_bring_up.proofs.Following.{AgendaLaws, Later, row_remembers, stage_on, looks_by}
+use Rattle.told_bring_up.proofs.Calling.{not_over, led_of}
+
+not_true : false ≡ true → ⊥
+not_true is = cc
+
+no_word : (word : ℕ) → None ≡ Some word → ⊥
+no_word word is = cc
+
+-- ---- the course
+
+-- over the look and the shutting
+pub record LastNoted (task : Task) (lines : List DriverLine) (made : List Event) (found : Bool) (old new : Telling) : Type 0 where
+  pub written : ℕ
+  pub course : course_of task lines new ≡ record (with_accesses (course_of task lines old) made) { written = written; answered = found }
+  pub conforms : ConformsTo task lines old → ConformsTo task lines new
+
+shut_unread : AreUnread shut_accesses
+shut_unread = (tt {0}, (tt {0}, (tt {0}, tt {0})))
+
+same_start : (begins before : Telling) → Makes [] before begins → begins ≡ before
+same_start begins before makes = makes.by
+
+pub last_noted : Laws → (task : Task) (lines : List DriverLine) (old new : BringUp) (made : List Event) (from read : ℕ) (before after : Telling) → IsOpen task lines None (state_of old) before
+    → AnswersAgree (asked_of old.engine.rings.outstanding) (course_of task lines before).written read (world_of before).written → (on : LooksLast old new made from read before after)
+    → LastNoted task lines made (is_some (answer_in old.engine.rings made)) before after
+last_noted laws task lines old new made from read before after opened agree on =
+    let looked = on.looked in
+    let rings = old.engine.rings in
+    let corb = old.engine.corb.address in
+    let rirb = old.engine.rirb.address in
+    let c0 = course_of task lines before in
+    let ask = ask_accesses rirb on.clock rings on.reads in
+    let begun = course_of task lines looked.begins in
+    let start = ap (course_of task lines) (same_start looked.begins before looked.first_made) in
+    let look = look_noted laws.polls task lines from read corb rirb on.clock rings on.reads looked.begins looked.ends looked.look_made looked.stood in
+    let ended = world_of looked.ends in
+    let on_look = row_on ask looked.begins looked.ends looked.look_made in
+    let written = on_look.written ∙ ap (λ (telling : Telling). (world_of telling).written ++ on_look.more_written) (same_start looked.begins before looked.first_made) in
+    let agree_ends = subst (λ (written : List Response). AnswersAgree (asked_of rings.outstanding) c0.written read written) (sym written)
+    (laws.grows (asked_of rings.outstanding) c0.written read (world_of before).written on_look.more_written agree) in
+    let found = answered_same laws rings c0.written read ended begun (answer_in rings made)
+    (ap (λ (course : Course). course.state.rings) start ∙ ap (λ (state : State). state.rings) opened.state_is) (ap (λ (course : Course). course.written) start) agree_ends looked.found in
+    let row = unread_row task lines shut_accesses looked.ends after looked.rest_made.by shut_unread in record {
+      written = row.written;
+      course = row.course
+          ∙ ap (λ (course : Course). record (with_accesses course shut_accesses) { written = row.written }) look.course
+          ∙ ap (λ (answered : Bool). record (with_accesses (with_accesses begun ask) shut_accesses) { written = row.written; answered = answered }) found
+          ∙ ap (λ (course : Course). record (with_accesses (with_accesses course ask) shut_accesses) { written = row.written; answered = is_some (answer_in rings made) }) start
+          ∙ ap (λ (all : List Event). record c0 { made = all; written = row.written; answered = is_some (answer_in rings made) })
+          (append_assoc c0.made ask shut_accesses ∙ ap (λ (made : List Event). c0.made ++ made) (sym looked.made_is));
+      conforms = λ conforms. row.conforms (look.conforms (subst (ConformsTo task lines) (sym (same_start looked.begins before looked.first_made)) conforms));
+    }
+
+-- ---- the call
+
+module _ (IsPlanBy : RawCodec → Plan → Type 0) (verbs_by : RawCodec → Plan → List Command) (verbs : RawCodec → List Command) (graphs : List RawCodec) (task : Task) (laws : AgendaLaws IsPlanBy verbs_by verbs graphs)
+    (of : IsTaskOfCodecs IsPlanBy verbs_by verbs graphs task) (notes : Laws) where
+  -- where nothing is outstanding that may be answered
+  quiet_ends : (lines : List DriverLine) (old new : BringUp) (before after : Telling) → IsOpen task lines None (state_of old) before → IsTaskOf old task → Ends IsPlanBy verbs_by old new (Some before) (Some after) → is_asking old.phase ≡ false
+      → IsDone task lines (state_of new) after
+  quiet_ends lines old new before after opened blocks ends not =
+      let unread = ends.unread not in
+      let none = answer_none old.engine.rings ends.made (unread_none ends.made unread) in
+      unread_done task lines None (state_of old) (state_of new) ends.made before after opened ends.by.is unread
+      (subst (λ (found : Option ℕ). IsStretch task (state_of old) None ends.made (is_some found) (state_of new)) none
+      (ends.is task blocks (not_over old.phase new.phase (answer_in old.engine.rings ends.made) (λ word some. absurd (no_word word (sym none ∙ some)))) (λ asking. absurd (not_true (sym not ∙ asking)))))
+
+  -- and where a command is
+  asking_goes : (phase : Phase) → is_asking phase ≡ true → goes_on phase ≡ true
+  asking_goes Reset is = cc
+  asking_goes Settling is = cc
+  asking_goes Walking is = refl
+  asking_goes SettingUp is = refl
+  asking_goes Ready is = refl
+  asking_goes Playing is = cc
+  asking_goes Drained is = cc
+  asking_goes NothingRouted is = cc
+  asking_goes (Unanswered codec command issued noticed) is = cc
+  asking_goes (Late from to limit) is = cc
+  asking_goes (Malformed codec fault) is = cc
+  asking_goes Failed is = cc
+
+  last_look : (lines : List DriverLine) (old new : BringUp) (before after : Telling) → IsOpen task lines None (state_of old) before → IsTaskOf old task → (ends : Ends IsPlanBy verbs_by old new (Some before) (Some after)) → is_asking old.phase ≡ true
+      → graphs_in (world_of before).codecs ≡ graphs → (a : IsAsking IsPlanBy verbs graphs task (course_of task lines before).written old (world_of before)) → IsDone task lines (state_of new) after
+  last_look lines old new before after opened blocks ends asking graphs_are a =
+      let on = (ends.looks asking).is a.from a.read a.stands in
+      let looked = on.looked in
+      let rings = old.engine.rings in
+      let made = ends.made in
+      let found = answer_in rings made in
+      let goes = asking_goes old.phase asking in
+      let ask = ask_accesses old.engine.rirb.address on.clock rings on.reads in
+      let at = same_start looked.begins before looked.first_made in
+      let look = subst (λ (telling : Telling). Makes ask telling looked.ends) at looked.look_made in
+      let later : Later (world_of before) (world_of looked.ends) = record { on = row_on ask before looked.ends look; remembers = row_remembers ask before looked.ends look } in
+      let known = later.remembers a.taken.start a.taken.begun a.taken.remembers in
+      let graphs_ends = known.graphs ∙ sym a.taken.remembers.graphs ∙ graphs_are in
+      let ascend = subst (AscendFrom 0) graphs_ends looked.stands.ascend in
+      let from_within = a.stands.from_within in
+      let long = ap (λ (commands : List TakenCommand). length commands) later.on.taken ∙ length-append (world_of before).commands later.on.more_taken in
+      let within : a.from ≤ length (world_of looked.ends).commands = omega (arith, from_within, long) in
+      let stage = stage_on IsPlanBy verbs_by verbs graphs task laws of.is_for of.right.well_formed old.sent rings.outstanding old.agenda a.from (world_of before) (world_of looked.ends) from_within later (record { last = a.last; follows = a.follows; taken = a.taken }) in
+      let looks = looks_by IsPlanBy verbs_by verbs graphs task laws of.is_for of.right.well_formed old.sent rings.outstanding found old.agenda new.agenda a.from new.phase (world_of looked.ends) ascend graphs_ends within stage looked.belongs
+      (led_of IsPlanBy verbs_by verbs graphs task laws of made old new found goes refl ends.reads) in
+      let outstanding : new.engine.rings.outstanding ≡ still_outstanding rings.outstanding found =
+      ap (λ (rings : RingPlaces). rings.outstanding) on.rings ∙ ap (λ (found : Option ℕ). still_outstanding rings.outstanding found) looked.found_is in
+      let count : answers_of old.sent (still_outstanding rings.outstanding found) ≡ answers_of new.sent new.engine.rings.outstanding =
+      ap (λ (outstanding : Option Outstanding). answers_of old.sent outstanding) (sym outstanding) ∙ ap (λ (sent : ℕ). answers_of sent new.engine.rings.outstanding) (sym on.sent) in
+      let agrees = λ (asking : is_asking old.phase ≡ true) (goes : goes_on new.phase ≡ true). subst (λ (count : ℕ). Agrees task count new.agenda) count (laws.agrees _ new.agenda task looks.stage.follows of.is_for) in
+      let noted = last_noted notes task lines old new made a.from a.read before after opened a.agree on in
+      stretch_done task lines None (state_of old) (state_of new) made (is_some found) noted.written before after opened noted.course (noted.conforms opened.conforms)
+      (ends.is task blocks (not_over old.phase new.phase found looks.goes) agrees)
+
+  pub end_told : (lines : List DriverLine) (old new : BringUp) (before after : Telling) (phase : Phase) → old.phase ≡ phase → IsOpen task lines None (state_of old) before → IsTaskOf old task → Ends IsPlanBy verbs_by old new (Some before) (Some after)
+      → graphs_in (world_of before).codecs ≡ graphs → StandsIn phase IsPlanBy verbs graphs task (course_of task lines before).written old (world_of before) → IsDone task lines (state_of new) after
+  end_told lines old new before after Reset was opened blocks ends graphs_are stage = quiet_ends lines old new before after opened blocks ends (ap is_asking was)
+  end_told lines old new before after Settling was opened blocks ends graphs_are stage = quiet_ends lines old new before after opened blocks ends (ap is_asking was)
+  end_told lines old new before after Walking was opened blocks ends graphs_are stage = last_look lines old new before after opened blocks ends (ap is_asking was) graphs_are stage
+  end_told lines old new before after SettingUp was opened blocks ends graphs_are stage = last_look lines old new before after opened blocks ends (ap is_asking was) graphs_are stage
+  end_told lines old new before after Ready was opened blocks ends graphs_are stage = quiet_ends lines old new before after opened blocks ends (ap is_asking was)
+  end_told lines old new before after Playing was opened blocks ends graphs_are stage = absurd stage
+  end_told lines old new before after Drained was opened blocks ends graphs_are stage = absurd stage
+  end_told lines old new before after NothingRouted was opened blocks ends graphs_are stage = absurd stage
+  end_told lines old new before after (Unanswered codec command issued noticed) was opened blocks ends graphs_are stage = quiet_ends lines old new before after opened blocks ends (ap is_asking was)
+  end_told lines old new before after (Late from to limit) was opened blocks ends graphs_are stage = absurd stage
+  end_told lines old new before after (Malformed codec fault) was opened blocks ends graphs_are stage = absurd stage
+  end_told lines old new before after Failed was opened blocks ends graphs_are stage = quiet_ends lines old new before after opened blocks ends (ap is_asking was)

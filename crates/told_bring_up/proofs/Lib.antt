@@ -1,0 +1,14 @@
+pub mod Rows
+pub mod Grows
+pub mod Looking
+pub mod Noting
+pub mod Replying
+pub mod Following
+pub mod Calling
+pub mod Codecs
+pub mod Beginning
+pub mod Told
+pub mod Closing
+pub mod Moving
+pub mod Whole
+pub mod Ready

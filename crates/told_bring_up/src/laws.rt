@@ -1,0 +1,60 @@
+//! Laws of what is told of a bring-up, each the contract of a function that does nothing.
+ghost use Rattle.std.specs.Prelude.{◌≡◌, ℕ, List, [], Contains, Some};
+ghost use Rattle.verb_codes.specs.declared.verbs.Command.{Command};
+ghost use Rattle.codec_graph.specs.declared.raw.RawCodec.{RawCodec};
+ghost use Rattle.codec_graph.specs.CodecStates.{CodecState};
+ghost use Rattle.route_planner.specs.declared.routes.Plan.{Plan};
+ghost use Rattle.hda_world.specs.Worlds.{World, codec_at};
+ghost use Rattle.driver_progress.specs.declared.phase.Phase.TheVariants.{Ready};
+ghost use Rattle.codec_bring_up.specs.declared.bringing.BringUp.{BringUp};
+ghost use Rattle.stream_format.specs.declared.format.Format.{Format};
+ghost use Rattle.hda_world.specs.Events.{Begin, End};
+ghost use Rattle.hda_world.specs.Tellings.{Telling, Accessed};
+ghost use Rattle.driver_progress.specs.Tasks.{Task, DriverLine};
+ghost use Rattle.driver_progress.specs.States.{State, state_opened};
+ghost use Rattle.driver_progress.specs.Progress.{course_of, begun};
+ghost use Rattle.told_bring_up.specs.Stretches.{IsAtRest, IsOpen, IsDone};
+ghost use Rattle.told_bring_up.specs.Standing.{IsTaskOfCodecs, IsBroughtUp};
+ghost use Rattle.told_bring_up.specs.Keeping.{KeepsToProgress};
+
+use codec_agenda::agendas_follow;
+use driver_commands::{TAG, agendas_agree};
+use driver_stretches::{a_reset_stays, answers_agree, polls_are_noted};
+use route_setup::Setter;
+
+/// A stretch is opened from rest and ended by marks. Before the first event a driver is at rest.
+pub fn stretches_are_marked()
+    ensures rests { (task : Task) (lines : List DriverLine) (telling : Telling) → telling.journal ≡ [] → IsAtRest task lines state_opened telling }
+    ensures opens { (task : Task) (lines : List DriverLine) (state : State) (old new : Telling) → Accessed old new Begin → IsAtRest task lines state old → IsOpen task lines (begun (course_of task lines old)).turn state new }
+    ensures closes { (task : Task) (lines : List DriverLine) (state' : State) (old new : Telling) → Accessed old new End → IsDone task lines state' old → IsAtRest task lines state' new }
+{}
+
+/// Each call of a bring-up in an open stretch of its own, for an interrupt or not, makes just the accesses that progress expects and leads
+/// where it says, and it stands to the world after it as before: for the codecs on the link, one to four with well-formed graphs, of which
+/// some pin has a route. Before the reset CORB's engine does not run. So no answer is refused, and the agenda asks their commands in order. The last call does the same, and the device
+/// keeps how it stands.
+pub fn bring_ups_keep_to_progress<T: Setter>()
+    ensures { (setter : T) (format : Format) (verbs : RawCodec → List Command) (graphs : List RawCodec) (task : Task)
+        → IsTaskOfCodecs (λ graph. T.IsPlanBy setter graph format) (λ graph plan. T.verbs_by setter graph plan format TAG) verbs graphs task
+        → KeepsToProgress (λ graph. T.IsPlanBy setter graph format) (λ graph plan. T.verbs_by setter graph plan format TAG) verbs graphs task }
+{
+    agendas_follow::<T>();
+    agendas_agree::<T>();
+    polls_are_noted();
+    answers_agree();
+    a_reset_stays();
+}
+
+/// Once all commands are answered each codec is set up by its plan: in the phase `Ready` its settings are what the verbs of its plan make
+/// of settings of its graph, wherever the bring-up stands to the world as before and after each of its calls.
+pub fn ready_codecs_are_set_up<T: Setter>()
+    ensures { (setter : T) (format : Format) (verbs : RawCodec → List Command) (graphs : List RawCodec) (task : Task)
+        → IsTaskOfCodecs (λ graph. T.IsPlanBy setter graph format) (λ graph plan. T.verbs_by setter graph plan format TAG) verbs graphs task
+        → (written : ℕ) (bring_up : BringUp) (world : World) → bring_up.phase ≡ Ready
+        → IsBroughtUp (λ graph. T.IsPlanBy setter graph format) verbs graphs task written bring_up world
+        → (graph : RawCodec) (plan : Plan) (now : CodecState) → Contains graphs graph → T.IsPlanBy setter graph format plan
+        → codec_at graph.address world.codecs ≡ Some now → (now.graph ≡ graph) × T.IsOpenBy setter graph now.settings plan format TAG }
+{
+    agendas_follow::<T>();
+    agendas_agree::<T>();
+}
