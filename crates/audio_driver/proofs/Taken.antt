@@ -1,0 +1,111 @@
+-- Runs that are taken stay so as others are taken and given back.
+use Rattle.std.proofs.Common.{◌≡◌, ◌≢◌, ◌≤◌, ◌==◌, ◌||◌, inl, inr, ℕ, zero, suc, Bool, true, false, List, [], ◌∷◌, get_or, refl, sym, ap, subst, ◌∙◌, arith, rules, tests, eq-eqb}
+use Rattle.std.specs.Prelude.{Contains, All}
+use Rattle.std.proofs.lemmas.List.Elements.{Contains-append_left, Contains-append_right, Contains-append_cases}
+use Rattle.std.proofs.lemmas.Bool.{and_from}
+use Rattle.dma_pool.specs.declared.blocks.Lent.{Lent}
+use Rattle.dma_pool.specs.declared.runs.Run.{Run}
+use Rattle.dma_pool.specs.Pools.{PoolState, AddsRun, granules_for}
+use Rattle.dma_pool.specs.Blocks.{run_at}
+use Rattle.dma_pool.specs.Several.{TakesAll}
+use Rattle.command_engine.specs.Blocks.{corb_bytes, rirb_bytes}
+use Rattle.command_engine.specs.Opening as of_engine
+use Rattle.period_writer.specs.declared.geometry.Geometry.{Geometry}
+use Rattle.period_writer.specs.Rings.{period_bytes, list_bytes}
+use Rattle.period_writer.specs.Opening as of_writer
+use Rattle.audio_driver.specs.Owning.{are_same, is_taken}
+
+-- ---- the test whether a run is taken
+
+abbrev run_of : (first count : ℕ) → Run
+run_of first count = record { first = first; count = count }
+
+pub same_run : (one other : Run) → are_same one other ≡ true → one ≡ other
+same_run one other is =
+    let first : one.first ≡ other.first = search (rules, tests) in
+    let count : one.count ≡ other.count = search (rules, tests) in
+    ap (λ (n : ℕ). run_of n one.count) first ∙ ap (λ (n : ℕ). run_of other.first n) count
+
+pub run_same : (one other : Run) → one ≡ other → are_same one other ≡ true
+run_same one other is =
+    and_from (one.first == other.first) (one.count == other.count) (eq-eqb one.first other.first (ap (λ (run : Run). run.first) is)) (eq-eqb one.count other.count (ap (λ (run : Run). run.count) is))
+
+or_right : (one other : Bool) → other ≡ true → (one || other) ≡ true
+or_right true other is = refl
+or_right false other is = is
+
+pub taken_of : (taken : List Run) (run : Run) → Contains taken run → is_taken taken run ≡ true
+taken_of [] run has = (let less = has.1 in absurd (omega (arith, less)))
+taken_of (other ∷ taken) run (zero, less, is) = ap (λ (one : Bool). one || is_taken taken run) (run_same other run is)
+taken_of (other ∷ taken) run (suc k, less, is) = or_right (are_same other run) (is_taken taken run) (taken_of taken run (k, omega (arith, less), is))
+
+pub of_taken : (taken : List Run) (run : Run) → is_taken taken run ≡ true → Contains taken run
+of_taken [] run is = (let never : false ≡ true = is in cc)
+of_taken (other ∷ taken) run is = by (are_same other run) refl (of_taken taken run) is where
+  by : (here : Bool) → are_same other run ≡ here → (is_taken taken run ≡ true → Contains taken run) → (here || is_taken taken run) ≡ true → Contains (other ∷ taken) run
+  by true here rest found = (0, omega arith, same_run other run here)
+  by false here rest found = (let has = rest found in (suc has.0, omega (arith, has.1), has.2))
+
+-- ---- runs that are added
+
+pub adds_keeps : (old : List Run) (run : Run) (new : List Run) → AddsRun old run new → (other : Run) → Contains old other → Contains new other
+adds_keeps old run new adds other has =
+    elim (Contains-append_cases adds.front adds.back other (subst (λ (runs : List Run). Contains runs other) adds.was has)) as (λ _. Contains new other) [
+      | inl early ↦ subst (λ (runs : List Run). Contains runs other) (sym adds.becomes) (Contains-append_left adds.front (run ∷ adds.back) other early)
+      | inr late ↦ subst (λ (runs : List Run). Contains runs other) (sym adds.becomes) (Contains-append_right adds.front (run ∷ adds.back) other (Contains-append_right (run ∷ []) adds.back other late))
+    ]
+
+adds_others : (old : List Run) (run : Run) (new : List Run) → AddsRun old run new → (other : Run) → Contains new other → other ≢ run → Contains old other
+adds_others old run new adds other has differs =
+    elim (Contains-append_cases adds.front (run ∷ adds.back) other (subst (λ (runs : List Run). Contains runs other) adds.becomes has)) as (λ _. Contains old other) [
+      | inl early ↦ subst (λ (runs : List Run). Contains runs other) (sym adds.was) (Contains-append_left adds.front adds.back other early)
+      | inr late ↦ elim (Contains-append_cases (run ∷ []) adds.back other late) as (λ _. Contains old other) [
+        | inl same ↦ absurd (differs (only_one same))
+        | inr later ↦ subst (λ (runs : List Run). Contains runs other) (sym adds.was) (Contains-append_right adds.front adds.back other later)
+      ]
+    ] where
+      only_one : Contains (run ∷ []) other → other ≡ run
+      only_one (zero, less, is) = sym is
+      only_one (suc k, less, is) = absurd (omega (arith, less))
+
+takes_keep : (granules bytes : ℕ) (taken : List Run) (addresses : List ℕ) (taken' : List Run) (run : Run) → TakesAll granules bytes taken addresses taken' → Contains taken run → Contains taken' run
+takes_keep granules bytes taken [] taken' run none has = subst (λ (runs : List Run). Contains runs run) (sym none) has
+takes_keep granules bytes taken (address ∷ addresses) taken' run (middle, first, rest) has =
+    takes_keep granules bytes middle addresses taken' run rest (adds_keeps taken (run_at address bytes) middle first.adds run has)
+
+-- a run stays taken as a writer is opened
+pub opens_keep : (geometry : Geometry) (pool : PoolState) (list : ℕ) (periods : List ℕ) (pool' : PoolState) (run : Run) → of_writer.Opens geometry pool list periods pool' → Contains pool.taken run → Contains pool'.taken run
+opens_keep geometry pool list periods pool' run opens has =
+    takes_keep pool.granules (period_bytes geometry.period) opens.middle periods pool'.taken run opens.periods_taken
+    (adds_keeps pool.taken (run_at list (list_bytes geometry.periods)) opens.middle opens.list_taken.adds run has)
+
+-- a run of another number of granules stays taken as an engine is closed
+pub engine_leaves : (pool : PoolState) (corb rirb : ℕ) (pool' : PoolState) (run : Run) → of_engine.GivesBack pool corb rirb pool' → run.count ≢ granules_for corb_bytes → run.count ≢ granules_for rirb_bytes
+    → Contains pool.taken run → Contains pool'.taken run
+engine_leaves pool corb rirb pool' run gives other_corb other_rirb has =
+    adds_others pool'.taken (run_at rirb rirb_bytes) gives.middle gives.rirb_given run
+    (adds_others gives.middle (run_at corb corb_bytes) pool.taken gives.corb_given run has (λ same. other_corb (ap (λ (one : Run). one.count) same)))
+    (λ same. other_rirb (ap (λ (one : Run). one.count) same))
+
+-- the blocks of an engine have 8 and 16 granules, the list of buffers 4 at most, and a period a multiple of 3
+pub list_leaves : (pool : PoolState) (corb rirb : ℕ) (pool' : PoolState) (list periods : ℕ) → periods ≤ 32 → of_engine.GivesBack pool corb rirb pool'
+    → Contains pool.taken (run_at list (list_bytes periods)) → Contains pool'.taken (run_at list (list_bytes periods))
+list_leaves pool corb rirb pool' list periods few gives has =
+    engine_leaves pool corb rirb pool' (run_at list (list_bytes periods)) gives (λ same. omega (arith, few, same)) (λ same. omega (arith, few, same)) has
+
+period_leaves : (pool : PoolState) (corb rirb : ℕ) (pool' : PoolState) (address period : ℕ) → of_engine.GivesBack pool corb rirb pool'
+    → Contains pool.taken (run_at address (period_bytes period)) → Contains pool'.taken (run_at address (period_bytes period))
+period_leaves pool corb rirb pool' address period gives has =
+    engine_leaves pool corb rirb pool' (run_at address (period_bytes period)) gives (λ same. omega (arith, same)) (λ same. omega (arith, same)) has
+
+pub periods_leave : (pool : PoolState) (corb rirb : ℕ) (pool' : PoolState) (period : ℕ) (lents : List Lent) → of_engine.GivesBack pool corb rirb pool'
+    → All (λ (lent : Lent). Contains pool.taken (run_at lent.address (period_bytes period))) lents → All (λ (lent : Lent). Contains pool'.taken (run_at lent.address (period_bytes period))) lents
+periods_leave pool corb rirb pool' period lents gives owned k d less = period_leaves pool corb rirb pool' (get_or lents k d).address period gives (owned k d less)
+
+-- ---- the test for each period
+
+pub all_taken : (taken : List Run) (bytes : ℕ) (lents : List Lent) → All (λ (lent : Lent). Contains taken (run_at lent.address bytes)) lents → All (λ (lent : Lent). is_taken taken (run_at lent.address bytes) ≡ true) lents
+all_taken taken bytes lents owned k d less = taken_of taken (run_at (get_or lents k d).address bytes) (owned k d less)
+
+pub of_all_taken : (taken : List Run) (bytes : ℕ) (lents : List Lent) → All (λ (lent : Lent). is_taken taken (run_at lent.address bytes) ≡ true) lents → All (λ (lent : Lent). Contains taken (run_at lent.address bytes)) lents
+of_all_taken taken bytes lents owned k d less = of_taken taken (run_at (get_or lents k d).address bytes) (owned k d less)

@@ -1,0 +1,35 @@
+-- How a driver is closed: the blocks that it gives back, and what is left of it. This project's own.
+use Rattle.std.specs.Prelude.{◌≡◌, ℕ, List, All, Option}
+use Rattle.verb_codes.specs.declared.verbs.Command.{Command}
+use Rattle.codec_graph.specs.declared.raw.RawCodec.{RawCodec}
+use Rattle.route_planner.specs.declared.routes.Plan.{Plan}
+use Rattle.dma_pool.specs.Pools.{PoolState}
+use Rattle.hda_world.specs.Tellings.{Telling}
+use Rattle.command_engine.specs.declared.answers.Event as told
+use Rattle.command_engine.specs.Opening as of_engine
+use Rattle.period_writer.specs.declared.geometry.Geometry.{Geometry}
+use Rattle.period_writer.specs.declared.writer.Writer.{Writer}
+use Rattle.period_writer.specs.Opening as of_writer
+use Rattle.jack_counts.specs.Counted.{IsCount}
+use Rattle.jack_counts.specs.Jacks.{IsOfPin, Counts}
+use Rattle.codec_bring_up.specs.declared.bringing.BringUp.{BringUp}
+use Rattle.codec_bring_up.specs.Calls.{Ends}
+use Rattle.audio_driver.specs.declared.driver.closing.Closed.{Closed}
+
+-- CORB and RIRB were given back, and then the periods and the list of buffers
+pub record GivesBack (geometry : Geometry) (pool : PoolState) (corb rirb list : ℕ) (periods : List ℕ) (pool' : PoolState) : Type 0 where
+  pub middle : PoolState
+  pub engine : of_engine.GivesBack pool corb rirb middle
+  pub writer : of_writer.GivesBack geometry middle list periods pool'
+
+-- what is left: the bring-up as its last call leaves it, and what the writer recorded
+pub record Closes (IsPlanBy : RawCodec → Plan → Type 0) (verbs_by : RawCodec → Plan → List Command) (bring_up : BringUp) (writer : Writer) (closed : Closed) (before after : Option Telling) : Type 0 where
+  pub ended : BringUp
+  pub ends : Ends IsPlanBy verbs_by bring_up ended before after
+  pub phase : closed.phase ≡ ended.phase
+  pub sent : closed.sent ≡ ended.sent
+  pub graphs : closed.graphs ≡ ended.agenda.graphs
+  pub plans : closed.plans ≡ ended.agenda.plans
+  pub jacks : (events : List told.Event) → IsCount events ended.jacks → All IsOfPin events → Counts events closed.jacks.items
+  pub runs : closed.runs ≡ writer.runs
+  pub silences : closed.silences ≡ writer.silences

@@ -1,0 +1,111 @@
+//! How a driver is closed.
+ghost use Rattle.std.specs.Prelude.{◌≡◌, ◌≤◌, ◌+◌, Contains, All, IfOk, OnErr, true};
+ghost use Rattle.dma_pool.specs.Blocks.{run_at};
+ghost use Rattle.dma_pool.specs.Pools.{PoolState};
+ghost use Rattle.command_engine.specs.Blocks.{corb_bytes, rirb_bytes};
+ghost use Rattle.period_writer.specs.Rings.{period_bytes, list_bytes, ring_bytes};
+ghost use Rattle.period_writer.specs.Blocks.{addresses_of};
+ghost use Rattle.driver_progress.specs.Phases.{is_asking};
+ghost use Rattle.audio_driver.specs.Opening.{Opens};
+ghost use Rattle.audio_driver.specs.Closing as spec;
+
+use super::Driver;
+use codec_bring_up::BroughtUp;
+use codec_graph::Graph;
+use command_engine::Engine;
+use dma_pool::Pool;
+use driver_commands::TAG;
+use driver_progress::{Jack, Phase};
+use hda_platform::Platform;
+use period_writer::{Records, Run, Span, Writer};
+use route_planner::Plan;
+use route_setup::Setter;
+use std::alloc::AllocError;
+
+/// What is left of a driver that was closed.
+#[derive(Drop)]
+pub struct Closed {
+    /// How far it came.
+    pub phase: Phase,
+    /// The graphs of the codecs that were walked.
+    pub graphs: Vec<Graph>,
+    /// Their plans, once all were walked.
+    pub plans: Vec<Plan>,
+    /// The runs of the ring of periods, in order.
+    pub runs: Vec<Run>,
+    /// The stretches of the line that are silence, ascending.
+    pub silences: Vec<Span>,
+    /// How often codecs told of what was plugged in, ascending by codec and tag.
+    pub jacks: Vec<Jack>,
+    /// How many commands were submitted.
+    pub sent: u32,
+    /// The pool, as it was before the driver was opened.
+    pub pool: Pool,
+}
+
+/// Gives the blocks of both back to the pool that they were taken from: their runs are among its taken runs.
+pub(super) fn give_back(pool: &mut Pool, engine: Engine, writer: Writer) -> Records
+    requires corb { Contains pool.old.taken (run_at engine.corb.address corb_bytes) }
+    requires rirb { Contains pool.old.taken (run_at engine.rirb.address rirb_bytes) }
+    requires list { Contains pool.old.taken (run_at writer.list.address (list_bytes writer.geometry.periods)) }
+    requires periods { All (λ lent. Contains pool.old.taken (run_at lent.address (period_bytes writer.geometry.period))) writer.periods.items }
+    ensures gives { spec.GivesBack writer.geometry pool.old engine.corb.address engine.rirb.address writer.list.address (addresses_of writer.periods.items) pool.new }
+    ensures runs { result.runs ≡ writer.runs }
+    ensures silences { result.silences ≡ writer.silences }
+{
+    engine.close(pool);
+    writer.end(pool)
+}
+
+impl<T: Setter + Drop> Driver<T> {
+    /// The last call: while commands are sent it looks once more for an answer. Where the controller was reset before, it stops both rings
+    /// and leaves the controller in reset. All blocks go back to the pool.
+    ///
+    /// # Errors
+    /// Want of memory, while commands are sent. The pool is then let go.
+    pub fn close<P: Platform>(self, platform: &mut P) -> Result<Closed, AllocError>
+        requires room { 400 ≤ P.spare_accesses platform.old }
+        requires bytes_room { ring_bytes self.writer.geometry.periods self.writer.geometry.period + 8192 ≤ P.spare_bytes platform.old }
+        ensures closes { IfOk result (λ closed. spec.Closes (λ graph. T.IsPlanBy self.setter graph self.bring_up.agenda.format) (λ graph plan. T.verbs_by self.setter graph plan self.bring_up.agenda.format TAG) self.bring_up self.writer closed (P.told platform.old) (P.told platform.new)) }
+        ensures gives { IfOk result (λ closed. spec.GivesBack self.writer.geometry self.pool self.bring_up.engine.corb.address self.bring_up.engine.rirb.address self.writer.list.address (addresses_of self.writer.periods.items) closed.pool) }
+        ensures pool { IfOk result (λ closed. (before : PoolState) → Opens self.writer.geometry before self.bring_up.engine.corb.address self.bring_up.engine.rirb.address self.writer.list.address (addresses_of self.writer.periods.items) self.pool → closed.pool ≡ before) }
+        ensures cause { OnErr result (is_asking self.bring_up.phase ≡ true) }
+        ensures fixed { P.fixed platform.new ≡ P.fixed platform.old }
+        ensures accesses { P.spare_accesses platform.old ≤ P.spare_accesses platform.new + 262 }
+        ensures bytes { P.spare_bytes platform.old ≤ P.spare_bytes platform.new + 2040 }
+    {
+        let Driver {
+            mut bring_up,
+            writer,
+            supply: _,
+            mut pool,
+            setter,
+            play: _,
+            runs: _,
+            calls: _,
+        } = self;
+        let ended = bring_up.end(platform, &setter);
+        let phase = bring_up.phase();
+        let sent = bring_up.sent();
+        let BroughtUp {
+            engine,
+            graphs,
+            plans,
+            jacks,
+        } = bring_up.parts();
+        let Records { runs, silences } = give_back(&mut pool, engine, writer);
+        match ended {
+            Ok(()) => Ok(Closed {
+                phase,
+                graphs,
+                plans,
+                runs,
+                silences,
+                jacks,
+                sent,
+                pool,
+            }),
+            Err(failed) => Err(failed),
+        }
+    }
+}
