@@ -8,7 +8,7 @@ use Rattle.std.proofs.lemmas.Grind.{flat_map-append}
 use Rattle.std.proofs.lemmas.Option.{slice_get-get_or}
 use Rattle.std.proofs.lemmas.Bool.{cases_lt}
 use Rattle.std.proofs.lemmas.List.{length-append, map-append, length-map}
-use Rattle.std.proofs.lemmas.List.Elements.{Contains-append_right}
+use Rattle.std.proofs.lemmas.List.Elements.{All-head, All-tail, Contains-append_right}
 use Rattle.verb_codes.specs.declared.verbs.Command.{Command}
 use Rattle.codec_graph.specs.declared.raw.RawCodec.{RawCodec}
 use Rattle.codec_graph.specs.Cycles.{IsWellFormed}
@@ -113,14 +113,15 @@ asks_lead P v (Told codec) command addresses graphs new is led = absurd (no_ques
     no_question command is = cc
 
 -- the verbs of graphs by their plans are the graphs'
-verbs_same : (P : RawCodec → Plan → Type 0) (v : RawCodec → Plan → List Command) (verbs : RawCodec → List Command) → ((graph : RawCodec) (plan : Plan) → P graph plan → verbs graph ≡ v graph plan)
-    → (graphs : List RawCodec) (plans : List Plan) → ArePlansBy P graphs plans → verbs_for v graphs plans ≡ flat_map verbs graphs
-verbs_same P v verbs are [] [] plans_are = refl
-verbs_same P v verbs are [] (plan ∷ plans) plans_are = absurd plans_are
-verbs_same P v verbs are (graph ∷ graphs) [] plans_are = absurd plans_are
-verbs_same P v verbs are (graph ∷ graphs) (plan ∷ plans) plans_are =
-    ap (λ (first : List Command). first ++ verbs_for v graphs plans) (sym (are graph plan plans_are.0))
-    ∙ ap (λ (rest : List Command). verbs graph ++ rest) (verbs_same P v verbs are graphs plans plans_are.1)
+verbs_same : (P : RawCodec → Plan → Type 0) (v : RawCodec → Plan → List Command) (verbs : RawCodec → List Command) (graphs : List RawCodec) (plans : List Plan)
+    → All (λ (graph : RawCodec). (plan : Plan) → P graph plan → verbs graph ≡ v graph plan) graphs → ArePlansBy P graphs plans → verbs_for v graphs plans ≡ flat_map verbs graphs
+verbs_same P v verbs [] [] are plans_are = refl
+verbs_same P v verbs [] (plan ∷ plans) are plans_are = absurd plans_are
+verbs_same P v verbs (graph ∷ graphs) [] are plans_are = absurd plans_are
+verbs_same P v verbs (graph ∷ graphs) (plan ∷ plans) are plans_are =
+    let Is : RawCodec → Type 0 = λ graph. (plan : Plan) → P graph plan → verbs graph ≡ v graph plan in
+    ap (λ (first : List Command). first ++ verbs_for v graphs plans) (sym (All-head Is graph graphs are plan plans_are.0))
+    ∙ ap (λ (rest : List Command). verbs graph ++ rest) (verbs_same P v verbs graphs plans (All-tail Is graph graphs are) plans_are.1)
 
 -- the walk over the next codec
 begins_next : Counts → (P : RawCodec → Plan → Type 0) (verbs : RawCodec → List Command) (graphs done rest : List RawCodec) (next : RawCodec) (addresses : List ℕ) (count : ℕ) (new : Agenda)
@@ -150,7 +151,7 @@ begins_verbs P v verbs graphs count new right is begins =
     subst (FollowsBy P verbs graphs count new) (sym begins.no_walk) (record {
       graphs_are = begins.graphs_are;
       plans = begins.plans;
-      verbs_are = begins.verbs ∙ verbs_same P v verbs right.verbs_are graphs new.plans.items begins.plans;
+      verbs_are = begins.verbs ∙ verbs_same P v verbs graphs new.plans.items right.verbs_are begins.plans;
       count_is = let none = begins.none in omega (arith, is, none);
     })
 

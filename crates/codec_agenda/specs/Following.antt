@@ -22,7 +22,7 @@ commands_of verbs graphs = flat_map walk_commands graphs ++ flat_map verbs graph
 -- the graphs are well-formed, each has these verbs by its plan, and some pin of some plan has a route
 pub record AreRight (IsPlanBy : RawCodec → Plan → Type 0) (verbs_by : RawCodec → Plan → List Command) (verbs : RawCodec → List Command) (graphs : List RawCodec) : Type 0 where
   pub well_formed : All IsWellFormed graphs
-  pub verbs_are : (graph : RawCodec) (plan : Plan) → IsPlanBy graph plan → verbs graph ≡ verbs_by graph plan
+  pub verbs_are : All (λ (graph : RawCodec). (plan : Plan) → IsPlanBy graph plan → verbs graph ≡ verbs_by graph plan) graphs
   pub routed : (plans : List Plan) → ArePlansBy IsPlanBy graphs plans → list_any has_route plans ≡ true
 
 -- so many commands were answered, the last of them in the walk over a codec, which is not at its end

@@ -4,7 +4,7 @@ use Rattle.verb_codes.specs.Words.{has_bit}
 use Rattle.hda_registers.specs.declared.places.TheConstants.{STATESTS}
 use Rattle.hda_world.specs.Worlds.{World, TakenCommand}
 use Rattle.hda_world.specs.Events.{Event}
-use Rattle.hda_world.specs.Tellings.{Telling, world_of, Makes}
+use Rattle.hda_world.specs.Tellings.{Telling, world_of, Between, Makes}
 use Rattle.hda_world.specs.Discovery.{addresses_of}
 use Rattle.command_engine.specs.declared.answers.Outstanding.{Outstanding}
 use Rattle.command_engine.specs.Starting.{codecs_in}
@@ -130,3 +130,8 @@ pub record LooksLast (old new : BringUp) (made : List Event) (from read : ℕ) (
 abbrev pub EndLooks : (old new : BringUp) (made : List Event) → Telling → Telling → Type 0
 EndLooks old new made before after =
     (from read : ℕ) → Stands from read old.engine.corb.address old.engine.rirb.address old.engine.rings (world_of before) → LooksLast old new made from read before after
+
+-- the last accesses that are told are those of the end
+pub record IsShut (after : Option Telling) : Type 0 where
+  pub before : Option Telling
+  pub made : Between (Makes shut_accesses) before after

@@ -134,13 +134,15 @@ all_there address (first ∷ codecs) codec all is = by (all_there address codecs
 
 module _ (IsPlanBy : RawCodec → Plan → Type 0) (verbs_by : RawCodec → Plan → List Command) (verbs : RawCodec → List Command) (graphs : List RawCodec) (task : Task) (laws : AgendaLaws IsPlanBy verbs_by verbs graphs)
     (of : IsTaskOfCodecs IsPlanBy verbs_by verbs graphs task) (encodable : (graph : RawCodec) (plan : Plan) → IsWellFormed graph → IsPlanBy graph plan → All (IsCommandOf graph) (verbs_by graph plan)) where
-  commands_by : (some : List RawCodec) (plans : List Plan) → ArePlansBy IsPlanBy some plans → All IsWellFormed some → All (λ (graph : RawCodec). All (IsCommandOf graph) (verbs graph)) some
-  commands_by [] plans are well = All-nil (λ (graph : RawCodec). All (IsCommandOf graph) (verbs graph))
-  commands_by (graph ∷ some) [] are well = absurd are
-  commands_by (graph ∷ some) (plan ∷ plans) are well =
+  commands_by : (some : List RawCodec) (plans : List Plan) → ArePlansBy IsPlanBy some plans → All IsWellFormed some
+      → All (λ (graph : RawCodec). (plan : Plan) → IsPlanBy graph plan → verbs graph ≡ verbs_by graph plan) some → All (λ (graph : RawCodec). All (IsCommandOf graph) (verbs graph)) some
+  commands_by [] plans are well verbs_are = All-nil (λ (graph : RawCodec). All (IsCommandOf graph) (verbs graph))
+  commands_by (graph ∷ some) [] are well verbs_are = absurd are
+  commands_by (graph ∷ some) (plan ∷ plans) are well verbs_are =
+      let Is : RawCodec → Type 0 = λ graph. (plan : Plan) → IsPlanBy graph plan → verbs graph ≡ verbs_by graph plan in
       All-cons (λ (graph : RawCodec). All (IsCommandOf graph) (verbs graph)) graph some
-      (subst (All (IsCommandOf graph)) (sym (of.right.verbs_are graph plan are.0)) (encodable graph plan (All-head IsWellFormed graph some well) are.0))
-      (commands_by some plans are.1 (All-tail IsWellFormed graph some well))
+      (subst (All (IsCommandOf graph)) (sym (All-head Is graph some verbs_are plan are.0)) (encodable graph plan (All-head IsWellFormed graph some well) are.0))
+      (commands_by some plans are.1 (All-tail IsWellFormed graph some well) (All-tail Is graph some verbs_are))
 
   plans_by : (count : ℕ) (agenda : Agenda) (walks : Option Walk) → FollowsBy IsPlanBy verbs graphs count agenda walks → length (flat_map walk_commands graphs) ≤ count → ArePlansBy IsPlanBy graphs agenda.plans.items
   plans_by count agenda None stands all = stands.plans
@@ -181,7 +183,7 @@ module _ (IsPlanBy : RawCodec → Plan → Type 0) (verbs_by : RawCodec → Plan
       let total = ap (λ (orders : List Order). length orders) of.is_for.orders ∙ length-map (commands_of verbs graphs) _ ∙ length-append (flat_map walk_commands graphs) (flat_map verbs graphs) in
       let ascend = subst (AscendFrom 0) graphs_are a.stands.ascend in
       let plans = plans_by answers bring_up.agenda bring_up.agenda.walk a.follows.stands (omega (arith, all, total)) in
-      let can : CanBeSent verbs graphs = record { well_formed = of.right.well_formed; addresses = all_low 0 graphs ascend; commands_are = commands_by graphs bring_up.agenda.plans.items plans of.right.well_formed } in
+      let can : CanBeSent verbs graphs = record { well_formed = of.right.well_formed; addresses = all_low 0 graphs ascend; commands_are = commands_by graphs bring_up.agenda.plans.items plans of.right.well_formed of.right.verbs_are } in
       let now_is = same_Some now.graph graph (sym (graph_there graph.address world.codecs now there) ∙ ap (λ (graphs : List RawCodec). graph_at graph.address graphs) graphs_are ∙ found_there graphs graph ascend contains) in
       let was_at = was_there (drop begun world.commands) (codec_at graph.address a.taken.start) (codec_at graph.address world.codecs) now (found_by a.taken.start begun world graph.address a.taken.remembers) there in
       let first = was_at.first in
@@ -202,4 +204,4 @@ module _ (IsPlanBy : RawCodec → Plan → Type 0) (verbs_by : RawCodec → Plan
       let asking = subst (λ (phase : Phase). StandsIn phase IsPlanBy verbs graphs task written bring_up world) was stands.stage in
       let set = ready_set IsPlanBy verbs_by verbs graphs task laws of encodable written bring_up world was stands.graphs_are asking graph now contains there in
       let well = All-contains IsWellFormed graphs graph of.right.well_formed contains in
-      (set.graph_is, subst (λ (settings : Entries). IsOpen graph settings plan) (sym (set.are_set ∙ ap (λ (commands : List Command). settings_after graph set.settings commands) (of.right.verbs_are graph plan planned))) (opens graph plan set.settings well planned set.are_settings))
+      (set.graph_is, subst (λ (settings : Entries). IsOpen graph settings plan) (sym (set.are_set ∙ ap (λ (commands : List Command). settings_after graph set.settings commands) (All-contains (λ (graph : RawCodec). (plan : Plan) → IsPlanBy graph plan → verbs graph ≡ verbs_by graph plan) graphs graph of.right.verbs_are contains plan planned))) (opens graph plan set.settings well planned set.are_settings))

@@ -66,6 +66,7 @@ module _ (IsPlanBy : RawCodec → Plan → Type 0) (verbs_by : RawCodec → Plan
     (of : IsTaskOfCodecs IsPlanBy verbs_by verbs graphs task) (notes : Laws) where
   -- a call in a stretch that is open, as it is told
   pub record Called (lines : List DriverLine) (budget : ℕ) (irq : Bool) (old new : BringUp) (before after : Telling) : Type 0 where
+    pub silent : old.phase ≡ Ready → task.plays ≡ false
     pub opened : IsOpen task lines (Some (record { irq = irq; budget = budget })) (state_of old) before
     pub blocks : IsTaskOf old task
     pub leads : Leads IsPlanBy verbs_by irq old new (Some before) (Some after)
@@ -84,7 +85,7 @@ module _ (IsPlanBy : RawCodec → Plan → Type 0) (verbs_by : RawCodec → Plan
       let none = answer_none old.engine.rings leads.made (unread_none leads.made unread) in
       let line = Some (record { irq = irq; budget = budget }) in
       subst (λ (found : Option ℕ). IsStretch task (state_of old) line leads.made (is_some found) (state_of new)) none
-      (leads.is task budget call.blocks (λ ready. of.silent) (not_over old.phase new.phase (answer_in old.engine.rings leads.made) (λ word some. absurd (no_word word (sym none ∙ some)))) agrees)
+      (leads.is task budget call.blocks call.silent (not_over old.phase new.phase (answer_in old.engine.rings leads.made) (λ word some. absurd (no_word word (sym none ∙ some)))) agrees)
 
   graphs_on : (lines : List DriverLine) (budget : ℕ) (irq : Bool) (old new : BringUp) (before after : Telling) (call : Called lines budget irq old new before after) → graphs_in (world_of after).codecs ≡ graphs
   graphs_on lines budget irq old new before after call =
@@ -236,7 +237,7 @@ module _ (IsPlanBy : RawCodec → Plan → Type 0) (verbs_by : RawCodec → Plan
       by : (call : Called lines budget irq old new before after) → LooksOn irq old new call.leads.made a.from a.read before after ⊎ IsStill old new call.leads.made a.from a.read after → Ends lines new after
       by call (inl on) =
           looks_on IsPlanBy verbs_by verbs graphs task laws of notes lines budget irq old new call.leads.made before after call.opened goes call.graphs_are a call.leads.reads
-          (λ ended agrees. call.leads.is task budget call.blocks (λ ready. of.silent) ended agrees) call.kept on
+          (λ ended agrees. call.leads.is task budget call.blocks call.silent ended agrees) call.kept on
       by call (inr still) = still_told lines budget irq old new before after call goes a still
 
   -- ---- once it is over

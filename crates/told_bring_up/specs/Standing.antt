@@ -1,5 +1,5 @@
 -- How a bring-up stands to the world that is told. This project's own.
-use Rattle.std.specs.Prelude.{◌≡◌, ◌≢◌, ◌≤◌, ℕ, ◌+◌, false, List, [], length, map, take, drop, slice_get, All, Option, Some, None}
+use Rattle.std.specs.Prelude.{◌≡◌, ◌≢◌, ◌≤◌, ℕ, ◌+◌, List, [], length, map, take, drop, slice_get, All, Option, Some, None}
 use Rattle.verb_codes.specs.declared.verbs.Command.{Command}
 use Rattle.codec_graph.specs.declared.raw.RawCodec.{RawCodec}
 use Rattle.route_planner.specs.declared.routes.Plan.{Plan}
@@ -23,11 +23,10 @@ use Rattle.codec_bring_up.specs.Calls.{IsTaskOf}
 
 -- ---- what is to be done
 
--- the commands of codecs with these graphs: well-formed, one to four of them, with some pin that has a route. No sound is played
+-- the commands of codecs with these graphs: well-formed, one to four of them, with some pin that has a route
 pub record IsTaskOfCodecs (IsPlanBy : RawCodec → Plan → Type 0) (verbs_by : RawCodec → Plan → List Command) (verbs : RawCodec → List Command) (graphs : List RawCodec) (task : Task) : Type 0 where
   pub right : AreRight IsPlanBy verbs_by verbs graphs
   pub is_for : IsTaskFor verbs graphs task
-  pub silent : task.plays ≡ false
   pub some : graphs ≢ []
   pub few : length graphs ≤ most_codecs
 

@@ -6,6 +6,7 @@ ghost use Rattle.command_engine.specs.Blocks.{corb_bytes, rirb_bytes};
 ghost use Rattle.period_writer.specs.Rings.{period_bytes, list_bytes, ring_bytes};
 ghost use Rattle.period_writer.specs.Blocks.{addresses_of};
 ghost use Rattle.driver_progress.specs.Phases.{is_asking};
+ghost use Rattle.codec_bring_up.specs.Told.{IsShut};
 ghost use Rattle.audio_driver.specs.Opening.{Opens};
 ghost use Rattle.audio_driver.specs.Closing as spec;
 
@@ -62,7 +63,7 @@ impl<T: Setter + Drop> Driver<T> {
     /// and leaves the controller in reset. All blocks go back to the pool.
     ///
     /// # Errors
-    /// Want of memory, while commands are sent. The pool is then let go.
+    /// Want of memory, while commands are sent. The controller is left in reset also then, and the pool is let go.
     pub fn close<P: Platform>(self, platform: &mut P) -> Result<Closed, AllocError>
         requires room { 400 ≤ P.spare_accesses platform.old }
         requires bytes_room { ring_bytes self.writer.geometry.periods self.writer.geometry.period + 8192 ≤ P.spare_bytes platform.old }
@@ -70,6 +71,7 @@ impl<T: Setter + Drop> Driver<T> {
         ensures gives { IfOk result (λ closed. spec.GivesBack self.writer.geometry self.pool self.bring_up.engine.corb.address self.bring_up.engine.rirb.address self.writer.list.address (addresses_of self.writer.periods.items) closed.pool) }
         ensures pool { IfOk result (λ closed. (before : PoolState) → Opens self.writer.geometry before self.bring_up.engine.corb.address self.bring_up.engine.rirb.address self.writer.list.address (addresses_of self.writer.periods.items) self.pool → closed.pool ≡ before) }
         ensures cause { OnErr result (is_asking self.bring_up.phase ≡ true) }
+        ensures shut { OnErr result (IsShut (P.told platform.new)) }
         ensures fixed { P.fixed platform.new ≡ P.fixed platform.old }
         ensures accesses { P.spare_accesses platform.old ≤ P.spare_accesses platform.new + 262 }
         ensures bytes { P.spare_bytes platform.old ≤ P.spare_bytes platform.new + 2040 }

@@ -26,7 +26,8 @@ pub enum OpenFault {
 
 /// Why there is no driver where there is no engine.
 fn fault_of_engine(fault: command_engine::OpenFault) -> OpenFault
-    ensures { result ≡ OpenFault.NoRun → fault ≡ engine_fault.NoRun }
+    ensures only { result ≡ OpenFault.NoRun → fault ≡ engine_fault.NoRun }
+    ensures there { fault ≡ engine_fault.NoRun → result ≡ OpenFault.NoRun }
 {
     match fault {
         command_engine::OpenFault::NoRun => OpenFault::NoRun,
@@ -36,7 +37,8 @@ fn fault_of_engine(fault: command_engine::OpenFault) -> OpenFault
 
 /// Why there is no driver where there is no writer.
 fn fault_of_writer(fault: period_writer::OpenFault) -> OpenFault
-    ensures { result ≡ OpenFault.NoRun → fault ≡ writer_fault.NoRun }
+    ensures only { result ≡ OpenFault.NoRun → fault ≡ writer_fault.NoRun }
+    ensures there { fault ≡ writer_fault.NoRun → result ≡ OpenFault.NoRun }
 {
     match fault {
         period_writer::OpenFault::NoRun => OpenFault::NoRun,
@@ -50,7 +52,7 @@ impl<T: Setter + Drop> Driver<T> {
     /// run for each call, and one more. Nothing is played yet.
     ///
     /// # Errors
-    /// `NoRun` exactly where one of these takes, in this order, meets no run.
+    /// `NoRun`: one of these takes, in this order, meets no run.
     pub fn open_with(
         alloc: Global,
         mut pool: Pool,
@@ -108,7 +110,7 @@ impl Driver<Analog> {
     /// A driver that sets analog outputs up, as [`Driver::open_with`] opens it.
     ///
     /// # Errors
-    /// `NoRun` exactly where one of the takes meets no run.
+    /// `NoRun`: one of the takes meets no run.
     pub fn open(
         alloc: Global,
         pool: Pool,

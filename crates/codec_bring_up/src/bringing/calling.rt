@@ -3,6 +3,7 @@ ghost use Rattle.std.specs.Prelude.{◌≡◌, ◌≤◌, ◌<◌, ◌+◌, ◌*
 ghost use Rattle.driver_progress.specs.declared.phase.Phase.TheVariants as phases;
 ghost use Rattle.driver_progress.specs.Phases.{is_asking};
 ghost use Rattle.codec_bring_up.specs.Calls as spec;
+ghost use Rattle.codec_bring_up.specs.Told.{IsShut};
 
 use super::BringUp;
 use codec_agenda::Agenda;
@@ -116,6 +117,7 @@ impl BringUp {
         ensures ends { OnOk result (spec.Ends (λ graph. T.IsPlanBy setter.now graph self.old.agenda.format) (λ graph plan. T.verbs_by setter.now graph plan self.old.agenda.format TAG) self.old self.new (P.told platform.old) (P.told platform.new)) }
         ensures kept { spec.IsKept self.old self.new }
         ensures failed { OnErr result (self.new.phase ≡ phases.Failed) }
+        ensures shut { OnErr result (IsShut (P.told platform.new)) }
         ensures fixed { P.fixed platform.new ≡ P.fixed platform.old }
         ensures accesses { P.spare_accesses platform.old ≤ P.spare_accesses platform.new + 262 }
         ensures bytes { P.spare_bytes platform.old ≤ P.spare_bytes platform.new + 2040 }

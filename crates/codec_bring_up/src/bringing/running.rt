@@ -3,6 +3,7 @@ ghost use Rattle.std.specs.Prelude.{◌≡◌, ◌≤◌, ◌<◌, ◌+◌, true
 ghost use Rattle.driver_progress.specs.declared.phase.Phase.TheVariants as phases;
 ghost use Rattle.driver_progress.specs.Phases as progress;
 ghost use Rattle.codec_bring_up.specs.Calls as spec;
+ghost use Rattle.codec_bring_up.specs.Told.{IsShut};
 
 use super::BringUp;
 use super::phases::{is_active, is_asking, is_reset};
@@ -84,7 +85,7 @@ impl BringUp {
     /// stops both rings and leaves the controller in reset.
     ///
     /// # Errors
-    /// Want of memory, while commands are sent. Then it is over, in the phase `Failed`.
+    /// Want of memory, while commands are sent. Then it is over, in the phase `Failed`; the controller is left in reset also then.
     pub fn end<P: Platform, T: Setter>(
         &mut self,
         platform: &mut P,
@@ -97,6 +98,7 @@ impl BringUp {
         ensures kept { spec.IsKept self.old self.new }
         ensures failed { OnErr result (self.new.phase ≡ phases.Failed) }
         ensures cause { OnErr result (progress.is_asking self.old.phase ≡ true) }
+        ensures shut { OnErr result (IsShut (P.told platform.new)) }
         ensures fixed { P.fixed platform.new ≡ P.fixed platform.old }
         ensures accesses { P.spare_accesses platform.old ≤ P.spare_accesses platform.new + 262 }
         ensures bytes { P.spare_bytes platform.old ≤ P.spare_bytes platform.new + 2040 }
