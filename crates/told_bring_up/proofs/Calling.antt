@@ -1,10 +1,12 @@
 -- A call while commands are sent keeps to progress, and stands to the world as before.
-use Rattle.std.proofs.Common.{◌≡◌, ◌≤◌, ℕ, Bool, true, false, List, length, Option, Some, None, refl, sym, ap, subst, ◌∙◌, arith, length-append, ◌⊎◌, inl, inr}
+use Rattle.std.proofs.Common.{[], ◌∷◌, ◌++◌, ◌≡◌, ◌≤◌, ℕ, Bool, true, false, List, length, Option, Some, None, refl, sym, ap, subst, ◌∙◌, arith, append-nil, length-append, ◌⊎◌, inl, inr}
 use Rattle.std.specs.Prelude.{◌&&◌, not}
 use Rattle.std.specs.Option.{is_some}
 use Rattle.verb_codes.specs.declared.verbs.Command.{Command}
 use Rattle.codec_graph.specs.declared.raw.RawCodec.{RawCodec}
 use Rattle.route_planner.specs.declared.routes.Plan.{Plan}
+use Rattle.codec_walk.specs.declared.walk.Walk.{Walk}
+use Rattle.codec_agenda.specs.Following.{FollowsBy}
 use Rattle.hda_world.specs.Worlds.{World, TakenCommand}
 use Rattle.hda_world.specs.Events.{Event}
 use Rattle.hda_world.specs.Tellings.{Telling, world_of}
@@ -20,12 +22,13 @@ use Rattle.driver_progress.specs.Tasks.{Task, Order, DriverLine}
 use Rattle.driver_progress.specs.Progress.{Course, course_of}
 use Rattle.driver_stretches.specs.Answers.{AnswersAgree}
 use Rattle.driver_stretches.specs.Commands.{ask_accesses}
+use Rattle.driver_commands.specs.Standing.{answers_of}
 use Rattle.driver_commands.specs.Commanding.{IsStretch, answer_in, rings_with, sent_with, submit_made}
 use Rattle.codec_bring_up.specs.declared.bringing.BringUp.{BringUp}
 use Rattle.codec_bring_up.specs.Calls.{state_of, is_ended, AgreesAfter, ReadsOn, IsKept}
 use Rattle.codec_bring_up.specs.Told.{LooksOn, IsGivenUp}
 use Rattle.told_bring_up.specs.Stretches.{IsOpen, IsDone}
-use Rattle.told_bring_up.specs.Standing.{IsTaskOfCodecs, IsAsking, StandsIn}
+use Rattle.told_bring_up.specs.Standing.{IsTaskOfCodecs, IsAsking, HasWalked, StandsIn}
 use Rattle.told_bring_up.proofs.Rows.{stretch_done}
 use Rattle.told_bring_up.proofs.Grows.{row_on, both_on}
 use Rattle.told_bring_up.proofs.Noting.{Laws, call_noted}
@@ -81,16 +84,21 @@ module _ (IsPlanBy : RawCodec → Plan → Type 0) (verbs_by : RawCodec → Plan
   stands_in Playing written bring_up world goes asking = absurd (not_true goes)
   stands_in Drained written bring_up world goes asking = absurd (not_true goes)
   stands_in NothingRouted written bring_up world goes asking = absurd (not_true goes)
-  stands_in (Unanswered codec command issued noticed) written bring_up world goes asking = tt {0}
+  stands_in (Unanswered codec command issued noticed) written bring_up world goes asking = absurd (not_true goes)
   stands_in (Late from to limit) written bring_up world goes asking = absurd (not_true goes)
   stands_in (Malformed codec fault) written bring_up world goes asking = absurd (not_true goes)
   stands_in Failed written bring_up world goes asking = tt {0}
+
+  -- the graphs that an agenda walked are the first of all
+  walked : (count : ℕ) (bring_up : BringUp) (walks : Option Walk) → FollowsBy IsPlanBy verbs graphs count bring_up.agenda walks → HasWalked graphs bring_up
+  walked count bring_up None stands = ([], sym stands.graphs_are ∙ sym (append-nil bring_up.agenda.graphs.items))
+  walked count bring_up (Some under_way) stands = (stands.current ∷ stands.rest, stands.split ∙ ap (λ (done : List RawCodec). done ++ stands.current ∷ stands.rest) (sym stands.graphs_are))
 
   stands_then : (outstanding : Option Outstanding) (clock written : ℕ) (bring_up : BringUp) (world : World) → (goes_on bring_up.phase ≡ true) ⊎ IsGivenUp outstanding clock bring_up.phase → IsAsking IsPlanBy verbs graphs task written bring_up world
       → StandsIn bring_up.phase IsPlanBy verbs graphs task written bring_up world
   stands_then outstanding clock written bring_up world (inl goes) asking = stands_in bring_up.phase written bring_up world goes asking
   stands_then outstanding clock written bring_up world (inr given_up) asking =
-      subst (λ (phase : Phase). StandsIn phase IsPlanBy verbs graphs task written bring_up world) (sym given_up.is) (tt {0})
+      subst (λ (phase : Phase). StandsIn phase IsPlanBy verbs graphs task written bring_up world) (sym given_up.is) (walked (answers_of bring_up.sent bring_up.engine.rings.outstanding) bring_up bring_up.agenda.walk asking.follows.stands)
 
   -- how the agenda was led
   pub led_of : (made : List Event) (old new : BringUp) (found : Option ℕ) → goes_on old.phase ≡ true → answer_in old.engine.rings made ≡ found → ReadsOn IsPlanBy verbs_by made old new

@@ -61,6 +61,7 @@ module _ (IsPlanBy : RawCodec → Plan → Type 0) (verbs_by : RawCodec → Plan
     stopped = (untaken_steps world.commands steps world (record { stopped = is.stopped; commands_are = refl })).stopped;
     defaults = defaults_stay steps world is.stopped is.defaults;
     none_sent = is.none_sent;
+    none_walked = is.none_walked;
   }
 
   announce_stays : (bring_up : BringUp) (steps : List Step) (world : World) → Announce bring_up world → Announce bring_up (after_steps steps world)
@@ -68,6 +69,7 @@ module _ (IsPlanBy : RawCodec → Plan → Type 0) (verbs_by : RawCodec → Plan
     settling = steady.settling bring_up.engine.corb.address bring_up.engine.rirb.address steps world is.settling;
     defaults = defaults_stay steps world is.settling.can_start.quiet.corb_stopped is.defaults;
     none_sent = is.none_sent;
+    none_walked = is.none_walked;
   }
 
   asking_stays : (written : ℕ) (bring_up : BringUp) (steps : List Step) (world : World) → IsAsking IsPlanBy verbs graphs task written bring_up world → IsAsking IsPlanBy verbs graphs task written bring_up (after_steps steps world)
@@ -96,7 +98,7 @@ module _ (IsPlanBy : RawCodec → Plan → Type 0) (verbs_by : RawCodec → Plan
   stage_stays Playing written bring_up steps world stage = absurd stage
   stage_stays Drained written bring_up steps world stage = absurd stage
   stage_stays NothingRouted written bring_up steps world stage = absurd stage
-  stage_stays (Unanswered codec command issued noticed) written bring_up steps world stage = tt {0}
+  stage_stays (Unanswered codec command issued noticed) written bring_up steps world stage = stage
   stage_stays (Late from to limit) written bring_up steps world stage = absurd stage
   stage_stays (Malformed codec fault) written bring_up steps world stage = absurd stage
   stage_stays Failed written bring_up steps world stage = tt {0}

@@ -2,15 +2,16 @@
 use Rattle.std.proofs.Common.{true, ◌≡◌, ◌==◌, ℕ, Bool, false, List, [], ◌∷◌, ◌++◌, map, length, Option, if◌then◌else◌, refl, sym, ap, subst, ◌∙◌, append_assoc, append-nil, arith, ◌≤◌, length-append}
 use Rattle.hda_registers.specs.declared.places.TheConstants.{CORBWP}
 use Rattle.ring_entries.specs.declared.response.Response.{Response}
+use Rattle.device_steps.specs.declared.Step.{Step}
 use Rattle.hda_world.specs.Worlds.{World}
 use Rattle.hda_world.specs.Events.{Event, Stepped, Begin, End, Read, Write, DmaRead, DmaWrite, happens, after}
-use Rattle.hda_world.specs.Tellings.{Telling, world_of, Accessed, MakesBy, Makes}
+use Rattle.hda_world.specs.Tellings.{Telling, world_of, Went, Accessed, MakesBy, Makes}
 use Rattle.driver_progress.specs.Tasks.{Task, DriverLine}
 use Rattle.driver_progress.specs.States.{State, state_opened}
 use Rattle.driver_progress.specs.Next.{next}
-use Rattle.driver_progress.specs.Progress.{Conforms, Course, course_of, course_after, course_opened, is_answered, noted, begun, seen_in, Fits, FitsAt}
+use Rattle.driver_progress.specs.Progress.{Conforms, IsProgress, FitsIf, ended_if, state_of, Course, course_of, course_after, course_opened, is_answered, noted, begun, seen_in, Fits, FitsAt}
 use Rattle.driver_progress.specs.Noting.{with_accesses}
-use Rattle.driver_progress.proofs.Callers.{ConformsTo, course_went, conforms_went, course_stepped, conforms_stepped}
+use Rattle.driver_progress.proofs.Callers.{ConformsTo, steps_leave_course, steps_conform, course_went, conforms_went, course_stepped, conforms_stepped}
 use Rattle.driver_stretches.specs.Unread.{IsUnread, AreUnread}
 use Rattle.driver_commands.specs.Commanding.{IsStretch}
 use Rattle.told_bring_up.proofs.Grows.{event_on}
@@ -147,12 +148,42 @@ after_within task (event ∷ events) world course within =
 pub written_within : (task : Task) (lines : List DriverLine) (telling : Telling) → (course_of task lines telling).written ≤ length (world_of telling).written
 written_within task lines telling = after_within task telling.journal telling.start (course_opened lines) (omega arith)
 
--- ---- before the first event
+-- ---- before the first access
 
-pub rests : (task : Task) (lines : List DriverLine) (telling : Telling) → telling.journal ≡ [] → IsAtRest task lines state_opened telling
-rests task lines telling none =
-    let is = ap (λ (journal : List Event). course_after task journal telling.start (course_opened lines)) none in record {
-      conforms = subst (λ (journal : List Event). Conforms task journal telling.start (course_opened lines)) (sym none) (tt {0});
+pub rests : (task : Task) (lines : List DriverLine) (steps : List Step) (telling : Telling) → telling.journal ≡ map Stepped steps → IsAtRest task lines state_opened telling
+rests task lines steps telling none =
+    let is = ap (λ (journal : List Event). course_after task journal telling.start (course_opened lines)) none ∙ steps_leave_course task steps telling.start (course_opened lines) in record {
+      conforms = subst (λ (journal : List Event). Conforms task journal telling.start (course_opened lines)) (sym none) (steps_conform task steps telling.start (course_opened lines));
       within = ap (λ (course : Course). course.within) is;
       state_is = ap (λ (course : Course). course.state) is;
     }
+
+-- ---- steps of the device
+
+stepped : (task : Task) (lines : List DriverLine) (steps : List Step) (old new : Telling) → Went old new (map Stepped steps) → course_of task lines new ≡ course_of task lines old
+stepped task lines steps old new went = course_went task lines old new (map Stepped steps) went ∙ steps_leave_course task steps (world_of old) (course_of task lines old)
+
+stepped_conforms : (task : Task) (lines : List DriverLine) (steps : List Step) (old new : Telling) → Went old new (map Stepped steps) → ConformsTo task lines old → ConformsTo task lines new
+stepped_conforms task lines steps old new went conforms = conforms_went task lines old new (map Stepped steps) went (steps_conform task steps (world_of old) (course_of task lines old)) conforms
+
+pub rest_stays : (task : Task) (lines : List DriverLine) (state : State) (steps : List Step) (old new : Telling) → Went old new (map Stepped steps) → IsAtRest task lines state old → IsAtRest task lines state new
+rest_stays task lines state steps old new went rest =
+    let is = stepped task lines steps old new went in record {
+      conforms = stepped_conforms task lines steps old new went rest.conforms;
+      within = ap (λ (course : Course). course.within) is ∙ rest.within;
+      state_is = ap (λ (course : Course). course.state) is ∙ rest.state_is;
+    }
+
+-- ---- that all of it is progress
+
+pub rest_progress : (task : Task) (lines : List DriverLine) (state : State) (telling : Telling) → IsAtRest task lines state telling → IsProgress task lines telling × (state_of task lines telling ≡ state)
+rest_progress task lines state telling rest = (
+  record { conforms = rest.conforms; last = subst (λ (within : Bool). FitsIf within task (course_of task lines telling)) (sym rest.within) (tt {0}) },
+  ap (λ (within : Bool). (ended_if within task (course_of task lines telling)).state) rest.within ∙ rest.state_is,
+)
+
+pub done_progress : (task : Task) (lines : List DriverLine) (state' : State) (telling : Telling) → IsDone task lines state' telling → IsProgress task lines telling × (state_of task lines telling ≡ state')
+done_progress task lines state' telling done = (
+  record { conforms = done.conforms; last = subst (λ (within : Bool). FitsIf within task (course_of task lines telling)) (sym done.within) done.fits },
+  ap (λ (within : Bool). (ended_if within task (course_of task lines telling)).state) done.within ∙ done.leads,
+)

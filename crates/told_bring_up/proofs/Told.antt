@@ -1,5 +1,5 @@
 -- Every call of a bring-up that is told keeps to progress, and stands to the world as before.
-use Rattle.std.proofs.Common.{◌≡◌, ◌≢◌, ℕ, Bool, true, false, List, [], ◌∷◌, map, length, Option, Some, None, refl, sym, ap, subst, ◌∙◌, arith, ◌⊎◌, inl, inr}
+use Rattle.std.proofs.Common.{◌≡◌, ◌≢◌, ℕ, Bool, true, false, List, [], ◌∷◌, map, length, Option, Some, None, refl, sym, ap, subst, ◌∙◌, arith, ◌⊎◌, inl, inr, ◌++◌}
 use Rattle.std.specs.Prelude.{All, slice_index}
 use Rattle.std.specs.Option.{is_some}
 use Rattle.std.proofs.lemmas.List.{length-map}
@@ -57,6 +57,24 @@ not_true is = cc
 no_word : (word : ℕ) → None ≡ Some word → ⊥
 no_word word is = cc
 
+no_reset : Reset ≡ Settling → ⊥
+no_reset is = cc
+
+settling_reset : {phase : Phase} → phase ≡ Reset → phase ≡ Settling → ⊥
+settling_reset {phase} was settling = no_reset (sym was ∙ settling)
+
+no_unanswered : (codec command issued noticed : ℕ) → Unanswered codec command issued noticed ≡ Settling → ⊥
+no_unanswered codec command issued noticed is = cc
+
+no_failed : Failed ≡ Settling → ⊥
+no_failed is = cc
+
+no_walking : Settling ≡ Walking → ⊥
+no_walking is = cc
+
+settling_walks : {phase : Phase} → phase ≡ Settling → phase ≡ Walking → ⊥
+settling_walks {phase} was walking = no_walking (sym was ∙ walking)
+
 addresses_are : (codecs : List CodecState) → addresses_of codecs ≡ map (λ (graph : RawCodec). graph.address) (graphs_in codecs)
 addresses_are [] = refl
 addresses_are (codec ∷ codecs) = ap (λ (rest : List ℕ). codec.graph.address ∷ rest) (addresses_are codecs)
@@ -87,6 +105,11 @@ module _ (IsPlanBy : RawCodec → Plan → Type 0) (verbs_by : RawCodec → Plan
       subst (λ (found : Option ℕ). IsStretch task (state_of old) line leads.made (is_some found) (state_of new)) none
       (leads.is task budget call.blocks call.silent (not_over old.phase new.phase (answer_in old.engine.rings leads.made) (λ word some. absurd (no_word word (sym none ∙ some)))) agrees)
 
+  -- the agenda stays then, but where the first walk begins
+  same_agenda : {lines : List DriverLine} {budget : ℕ} {irq : Bool} {old new : BringUp} {before after : Telling} (call : Called lines budget irq old new before after) → AreUnread call.leads.made → (old.phase ≡ Settling → new.phase ≡ Walking → ⊥) → new.agenda ≡ old.agenda
+  same_agenda {lines} {budget} {irq} {old} {new} {before} {after} call unread still =
+      call.leads.reads.left (λ asking. answer_none old.engine.rings call.leads.made (unread_none call.leads.made unread)) still
+
   graphs_on : (lines : List DriverLine) (budget : ℕ) (irq : Bool) (old new : BringUp) (before after : Telling) (call : Called lines budget irq old new before after) → graphs_in (world_of after).codecs ≡ graphs
   graphs_on lines budget irq old new before after call =
       (row_remembers call.leads.made before after call.leads.by.is (world_of before).codecs (length (world_of before).commands) (remembers_itself (world_of before))).graphs ∙ call.graphs_are
@@ -111,22 +134,23 @@ module _ (IsPlanBy : RawCodec → Plan → Type 0) (verbs_by : RawCodec → Plan
       let rirb = ap (λ rirb. rirb.address) call.kept.rirb in record {
         done = unread_done task lines (Some line) (state_of old) (state_of new) leads.made before after call.opened leads.by.is unread stretch;
         graphs_are = graphs_on lines budget irq old new before after call;
-        stage = by corb rirb sent defaults untaken ((leads.resets was).is old.engine.corb.address old.engine.rirb.address can.can);
+        stage = by corb rirb sent (ap (λ (agenda : Agenda). agenda.graphs.items) (same_agenda call unread (λ settling walking. settling_reset was settling)) ∙ can.none_walked) defaults untaken ((leads.resets was).is old.engine.corb.address old.engine.rirb.address can.can);
       }
     where
-      by : new.engine.corb.address ≡ old.engine.corb.address → new.engine.rirb.address ≡ old.engine.rirb.address → new.sent ≡ 0 → All KeepsDefaults (world_of after).codecs → IsUntaken (world_of before).commands (world_of after)
+      by : new.engine.corb.address ≡ old.engine.corb.address → new.engine.rirb.address ≡ old.engine.rirb.address → new.sent ≡ 0 → new.agenda.graphs.items ≡ [] → All KeepsDefaults (world_of after).codecs → IsUntaken (world_of before).commands (world_of after)
           → (IsSettling old.engine.corb.address old.engine.rirb.address (world_of after) × (new.phase ≡ Settling)) ⊎ ((irq ≡ true) × CanReset old.engine.corb.address old.engine.rirb.address (world_of after) × (new.phase ≡ Reset))
           → StandsIn new.phase IsPlanBy verbs graphs task (course_of task lines after).written new (world_of after)
-      by corb rirb sent defaults untaken (inl settles) =
+      by corb rirb sent none defaults untaken (inl settles) =
           subst (λ (phase : Phase). StandsIn phase IsPlanBy verbs graphs task (course_of task lines after).written new (world_of after)) (sym settles.1)
-          (record { settling = subst (λ (rirb : ℕ). IsSettling new.engine.corb.address rirb (world_of after)) (sym rirb) (subst (λ (corb : ℕ). IsSettling corb old.engine.rirb.address (world_of after)) (sym corb) settles.0); defaults = defaults; none_sent = sent })
-      by corb rirb sent defaults untaken (inr still) =
+          (record { settling = subst (λ (rirb : ℕ). IsSettling new.engine.corb.address rirb (world_of after)) (sym rirb) (subst (λ (corb : ℕ). IsSettling corb old.engine.rirb.address (world_of after)) (sym corb) settles.0); defaults = defaults; none_sent = sent; none_walked = none })
+      by corb rirb sent none defaults untaken (inr still) =
           subst (λ (phase : Phase). StandsIn phase IsPlanBy verbs graphs task (course_of task lines after).written new (world_of after)) (sym still.2)
           (record {
             can = subst (λ (rirb : ℕ). CanReset new.engine.corb.address rirb (world_of after)) (sym rirb) (subst (λ (corb : ℕ). CanReset corb old.engine.rirb.address (world_of after)) (sym corb) still.1);
             stopped = untaken.stopped;
             defaults = defaults;
             none_sent = sent;
+            none_walked = none;
           })
 
   -- ---- the rings are set going
@@ -165,6 +189,7 @@ module _ (IsPlanBy : RawCodec → Plan → Type 0) (verbs_by : RawCodec → Plan
           → (new.phase ≡ old.phase) ⊎ ((new.phase ≡ Walking) × (new.engine.rings.outstanding ≡ None)) → StandsIn new.phase IsPlanBy verbs graphs task (course_of task lines after).written new (world_of after)
       by call settles sent (inl same) =
           let phase = same ∙ was in
+          let none = ap (λ (agenda : Agenda). agenda.graphs.items) (same_agenda call (call.leads.unread (ap is_asking was)) (λ settling walking. settling_walks phase walking)) ∙ announce.none_walked in
           let corb = ap (λ corb. corb.address) call.kept.corb in
           let rirb = ap (λ rirb. rirb.address) call.kept.rirb in
           let left = unchanged call.leads.made before after call.leads.by.is (settles.untaken phase) in
@@ -173,6 +198,7 @@ module _ (IsPlanBy : RawCodec → Plan → Type 0) (verbs_by : RawCodec → Plan
             settling = subst (λ (rirb : ℕ). IsSettling new.engine.corb.address rirb (world_of after)) (sym rirb) (subst (λ (corb : ℕ). IsSettling corb old.engine.rirb.address (world_of after)) (sym corb) (settles.early phase));
             defaults = left.defaults announce.defaults;
             none_sent = sent;
+            none_walked = none;
           })
       by call settles sent (inr walks) =
           let started = settles.started walks.0 in
@@ -243,8 +269,9 @@ module _ (IsPlanBy : RawCodec → Plan → Type 0) (verbs_by : RawCodec → Plan
   -- ---- once it is over
 
   over_told : (lines : List DriverLine) (budget : ℕ) (irq : Bool) (old new : BringUp) (before after : Telling) (phase : Phase) → Called lines budget irq old new before after → old.phase ≡ phase → is_asking phase ≡ false
-      → ((seen : Seen) (tally : Tally) → led task (state_of old) seen tally phase ≡ state_of old) → StandsIn phase IsPlanBy verbs graphs task (course_of task lines after).written new (world_of after) → Ends lines new after
-  over_told lines budget irq old new before after phase call was not still stage =
+      → ((seen : Seen) (tally : Tally) → led task (state_of old) seen tally phase ≡ state_of old) → (phase ≡ Settling → ⊥)
+      → (new.agenda ≡ old.agenda → StandsIn phase IsPlanBy verbs graphs task (course_of task lines after).written new (world_of after)) → Ends lines new after
+  over_told lines budget irq old new before after phase call was not still unsettled stage =
       let leads = call.leads in
       let line : DriverLine = record { irq = irq; budget = budget } in
       let unasking = ap is_asking was ∙ not in
@@ -255,7 +282,7 @@ module _ (IsPlanBy : RawCodec → Plan → Type 0) (verbs_by : RawCodec → Plan
       let same = ap (λ (state : State). state.phase) stretch.leads ∙ over_on task (state_of old) line seen (ap (λ (phase : Phase). led task (state_of old) seen tally phase) was ∙ still seen tally) ∙ was in record {
         done = unread_done task lines (Some line) (state_of old) (state_of new) leads.made before after call.opened leads.by.is unread stretch;
         graphs_are = graphs_on lines budget irq old new before after call;
-        stage = subst (λ (phase : Phase). StandsIn phase IsPlanBy verbs graphs task (course_of task lines after).written new (world_of after)) (sym same) stage;
+        stage = subst (λ (phase : Phase). StandsIn phase IsPlanBy verbs graphs task (course_of task lines after).written new (world_of after)) (sym same) (stage (same_agenda call unread (λ settling walking. unsettled (sym was ∙ settling))));
       }
 
   -- ---- by phase
@@ -271,7 +298,7 @@ module _ (IsPlanBy : RawCodec → Plan → Type 0) (verbs_by : RawCodec → Plan
   call_told lines budget irq old new before after Drained was call stage = absurd stage
   call_told lines budget irq old new before after NothingRouted was call stage = absurd stage
   call_told lines budget irq old new before after (Unanswered codec command issued noticed) was call stage =
-      over_told lines budget irq old new before after (Unanswered codec command issued noticed) call was refl (λ seen tally. refl) (tt {0})
+      over_told lines budget irq old new before after (Unanswered codec command issued noticed) call was refl (λ seen tally. refl) (λ is. no_unanswered codec command issued noticed is) (λ same. (stage.0, stage.1 ∙ ap (λ (agenda : Agenda). agenda.graphs.items ++ stage.0) (sym same)))
   call_told lines budget irq old new before after (Late from to limit) was call stage = absurd stage
   call_told lines budget irq old new before after (Malformed codec fault) was call stage = absurd stage
-  call_told lines budget irq old new before after Failed was call stage = over_told lines budget irq old new before after Failed call was refl (λ seen tally. refl) (tt {0})
+  call_told lines budget irq old new before after Failed was call stage = over_told lines budget irq old new before after Failed call was refl (λ seen tally. refl) (λ is. no_failed is) (λ same. tt {0})

@@ -1,5 +1,5 @@
 -- How a bring-up stands to the world that is told. This project's own.
-use Rattle.std.specs.Prelude.{◌≡◌, ◌≢◌, ◌≤◌, ℕ, ◌+◌, List, [], length, map, take, drop, slice_get, All, Option, Some, None}
+use Rattle.std.specs.Prelude.{◌≡◌, ◌≢◌, ◌≤◌, ℕ, ◌+◌, List, [], ◌++◌, length, map, take, drop, slice_get, All, Option, Some, None}
 use Rattle.verb_codes.specs.declared.verbs.Command.{Command}
 use Rattle.codec_graph.specs.declared.raw.RawCodec.{RawCodec}
 use Rattle.route_planner.specs.declared.routes.Plan.{Plan}
@@ -66,12 +66,20 @@ pub record CanBegin (bring_up : BringUp) (world : World) : Type 0 where
   pub stopped : world.registers.global.corb_run ≡ 0
   pub defaults : All KeepsDefaults world.codecs
   pub none_sent : bring_up.sent ≡ 0
+  pub none_walked : bring_up.agenda.graphs.items ≡ []
 
 -- while the codecs announce themselves
 pub record Announce (bring_up : BringUp) (world : World) : Type 0 where
   pub settling : IsSettling bring_up.engine.corb.address bring_up.engine.rirb.address world
   pub defaults : All KeepsDefaults world.codecs
   pub none_sent : bring_up.sent ≡ 0
+  pub none_walked : bring_up.agenda.graphs.items ≡ []
+
+-- ---- once a command was given up
+
+-- the graphs that were walked are the first of those on the link
+abbrev pub HasWalked : (graphs : List RawCodec) → BringUp → Type 0
+HasWalked graphs bring_up = (rest : List RawCodec) × (graphs ≡ bring_up.agenda.graphs.items ++ rest)
 
 -- ---- by phase
 
@@ -84,7 +92,7 @@ StandsIn Ready IsPlanBy verbs graphs task written bring_up world = IsAsking IsPl
 StandsIn Playing IsPlanBy verbs graphs task written bring_up world = ⊥
 StandsIn Drained IsPlanBy verbs graphs task written bring_up world = ⊥
 StandsIn NothingRouted IsPlanBy verbs graphs task written bring_up world = ⊥
-StandsIn (Unanswered codec command issued noticed) IsPlanBy verbs graphs task written bring_up world = Unit {0}
+StandsIn (Unanswered codec command issued noticed) IsPlanBy verbs graphs task written bring_up world = HasWalked graphs bring_up
 StandsIn (Late from to limit) IsPlanBy verbs graphs task written bring_up world = ⊥
 StandsIn (Malformed codec fault) IsPlanBy verbs graphs task written bring_up world = ⊥
 StandsIn Failed IsPlanBy verbs graphs task written bring_up world = Unit {0}

@@ -1,5 +1,5 @@
 //! Laws of what is told of a bring-up, each the contract of a function that does nothing.
-ghost use Rattle.std.specs.Prelude.{◌≡◌, ℕ, List, [], Contains, Some};
+ghost use Rattle.std.specs.Prelude.{◌≡◌, ℕ, List, map, Contains, Some};
 ghost use Rattle.verb_codes.specs.declared.verbs.Command.{Command};
 ghost use Rattle.codec_graph.specs.declared.raw.RawCodec.{RawCodec};
 ghost use Rattle.codec_graph.specs.CodecStates.{CodecState};
@@ -8,11 +8,12 @@ ghost use Rattle.hda_world.specs.Worlds.{World, codec_at};
 ghost use Rattle.driver_progress.specs.declared.phase.Phase.TheVariants.{Ready};
 ghost use Rattle.codec_bring_up.specs.declared.bringing.BringUp.{BringUp};
 ghost use Rattle.stream_format.specs.declared.format.Format.{Format};
-ghost use Rattle.hda_world.specs.Events.{Begin, End};
-ghost use Rattle.hda_world.specs.Tellings.{Telling, Accessed};
+ghost use Rattle.device_steps.specs.declared.Step.{Step};
+ghost use Rattle.hda_world.specs.Events.{Stepped, Begin, End};
+ghost use Rattle.hda_world.specs.Tellings.{Telling, Went, Accessed};
 ghost use Rattle.driver_progress.specs.Tasks.{Task, DriverLine};
 ghost use Rattle.driver_progress.specs.States.{State, state_opened};
-ghost use Rattle.driver_progress.specs.Progress.{course_of, begun};
+ghost use Rattle.driver_progress.specs.Progress.{course_of, state_of, begun, IsProgress};
 ghost use Rattle.told_bring_up.specs.Stretches.{IsAtRest, IsOpen, IsDone};
 ghost use Rattle.told_bring_up.specs.Standing.{IsTaskOfCodecs, IsBroughtUp};
 ghost use Rattle.told_bring_up.specs.Keeping.{KeepsToProgress};
@@ -22,11 +23,15 @@ use driver_commands::{TAG, agendas_agree};
 use driver_stretches::{a_reset_stays, answers_agree, polls_are_noted};
 use route_setup::Setter;
 
-/// A stretch is opened from rest and ended by marks. Before the first event a driver is at rest.
-pub fn stretches_are_marked()
-    ensures rests { (task : Task) (lines : List DriverLine) (telling : Telling) → telling.journal ≡ [] → IsAtRest task lines state_opened telling }
+/// Before the first access a driver is at rest, and steps of the device leave it so. A stretch is opened from rest and ended by marks. At
+/// rest, and where a stretch is done, the journal is progress and leads to the driver's state.
+pub fn stretches_are_progress()
+    ensures rests { (task : Task) (lines : List DriverLine) (steps : List Step) (telling : Telling) → telling.journal ≡ map Stepped steps → IsAtRest task lines state_opened telling }
+    ensures steps { (task : Task) (lines : List DriverLine) (state : State) (steps : List Step) (old new : Telling) → Went old new (map Stepped steps) → IsAtRest task lines state old → IsAtRest task lines state new }
     ensures opens { (task : Task) (lines : List DriverLine) (state : State) (old new : Telling) → Accessed old new Begin → IsAtRest task lines state old → IsOpen task lines (begun (course_of task lines old)).turn state new }
     ensures closes { (task : Task) (lines : List DriverLine) (state' : State) (old new : Telling) → Accessed old new End → IsDone task lines state' old → IsAtRest task lines state' new }
+    ensures at_rest { (task : Task) (lines : List DriverLine) (state : State) (telling : Telling) → IsAtRest task lines state telling → IsProgress task lines telling × (state_of task lines telling ≡ state) }
+    ensures done { (task : Task) (lines : List DriverLine) (state' : State) (telling : Telling) → IsDone task lines state' telling → IsProgress task lines telling × (state_of task lines telling ≡ state') }
 {}
 
 /// Each call of a bring-up in an open stretch of its own, for an interrupt or not, makes just the accesses that progress expects and leads

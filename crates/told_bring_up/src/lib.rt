@@ -3,4 +3,4 @@
 
 mod laws;
 
-pub use laws::{bring_ups_keep_to_progress, ready_codecs_are_set_up, stretches_are_marked};
+pub use laws::{bring_ups_keep_to_progress, ready_codecs_are_set_up, stretches_are_progress};
