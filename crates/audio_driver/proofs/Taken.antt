@@ -13,6 +13,7 @@ use Rattle.command_engine.specs.Opening as of_engine
 use Rattle.period_writer.specs.declared.geometry.Geometry.{Geometry}
 use Rattle.period_writer.specs.Rings.{period_bytes, list_bytes}
 use Rattle.period_writer.specs.Opening as of_writer
+use Rattle.period_writer.proofs.Callers.{adds_keeps, adds_others, takes_keep}
 use Rattle.audio_driver.specs.Owning.{are_same, is_taken}
 
 -- ---- the test whether a run is taken
@@ -46,32 +47,7 @@ of_taken (other ∷ taken) run is = by (are_same other run) refl (of_taken taken
   by true here rest found = (0, omega arith, same_run other run here)
   by false here rest found = (let has = rest found in (suc has.0, omega (arith, has.1), has.2))
 
--- ---- runs that are added
-
-pub adds_keeps : (old : List Run) (run : Run) (new : List Run) → AddsRun old run new → (other : Run) → Contains old other → Contains new other
-adds_keeps old run new adds other has =
-    elim (Contains-append_cases adds.front adds.back other (subst (λ (runs : List Run). Contains runs other) adds.was has)) as (λ _. Contains new other) [
-      | inl early ↦ subst (λ (runs : List Run). Contains runs other) (sym adds.becomes) (Contains-append_left adds.front (run ∷ adds.back) other early)
-      | inr late ↦ subst (λ (runs : List Run). Contains runs other) (sym adds.becomes) (Contains-append_right adds.front (run ∷ adds.back) other (Contains-append_right (run ∷ []) adds.back other late))
-    ]
-
-adds_others : (old : List Run) (run : Run) (new : List Run) → AddsRun old run new → (other : Run) → Contains new other → other ≢ run → Contains old other
-adds_others old run new adds other has differs =
-    elim (Contains-append_cases adds.front (run ∷ adds.back) other (subst (λ (runs : List Run). Contains runs other) adds.becomes has)) as (λ _. Contains old other) [
-      | inl early ↦ subst (λ (runs : List Run). Contains runs other) (sym adds.was) (Contains-append_left adds.front adds.back other early)
-      | inr late ↦ elim (Contains-append_cases (run ∷ []) adds.back other late) as (λ _. Contains old other) [
-        | inl same ↦ absurd (differs (only_one same))
-        | inr later ↦ subst (λ (runs : List Run). Contains runs other) (sym adds.was) (Contains-append_right adds.front adds.back other later)
-      ]
-    ] where
-      only_one : Contains (run ∷ []) other → other ≡ run
-      only_one (zero, less, is) = sym is
-      only_one (suc k, less, is) = absurd (omega (arith, less))
-
-takes_keep : (granules bytes : ℕ) (taken : List Run) (addresses : List ℕ) (taken' : List Run) (run : Run) → TakesAll granules bytes taken addresses taken' → Contains taken run → Contains taken' run
-takes_keep granules bytes taken [] taken' run none has = subst (λ (runs : List Run). Contains runs run) (sym none) has
-takes_keep granules bytes taken (address ∷ addresses) taken' run (middle, first, rest) has =
-    takes_keep granules bytes middle addresses taken' run rest (adds_keeps taken (run_at address bytes) middle first.adds run has)
+-- ---- runs that stay
 
 -- a run stays taken as a writer is opened
 pub opens_keep : (geometry : Geometry) (pool : PoolState) (list : ℕ) (periods : List ℕ) (pool' : PoolState) (run : Run) → of_writer.Opens geometry pool list periods pool' → Contains pool.taken run → Contains pool'.taken run

@@ -26,34 +26,10 @@ use Rattle.codec_walk.specs.declared.words.CodecWord.TheVariants.{Vendor, Revisi
 use Rattle.codec_walk.specs.declared.words.NodeWord.{NodeWord}
 use Rattle.codec_walk.specs.declared.words.NodeWord.TheVariants.{Pcm, Formats, PinCaps, Default, AmpIn, AmpOut}
 use Rattle.codec_walk.specs.Words.{command_to, list_command, codec_words, codec_command, node_words, applies, word_command, words_for}
+use Rattle.codec_walk.proofs.Callers.{IsCounted, counted}
 use Rattle.codec_walk.specs.Commands.{entry_commands, node_commands, nodes_commands, walk_commands}
 use Rattle.codec_histories.specs.Readings.{IsReading}
 use Rattle.codec_histories.specs.Histories.{after_reading}
-
--- ---- where the nodes of a well-formed graph are
-
-none_left : (xs ys : List GraphFault) → xs ++ ys ≡ [] → xs ≡ []
-none_left [] ys e = refl
-none_left (x ∷ xs) ys e = cc
-
-none_right : (xs ys : List GraphFault) → xs ++ ys ≡ [] → ys ≡ []
-none_right [] ys e = e
-none_right (x ∷ xs) ys e = cc
-
-no_fault : (holds : Bool) (fault : GraphFault) → fault_if holds fault ≡ [] → holds ≡ false
-no_fault true fault e = cc
-no_fault false fault e = refl
-
-good_count : (graph : RawCodec) → IsWellFormed graph → has_bad_count graph ≡ false
-good_count graph well =
-    let rest = none_right (fault_if (is_no_audio_group graph) (NoAudioGroup graph.group)) _ well.tables.no_fault in
-    no_fault (has_bad_count graph) (BadCount 0) (none_left (fault_if (has_bad_count graph) (BadCount 0)) _ rest)
-
-group_below : (graph : RawCodec) → has_bad_count graph ≡ false → graph.group ≤ 127
-group_below graph good = grind (arith, nat_tests)
-
-widgets_below : (graph : RawCodec) → has_bad_count graph ≡ false → graph.first + length graph.nodes ≤ 128
-widgets_below graph good = grind (arith, nat_tests)
 
 -- ---- commands that ask
 
@@ -150,10 +126,10 @@ asks_nodes address nid (node ∷ nodes) low below all =
 pub asks_walk : (graph : RawCodec) → IsWellFormed graph → graph.address ≤ 14 → All (Asks graph.address) (walk_commands graph)
 unfolding walk_commands
 asks_walk graph well low =
-    let good = good_count graph well in
+    let is = counted graph well in
     All-append (Asks graph.address) (map (codec_command graph) codec_words) (nodes_commands graph.address graph.first graph.nodes)
-    (all_mapped graph.address (codec_command graph) (λ word. asks_codec graph word low (group_below graph good)) codec_words)
-    (asks_nodes graph.address graph.first graph.nodes low (widgets_below graph good) well.lists)
+    (all_mapped graph.address (codec_command graph) (λ word. asks_codec graph word low (omega (arith, is.group_below))) codec_words)
+    (asks_nodes graph.address graph.first graph.nodes low (subst (λ (n : ℕ). graph.first + n ≤ 128) (sym is.as_many) is.ends) well.lists)
 
 reading_is : (address : ℕ) (command : Command) → Asks address command → IsReading (word_of command)
 reading_is address command asks graph settings = ap (after_reading graph settings) (reading_of-complete command asks.in_range) ∙ asks.keeps graph settings

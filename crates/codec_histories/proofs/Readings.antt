@@ -11,7 +11,7 @@ use Rattle.codec_walk.specs.Replies.{HasDefaults, CanAnswer}
 use Rattle.hda_world.specs.Worlds.{World, TakenCommand}
 use Rattle.codec_histories.specs.Histories.{settings_by, words_of, words_to, settings_since, Remembers}
 use Rattle.codec_histories.specs.Readings.{IsReading, KeepsDefaults}
-use Rattle.codec_histories.proofs.Codecs.{found_all}
+use Rattle.hda_world.proofs.Callers.{found_all}
 
 pub readings_keep : (graph : RawCodec) (settings : Entries) (words : List ℕ) → All IsReading words → settings_by graph settings words ≡ settings
 readings_keep graph settings [] all = refl

@@ -14,9 +14,9 @@ use Rattle.hda_world.specs.Worlds.{World, TakenCommand, codec_at, with_codec}
 use Rattle.hda_world.specs.Steps.{address_of, taking, after_steps}
 use Rattle.hda_world.specs.Events.{Event, Stepped, Begin, End, Read, Write, DmaRead, DmaWrite, after_write, happens, after}
 use Rattle.hda_world.specs.Kept.{Kept}
-use Rattle.hda_world.proofs.Callers.{kept_steps, frames_after, access_leaves, graphs-with_codec, graph-plugged}
+use Rattle.hda_world.proofs.Callers.{kept_steps, frames_after, access_leaves, graphs-with_codec, graph-plugged, found_address, absent}
 use Rattle.codec_histories.specs.Histories.{settings_since, FoundTaken, WasTaken, WereTaken, RemembersBy, Remembers}
-use Rattle.codec_histories.proofs.Codecs.{found_address, absent, part-with_codec, settings-plugged, found_taken, all_handed}
+use Rattle.codec_histories.proofs.Codecs.{part-with_codec, settings-plugged, found_taken, all_handed}
 
 -- ---- the last of some commands
 

@@ -12,7 +12,7 @@ use Rattle.codec_graph.specs.CodecStates.{CodecState, reading_settings}
 use Rattle.hda_world.specs.Worlds.{TakenCommand}
 use Rattle.codec_histories.specs.Histories.{after_reading, settings_by, words_of, words_to, settings_since}
 -- the word of a command in range reads as it
-pub use Rattle.verb_codes.proofs.Commands.{reading_of-complete}
+pub use Rattle.verb_codes.proofs.Callers.{reading_of-complete}
 
 -- what a codec makes of a reading
 pub made_of : (codec : CodecState) (command : Option Command) → reading_settings codec command ≡ after_reading codec.graph codec.settings command

@@ -22,12 +22,12 @@ use Rattle.hda_world.specs.Worlds.{World, TakenCommand, codec_at, with_codec}
 use Rattle.hda_world.specs.Steps.{address_of, taking, items_of, handed, responses_of, responded, discovered, passed, after_steps}
 use Rattle.hda_world.specs.Kept.{Kept}
 use Rattle.hda_world.specs.Unread.{IsReadTo}
-use Rattle.hda_world.proofs.Callers.{graphs-with_codec, keeps_reading, frames_after, kept_steps}
+use Rattle.hda_world.proofs.Callers.{graphs-with_codec, keeps_reading, frames_after, kept_steps, absent}
 use Rattle.command_engine.specs.declared.ring_places.RingPlaces.{RingPlaces}
 use Rattle.command_engine.specs.declared.answers.Outstanding.{Outstanding}
 use Rattle.command_engine.specs.Blocks.{are_apart}
 use Rattle.command_engine.specs.Courses.{RingPart, part_of, HasRings, AscendFrom, AscendByAddress, AreOf, IsWordOf, IsOfCodec, AreOfCodecs, graphs_in, Course, IsOnItsWay, AreStanding, StandsBy, Stands}
-use Rattle.command_engine.proofs.Codecs.{absent, graph_there}
+use Rattle.command_engine.proofs.Codecs.{graph_there}
 use Rattle.command_engine.proofs.Coming.{coming_taken, coming_sent, coming_lost, coming_plugged, graph_plugged, coming_responded}
 use Rattle.command_engine.proofs.Batches.{EachStands, some_entries, few_entries, half_small, part_after, pointer_after, batch_short, batch_first, flag_clear, size_stored, word_stays, standing_written}
 

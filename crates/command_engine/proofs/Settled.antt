@@ -19,10 +19,9 @@ use Rattle.hda_world.specs.Worlds.{World, TakenCommand, codec_at, with_codec}
 use Rattle.hda_world.specs.Steps.{address_of, taking}
 use Rattle.hda_world.specs.Events.{Event, Stepped, Begin, End, Read, Write, DmaRead, DmaWrite, reset_if, counted_anew_if, registers_written, after_write, happens, after}
 use Rattle.hda_world.specs.Kept.{Kept}
-use Rattle.hda_world.proofs.Callers.{kept_steps, frames_after}
+use Rattle.hda_world.proofs.Callers.{kept_steps, frames_after, found_all}
 use Rattle.command_engine.specs.declared.answers.Outstanding.{Outstanding}
 use Rattle.command_engine.specs.Belonging.{IsSettled, TookSettled, IsAnswered}
-use Rattle.command_engine.proofs.Codecs.{found_all}
 
 -- ---- codecs
 

@@ -50,7 +50,7 @@ walks_over graphs = flat_map walk_commands graphs
 abbrev pub commands_for : (verbs : RawCodec → List Command) → List RawCodec → List Command
 commands_for verbs graphs = walks_over graphs ++ flat_map verbs graphs
 
--- the commands of a task are those of these codecs, which stand ascending by address
+-- the commands of a task are those of these codecs, in this order
 pub record IsTaskFor (verbs : RawCodec → List Command) (graphs : List RawCodec) (task : Task) : Type 0 where
   pub orders : task.orders ≡ map order_of (commands_for verbs graphs)
   pub walks : task.walks ≡ length (walks_over graphs)

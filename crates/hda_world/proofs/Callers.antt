@@ -124,3 +124,5 @@ pub use Rattle.hda_world.proofs.Moments.{Lead, lead_none, lead_more, lead_both, 
 pub use Rattle.hda_world.proofs.Passing.{passed_global}
 -- relations that are kept together
 pub use Rattle.hda_world.proofs.Passing.{kept_both}
+-- the codec that is found at an address has it, and what all codecs have; where none is found, a change there changes nothing
+pub use Rattle.hda_world.proofs.Found.{is_address, found_address, found_all, absent}

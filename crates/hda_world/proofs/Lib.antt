@@ -8,6 +8,7 @@ pub mod Leaving
 pub mod Others
 pub mod Unread
 pub mod Discovery
+pub mod Found
 pub mod Streaming
 pub mod Writing
 pub mod Settling

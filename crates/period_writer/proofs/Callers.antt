@@ -4,3 +4,5 @@
 pub use Rattle.period_writer.proofs.BetweenRuns.{playing_owns}
 -- and fetches nothing past its reach while the limit is kept
 pub use Rattle.period_writer.proofs.BetweenRuns.{playing_within}
+-- runs stay taken as others are taken and given back
+pub use Rattle.period_writer.proofs.Apart.{adds_keeps, adds_others, takes_keep}

@@ -11,6 +11,8 @@ use Rattle.verb_codes.proofs.Packing as packing
 use Rattle.verb_codes.proofs.Expansions as expansions
 use Rattle.verb_codes.proofs.Masks as masks
 use Rattle.verb_codes.specs.Words.{has_bit}
+-- the word of a command in range reads as it
+pub use Rattle.verb_codes.proofs.Commands.{reading_of-complete}
 -- the payload of an amplifier's setting in range reads as that setting
 pub use Rattle.verb_codes.proofs.Payloads.{setting_of-payload}
 
