@@ -13,7 +13,8 @@ use Rattle.period_writer.specs.Rings.{period_bytes, list_bytes}
 use Rattle.audio_driver.specs.Owning.{are_same, is_taken}
 use Rattle.audio_driver.specs.Opening.{Opens}
 use Rattle.audio_driver.specs.Closing.{GivesBack}
-use Rattle.audio_driver.proofs.Taken.{same_run, run_same, adds_keeps}
+use Rattle.period_writer.proofs.Callers.{adds_keeps}
+use Rattle.audio_driver.proofs.Taken.{same_run, run_same}
 
 -- ---- the runs beside some
 

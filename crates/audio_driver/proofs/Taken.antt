@@ -1,13 +1,11 @@
 -- Runs that are taken stay so as others are taken and given back.
-use Rattle.std.proofs.Common.{◌≡◌, ◌≢◌, ◌≤◌, ◌==◌, ◌||◌, inl, inr, ℕ, zero, suc, Bool, true, false, List, [], ◌∷◌, get_or, refl, sym, ap, subst, ◌∙◌, arith, rules, tests, eq-eqb}
+use Rattle.std.proofs.Common.{◌≡◌, ◌≢◌, ◌≤◌, ◌==◌, ◌||◌, ℕ, zero, suc, Bool, true, false, List, [], ◌∷◌, get_or, refl, ap, ◌∙◌, arith, rules, tests, eq-eqb}
 use Rattle.std.specs.Prelude.{Contains, All}
-use Rattle.std.proofs.lemmas.List.Elements.{Contains-append_left, Contains-append_right, Contains-append_cases}
 use Rattle.std.proofs.lemmas.Bool.{and_from}
 use Rattle.dma_pool.specs.declared.blocks.Lent.{Lent}
 use Rattle.dma_pool.specs.declared.runs.Run.{Run}
-use Rattle.dma_pool.specs.Pools.{PoolState, AddsRun, granules_for}
+use Rattle.dma_pool.specs.Pools.{PoolState, granules_for}
 use Rattle.dma_pool.specs.Blocks.{run_at}
-use Rattle.dma_pool.specs.Several.{TakesAll}
 use Rattle.command_engine.specs.Blocks.{corb_bytes, rirb_bytes}
 use Rattle.command_engine.specs.Opening as of_engine
 use Rattle.period_writer.specs.declared.geometry.Geometry.{Geometry}

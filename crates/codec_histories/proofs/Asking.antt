@@ -1,5 +1,5 @@
 -- The commands of a walk over a well-formed graph are in range, and only ask.
-use Rattle.std.proofs.Common.{◌≡◌, ◌<◌, ◌≤◌, ◌+◌, ◌*◌, ◌^◌, ℕ, Bool, true, false, List, [], ◌∷◌, ◌++◌, length, map, get_or, refl, sym, ap, subst, ◌∙◌, arith, zero-add, if◌then◌else◌}
+use Rattle.std.proofs.Common.{◌≡◌, ◌<◌, ◌≤◌, ◌+◌, ◌*◌, ◌^◌, ℕ, Bool, true, false, List, [], ◌∷◌, length, map, get_or, refl, sym, ap, subst, ◌∙◌, arith, zero-add, if◌then◌else◌}
 use Rattle.std.specs.Prelude.{All, filter, IsTrue}
 use Rattle.std.specs.List.{range_with_len, flat_map}
 use Rattle.std.proofs.lemmas.List.{map-append}
@@ -13,12 +13,9 @@ use Rattle.verb_codes.specs.Lists.{entries_per_word}
 use Rattle.codec_histories.proofs.Words.{reading_of-complete}
 use Rattle.codec_graph.specs.declared.raw.RawNode.{RawNode}
 use Rattle.codec_graph.specs.declared.raw.RawCodec.{RawCodec}
-use Rattle.codec_graph.specs.declared.fault.GraphFault.{GraphFault}
-use Rattle.codec_graph.specs.declared.fault.GraphFault.TheVariants.{NoAudioGroup, BadCount}
 use Rattle.codec_graph.specs.Widget.{has_list, has_power_control}
 use Rattle.codec_graph.specs.Settings.{Entries}
 use Rattle.codec_graph.specs.VerbMeaning.{after, writes_of}
-use Rattle.codec_graph.specs.Faults.{fault_if, is_no_audio_group, has_bad_count}
 use Rattle.codec_graph.specs.Listed.{HasReadableList}
 use Rattle.codec_graph.specs.Cycles.{IsWellFormed}
 use Rattle.codec_walk.specs.declared.words.CodecWord.{CodecWord}
@@ -26,7 +23,7 @@ use Rattle.codec_walk.specs.declared.words.CodecWord.TheVariants.{Vendor, Revisi
 use Rattle.codec_walk.specs.declared.words.NodeWord.{NodeWord}
 use Rattle.codec_walk.specs.declared.words.NodeWord.TheVariants.{Pcm, Formats, PinCaps, Default, AmpIn, AmpOut}
 use Rattle.codec_walk.specs.Words.{command_to, list_command, codec_words, codec_command, node_words, applies, word_command, words_for}
-use Rattle.codec_walk.proofs.Callers.{IsCounted, counted}
+use Rattle.codec_walk.proofs.Callers.{counted}
 use Rattle.codec_walk.specs.Commands.{entry_commands, node_commands, nodes_commands, walk_commands}
 use Rattle.codec_histories.specs.Readings.{IsReading}
 use Rattle.codec_histories.specs.Histories.{after_reading}

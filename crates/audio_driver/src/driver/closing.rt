@@ -110,4 +110,31 @@ impl<T: Setter + Drop> Driver<T> {
             Err(failed) => Err(failed),
         }
     }
+    /// Lets a driver go without a call more: the controller stays as it is, and all blocks go back to the pool.
+    pub fn abandon(self) -> Pool
+        ensures gives { spec.GivesBack self.writer.geometry self.pool self.bring_up.engine.corb.address self.bring_up.engine.rirb.address self.writer.list.address (addresses_of self.writer.periods.items) result }
+        ensures pool { (before : PoolState) → Opens self.writer.geometry before self.bring_up.engine.corb.address self.bring_up.engine.rirb.address self.writer.list.address (addresses_of self.writer.periods.items) self.pool → result ≡ before }
+    {
+        let Driver {
+            bring_up,
+            writer,
+            supply: _,
+            mut pool,
+            setter: _,
+            play: _,
+            runs: _,
+            calls: _,
+        } = self;
+        let BroughtUp {
+            engine,
+            graphs: _,
+            plans: _,
+            jacks: _,
+        } = bring_up.parts();
+        let Records {
+            runs: _,
+            silences: _,
+        } = give_back(&mut pool, engine, writer);
+        pool
+    }
 }
