@@ -83,6 +83,10 @@ pub over_on : (task : Task) (state : State) (line : DriverLine) (seen : Seen) �
 over_on task state line seen is =
     same_phase (finds_none line seen) state (led task state seen (tally_next task state (Some line) seen) state.phase) (ap (λ (state : State). state.phase) is)
 
+pub over_sent : (task : Task) (state : State) (line : DriverLine) (seen : Seen) → led task state seen (tally_next task state (Some line) seen) state.phase ≡ state → (next task state (Some line) seen).sent ≡ state.sent
+over_sent task state line seen is =
+    none_sent (finds_none line seen) state (led task state seen (tally_next task state (Some line) seen) state.phase) (ap (λ (state : State). state.sent) is)
+
 -- ---- settings, while no command is taken
 
 pub defaults_same : (old new : List CodecState) → map (λ (codec : CodecState). codec.graph) new ≡ map (λ (codec : CodecState). codec.graph) old

@@ -1,12 +1,10 @@
 -- A call while commands are sent keeps to progress, and stands to the world as before.
-use Rattle.std.proofs.Common.{[], ◌∷◌, ◌++◌, ◌≡◌, ◌≤◌, ℕ, Bool, true, false, List, length, Option, Some, None, refl, sym, ap, subst, ◌∙◌, arith, append-nil, length-append, ◌⊎◌, inl, inr}
+use Rattle.std.proofs.Common.{◌≡◌, ◌≤◌, ℕ, Bool, true, false, List, length, Option, Some, None, refl, sym, ap, subst, ◌∙◌, arith, length-append, ◌⊎◌, inl, inr}
 use Rattle.std.specs.Prelude.{◌&&◌, not}
 use Rattle.std.specs.Option.{is_some}
 use Rattle.verb_codes.specs.declared.verbs.Command.{Command}
 use Rattle.codec_graph.specs.declared.raw.RawCodec.{RawCodec}
 use Rattle.route_planner.specs.declared.routes.Plan.{Plan}
-use Rattle.codec_walk.specs.declared.walk.Walk.{Walk}
-use Rattle.codec_agenda.specs.Following.{FollowsBy}
 use Rattle.hda_world.specs.Worlds.{World, TakenCommand}
 use Rattle.hda_world.specs.Events.{Event}
 use Rattle.hda_world.specs.Tellings.{Telling, world_of}
@@ -22,14 +20,14 @@ use Rattle.driver_progress.specs.Tasks.{Task, Order, DriverLine}
 use Rattle.driver_progress.specs.Progress.{Course, course_of}
 use Rattle.driver_stretches.specs.Answers.{AnswersAgree}
 use Rattle.driver_stretches.specs.Commands.{ask_accesses}
-use Rattle.driver_commands.specs.Standing.{answers_of}
 use Rattle.driver_commands.specs.Commanding.{IsStretch, answer_in, rings_with, sent_with, submit_made}
 use Rattle.codec_bring_up.specs.declared.bringing.BringUp.{BringUp}
 use Rattle.codec_bring_up.specs.Calls.{state_of, is_ended, AgreesAfter, ReadsOn, IsKept}
 use Rattle.codec_bring_up.specs.Told.{LooksOn, IsGivenUp}
 use Rattle.told_bring_up.specs.Stretches.{IsOpen, IsDone}
-use Rattle.told_bring_up.specs.Standing.{IsTaskOfCodecs, IsAsking, HasWalked, StandsIn}
+use Rattle.told_bring_up.specs.Standing.{IsTaskOfCodecs, IsAsking, StandsIn}
 use Rattle.told_bring_up.proofs.Rows.{stretch_done}
+use Rattle.told_bring_up.proofs.Walked.{walked_by}
 use Rattle.told_bring_up.proofs.Grows.{row_on, both_on}
 use Rattle.told_bring_up.proofs.Noting.{Laws, call_noted}
 use Rattle.told_bring_up.proofs.Following.{AgendaLaws, Later, row_remembers, Stage, IsLed, looks_by, stage_on, ordered, idle_ordered, with_order}
@@ -87,18 +85,13 @@ module _ (IsPlanBy : RawCodec → Plan → Type 0) (verbs_by : RawCodec → Plan
   stands_in (Unanswered codec command issued noticed) written bring_up world goes asking = absurd (not_true goes)
   stands_in (Late from to limit) written bring_up world goes asking = absurd (not_true goes)
   stands_in (Malformed codec fault) written bring_up world goes asking = absurd (not_true goes)
-  stands_in Failed written bring_up world goes asking = tt {0}
-
-  -- the graphs that an agenda walked are the first of all
-  walked : (count : ℕ) (bring_up : BringUp) (walks : Option Walk) → FollowsBy IsPlanBy verbs graphs count bring_up.agenda walks → HasWalked graphs bring_up
-  walked count bring_up None stands = ([], sym stands.graphs_are ∙ sym (append-nil bring_up.agenda.graphs.items))
-  walked count bring_up (Some under_way) stands = (stands.current ∷ stands.rest, stands.split ∙ ap (λ (done : List RawCodec). done ++ stands.current ∷ stands.rest) (sym stands.graphs_are))
+  stands_in Failed written bring_up world goes asking = absurd (not_true goes)
 
   stands_then : (outstanding : Option Outstanding) (clock written : ℕ) (bring_up : BringUp) (world : World) → (goes_on bring_up.phase ≡ true) ⊎ IsGivenUp outstanding clock bring_up.phase → IsAsking IsPlanBy verbs graphs task written bring_up world
       → StandsIn bring_up.phase IsPlanBy verbs graphs task written bring_up world
   stands_then outstanding clock written bring_up world (inl goes) asking = stands_in bring_up.phase written bring_up world goes asking
   stands_then outstanding clock written bring_up world (inr given_up) asking =
-      subst (λ (phase : Phase). StandsIn phase IsPlanBy verbs graphs task written bring_up world) (sym given_up.is) (walked (answers_of bring_up.sent bring_up.engine.rings.outstanding) bring_up bring_up.agenda.walk asking.follows.stands)
+      subst (λ (phase : Phase). StandsIn phase IsPlanBy verbs graphs task written bring_up world) (sym given_up.is) (walked_by IsPlanBy verbs_by verbs graphs task of bring_up.sent bring_up.engine.rings.outstanding bring_up.agenda asking.follows)
 
   -- how the agenda was led
   pub led_of : (made : List Event) (old new : BringUp) (found : Option ℕ) → goes_on old.phase ≡ true → answer_in old.engine.rings made ≡ found → ReadsOn IsPlanBy verbs_by made old new
@@ -113,16 +106,16 @@ module _ (IsPlanBy : RawCodec → Plan → Type 0) (verbs_by : RawCodec → Plan
       subst (λ (rirb : ℕ). Stands from read new.engine.corb.address rirb new.engine.rings world) (sym (ap (λ rirb. rirb.address) kept.rirb))
       (subst (λ (corb : ℕ). Stands from read corb old.engine.rirb.address new.engine.rings world) (sym (ap (λ corb. corb.address) kept.corb)) stands)
 
-  pub record Kept (lines : List DriverLine) (new : BringUp) (after : Telling) : Type 0 where
-    pub done : IsDone task lines (state_of new) after
+  pub record Kept (lines left : List DriverLine) (new : BringUp) (after : Telling) : Type 0 where
+    pub done : IsDone task lines left (state_of new) after
     pub graphs_are : graphs_in (world_of after).codecs ≡ graphs
     pub stage : StandsIn new.phase IsPlanBy verbs graphs task (course_of task lines after).written new (world_of after)
 
-  pub looks_on : Laws → (lines : List DriverLine) (budget : ℕ) (irq : Bool) (old new : BringUp) (made : List Event) (before after : Telling) → IsOpen task lines (Some (record { irq = irq; budget = budget })) (state_of old) before
+  pub looks_on : Laws → (lines left : List DriverLine) (budget : ℕ) (irq : Bool) (old new : BringUp) (made : List Event) (before after : Telling) → IsOpen task lines left (Some (record { irq = irq; budget = budget })) (state_of old) before
       → goes_on old.phase ≡ true → graphs_in (world_of before).codecs ≡ graphs → (a : IsAsking IsPlanBy verbs graphs task (course_of task lines before).written old (world_of before)) → ReadsOn IsPlanBy verbs_by made old new
       → (is_ended old.phase (is_some (answer_in old.engine.rings made)) new.phase ≡ false → AgreesAfter old new task → IsStretch task (state_of old) (Some (record { irq = irq; budget = budget })) made (is_some (answer_in old.engine.rings made)) (state_of new))
-      → IsKept old new → LooksOn irq old new made a.from a.read before after → Kept lines new after
-  looks_on notes lines budget irq old new made before after opened goes graphs_are a reads is kept on =
+      → IsKept old new → LooksOn irq old new made a.from a.read before after → Kept lines left new after
+  looks_on notes lines left budget irq old new made before after opened goes graphs_are a reads is kept on =
       let looked = on.looked in
       let rings = old.engine.rings in
       let found = answer_in rings made in
@@ -131,12 +124,12 @@ module _ (IsPlanBy : RawCodec → Plan → Type 0) (verbs_by : RawCodec → Plan
       let rest = submit_made old.engine.corb.address (rings_polled rings on.reads) on.order in
       let started = world_of before in
       let ends = world_of looked.ends in
-      let left = world_of after in
+      let finish = world_of after in
       let to_ends : Later started ends = record {
         on = both_on started (world_of looked.begins) ends (row_on on.first before looked.begins looked.first_made) (row_on ask looked.begins looked.ends looked.look_made);
         remembers = λ start begun is. row_remembers ask looked.begins looked.ends looked.look_made start begun (row_remembers on.first before looked.begins looked.first_made start begun is);
       } in
-      let to_after : Later ends left = record { on = row_on rest looked.ends after looked.rest_made; remembers = row_remembers rest looked.ends after looked.rest_made } in
+      let to_after : Later ends finish = record { on = row_on rest looked.ends after looked.rest_made; remembers = row_remembers rest looked.ends after looked.rest_made } in
       let known = to_ends.remembers a.taken.start a.taken.begun a.taken.remembers in
       let graphs_ends = known.graphs ∙ sym a.taken.remembers.graphs ∙ graphs_are in
       let ascend = subst (AscendFrom 0) graphs_ends looked.stands.ascend in
@@ -149,21 +142,21 @@ module _ (IsPlanBy : RawCodec → Plan → Type 0) (verbs_by : RawCodec → Plan
       let idle = λ (free : on.free ≡ true). sym polled ∙ on.idle free in
       let idle_then = λ (one : Order) (some : on.order ≡ Some one). polled ∙ idle_ordered IsPlanBy verbs_by verbs graphs task laws of.is_for of.right.well_formed on.free old.sent (still_outstanding rings.outstanding found) new.agenda on.order on.order_is idle looks.stage.follows one some in
       let from' = from_after found a.from ends.commands in
-      let next = stage_on IsPlanBy verbs_by verbs graphs task laws of.is_for of.right.well_formed _ _ new.agenda from' ends left looks.within to_after
+      let next = stage_on IsPlanBy verbs_by verbs graphs task laws of.is_for of.right.well_formed _ _ new.agenda from' ends finish looks.within to_after
       (ordered IsPlanBy verbs_by verbs graphs task laws of.is_for of.right.well_formed on.free old.sent (still_outstanding rings.outstanding found) new.agenda from' on.clock on.order ends on.order_is idle looks.stage) in
       let outstanding = ap (λ (rings : RingPlaces). rings.outstanding) on.rings ∙ outstanding_with on.order on.clock (rings_polled rings on.reads) ∙ ap (λ (outstanding : Option Outstanding). with_order on.order on.clock outstanding) polled in
-      let stood = subst (λ (sent : ℕ). Stage IsPlanBy verbs_by verbs graphs task laws of.is_for of.right.well_formed sent new.engine.rings.outstanding new.agenda from' left) (sym on.sent)
-      (subst (λ (outstanding : Option Outstanding). Stage IsPlanBy verbs_by verbs graphs task laws of.is_for of.right.well_formed (sent_with on.order old.sent) outstanding new.agenda from' left) (sym outstanding) next) in
-      let noted = call_noted notes task lines line irq old new made a.from a.read before after opened a.agree on idle_then in
+      let stood = subst (λ (sent : ℕ). Stage IsPlanBy verbs_by verbs graphs task laws of.is_for of.right.well_formed sent new.engine.rings.outstanding new.agenda from' finish) (sym on.sent)
+      (subst (λ (outstanding : Option Outstanding). Stage IsPlanBy verbs_by verbs graphs task laws of.is_for of.right.well_formed (sent_with on.order old.sent) outstanding new.agenda from' finish) (sym outstanding) next) in
+      let noted = call_noted notes task lines left line irq old new made a.from a.read before after opened a.agree on idle_then in
       let stretch = is (not_over old.phase new.phase found looks.goes) (λ asking goes. laws.agrees _ new.agenda task stood.follows of.is_for) in
       let written = sym (ap (λ (course : Course). course.written) noted.course) in record {
-        done = stretch_done task lines line (state_of old) (state_of new) made (is_some found) noted.written before after opened noted.course (noted.conforms opened.conforms) stretch;
+        done = stretch_done task lines left line (state_of old) (state_of new) made (is_some found) noted.written before after opened noted.course (noted.conforms opened.conforms) stretch;
         graphs_are = (to_after.remembers a.taken.start a.taken.begun known).graphs ∙ sym a.taken.remembers.graphs ∙ graphs_are;
-        stage = stands_then rings.outstanding on.clock (course_of task lines after).written new left (leads_to rings.outstanding on.clock old.phase new.phase found goes looks.goes on.waits) (record {
+        stage = stands_then rings.outstanding on.clock (course_of task lines after).written new finish (leads_to rings.outstanding on.clock old.phase new.phase found goes looks.goes on.waits) (record {
           from = from';
           read = length ends.written;
-          stands = at_blocks from' (length ends.written) old new left kept on.stands;
-          agree = subst (λ (written : ℕ). AnswersAgree (asked_of new.engine.rings.outstanding) written (length ends.written) left.written) written noted.agree;
+          stands = at_blocks from' (length ends.written) old new finish kept on.stands;
+          agree = subst (λ (written : ℕ). AnswersAgree (asked_of new.engine.rings.outstanding) written (length ends.written) finish.written) written noted.agree;
           last = stood.last;
           follows = stood.follows;
           taken = stood.taken;

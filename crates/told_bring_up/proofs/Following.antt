@@ -96,14 +96,13 @@ module _ (IsPlanBy : RawCodec → Plan → Type 0) (verbs_by : RawCodec → Plan
 
   -- ---- an answer
 
-  -- the words that were taken, with the one that was answered
-  taken_next : (count from : ℕ) (world : World) (command : Outstanding) (value : ℕ) → slice_get task.orders count ≡ Some (record { codec = command.codec; word = command.word }) → HaveTaken task.orders count from world → from ≤ length world.commands
-      → IsAnswered from command world.codecs world.commands value → HaveTaken task.orders (count + 1) (length world.commands) world
-  taken_next count from world command value there taken within is =
+  -- the words that were taken, with the one that was
+  pub taken_one : (count from : ℕ) (world : World) (command : Outstanding) (last : TakenCommand) → slice_get task.orders count ≡ Some (record { codec = command.codec; word = command.word }) → HaveTaken task.orders count from world → from ≤ length world.commands
+      → drop from world.commands ≡ last ∷ [] → last.word ≡ command.word → HaveTaken task.orders (count + 1) (length world.commands) world
+  taken_one count from world command last there taken within gained word =
       let begun = taken.begun in
       let from_is = taken.from_is in
-      let gained = is.only in
-      let one = part_last count (drop begun world.commands) is.taken (drop-drop count begun world.commands ∙ ap (λ (from : ℕ). drop from world.commands) (sym from_is) ∙ gained) in
+      let one = part_last count (drop begun world.commands) last (drop-drop count begun world.commands ∙ ap (λ (from : ℕ). drop from world.commands) (sym from_is) ∙ gained) in
       let order = part_next count task.orders (record { codec = command.codec; word = command.word }) there in
       let long = sym (length-drop from world.commands) ∙ ap (λ (commands : List TakenCommand). length commands) gained in record {
         start = taken.start;
@@ -112,12 +111,17 @@ module _ (IsPlanBy : RawCodec → Plan → Type 0) (verbs_by : RawCodec → Plan
         remembers = taken.remembers;
         from_is = let all : length world.commands ≡ begun + (count + 1) = omega (arith, long, from_is, within) in all;
         words = ap (λ (commands : List TakenCommand). words_of commands) one.1
-            ∙ map-append (λ (taken : TakenCommand). taken.word) (take count (drop begun world.commands)) (is.taken ∷ [])
-            ∙ ap (λ (words : List ℕ). words ++ is.taken.word ∷ []) taken.words
-            ∙ ap (λ (word : ℕ). map (λ (order : Order). order.word) (take count task.orders) ++ word ∷ []) is.word
+            ∙ map-append (λ (taken : TakenCommand). taken.word) (take count (drop begun world.commands)) (last ∷ [])
+            ∙ ap (λ (words : List ℕ). words ++ last.word ∷ []) taken.words
+            ∙ ap (λ (word : ℕ). map (λ (order : Order). order.word) (take count task.orders) ++ word ∷ []) word
             ∙ sym (map-append (λ (order : Order). order.word) (take count task.orders) (record { codec = command.codec; word = command.word } ∷ []))
             ∙ ap (λ (orders : List Order). map (λ (order : Order). order.word) orders) (sym order);
       }
+
+  -- and so with the one that was answered
+  taken_next : (count from : ℕ) (world : World) (command : Outstanding) (value : ℕ) → slice_get task.orders count ≡ Some (record { codec = command.codec; word = command.word }) → HaveTaken task.orders count from world → from ≤ length world.commands
+      → IsAnswered from command world.codecs world.commands value → HaveTaken task.orders (count + 1) (length world.commands) world
+  taken_next count from world command value there taken within is = taken_one count from world command is.taken there taken within is.only is.word
 
   -- it is one that the codec can give
   reply : (count from : ℕ) (world : World) (command : Outstanding) (value : ℕ) → AscendFrom 0 graphs → graphs_in world.codecs ≡ graphs → slice_get task.orders count ≡ Some (record { codec = command.codec; word = command.word })

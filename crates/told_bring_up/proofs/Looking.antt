@@ -91,7 +91,7 @@ none_next task lines asked read old new makes agree = record {
   agree = subst (λ (telling : Telling). AnswersAgree asked (course_of task lines old).written read (world_of telling).written) (sym makes.by) agree;
 }
 
-steps_are : (steps : List Step) (world : World) → after (map Stepped steps) world ≡ after_steps steps world
+pub steps_are : (steps : List Step) (world : World) → after (map Stepped steps) world ≡ after_steps steps world
 steps_are [] world = refl
 steps_are (step ∷ steps) world = steps_are steps (after_steps (step ∷ []) world)
 

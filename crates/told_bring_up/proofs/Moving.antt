@@ -101,4 +101,4 @@ module _ (IsPlanBy : RawCodec → Plan → Type 0) (verbs_by : RawCodec → Plan
   stage_stays (Unanswered codec command issued noticed) written bring_up steps world stage = stage
   stage_stays (Late from to limit) written bring_up steps world stage = absurd stage
   stage_stays (Malformed codec fault) written bring_up steps world stage = absurd stage
-  stage_stays Failed written bring_up steps world stage = tt {0}
+  stage_stays Failed written bring_up steps world stage = stage

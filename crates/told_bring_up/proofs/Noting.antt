@@ -87,11 +87,11 @@ pub record CallNoted (task : Task) (lines : List DriverLine) (made : List Event)
   pub conforms : ConformsTo task lines old → ConformsTo task lines new
   pub agree : AnswersAgree asked written read (world_of new).written
 
-pub call_noted : Laws → (task : Task) (lines : List DriverLine) (turn : Option DriverLine) (irq : Bool) (old new : BringUp) (made : List Event) (from read : ℕ) (before after : Telling) → IsOpen task lines turn (state_of old) before
+pub call_noted : Laws → (task : Task) (lines left : List DriverLine) (turn : Option DriverLine) (irq : Bool) (old new : BringUp) (made : List Event) (from read : ℕ) (before after : Telling) → IsOpen task lines left turn (state_of old) before
     → AnswersAgree (asked_of old.engine.rings.outstanding) (course_of task lines before).written read (world_of before).written → (on : LooksOn irq old new made from read before after)
     → ((is : Order) → on.order ≡ Some is → (rings_polled old.engine.rings on.reads).outstanding ≡ None)
     → CallNoted task lines made (is_some (answer_in old.engine.rings made)) (asked_of new.engine.rings.outstanding) (length (world_of on.looked.ends).written) before after
-call_noted laws task lines turn irq old new made from read before after opened agree on idle =
+call_noted laws task lines left turn irq old new made from read before after opened agree on idle =
     let looked = on.looked in
     let rings = old.engine.rings in
     let corb = old.engine.corb.address in

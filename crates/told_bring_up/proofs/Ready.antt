@@ -7,6 +7,7 @@ use Rattle.std.proofs.lemmas.List.{length-map, length-drop, take_all}
 use Rattle.std.proofs.lemmas.List.Elements.{All-nil, All-cons, All-head, All-tail, All-contains}
 use Rattle.std.proofs.lemmas.Option.{slice_get_within, same_Some}
 use Rattle.verb_codes.specs.declared.verbs.Command.{Command}
+use Rattle.verb_codes.specs.Verbs.{word_of}
 use Rattle.codec_graph.specs.declared.raw.RawCodec.{RawCodec}
 use Rattle.codec_graph.specs.Cycles.{IsWellFormed}
 use Rattle.codec_graph.specs.Settings.{Entries, IsSettingsOf}
@@ -19,7 +20,7 @@ use Rattle.ring_entries.specs.declared.entries.TheConstants.{COMMAND_BYTES}
 use Rattle.ring_entries.specs.Memory.{word_at}
 use Rattle.hda_world.specs.Worlds.{World, TakenCommand, codec_at}
 use Rattle.command_engine.specs.declared.answers.Outstanding.{Outstanding}
-use Rattle.command_engine.specs.Courses.{RingPart, part_of, Course, AreOf, AscendFrom, graphs_in, graph_at}
+use Rattle.command_engine.specs.Courses.{RingPart, part_of, Course, AreOf, IsWordOf, AscendFrom, graphs_in, graph_at}
 use Rattle.command_engine.proofs.Callers.{graph_there}
 use Rattle.codec_agenda.specs.declared.agenda.Agenda.{Agenda}
 use Rattle.codec_agenda.specs.Following.{commands_of, FollowsWalk, FollowsBy}
@@ -34,18 +35,19 @@ use Rattle.driver_progress.specs.Phases.{goes_on}
 use Rattle.driver_progress.specs.Tasks.{Task, Order}
 use Rattle.driver_commands.specs.Standing.{answers_of}
 use Rattle.codec_bring_up.specs.declared.bringing.BringUp.{BringUp}
-use Rattle.told_bring_up.specs.Standing.{IsTaskOfCodecs, IsLastSent, IsAsking, StandsIn, IsBroughtUp}
+use Rattle.told_bring_up.specs.Standing.{IsTaskOfCodecs, IsLastSent, HaveTaken, IsAsking, StandsIn, IsBroughtUp}
+use Rattle.told_bring_up.specs.SettingUp.{AreSetUp, AreForGood}
 use Rattle.told_bring_up.proofs.Following.{AgendaLaws}
 use Rattle.told_bring_up.proofs.Replying.{all_low, at_place, found_there, other_address, same_address, words_mapped}
 
 -- ---- all are answered
 
-all_answered : (all walked : Bool) → (if all then Ready else (if walked then SettingUp else Walking)) ≡ Ready → all ≡ true
+pub all_answered : (all walked : Bool) → (if all then Ready else (if walked then SettingUp else Walking)) ≡ Ready → all ≡ true
 all_answered true walked is = refl
 all_answered false true is = cc
 all_answered false false is = cc
 
-at_most : (a b : ℕ) → nat_le a b ≡ true → a ≤ b
+pub at_most : (a b : ℕ) → nat_le a b ≡ true → a ≤ b
 at_most a b is = search (rules, tests)
 
 none_left : (orders : List Order) (sent : ℕ) (outstanding : Option Outstanding) → IsLastSent orders sent outstanding → length orders ≤ answers_of sent outstanding → outstanding ≡ None
@@ -70,15 +72,20 @@ nothing_gained (Some command) part word gained none course = absurd (some_none c
     some_none : (command : Outstanding) → Some command ≡ None → ⊥
     some_none command is = cc
 
+-- and all were fetched
+all_fetched : (outstanding : Option Outstanding) (part : RingPart) (word : ℕ) (gained : List TakenCommand) → outstanding ≡ None → Course outstanding part word gained → part.corb_read_pointer ≡ part.corb_write_pointer
+all_fetched outstanding part word gained none (inl all) = all.pointers
+all_fetched outstanding part word gained none (inr next) = absurd (subst (λ (outstanding : Option Outstanding). IsWordOf outstanding word) none next.is)
+
 -- a walk that is not at its end has commands left
-walk_left : (graphs : List RawCodec) (count : ℕ) (agenda : Agenda) (under_way : Walk) → FollowsWalk graphs count agenda under_way → length (flat_map walk_commands graphs) ≤ count → ⊥
-walk_left graphs count agenda under_way stands all =
+pub walk_left : (graphs : List RawCodec) (count : ℕ) (agenda : Agenda) (under_way : Walk) → FollowsWalk graphs count agenda under_way → count < length (flat_map walk_commands graphs)
+walk_left graphs count agenda under_way stands =
     let long = ap (λ (graphs : List RawCodec). length (flat_map walk_commands graphs)) stands.split ∙ ap length (flat_map-append walk_commands stands.done (stands.current ∷ stands.rest))
     ∙ length-append (flat_map walk_commands stands.done) (walk_commands stands.current ++ flat_map walk_commands stands.rest) in
     let later = length-append (walk_commands stands.current) (flat_map walk_commands stands.rest) in
     let few = stands.few in
     let is = stands.count_is in
-    omega (arith, long, later, few, is, all)
+    omega (arith, long, later, few, is)
 
 -- ---- a codec by its address
 
@@ -130,10 +137,37 @@ all_there address (first ∷ codecs) codec all is = by (all_there address codecs
     by later true is = subst KeepsDefaults (same_Some first codec is) (All-head KeepsDefaults first codecs all)
     by later false is = later is
 
--- ---- ready
+-- one that has this graph
+record HasGraph (address : ℕ) (codecs : List CodecState) (graph : RawCodec) : Type 0 where
+  now : CodecState
+  found : codec_at address codecs ≡ Some now
 
-module _ (IsPlanBy : RawCodec → Plan → Type 0) (verbs_by : RawCodec → Plan → List Command) (verbs : RawCodec → List Command) (graphs : List RawCodec) (task : Task) (laws : AgendaLaws IsPlanBy verbs_by verbs graphs)
-    (of : IsTaskOfCodecs IsPlanBy verbs_by verbs graphs task) (encodable : (graph : RawCodec) (plan : Plan) → IsWellFormed graph → IsPlanBy graph plan → All (IsCommandOf graph) (verbs_by graph plan)) where
+codec_there : (address : ℕ) (codecs : List CodecState) (graph : RawCodec) → graph_at address (graphs_in codecs) ≡ Some graph → HasGraph address codecs graph
+codec_there address [] graph is = cc
+codec_there address (first ∷ codecs) graph is = by (codec_there address codecs graph) (first.graph.address == address) refl is
+  where
+    by : (graph_at address (graphs_in codecs) ≡ Some graph → HasGraph address codecs graph) → (here : Bool) → (first.graph.address == address) ≡ here → graph_at address (graphs_in (first ∷ codecs)) ≡ Some graph
+        → HasGraph address (first ∷ codecs) graph
+    by later true here there = record { now = first; found = ap (λ (is : Bool). if is then Some first else codec_at address codecs) here }
+    by later false here there =
+        let rest = later (sym (ap (λ (is : Bool). if is then Some first.graph else graph_at address (graphs_in codecs)) here) ∙ there) in
+        record { now = rest.now; found = ap (λ (is : Bool). if is then Some first else codec_at address codecs) here ∙ rest.found }
+
+-- ---- what a setter's plans and verbs are for, as it is handed in
+
+pub record SetterLaws (IsPlanBy : RawCodec → Plan → Type 0) (verbs_by : RawCodec → Plan → List Command) (IsOpenBy : RawCodec → Entries → Plan → Type 0) : Type 0 where
+  pub encodable : (graph : RawCodec) (plan : Plan) → IsWellFormed graph → IsPlanBy graph plan → All (IsCommandOf graph) (verbs_by graph plan)
+  pub opens : (graph : RawCodec) (plan : Plan) (settings : Entries) → IsWellFormed graph → IsPlanBy graph plan → IsSettingsOf graph settings → IsOpenBy graph (settings_after graph settings (verbs_by graph plan)) plan
+
+-- a list without items
+no_items : {A : Type 0} (items : List A) → length items ≡ 0 → items ≡ []
+no_items {A} [] is = refl
+no_items {A} (item ∷ items) is = cc
+
+-- ---- once all commands were taken
+
+module _ (IsPlanBy : RawCodec → Plan → Type 0) (verbs_by : RawCodec → Plan → List Command) (verbs : RawCodec → List Command) (IsOpenBy : RawCodec → Entries → Plan → Type 0) (graphs : List RawCodec) (task : Task)
+    (laws : AgendaLaws IsPlanBy verbs_by verbs graphs) (of : IsTaskOfCodecs IsPlanBy verbs_by verbs graphs task) (setter : SetterLaws IsPlanBy verbs_by IsOpenBy) where
   commands_by : (some : List RawCodec) (plans : List Plan) → ArePlansBy IsPlanBy some plans → All IsWellFormed some
       → All (λ (graph : RawCodec). (plan : Plan) → IsPlanBy graph plan → verbs graph ≡ verbs_by graph plan) some → All (λ (graph : RawCodec). All (IsCommandOf graph) (verbs graph)) some
   commands_by [] plans are well verbs_are = All-nil (λ (graph : RawCodec). All (IsCommandOf graph) (verbs graph))
@@ -141,19 +175,34 @@ module _ (IsPlanBy : RawCodec → Plan → Type 0) (verbs_by : RawCodec → Plan
   commands_by (graph ∷ some) (plan ∷ plans) are well verbs_are =
       let Is : RawCodec → Type 0 = λ graph. (plan : Plan) → IsPlanBy graph plan → verbs graph ≡ verbs_by graph plan in
       All-cons (λ (graph : RawCodec). All (IsCommandOf graph) (verbs graph)) graph some
-      (subst (All (IsCommandOf graph)) (sym (All-head Is graph some verbs_are plan are.0)) (encodable graph plan (All-head IsWellFormed graph some well) are.0))
+      (subst (All (IsCommandOf graph)) (sym (All-head Is graph some verbs_are plan are.0)) (setter.encodable graph plan (All-head IsWellFormed graph some well) are.0))
       (commands_by some plans are.1 (All-tail IsWellFormed graph some well) (All-tail Is graph some verbs_are))
 
-  plans_by : (count : ℕ) (agenda : Agenda) (walks : Option Walk) → FollowsBy IsPlanBy verbs graphs count agenda walks → length (flat_map walk_commands graphs) ≤ count → ArePlansBy IsPlanBy graphs agenda.plans.items
-  plans_by count agenda None stands all = stands.plans
-  plans_by count agenda (Some under_way) stands all = absurd (walk_left graphs count agenda under_way stands all)
+  no_commands : (some : List RawCodec) → length (flat_map verbs some) ≡ 0 → All (λ (graph : RawCodec). All (IsCommandOf graph) (verbs graph)) some
+  no_commands [] none = All-nil (λ (graph : RawCodec). All (IsCommandOf graph) (verbs graph))
+  no_commands (graph ∷ some) none =
+      let long = length-append (verbs graph) (flat_map verbs some) in
+      All-cons (λ (graph : RawCodec). All (IsCommandOf graph) (verbs graph)) graph some
+      (subst (All (IsCommandOf graph)) (sym (no_items (verbs graph) (omega (arith, long, none)))) (All-nil (IsCommandOf graph)))
+      (no_commands some (omega (arith, long, none)))
+
+  total : length task.orders ≡ length (flat_map walk_commands graphs) + length (flat_map verbs graphs)
+  total = ap (λ (orders : List Order). length orders) of.is_for.orders ∙ length-map (commands_of verbs graphs) _ ∙ length-append (flat_map walk_commands graphs) (flat_map verbs graphs)
+
+  -- where all are answered but one at most, those of the set-up can be encoded
+  pub can_be_sent : (count : ℕ) (agenda : Agenda) (walks : Option Walk) → FollowsBy IsPlanBy verbs graphs count agenda walks → length task.orders ≤ count + 1 → All (λ (graph : RawCodec). All (IsCommandOf graph) (verbs graph)) graphs
+  can_be_sent count agenda None stands all = commands_by graphs agenda.plans.items stands.plans of.right.well_formed of.right.verbs_are
+  can_be_sent count agenda (Some under_way) stands all =
+      let few = walk_left graphs count agenda under_way stands in
+      let long = total in
+      no_commands graphs (omega (arith, few, long, all))
 
   -- a codec then has the settings that its verbs make of some settings of its graph
-  pub record IsSetFrom (graph : RawCodec) (now : CodecState) : Type 0 where
-    pub graph_is : now.graph ≡ graph
-    pub settings : Entries
-    pub are_settings : IsSettingsOf graph settings
-    pub are_set : now.settings ≡ settings_after graph settings (verbs graph)
+  record IsSetFrom (graph : RawCodec) (now : CodecState) : Type 0 where
+    graph_is : now.graph ≡ graph
+    settings : Entries
+    are_settings : IsSettingsOf graph settings
+    are_set : now.settings ≡ settings_after graph settings (verbs graph)
 
   set_from : (graph : RawCodec) (first now : CodecState) → first.graph ≡ graph → KeepsDefaults first → IsSetBy (verbs first.graph) first now → IsSetFrom graph now
   set_from graph first now same keeps set = record {
@@ -163,45 +212,90 @@ module _ (IsPlanBy : RawCodec → Plan → Type 0) (verbs_by : RawCodec → Plan
     are_set = set.settings ∙ ap (λ (graph : RawCodec). settings_after graph first.settings (verbs graph)) same;
   }
 
-  pub ready_set : (written : ℕ) (bring_up : BringUp) (world : World) → bring_up.phase ≡ Ready → graphs_in world.codecs ≡ graphs → IsAsking IsPlanBy verbs graphs task written bring_up world
-      → (graph : RawCodec) (now : CodecState) → Contains graphs graph → codec_at graph.address world.codecs ≡ Some now → IsSetFrom graph now
-  ready_set written bring_up world was graphs_are a graph now contains there =
-      let answers = answers_of bring_up.sent bring_up.engine.rings.outstanding in
-      let agrees = laws.agrees answers bring_up.agenda task a.follows of.is_for in
-      let ready = sym agrees.phase ∙ sym (bring_up.led (ap goes_on was)) ∙ was in
-      let all = at_most (length task.orders) answers (all_answered (nat_le (length task.orders) answers) (nat_le task.walks answers) ready) in
-      let none = none_left task.orders bring_up.sent bring_up.engine.rings.outstanding a.last all in
-      let gained : drop a.from world.commands ≡ [] = nothing_gained bring_up.engine.rings.outstanding (part_of world.registers) (word_at world.memory (bring_up.engine.corb.address + COMMAND_BYTES * bring_up.engine.rings.submitted)) (drop a.from world.commands) none a.stands.course in
-      let begun = a.taken.begun in
-      let from_is = a.taken.from_is in
-      let within = a.stands.from_within in
-      let left = sym (length-drop a.from world.commands) ∙ ap (λ (commands : List TakenCommand). length commands) gained in
+  -- all commands were taken, and no other since
+  pub record AllTaken (world : World) : Type 0 where
+    pub answers : ℕ
+    pub from : ℕ
+    pub taken : HaveTaken task.orders answers from world
+    pub all : length task.orders ≤ answers
+    pub within : from ≤ length world.commands
+    pub none : drop from world.commands ≡ []
+    pub graphs_are : graphs_in world.codecs ≡ graphs
+    pub ascend : AscendFrom 0 graphs
+    pub commands_are : All (λ (graph : RawCodec). All (IsCommandOf graph) (verbs graph)) graphs
+
+  all_words : (world : World) (is : AllTaken world) → words_of (drop is.taken.begun world.commands) ≡ map word_of (commands_of verbs graphs)
+  all_words world is =
+      let begun = is.taken.begun in
+      let from_is = is.taken.from_is in
+      let within = is.within in
+      let left = sym (length-drop is.from world.commands) ∙ ap (λ (commands : List TakenCommand). length commands) is.none in
       let long = length-drop begun world.commands in
-      let whole = take_all answers (drop begun world.commands) (omega (arith, from_is, within, left, long)) in
-      let words = sym (ap (λ (commands : List TakenCommand). words_of commands) whole) ∙ a.taken.words ∙ ap (λ (orders : List Order). map (λ (order : Order). order.word) orders) (take_all answers task.orders all ∙ of.is_for.orders)
-      ∙ words_mapped (commands_of verbs graphs) in
-      let total = ap (λ (orders : List Order). length orders) of.is_for.orders ∙ length-map (commands_of verbs graphs) _ ∙ length-append (flat_map walk_commands graphs) (flat_map verbs graphs) in
-      let ascend = subst (AscendFrom 0) graphs_are a.stands.ascend in
-      let plans = plans_by answers bring_up.agenda bring_up.agenda.walk a.follows.stands (omega (arith, all, total)) in
-      let can : CanBeSent verbs graphs = record { well_formed = of.right.well_formed; addresses = all_low 0 graphs ascend; commands_are = commands_by graphs bring_up.agenda.plans.items plans of.right.well_formed of.right.verbs_are } in
-      let now_is = same_Some now.graph graph (sym (graph_there graph.address world.codecs now there) ∙ ap (λ (graphs : List RawCodec). graph_at graph.address graphs) graphs_are ∙ found_there graphs graph ascend contains) in
-      let was_at = was_there (drop begun world.commands) (codec_at graph.address a.taken.start) (codec_at graph.address world.codecs) now (found_by a.taken.start begun world graph.address a.taken.remembers) there in
+      let whole = take_all is.answers (drop begun world.commands) (omega (arith, from_is, within, left, long)) in
+      sym (ap (λ (commands : List TakenCommand). words_of commands) whole) ∙ is.taken.words
+      ∙ ap (λ (orders : List Order). map (λ (order : Order). order.word) orders) (take_all is.answers task.orders is.all ∙ of.is_for.orders) ∙ words_mapped (commands_of verbs graphs)
+
+  taken_set : (world : World) → AllTaken world → (graph : RawCodec) (now : CodecState) → Contains graphs graph → codec_at graph.address world.codecs ≡ Some now → IsSetFrom graph now
+  taken_set world is graph now contains there =
+      let begun = is.taken.begun in
+      let start = is.taken.start in
+      let remembers = is.taken.remembers in
+      let can : CanBeSent verbs graphs = record { well_formed = of.right.well_formed; addresses = all_low 0 graphs is.ascend; commands_are = is.commands_are } in
+      let now_is = same_Some now.graph graph (sym (graph_there graph.address world.codecs now there) ∙ ap (λ (graphs : List RawCodec). graph_at graph.address graphs) is.graphs_are ∙ found_there graphs graph is.ascend contains) in
+      let was_at = was_there (drop begun world.commands) (codec_at graph.address start) (codec_at graph.address world.codecs) now (found_by start begun world graph.address remembers) there in
       let first = was_at.first in
       let same : first.graph ≡ graph = sym was_at.taken.graph ∙ now_is in
       let address = ap (λ (graph : RawCodec). graph.address) (sym same) in
-      let set = takes_its_own a.taken.start begun world first now verbs graphs a.taken.remembers (subst (λ (address : ℕ). codec_at address a.taken.start ≡ Some first) address was_at.is) (subst (λ (address : ℕ). codec_at address world.codecs ≡ Some now) address there) can
-      (subst (λ (graph : RawCodec). graphs_at graph.address graphs ≡ graph ∷ []) (sym same) (alone graphs graph ascend contains)) words in
-      set_from graph first now same (all_there graph.address a.taken.start first a.taken.defaults was_at.is) set
+      let set = takes_its_own start begun world first now verbs graphs remembers (subst (λ (address : ℕ). codec_at address start ≡ Some first) address was_at.is) (subst (λ (address : ℕ). codec_at address world.codecs ≡ Some now) address there) can
+      (subst (λ (graph : RawCodec). graphs_at graph.address graphs ≡ graph ∷ []) (sym same) (alone graphs graph is.ascend contains)) (all_words world is) in
+      set_from graph first now same (all_there graph.address start first is.taken.defaults was_at.is) set
 
--- ---- by phase
-
-module _ (IsPlanBy : RawCodec → Plan → Type 0) (verbs_by : RawCodec → Plan → List Command) (verbs : RawCodec → List Command) (graphs : List RawCodec) (task : Task) (laws : AgendaLaws IsPlanBy verbs_by verbs graphs)
-    (of : IsTaskOfCodecs IsPlanBy verbs_by verbs graphs task) (encodable : (graph : RawCodec) (plan : Plan) → IsWellFormed graph → IsPlanBy graph plan → All (IsCommandOf graph) (verbs_by graph plan)) where
-  pub set_up : (IsOpen : RawCodec → Entries → Plan → Type 0) → ((graph : RawCodec) (plan : Plan) (settings : Entries) → IsWellFormed graph → IsPlanBy graph plan → IsSettingsOf graph settings → IsOpen graph (settings_after graph settings (verbs_by graph plan)) plan)
-      → (written : ℕ) (bring_up : BringUp) (world : World) → bring_up.phase ≡ Ready → IsBroughtUp IsPlanBy verbs graphs task written bring_up world
-      → (graph : RawCodec) (plan : Plan) (now : CodecState) → Contains graphs graph → IsPlanBy graph plan → codec_at graph.address world.codecs ≡ Some now → (now.graph ≡ graph) × IsOpen graph now.settings plan
-  set_up IsOpen opens written bring_up world was stands graph plan now contains planned there =
-      let asking = subst (λ (phase : Phase). StandsIn phase IsPlanBy verbs graphs task written bring_up world) was stands.stage in
-      let set = ready_set IsPlanBy verbs_by verbs graphs task laws of encodable written bring_up world was stands.graphs_are asking graph now contains there in
+  set_open : (graph : RawCodec) (now : CodecState) (plan : Plan) → Contains graphs graph → IsSetFrom graph now → IsPlanBy graph plan → IsOpenBy graph now.settings plan
+  set_open graph now plan contains set planned =
       let well = All-contains IsWellFormed graphs graph of.right.well_formed contains in
-      (set.graph_is, subst (λ (settings : Entries). IsOpen graph settings plan) (sym (set.are_set ∙ ap (λ (commands : List Command). settings_after graph set.settings commands) (All-contains (λ (graph : RawCodec). (plan : Plan) → IsPlanBy graph plan → verbs graph ≡ verbs_by graph plan) graphs graph of.right.verbs_are contains plan planned))) (opens graph plan set.settings well planned set.are_settings))
+      let verbs_are = All-contains (λ (graph : RawCodec). (plan : Plan) → IsPlanBy graph plan → verbs graph ≡ verbs_by graph plan) graphs graph of.right.verbs_are contains plan planned in
+      subst (λ (settings : Entries). IsOpenBy graph settings plan) (sym (set.are_set ∙ ap (λ (commands : List Command). settings_after graph set.settings commands) verbs_are)) (setter.opens graph plan set.settings well planned set.are_settings)
+
+  pub taken_set_up : (world : World) → AllTaken world → AreSetUp IsPlanBy IsOpenBy graphs world
+  taken_set_up world is graph contains =
+      let there = codec_there graph.address world.codecs graph (ap (λ (graphs : List RawCodec). graph_at graph.address graphs) is.graphs_are ∙ found_there graphs graph is.ascend contains) in
+      let set = taken_set world is graph there.now contains there.found in record {
+        now = there.now;
+        found = there.found;
+        graph_is = set.graph_is;
+        opened = λ plan planned. set_open graph there.now plan contains set planned;
+      }
+
+  -- ---- in the phase `Ready`
+
+  all_taken : (written : ℕ) (bring_up : BringUp) (world : World) → bring_up.phase ≡ Ready → graphs_in world.codecs ≡ graphs → IsAsking IsPlanBy verbs graphs task written bring_up world
+      → (bring_up.engine.rings.outstanding ≡ None) × AllTaken world
+  all_taken written bring_up world was graphs_are a =
+      let outstanding = bring_up.engine.rings.outstanding in
+      let answers = answers_of bring_up.sent outstanding in
+      let agrees = laws.agrees answers bring_up.agenda task a.follows of.is_for in
+      let ready = sym agrees.phase ∙ sym (bring_up.led (ap goes_on was)) ∙ was in
+      let all = at_most (length task.orders) answers (all_answered (nat_le (length task.orders) answers) (nat_le task.walks answers) ready) in
+      let none = none_left task.orders bring_up.sent outstanding a.last all in
+      let gained : drop a.from world.commands ≡ [] = nothing_gained outstanding (part_of world.registers) (word_at world.memory (bring_up.engine.corb.address + COMMAND_BYTES * bring_up.engine.rings.submitted)) (drop a.from world.commands) none a.stands.course in (
+        none,
+        record {
+          answers = answers;
+          from = a.from;
+          taken = a.taken;
+          all = all;
+          within = a.stands.from_within;
+          none = gained;
+          graphs_are = graphs_are;
+          ascend = subst (AscendFrom 0) graphs_are a.stands.ascend;
+          commands_are = can_be_sent answers bring_up.agenda bring_up.agenda.walk a.follows.stands (omega (arith, all));
+        },
+      )
+
+  pub ready_for_good : (written : ℕ) (bring_up : BringUp) (world : World) → bring_up.phase ≡ Ready → IsBroughtUp IsPlanBy verbs graphs task written bring_up world → AreForGood IsPlanBy IsOpenBy graphs world
+  ready_for_good written bring_up world was stands =
+      let a = subst (λ (phase : Phase). StandsIn phase IsPlanBy verbs graphs task written bring_up world) was stands.stage in
+      let taken = all_taken written bring_up world was stands.graphs_are a in record {
+        idle = all_fetched bring_up.engine.rings.outstanding (part_of world.registers) (word_at world.memory (bring_up.engine.corb.address + COMMAND_BYTES * bring_up.engine.rings.submitted)) (drop a.from world.commands) taken.0 a.stands.course;
+        set_up = taken_set_up world taken.1;
+      }

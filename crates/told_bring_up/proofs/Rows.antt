@@ -1,5 +1,6 @@
 -- The course of a stretch over its accesses.
 use Rattle.std.proofs.Common.{true, ◌≡◌, ◌==◌, ℕ, Bool, false, List, [], ◌∷◌, ◌++◌, map, length, Option, if◌then◌else◌, refl, sym, ap, subst, ◌∙◌, append_assoc, append-nil, arith, ◌≤◌, length-append}
+use Rattle.std.specs.Prelude.{drop, slice_get}
 use Rattle.hda_registers.specs.declared.places.TheConstants.{CORBWP}
 use Rattle.ring_entries.specs.declared.response.Response.{Response}
 use Rattle.device_steps.specs.declared.Step.{Step}
@@ -9,7 +10,7 @@ use Rattle.hda_world.specs.Tellings.{Telling, world_of, Went, Accessed, MakesBy,
 use Rattle.driver_progress.specs.Tasks.{Task, DriverLine}
 use Rattle.driver_progress.specs.States.{State, state_opened}
 use Rattle.driver_progress.specs.Next.{next}
-use Rattle.driver_progress.specs.Progress.{Conforms, IsProgress, FitsIf, ended_if, state_of, Course, course_of, course_after, course_opened, is_answered, noted, begun, seen_in, Fits, FitsAt}
+use Rattle.driver_progress.specs.Progress.{Conforms, IsProgress, FitsIf, ended_if, state_of, Course, course_of, course_after, course_opened, is_answered, noted, seen_in, Fits, FitsAt}
 use Rattle.driver_progress.specs.Noting.{with_accesses}
 use Rattle.driver_progress.proofs.Callers.{ConformsTo, steps_leave_course, steps_conform, course_went, conforms_went, course_stepped, conforms_stepped}
 use Rattle.driver_stretches.specs.Unread.{IsUnread, AreUnread}
@@ -30,22 +31,24 @@ conforms_access task lines event old new accessed fits =
 
 -- ---- marks
 
-pub opens : (task : Task) (lines : List DriverLine) (state : State) (old new : Telling) → Accessed old new Begin → (rest : IsAtRest task lines state old) → IsOpen task lines (begun (course_of task lines old)).turn state new
-opens task lines state old new accessed rest =
+pub opens : (task : Task) (lines left : List DriverLine) (state : State) (old new : Telling) → Accessed old new Begin → IsAtRest task lines left state old → IsOpen task lines (drop 1 left) (slice_get left 0) state new
+opens task lines left state old new accessed rest =
     let is = course_access task lines Begin old new accessed in record {
       conforms = conforms_access task lines Begin old new accessed (tt {0}) rest.conforms;
       within = ap (λ (course : Course). course.within) is;
-      turn_is = ap (λ (course : Course). course.turn) is;
+      left_is = ap (λ (course : Course). course.left) is ∙ ap (λ (left : List DriverLine). drop 1 left) rest.left_is;
+      turn_is = ap (λ (course : Course). course.turn) is ∙ ap (λ (left : List DriverLine). slice_get left 0) rest.left_is;
       state_is = ap (λ (course : Course). course.state) is ∙ rest.state_is;
       none_made = ap (λ (course : Course). course.made) is;
       unanswered = ap (λ (course : Course). course.answered) is;
     }
 
-pub closes : (task : Task) (lines : List DriverLine) (state' : State) (old new : Telling) → Accessed old new End → IsDone task lines state' old → IsAtRest task lines state' new
-closes task lines state' old new accessed done =
+pub closes : (task : Task) (lines left : List DriverLine) (state' : State) (old new : Telling) → Accessed old new End → IsDone task lines left state' old → IsAtRest task lines left state' new
+closes task lines left state' old new accessed done =
     let is = course_access task lines End old new accessed in record {
       conforms = conforms_access task lines End old new accessed done.fits done.conforms;
       within = ap (λ (course : Course). course.within) is;
+      left_is = ap (λ (course : Course). course.left) is ∙ done.left_is;
       state_is = ap (λ (course : Course). course.state) is ∙ done.leads;
     }
 
@@ -93,12 +96,57 @@ unread_row task lines (event ∷ made) old new makes unread =
       conforms = λ conforms. rest.conforms (conforms_access task lines event old makes.0 makes.1 (unread_fits task (course_of task lines old) event unread.0) conforms);
     }
 
+-- ---- accesses of any kind
+
+abbrev pub IsAccess : Event → Type 0
+IsAccess (Stepped step) = ⊥
+IsAccess Begin = ⊥
+IsAccess End = ⊥
+IsAccess (Read at width value) = Unit {0}
+IsAccess (Write at width value) = Unit {0}
+IsAccess (DmaRead at bytes) = Unit {0}
+IsAccess (DmaWrite at bytes) = Unit {0}
+
+abbrev pub AreAccesses : List Event → Type 0
+AreAccesses [] = Unit {0}
+AreAccesses (event ∷ events) = IsAccess event × AreAccesses events
+
+-- the stretch that they are of stays open, and they are added to what was made
+pub record AreOfStretch (old new : Course) (made : List Event) : Type 0 where
+  pub state_is : new.state ≡ old.state
+  pub turn_is : new.turn ≡ old.turn
+  pub made_is : new.made ≡ old.made ++ made
+
+access_noted : (task : Task) (course : Course) (world : World) (event : Event) → IsAccess event → AreOfStretch course (noted task course world event) (event ∷ [])
+access_noted task course world (Stepped step) is = absurd is
+access_noted task course world Begin is = absurd is
+access_noted task course world End is = absurd is
+access_noted task course world (Read at width value) is = record { state_is = refl; turn_is = refl; made_is = refl }
+access_noted task course world (Write at width value) is = record { state_is = refl; turn_is = refl; made_is = refl }
+access_noted task course world (DmaRead at bytes) is = record { state_is = refl; turn_is = refl; made_is = refl }
+access_noted task course world (DmaWrite at bytes) is = record { state_is = refl; turn_is = refl; made_is = refl }
+
+pub accesses_row : (task : Task) (lines : List DriverLine) (made : List Event) (old new : Telling) → MakesBy made old new → AreAccesses made → AreOfStretch (course_of task lines old) (course_of task lines new) made
+accesses_row task lines [] old new none are = record {
+  state_is = ap (λ (telling : Telling). (course_of task lines telling).state) none;
+  turn_is = ap (λ (telling : Telling). (course_of task lines telling).turn) none;
+  made_is = ap (λ (telling : Telling). (course_of task lines telling).made) none ∙ sym (append-nil (course_of task lines old).made);
+}
+accesses_row task lines (event ∷ made) old new makes are =
+    let here = course_access task lines event old makes.0 makes.1 in
+    let one = access_noted task (course_of task lines old) (after (map Stepped makes.1.steps) (world_of old)) event are.0 in
+    let rest = accesses_row task lines made makes.0 new makes.2 are.1 in record {
+      state_is = rest.state_is ∙ ap (λ (course : Course). course.state) here ∙ one.state_is;
+      turn_is = rest.turn_is ∙ ap (λ (course : Course). course.turn) here ∙ one.turn_is;
+      made_is = rest.made_is ∙ ap (λ (front : List Event). front ++ made) (ap (λ (course : Course). course.made) here ∙ one.made_is) ∙ append_assoc (course_of task lines old).made (event ∷ []) made;
+    }
+
 -- ---- a stretch whose accesses were made
 
 -- the course after it, from that at its beginning
-pub stretch_done : (task : Task) (lines : List DriverLine) (turn : Option DriverLine) (state state' : State) (made : List Event) (found : Bool) (written : ℕ) (old new : Telling) → IsOpen task lines turn state old
-    → course_of task lines new ≡ record (with_accesses (course_of task lines old) made) { written = written; answered = found } → ConformsTo task lines new → IsStretch task state turn made found state' → IsDone task lines state' new
-stretch_done task lines turn state state' made found written old new opened is conforms stretch =
+pub stretch_done : (task : Task) (lines left : List DriverLine) (turn : Option DriverLine) (state state' : State) (made : List Event) (found : Bool) (written : ℕ) (old new : Telling) → IsOpen task lines left turn state old
+    → course_of task lines new ≡ record (with_accesses (course_of task lines old) made) { written = written; answered = found } → ConformsTo task lines new → IsStretch task state turn made found state' → IsDone task lines left state' new
+stretch_done task lines left turn state state' made found written old new opened is conforms stretch =
     let first = course_of task lines old in
     let all = is
     ∙ ap (λ (front : List Event). record first { made = front ++ made; written = written; answered = found }) opened.none_made
@@ -106,15 +154,16 @@ stretch_done task lines turn state state' made found written old new opened is c
     ∙ ap (λ (turn : Option DriverLine). record first { state = state; turn = turn; made = made; written = written; answered = found }) opened.turn_is in record {
       conforms = conforms;
       within = ap (λ (course : Course). course.within) all ∙ opened.within;
+      left_is = ap (λ (course : Course). course.left) all ∙ opened.left_is;
       fits = subst (Fits task) (sym all) stretch.fits;
       leads = ap (λ (course : Course). next task course.state course.turn (seen_in course)) all ∙ sym stretch.leads;
     }
 
-pub unread_done : (task : Task) (lines : List DriverLine) (turn : Option DriverLine) (state state' : State) (made : List Event) (old new : Telling) → IsOpen task lines turn state old → Makes made old new → AreUnread made
-    → IsStretch task state turn made false state' → IsDone task lines state' new
-unread_done task lines turn state state' made old new opened makes unread stretch =
+pub unread_done : (task : Task) (lines left : List DriverLine) (turn : Option DriverLine) (state state' : State) (made : List Event) (old new : Telling) → IsOpen task lines left turn state old → Makes made old new → AreUnread made
+    → IsStretch task state turn made false state' → IsDone task lines left state' new
+unread_done task lines left turn state state' made old new opened makes unread stretch =
     let row = unread_row task lines made old new makes.by unread in
-    stretch_done task lines turn state state' made false row.written old new opened
+    stretch_done task lines left turn state state' made false row.written old new opened
     (row.course ∙ ap (λ (answered : Bool). record (with_accesses (course_of task lines old) made) { written = row.written; answered = answered }) opened.unanswered)
     (row.conforms opened.conforms) stretch
 
@@ -150,11 +199,12 @@ written_within task lines telling = after_within task telling.journal telling.st
 
 -- ---- before the first access
 
-pub rests : (task : Task) (lines : List DriverLine) (steps : List Step) (telling : Telling) → telling.journal ≡ map Stepped steps → IsAtRest task lines state_opened telling
+pub rests : (task : Task) (lines : List DriverLine) (steps : List Step) (telling : Telling) → telling.journal ≡ map Stepped steps → IsAtRest task lines lines state_opened telling
 rests task lines steps telling none =
     let is = ap (λ (journal : List Event). course_after task journal telling.start (course_opened lines)) none ∙ steps_leave_course task steps telling.start (course_opened lines) in record {
       conforms = subst (λ (journal : List Event). Conforms task journal telling.start (course_opened lines)) (sym none) (steps_conform task steps telling.start (course_opened lines));
       within = ap (λ (course : Course). course.within) is;
+      left_is = ap (λ (course : Course). course.left) is;
       state_is = ap (λ (course : Course). course.state) is;
     }
 
@@ -166,24 +216,25 @@ stepped task lines steps old new went = course_went task lines old new (map Step
 stepped_conforms : (task : Task) (lines : List DriverLine) (steps : List Step) (old new : Telling) → Went old new (map Stepped steps) → ConformsTo task lines old → ConformsTo task lines new
 stepped_conforms task lines steps old new went conforms = conforms_went task lines old new (map Stepped steps) went (steps_conform task steps (world_of old) (course_of task lines old)) conforms
 
-pub rest_stays : (task : Task) (lines : List DriverLine) (state : State) (steps : List Step) (old new : Telling) → Went old new (map Stepped steps) → IsAtRest task lines state old → IsAtRest task lines state new
-rest_stays task lines state steps old new went rest =
+pub rest_stays : (task : Task) (lines left : List DriverLine) (state : State) (steps : List Step) (old new : Telling) → Went old new (map Stepped steps) → IsAtRest task lines left state old → IsAtRest task lines left state new
+rest_stays task lines left state steps old new went rest =
     let is = stepped task lines steps old new went in record {
       conforms = stepped_conforms task lines steps old new went rest.conforms;
       within = ap (λ (course : Course). course.within) is ∙ rest.within;
+      left_is = ap (λ (course : Course). course.left) is ∙ rest.left_is;
       state_is = ap (λ (course : Course). course.state) is ∙ rest.state_is;
     }
 
 -- ---- that all of it is progress
 
-pub rest_progress : (task : Task) (lines : List DriverLine) (state : State) (telling : Telling) → IsAtRest task lines state telling → IsProgress task lines telling × (state_of task lines telling ≡ state)
-rest_progress task lines state telling rest = (
+pub rest_progress : (task : Task) (lines left : List DriverLine) (state : State) (telling : Telling) → IsAtRest task lines left state telling → IsProgress task lines telling × (state_of task lines telling ≡ state)
+rest_progress task lines left state telling rest = (
   record { conforms = rest.conforms; last = subst (λ (within : Bool). FitsIf within task (course_of task lines telling)) (sym rest.within) (tt {0}) },
   ap (λ (within : Bool). (ended_if within task (course_of task lines telling)).state) rest.within ∙ rest.state_is,
 )
 
-pub done_progress : (task : Task) (lines : List DriverLine) (state' : State) (telling : Telling) → IsDone task lines state' telling → IsProgress task lines telling × (state_of task lines telling ≡ state')
-done_progress task lines state' telling done = (
+pub done_progress : (task : Task) (lines left : List DriverLine) (state' : State) (telling : Telling) → IsDone task lines left state' telling → IsProgress task lines telling × (state_of task lines telling ≡ state')
+done_progress task lines left state' telling done = (
   record { conforms = done.conforms; last = subst (λ (within : Bool). FitsIf within task (course_of task lines telling)) (sym done.within) done.fits },
   ap (λ (within : Bool). (ended_if within task (course_of task lines telling)).state) done.within ∙ done.leads,
 )

@@ -1,5 +1,5 @@
 -- Every call of a bring-up that is told keeps to progress, and stands to the world as before.
-use Rattle.std.proofs.Common.{◌≡◌, ◌≢◌, ℕ, Bool, true, false, List, [], ◌∷◌, map, length, Option, Some, None, refl, sym, ap, subst, ◌∙◌, arith, ◌⊎◌, inl, inr, ◌++◌}
+use Rattle.std.proofs.Common.{◌≡◌, ◌≢◌, ℕ, Bool, true, false, List, [], ◌∷◌, map, length, Option, Some, None, refl, sym, ap, subst, ◌∙◌, arith, ◌⊎◌, inl, inr}
 use Rattle.std.specs.Prelude.{All, slice_index}
 use Rattle.std.specs.Option.{is_some}
 use Rattle.std.proofs.lemmas.List.{length-map}
@@ -49,7 +49,8 @@ use Rattle.told_bring_up.proofs.Noting.{Laws}
 use Rattle.told_bring_up.proofs.Following.{AgendaLaws, Later, row_remembers, stage_on}
 use Rattle.told_bring_up.proofs.Calling.{not_over, stands_in, Kept, looks_on, at_blocks}
 use Rattle.told_bring_up.proofs.Codecs.{IsAbove, above, codecs_found}
-use Rattle.told_bring_up.proofs.Beginning.{IsSettledOn, settles_on, resets_on, over_on, unchanged}
+use Rattle.told_bring_up.proofs.Beginning.{IsSettledOn, settles_on, resets_on, over_on, over_sent, unchanged}
+use Rattle.told_bring_up.proofs.Walked.{walked_on}
 
 not_true : false ≡ true → ⊥
 not_true is = cc
@@ -83,22 +84,22 @@ module _ (IsPlanBy : RawCodec → Plan → Type 0) (verbs_by : RawCodec → Plan
     (begins : (agenda : Agenda) → agenda.addresses.items ≡ map (λ (graph : RawCodec). graph.address) graphs → BeginsWalk agenda.addresses.items [] agenda → Follows IsPlanBy verbs graphs 0 agenda)
     (of : IsTaskOfCodecs IsPlanBy verbs_by verbs graphs task) (notes : Laws) where
   -- a call in a stretch that is open, as it is told
-  pub record Called (lines : List DriverLine) (budget : ℕ) (irq : Bool) (old new : BringUp) (before after : Telling) : Type 0 where
+  pub record Called (lines left : List DriverLine) (budget : ℕ) (irq : Bool) (old new : BringUp) (before after : Telling) : Type 0 where
     pub silent : old.phase ≡ Ready → task.plays ≡ false
-    pub opened : IsOpen task lines (Some (record { irq = irq; budget = budget })) (state_of old) before
+    pub opened : IsOpen task lines left (Some (record { irq = irq; budget = budget })) (state_of old) before
     pub blocks : IsTaskOf old task
     pub leads : Leads IsPlanBy verbs_by irq old new (Some before) (Some after)
     pub kept : IsKept old new
     pub graphs_are : graphs_in (world_of before).codecs ≡ graphs
 
-  abbrev Ends : (lines : List DriverLine) (new : BringUp) (after : Telling) → Type 0
-  Ends lines new after = Kept IsPlanBy verbs_by verbs graphs task laws of lines new after
+  abbrev Ends : (lines left : List DriverLine) (new : BringUp) (after : Telling) → Type 0
+  Ends lines left new after = Kept IsPlanBy verbs_by verbs graphs task laws of lines left new after
 
   -- ---- calls that look for no answer
 
-  stretch_of : (lines : List DriverLine) (budget : ℕ) (irq : Bool) (old new : BringUp) (before after : Telling) (call : Called lines budget irq old new before after) → AreUnread call.leads.made → AgreesAfter old new task
+  stretch_of : (lines left : List DriverLine) (budget : ℕ) (irq : Bool) (old new : BringUp) (before after : Telling) (call : Called lines left budget irq old new before after) → AreUnread call.leads.made → AgreesAfter old new task
       → IsStretch task (state_of old) (Some (record { irq = irq; budget = budget })) call.leads.made false (state_of new)
-  stretch_of lines budget irq old new before after call unread agrees =
+  stretch_of lines left budget irq old new before after call unread agrees =
       let leads = call.leads in
       let none = answer_none old.engine.rings leads.made (unread_none leads.made unread) in
       let line = Some (record { irq = irq; budget = budget }) in
@@ -106,12 +107,12 @@ module _ (IsPlanBy : RawCodec → Plan → Type 0) (verbs_by : RawCodec → Plan
       (leads.is task budget call.blocks call.silent (not_over old.phase new.phase (answer_in old.engine.rings leads.made) (λ word some. absurd (no_word word (sym none ∙ some)))) agrees)
 
   -- the agenda stays then, but where the first walk begins
-  same_agenda : {lines : List DriverLine} {budget : ℕ} {irq : Bool} {old new : BringUp} {before after : Telling} (call : Called lines budget irq old new before after) → AreUnread call.leads.made → (old.phase ≡ Settling → new.phase ≡ Walking → ⊥) → new.agenda ≡ old.agenda
-  same_agenda {lines} {budget} {irq} {old} {new} {before} {after} call unread still =
+  same_agenda : {lines left : List DriverLine} {budget : ℕ} {irq : Bool} {old new : BringUp} {before after : Telling} (call : Called lines left budget irq old new before after) → AreUnread call.leads.made → (old.phase ≡ Settling → new.phase ≡ Walking → ⊥) → new.agenda ≡ old.agenda
+  same_agenda {lines} {left} {budget} {irq} {old} {new} {before} {after} call unread still =
       call.leads.reads.left (λ asking. answer_none old.engine.rings call.leads.made (unread_none call.leads.made unread)) still
 
-  graphs_on : (lines : List DriverLine) (budget : ℕ) (irq : Bool) (old new : BringUp) (before after : Telling) (call : Called lines budget irq old new before after) → graphs_in (world_of after).codecs ≡ graphs
-  graphs_on lines budget irq old new before after call =
+  graphs_on : (lines left : List DriverLine) (budget : ℕ) (irq : Bool) (old new : BringUp) (before after : Telling) (call : Called lines left budget irq old new before after) → graphs_in (world_of after).codecs ≡ graphs
+  graphs_on lines left budget irq old new before after call =
       (row_remembers call.leads.made before after call.leads.by.is (world_of before).codecs (length (world_of before).commands) (remembers_itself (world_of before))).graphs ∙ call.graphs_are
 
   unasked : (old new : BringUp) → is_asking old.phase ≡ false → AgreesAfter old new task
@@ -119,21 +120,21 @@ module _ (IsPlanBy : RawCodec → Plan → Type 0) (verbs_by : RawCodec → Plan
 
   -- ---- the reset
 
-  reset_told : (lines : List DriverLine) (budget : ℕ) (irq : Bool) (old new : BringUp) (before after : Telling) → Called lines budget irq old new before after → old.phase ≡ Reset → CanBegin old (world_of before) → Ends lines new after
-  reset_told lines budget irq old new before after call was can =
+  reset_told : (lines left : List DriverLine) (budget : ℕ) (irq : Bool) (old new : BringUp) (before after : Telling) → Called lines left budget irq old new before after → old.phase ≡ Reset → CanBegin old (world_of before) → Ends lines left new after
+  reset_told lines left budget irq old new before after call was can =
       let leads = call.leads in
       let line : DriverLine = record { irq = irq; budget = budget } in
       let not = ap is_asking was in
       let unread = leads.unread not in
-      let stretch = stretch_of lines budget irq old new before after call unread (unasked old new not) in
+      let stretch = stretch_of lines left budget irq old new before after call unread (unasked old new not) in
       let untaken = (leads.untaken was).is (world_of before).commands (record { stopped = can.stopped; commands_are = refl }) in
       let same = unchanged leads.made before after leads.by.is untaken.commands_are in
       let defaults = same.defaults can.defaults in
       let sent = ap (λ (state : State). state.sent) stretch.leads ∙ resets_on task (state_of old) line (seen_by (values_of leads.made) false) was ∙ can.none_sent in
       let corb = ap (λ corb. corb.address) call.kept.corb in
       let rirb = ap (λ rirb. rirb.address) call.kept.rirb in record {
-        done = unread_done task lines (Some line) (state_of old) (state_of new) leads.made before after call.opened leads.by.is unread stretch;
-        graphs_are = graphs_on lines budget irq old new before after call;
+        done = unread_done task lines left (Some line) (state_of old) (state_of new) leads.made before after call.opened leads.by.is unread stretch;
+        graphs_are = graphs_on lines left budget irq old new before after call;
         stage = by corb rirb sent (ap (λ (agenda : Agenda). agenda.graphs.items) (same_agenda call unread (λ settling walking. settling_reset was settling)) ∙ can.none_walked) defaults untaken ((leads.resets was).is old.engine.corb.address old.engine.rirb.address can.can);
       }
     where
@@ -171,32 +172,32 @@ module _ (IsPlanBy : RawCodec → Plan → Type 0) (verbs_by : RawCodec → Plan
       let found = codecs_found (codecs_in status) (addresses_of world.codecs) high (omega (arith, long, few)) codecs in
       begins agenda (begun.addresses ∙ found ∙ same) (subst (λ (addresses : List ℕ). BeginsWalk addresses [] agenda) (sym begun.addresses) begun.begins)
 
-  settle_told : (lines : List DriverLine) (budget : ℕ) (irq : Bool) (old new : BringUp) (before after : Telling) → Called lines budget irq old new before after → old.phase ≡ Settling → Announce old (world_of before) → Ends lines new after
-  settle_told lines budget irq old new before after call was announce =
+  settle_told : (lines left : List DriverLine) (budget : ℕ) (irq : Bool) (old new : BringUp) (before after : Telling) → Called lines left budget irq old new before after → old.phase ≡ Settling → Announce old (world_of before) → Ends lines left new after
+  settle_told lines left budget irq old new before after call was announce =
       let leads = call.leads in
       let line : DriverLine = record { irq = irq; budget = budget } in
       let not = ap is_asking was in
       let unread = leads.unread not in
-      let stretch = stretch_of lines budget irq old new before after call unread (unasked old new not) in
+      let stretch = stretch_of lines left budget irq old new before after call unread (unasked old new not) in
       let settles = (leads.settles was).is announce.settling (some_codec (world_of before) call.graphs_are) in
       let on = subst (IsSettledOn (state_of old)) (sym stretch.leads) (settles_on task (state_of old) line (seen_by (values_of leads.made) false) was) in record {
-        done = unread_done task lines (Some line) (state_of old) (state_of new) leads.made before after call.opened leads.by.is unread stretch;
-        graphs_are = graphs_on lines budget irq old new before after call;
+        done = unread_done task lines left (Some line) (state_of old) (state_of new) leads.made before after call.opened leads.by.is unread stretch;
+        graphs_are = graphs_on lines left budget irq old new before after call;
         stage = by call settles (on.sent ∙ announce.none_sent) on.phase;
       }
     where
-      by : (call : Called lines budget irq old new before after) → Settles (slice_index (values_of call.leads.made STATESTS) 0) (addresses_of (world_of before).codecs) (world_of before).commands old new (world_of after) → new.sent ≡ 0
+      by : (call : Called lines left budget irq old new before after) → Settles (slice_index (values_of call.leads.made STATESTS) 0) (addresses_of (world_of before).codecs) (world_of before).commands old new (world_of after) → new.sent ≡ 0
           → (new.phase ≡ old.phase) ⊎ ((new.phase ≡ Walking) × (new.engine.rings.outstanding ≡ None)) → StandsIn new.phase IsPlanBy verbs graphs task (course_of task lines after).written new (world_of after)
       by call settles sent (inl same) =
           let phase = same ∙ was in
           let none = ap (λ (agenda : Agenda). agenda.graphs.items) (same_agenda call (call.leads.unread (ap is_asking was)) (λ settling walking. settling_walks phase walking)) ∙ announce.none_walked in
           let corb = ap (λ corb. corb.address) call.kept.corb in
           let rirb = ap (λ rirb. rirb.address) call.kept.rirb in
-          let left = unchanged call.leads.made before after call.leads.by.is (settles.untaken phase) in
+          let stays = unchanged call.leads.made before after call.leads.by.is (settles.untaken phase) in
           subst (λ (phase : Phase). StandsIn phase IsPlanBy verbs graphs task (course_of task lines after).written new (world_of after)) (sym phase)
           (record {
             settling = subst (λ (rirb : ℕ). IsSettling new.engine.corb.address rirb (world_of after)) (sym rirb) (subst (λ (corb : ℕ). IsSettling corb old.engine.rirb.address (world_of after)) (sym corb) (settles.early phase));
-            defaults = left.defaults announce.defaults;
+            defaults = stays.defaults announce.defaults;
             none_sent = sent;
             none_walked = none;
           })
@@ -228,9 +229,9 @@ module _ (IsPlanBy : RawCodec → Plan → Type 0) (verbs_by : RawCodec → Plan
 
   -- ---- while commands are sent
 
-  still_told : (lines : List DriverLine) (budget : ℕ) (irq : Bool) (old new : BringUp) (before after : Telling) (call : Called lines budget irq old new before after) → goes_on old.phase ≡ true
-      → (a : IsAsking IsPlanBy verbs graphs task (course_of task lines before).written old (world_of before)) → IsStill old new call.leads.made a.from a.read after → Ends lines new after
-  still_told lines budget irq old new before after call goes a still =
+  still_told : (lines left : List DriverLine) (budget : ℕ) (irq : Bool) (old new : BringUp) (before after : Telling) (call : Called lines left budget irq old new before after) → goes_on old.phase ≡ true
+      → (a : IsAsking IsPlanBy verbs graphs task (course_of task lines before).written old (world_of before)) → IsStill old new call.leads.made a.from a.read after → Ends lines left new after
+  still_told lines left budget irq old new before after call goes a still =
       let leads = call.leads in
       let line : DriverLine = record { irq = irq; budget = budget } in
       let agrees = λ (asking : is_asking old.phase ≡ true) (on : goes_on new.phase ≡ true). subst (λ (bring_up : BringUp). Agrees task (answers_of bring_up.sent bring_up.engine.rings.outstanding) bring_up.agenda) (sym still.same) (laws.agrees _ old.agenda task a.follows of.is_for) in
@@ -250,55 +251,57 @@ module _ (IsPlanBy : RawCodec → Plan → Type 0) (verbs_by : RawCodec → Plan
         follows = stage.follows;
         taken = stage.taken;
       } in record {
-        done = unread_done task lines (Some line) (state_of old) (state_of new) leads.made before after call.opened leads.by.is still.unread (stretch_of lines budget irq old new before after call still.unread agrees);
-        graphs_are = graphs_on lines budget irq old new before after call;
+        done = unread_done task lines left (Some line) (state_of old) (state_of new) leads.made before after call.opened leads.by.is still.unread (stretch_of lines left budget irq old new before after call still.unread agrees);
+        graphs_are = graphs_on lines left budget irq old new before after call;
         stage = subst (λ (bring_up : BringUp). StandsIn bring_up.phase IsPlanBy verbs graphs task (course_of task lines after).written bring_up (world_of after)) (sym still.same)
             (stands_in IsPlanBy verbs_by verbs graphs task laws of old.phase (course_of task lines after).written old (world_of after) goes asking);
       }
 
-  asking_told : (lines : List DriverLine) (budget : ℕ) (irq : Bool) (old new : BringUp) (before after : Telling) → Called lines budget irq old new before after → goes_on old.phase ≡ true
-      → IsAsking IsPlanBy verbs graphs task (course_of task lines before).written old (world_of before) → Ends lines new after
-  asking_told lines budget irq old new before after call goes a = by call ((call.leads.stays goes).is a.from a.read a.stands)
+  asking_told : (lines left : List DriverLine) (budget : ℕ) (irq : Bool) (old new : BringUp) (before after : Telling) → Called lines left budget irq old new before after → goes_on old.phase ≡ true
+      → IsAsking IsPlanBy verbs graphs task (course_of task lines before).written old (world_of before) → Ends lines left new after
+  asking_told lines left budget irq old new before after call goes a = by call ((call.leads.stays goes).is a.from a.read a.stands)
     where
-      by : (call : Called lines budget irq old new before after) → LooksOn irq old new call.leads.made a.from a.read before after ⊎ IsStill old new call.leads.made a.from a.read after → Ends lines new after
+      by : (call : Called lines left budget irq old new before after) → LooksOn irq old new call.leads.made a.from a.read before after ⊎ IsStill old new call.leads.made a.from a.read after → Ends lines left new after
       by call (inl on) =
-          looks_on IsPlanBy verbs_by verbs graphs task laws of notes lines budget irq old new call.leads.made before after call.opened goes call.graphs_are a call.leads.reads
+          looks_on IsPlanBy verbs_by verbs graphs task laws of notes lines left budget irq old new call.leads.made before after call.opened goes call.graphs_are a call.leads.reads
           (λ ended agrees. call.leads.is task budget call.blocks call.silent ended agrees) call.kept on
-      by call (inr still) = still_told lines budget irq old new before after call goes a still
+      by call (inr still) = still_told lines left budget irq old new before after call goes a still
 
   -- ---- once it is over
 
-  over_told : (lines : List DriverLine) (budget : ℕ) (irq : Bool) (old new : BringUp) (before after : Telling) (phase : Phase) → Called lines budget irq old new before after → old.phase ≡ phase → is_asking phase ≡ false
+  over_told : (lines left : List DriverLine) (budget : ℕ) (irq : Bool) (old new : BringUp) (before after : Telling) (phase : Phase) → Called lines left budget irq old new before after → old.phase ≡ phase → is_asking phase ≡ false
       → ((seen : Seen) (tally : Tally) → led task (state_of old) seen tally phase ≡ state_of old) → (phase ≡ Settling → ⊥)
-      → (new.agenda ≡ old.agenda → StandsIn phase IsPlanBy verbs graphs task (course_of task lines after).written new (world_of after)) → Ends lines new after
-  over_told lines budget irq old new before after phase call was not still unsettled stage =
+      → (new.agenda ≡ old.agenda → new.sent ≡ old.sent → StandsIn phase IsPlanBy verbs graphs task (course_of task lines after).written new (world_of after)) → Ends lines left new after
+  over_told lines left budget irq old new before after phase call was not still unsettled stage =
       let leads = call.leads in
       let line : DriverLine = record { irq = irq; budget = budget } in
       let unasking = ap is_asking was ∙ not in
       let unread = leads.unread unasking in
-      let stretch = stretch_of lines budget irq old new before after call unread (unasked old new unasking) in
+      let stretch = stretch_of lines left budget irq old new before after call unread (unasked old new unasking) in
       let seen = seen_by (values_of leads.made) false in
       let tally = tally_next task (state_of old) (Some line) seen in
-      let same = ap (λ (state : State). state.phase) stretch.leads ∙ over_on task (state_of old) line seen (ap (λ (phase : Phase). led task (state_of old) seen tally phase) was ∙ still seen tally) ∙ was in record {
-        done = unread_done task lines (Some line) (state_of old) (state_of new) leads.made before after call.opened leads.by.is unread stretch;
-        graphs_are = graphs_on lines budget irq old new before after call;
-        stage = subst (λ (phase : Phase). StandsIn phase IsPlanBy verbs graphs task (course_of task lines after).written new (world_of after)) (sym same) (stage (same_agenda call unread (λ settling walking. unsettled (sym was ∙ settling))));
+      let stays = ap (λ (phase : Phase). led task (state_of old) seen tally phase) was ∙ still seen tally in
+      let same = ap (λ (state : State). state.phase) stretch.leads ∙ over_on task (state_of old) line seen stays ∙ was in
+      let sent = ap (λ (state : State). state.sent) stretch.leads ∙ over_sent task (state_of old) line seen stays in record {
+        done = unread_done task lines left (Some line) (state_of old) (state_of new) leads.made before after call.opened leads.by.is unread stretch;
+        graphs_are = graphs_on lines left budget irq old new before after call;
+        stage = subst (λ (phase : Phase). StandsIn phase IsPlanBy verbs graphs task (course_of task lines after).written new (world_of after)) (sym same) (stage (same_agenda call unread (λ settling walking. unsettled (sym was ∙ settling))) sent);
       }
 
   -- ---- by phase
 
-  pub call_told : (lines : List DriverLine) (budget : ℕ) (irq : Bool) (old new : BringUp) (before after : Telling) (phase : Phase) → old.phase ≡ phase → Called lines budget irq old new before after
-      → StandsIn phase IsPlanBy verbs graphs task (course_of task lines before).written old (world_of before) → Ends lines new after
-  call_told lines budget irq old new before after Reset was call stage = reset_told lines budget irq old new before after call was stage
-  call_told lines budget irq old new before after Settling was call stage = settle_told lines budget irq old new before after call was stage
-  call_told lines budget irq old new before after Walking was call stage = asking_told lines budget irq old new before after call (ap goes_on was) stage
-  call_told lines budget irq old new before after SettingUp was call stage = asking_told lines budget irq old new before after call (ap goes_on was) stage
-  call_told lines budget irq old new before after Ready was call stage = asking_told lines budget irq old new before after call (ap goes_on was) stage
-  call_told lines budget irq old new before after Playing was call stage = absurd stage
-  call_told lines budget irq old new before after Drained was call stage = absurd stage
-  call_told lines budget irq old new before after NothingRouted was call stage = absurd stage
-  call_told lines budget irq old new before after (Unanswered codec command issued noticed) was call stage =
-      over_told lines budget irq old new before after (Unanswered codec command issued noticed) call was refl (λ seen tally. refl) (λ is. no_unanswered codec command issued noticed is) (λ same. (stage.0, stage.1 ∙ ap (λ (agenda : Agenda). agenda.graphs.items ++ stage.0) (sym same)))
-  call_told lines budget irq old new before after (Late from to limit) was call stage = absurd stage
-  call_told lines budget irq old new before after (Malformed codec fault) was call stage = absurd stage
-  call_told lines budget irq old new before after Failed was call stage = over_told lines budget irq old new before after Failed call was refl (λ seen tally. refl) (λ is. no_failed is) (λ same. tt {0})
+  pub call_told : (lines left : List DriverLine) (budget : ℕ) (irq : Bool) (old new : BringUp) (before after : Telling) (phase : Phase) → old.phase ≡ phase → Called lines left budget irq old new before after
+      → StandsIn phase IsPlanBy verbs graphs task (course_of task lines before).written old (world_of before) → Ends lines left new after
+  call_told lines left budget irq old new before after Reset was call stage = reset_told lines left budget irq old new before after call was stage
+  call_told lines left budget irq old new before after Settling was call stage = settle_told lines left budget irq old new before after call was stage
+  call_told lines left budget irq old new before after Walking was call stage = asking_told lines left budget irq old new before after call (ap goes_on was) stage
+  call_told lines left budget irq old new before after SettingUp was call stage = asking_told lines left budget irq old new before after call (ap goes_on was) stage
+  call_told lines left budget irq old new before after Ready was call stage = asking_told lines left budget irq old new before after call (ap goes_on was) stage
+  call_told lines left budget irq old new before after Playing was call stage = absurd stage
+  call_told lines left budget irq old new before after Drained was call stage = absurd stage
+  call_told lines left budget irq old new before after NothingRouted was call stage = absurd stage
+  call_told lines left budget irq old new before after (Unanswered codec command issued noticed) was call stage =
+      over_told lines left budget irq old new before after (Unanswered codec command issued noticed) call was refl (λ seen tally. refl) (λ is. no_unanswered codec command issued noticed is) (λ same sent. walked_on graphs task old new same sent stage)
+  call_told lines left budget irq old new before after (Late from to limit) was call stage = absurd stage
+  call_told lines left budget irq old new before after (Malformed codec fault) was call stage = absurd stage
+  call_told lines left budget irq old new before after Failed was call stage = over_told lines left budget irq old new before after Failed call was refl (λ seen tally. refl) (λ is. no_failed is) (λ same sent. walked_on graphs task old new same sent stage)

@@ -1,34 +1,78 @@
--- That a bring-up keeps to progress, as it is told. This project's own.
-use Rattle.std.specs.Prelude.{◌≡◌, false, ℕ, Bool, List, None, Some}
+-- That a bring-up keeps to progress, as it is told, and sets its codecs up. This project's own.
+use Rattle.std.specs.Prelude.{◌≡◌, false, ℕ, Bool, List, [], map, drop, slice_get, Option, None, Some}
 use Rattle.verb_codes.specs.declared.verbs.Command.{Command}
 use Rattle.codec_graph.specs.declared.raw.RawCodec.{RawCodec}
+use Rattle.codec_graph.specs.Settings.{Entries}
 use Rattle.route_planner.specs.declared.routes.Plan.{Plan}
 use Rattle.device_steps.specs.declared.Step.{Step}
-use Rattle.hda_world.specs.Worlds.{World}
-use Rattle.hda_world.specs.Steps.{after_steps}
-use Rattle.hda_world.specs.Events.{Begin, End}
-use Rattle.hda_world.specs.Tellings.{Telling, world_of, Accessed}
+use Rattle.hda_world.specs.Events.{Stepped, Begin, End}
+use Rattle.hda_world.specs.Tellings.{Telling, world_of, Went, Accessed}
 use Rattle.driver_progress.specs.declared.phase.Phase.TheVariants.{Ready}
 use Rattle.driver_progress.specs.Tasks.{Task, DriverLine}
-use Rattle.driver_progress.specs.Progress.{course_of}
+use Rattle.driver_progress.specs.States.{state_opened}
+use Rattle.driver_progress.specs.Progress as progress
+use Rattle.driver_progress.specs.Progress.{course_of, IsProgress}
 use Rattle.codec_bring_up.specs.declared.bringing.BringUp.{BringUp}
 use Rattle.codec_bring_up.specs.Calls.{state_of, IsKept, Leads, Ends}
-use Rattle.told_bring_up.specs.Stretches.{IsOpen, IsDone}
-use Rattle.told_bring_up.specs.Standing.{IsBroughtUp}
+use Rattle.told_bring_up.specs.Stretches.{IsAtRest, IsOpen, IsDone}
+use Rattle.told_bring_up.specs.Standing.{IsBroughtUp, IsEnded}
+use Rattle.told_bring_up.specs.SettingUp.{StaysSetUp, RemainSetUp}
 
-pub record KeepsToProgress (IsPlanBy : RawCodec → Plan → Type 0) (verbs_by : RawCodec → Plan → List Command) (verbs : RawCodec → List Command) (graphs : List RawCodec) (task : Task) : Type 0 where
-  -- a call in an open stretch of its own makes just the accesses that are expected and leads where progress says, and it stands to the
-  -- world after it as before; once all is set up, where no sound is to be played
-  pub calls : (lines : List DriverLine) (budget : ℕ) (irq : Bool) (old new : BringUp) (before after : Telling) → (old.phase ≡ Ready → task.plays ≡ false) → IsOpen task lines (Some (record { irq = irq; budget = budget })) (state_of old) before
-      → IsBroughtUp IsPlanBy verbs graphs task (course_of task lines before).written old (world_of before) → Leads IsPlanBy verbs_by irq old new (Some before) (Some after) → IsKept old new
-      → IsDone task lines (state_of new) after × IsBroughtUp IsPlanBy verbs graphs task (course_of task lines after).written new (world_of after)
-  -- and so does the last one
-  pub ends : (lines : List DriverLine) (old new : BringUp) (before after : Telling) → IsOpen task lines None (state_of old) before
-      → IsBroughtUp IsPlanBy verbs graphs task (course_of task lines before).written old (world_of before) → Ends IsPlanBy verbs_by old new (Some before) (Some after) → IsDone task lines (state_of new) after
-  -- the device keeps how it stands
-  pub steps : (written : ℕ) (bring_up : BringUp) (steps : List Step) (world : World) → IsBroughtUp IsPlanBy verbs graphs task written bring_up world → IsBroughtUp IsPlanBy verbs graphs task written bring_up (after_steps steps world)
-  -- and so do the marks of a stretch, with the steps before them
-  pub opens : (lines : List DriverLine) (bring_up : BringUp) (old new : Telling) → Accessed old new Begin → IsBroughtUp IsPlanBy verbs graphs task (course_of task lines old).written bring_up (world_of old)
-      → IsBroughtUp IsPlanBy verbs graphs task (course_of task lines new).written bring_up (world_of new)
-  pub closes : (lines : List DriverLine) (bring_up : BringUp) (old new : Telling) → Accessed old new End → IsBroughtUp IsPlanBy verbs graphs task (course_of task lines old).written bring_up (world_of old)
-      → IsBroughtUp IsPlanBy verbs graphs task (course_of task lines new).written bring_up (world_of new)
+-- between two calls
+pub record IsUnderWay (IsPlanBy : RawCodec → Plan → Type 0) (verbs : RawCodec → List Command) (IsOpenBy : RawCodec → Entries → Plan → Type 0) (graphs : List RawCodec) (task : Task) (lines left : List DriverLine) (bring_up : BringUp) (telling : Telling) : Type 0 where
+  pub rest : IsAtRest task lines left (state_of bring_up) telling
+  pub stands : IsBroughtUp IsPlanBy verbs graphs task (course_of task lines telling).written bring_up (world_of telling)
+  pub set_up : StaysSetUp IsPlanBy IsOpenBy graphs task lines telling
+
+-- at the beginning of a stretch
+pub record IsCalled (IsPlanBy : RawCodec → Plan → Type 0) (verbs : RawCodec → List Command) (IsOpenBy : RawCodec → Entries → Plan → Type 0) (graphs : List RawCodec) (task : Task) (lines left : List DriverLine) (turn : Option DriverLine) (bring_up : BringUp) (telling : Telling) : Type 0 where
+  pub opened : IsOpen task lines left turn (state_of bring_up) telling
+  pub stands : IsBroughtUp IsPlanBy verbs graphs task (course_of task lines telling).written bring_up (world_of telling)
+  pub set_up : StaysSetUp IsPlanBy IsOpenBy graphs task lines telling
+
+-- once a call made its accesses
+pub record HasMade (IsPlanBy : RawCodec → Plan → Type 0) (verbs : RawCodec → List Command) (IsOpenBy : RawCodec → Entries → Plan → Type 0) (graphs : List RawCodec) (task : Task) (lines left : List DriverLine) (bring_up : BringUp) (telling : Telling) : Type 0 where
+  pub done : IsDone task lines left (state_of bring_up) telling
+  pub stands : IsBroughtUp IsPlanBy verbs graphs task (course_of task lines telling).written bring_up (world_of telling)
+  pub set_up : StaysSetUp IsPlanBy IsOpenBy graphs task lines telling
+  pub remains : RemainSetUp IsPlanBy IsOpenBy graphs task lines bring_up telling
+
+-- once the last call did
+pub record HasShut (IsPlanBy : RawCodec → Plan → Type 0) (IsOpenBy : RawCodec → Entries → Plan → Type 0) (graphs : List RawCodec) (task : Task) (lines left : List DriverLine) (bring_up : BringUp) (telling : Telling) : Type 0 where
+  pub done : IsDone task lines left (state_of bring_up) telling
+  pub ended : IsEnded graphs task bring_up
+  pub set_up : StaysSetUp IsPlanBy IsOpenBy graphs task lines telling
+  pub remains : RemainSetUp IsPlanBy IsOpenBy graphs task lines bring_up telling
+
+-- after the last stretch
+pub record IsOver (IsPlanBy : RawCodec → Plan → Type 0) (IsOpenBy : RawCodec → Entries → Plan → Type 0) (graphs : List RawCodec) (task : Task) (lines : List DriverLine) (bring_up : BringUp) (telling : Telling) : Type 0 where
+  pub left : List DriverLine
+  pub rest : IsAtRest task lines left (state_of bring_up) telling
+  pub ended : IsEnded graphs task bring_up
+  pub set_up : StaysSetUp IsPlanBy IsOpenBy graphs task lines telling
+
+pub record KeepsToProgress (IsPlanBy : RawCodec → Plan → Type 0) (verbs_by : RawCodec → Plan → List Command) (verbs : RawCodec → List Command) (IsOpenBy : RawCodec → Entries → Plan → Type 0) (graphs : List RawCodec) (task : Task) : Type 0 where
+  -- where nothing happened yet, and steps of the device
+  pub begins : (lines : List DriverLine) (bring_up : BringUp) (telling : Telling) → telling.journal ≡ [] → state_of bring_up ≡ state_opened → IsBroughtUp IsPlanBy verbs graphs task 0 bring_up (world_of telling)
+      → IsUnderWay IsPlanBy verbs IsOpenBy graphs task lines lines bring_up telling
+  pub steps : (lines left : List DriverLine) (bring_up : BringUp) (steps : List Step) (old new : Telling) → Went old new (map Stepped steps) → IsUnderWay IsPlanBy verbs IsOpenBy graphs task lines left bring_up old
+      → IsUnderWay IsPlanBy verbs IsOpenBy graphs task lines left bring_up new
+  -- a stretch begins
+  pub opens : (lines left : List DriverLine) (bring_up : BringUp) (old new : Telling) → Accessed old new Begin → IsUnderWay IsPlanBy verbs IsOpenBy graphs task lines left bring_up old
+      → IsCalled IsPlanBy verbs IsOpenBy graphs task lines (drop 1 left) (slice_get left 0) bring_up new
+  -- a call makes just the accesses that are expected and leads where progress says, and it stands to the world after it as before; once all
+  -- is set up, where no sound is to be played
+  pub calls : (lines left : List DriverLine) (budget : ℕ) (irq : Bool) (old new : BringUp) (before after : Telling) → IsCalled IsPlanBy verbs IsOpenBy graphs task lines left (Some (record { irq = irq; budget = budget })) old before
+      → (old.phase ≡ Ready → task.plays ≡ false) → Leads IsPlanBy verbs_by irq old new (Some before) (Some after) → IsKept old new → HasMade IsPlanBy verbs IsOpenBy graphs task lines left new after
+  -- the stretch ends
+  pub closes : (lines left : List DriverLine) (bring_up : BringUp) (old new : Telling) → Accessed old new End → HasMade IsPlanBy verbs IsOpenBy graphs task lines left bring_up old
+      → IsUnderWay IsPlanBy verbs IsOpenBy graphs task lines left bring_up new
+  -- the last call and the end of its stretch
+  pub ends : (lines left : List DriverLine) (old new : BringUp) (before after : Telling) → IsCalled IsPlanBy verbs IsOpenBy graphs task lines left None old before → Ends IsPlanBy verbs_by old new (Some before) (Some after)
+      → HasShut IsPlanBy IsOpenBy graphs task lines left new after
+  pub ends_over : (lines left : List DriverLine) (bring_up : BringUp) (old new : Telling) → Accessed old new End → HasShut IsPlanBy IsOpenBy graphs task lines left bring_up old
+      → IsOver IsPlanBy IsOpenBy graphs task lines bring_up new
+  -- then the journal is progress and leads to the state, the graphs that were walked are known, and all codecs were set up at every moment
+  -- from the last answer on
+  pub over : (lines : List DriverLine) (bring_up : BringUp) (telling : Telling) → IsOver IsPlanBy IsOpenBy graphs task lines bring_up telling
+      → IsProgress task lines telling × (progress.state_of task lines telling ≡ state_of bring_up) × IsEnded graphs task bring_up × StaysSetUp IsPlanBy IsOpenBy graphs task lines telling

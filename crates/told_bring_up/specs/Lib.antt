@@ -1,3 +1,4 @@
 pub mod Stretches
 pub mod Standing
+pub mod SettingUp
 pub mod Keeping

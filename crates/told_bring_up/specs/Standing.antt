@@ -1,5 +1,5 @@
 -- How a bring-up stands to the world that is told. This project's own.
-use Rattle.std.specs.Prelude.{◌≡◌, ◌≢◌, ◌≤◌, ℕ, ◌+◌, List, [], ◌++◌, length, map, take, drop, slice_get, All, Option, Some, None}
+use Rattle.std.specs.Prelude.{◌≡◌, ◌≢◌, ◌≤◌, ◌<◌, ℕ, ◌+◌, List, [], ◌++◌, length, map, take, drop, slice_get, All, Option, Some, None}
 use Rattle.verb_codes.specs.declared.verbs.Command.{Command}
 use Rattle.codec_graph.specs.declared.raw.RawCodec.{RawCodec}
 use Rattle.route_planner.specs.declared.routes.Plan.{Plan}
@@ -75,11 +75,16 @@ pub record Announce (bring_up : BringUp) (world : World) : Type 0 where
   pub none_sent : bring_up.sent ≡ 0
   pub none_walked : bring_up.agenda.graphs.items ≡ []
 
--- ---- once a command was given up
+-- ---- what was walked
 
--- the graphs that were walked are the first of those on the link
-abbrev pub HasWalked : (graphs : List RawCodec) → BringUp → Type 0
-HasWalked graphs bring_up = (rest : List RawCodec) × (graphs ≡ bring_up.agenda.graphs.items ++ rest)
+-- the graphs that were walked are the first of those on the link, and all of them once more commands were sent than those of the walks
+pub record AreWalked (graphs walked : List RawCodec) (walks sent : ℕ) : Type 0 where
+  pub rest : List RawCodec
+  pub first : graphs ≡ walked ++ rest
+  pub all : walks < sent → walked ≡ graphs
+
+abbrev pub HasWalked : (graphs : List RawCodec) (task : Task) → BringUp → Type 0
+HasWalked graphs task bring_up = AreWalked graphs bring_up.agenda.graphs.items task.walks bring_up.sent
 
 -- ---- by phase
 
@@ -92,13 +97,34 @@ StandsIn Ready IsPlanBy verbs graphs task written bring_up world = IsAsking IsPl
 StandsIn Playing IsPlanBy verbs graphs task written bring_up world = ⊥
 StandsIn Drained IsPlanBy verbs graphs task written bring_up world = ⊥
 StandsIn NothingRouted IsPlanBy verbs graphs task written bring_up world = ⊥
-StandsIn (Unanswered codec command issued noticed) IsPlanBy verbs graphs task written bring_up world = HasWalked graphs bring_up
+StandsIn (Unanswered codec command issued noticed) IsPlanBy verbs graphs task written bring_up world = HasWalked graphs task bring_up
 StandsIn (Late from to limit) IsPlanBy verbs graphs task written bring_up world = ⊥
 StandsIn (Malformed codec fault) IsPlanBy verbs graphs task written bring_up world = ⊥
-StandsIn Failed IsPlanBy verbs graphs task written bring_up world = Unit {0}
+StandsIn Failed IsPlanBy verbs graphs task written bring_up world = HasWalked graphs task bring_up
 
 -- a bring-up for a task over the codecs with these graphs, as it stands to the world
 pub record IsBroughtUp (IsPlanBy : RawCodec → Plan → Type 0) (verbs : RawCodec → List Command) (graphs : List RawCodec) (task : Task) (written : ℕ) (bring_up : BringUp) (world : World) : Type 0 where
   pub blocks : IsTaskOf bring_up task
   pub graphs_are : graphs_in world.codecs ≡ graphs
   pub stage : StandsIn bring_up.phase IsPlanBy verbs graphs task written bring_up world
+
+-- ---- at its end
+
+-- by phase: once the walks are over, all are walked
+abbrev pub WalkedIn : Phase → (all : Type 0) → Type 0
+WalkedIn Reset all = Unit {0}
+WalkedIn Settling all = Unit {0}
+WalkedIn Walking all = Unit {0}
+WalkedIn SettingUp all = all
+WalkedIn Ready all = all
+WalkedIn Playing all = ⊥
+WalkedIn Drained all = ⊥
+WalkedIn NothingRouted all = ⊥
+WalkedIn (Unanswered codec command issued noticed) all = Unit {0}
+WalkedIn (Late from to limit) all = ⊥
+WalkedIn (Malformed codec fault) all = ⊥
+WalkedIn Failed all = Unit {0}
+
+pub record IsEnded (graphs : List RawCodec) (task : Task) (bring_up : BringUp) : Type 0 where
+  pub walked : HasWalked graphs task bring_up
+  pub by_phase : WalkedIn bring_up.phase (bring_up.agenda.graphs.items ≡ graphs)

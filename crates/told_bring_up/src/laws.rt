@@ -1,10 +1,8 @@
 //! Laws of what is told of a bring-up, each the contract of a function that does nothing.
-ghost use Rattle.std.specs.Prelude.{◌≡◌, ℕ, List, map, Contains, Some};
+ghost use Rattle.std.specs.Prelude.{◌≡◌, ℕ, List, map, drop, slice_get};
 ghost use Rattle.verb_codes.specs.declared.verbs.Command.{Command};
 ghost use Rattle.codec_graph.specs.declared.raw.RawCodec.{RawCodec};
-ghost use Rattle.codec_graph.specs.CodecStates.{CodecState};
-ghost use Rattle.route_planner.specs.declared.routes.Plan.{Plan};
-ghost use Rattle.hda_world.specs.Worlds.{World, codec_at};
+ghost use Rattle.hda_world.specs.Worlds.{World};
 ghost use Rattle.driver_progress.specs.declared.phase.Phase.TheVariants.{Ready};
 ghost use Rattle.codec_bring_up.specs.declared.bringing.BringUp.{BringUp};
 ghost use Rattle.stream_format.specs.declared.format.Format.{Format};
@@ -13,9 +11,10 @@ ghost use Rattle.hda_world.specs.Events.{Stepped, Begin, End};
 ghost use Rattle.hda_world.specs.Tellings.{Telling, Went, Accessed};
 ghost use Rattle.driver_progress.specs.Tasks.{Task, DriverLine};
 ghost use Rattle.driver_progress.specs.States.{State, state_opened};
-ghost use Rattle.driver_progress.specs.Progress.{course_of, state_of, begun, IsProgress};
+ghost use Rattle.driver_progress.specs.Progress.{state_of, IsProgress};
 ghost use Rattle.told_bring_up.specs.Stretches.{IsAtRest, IsOpen, IsDone};
 ghost use Rattle.told_bring_up.specs.Standing.{IsTaskOfCodecs, IsBroughtUp};
+ghost use Rattle.told_bring_up.specs.SettingUp.{AreSetUp};
 ghost use Rattle.told_bring_up.specs.Keeping.{KeepsToProgress};
 
 use codec_agenda::agendas_follow;
@@ -26,22 +25,24 @@ use route_setup::Setter;
 /// Before the first access a driver is at rest, and steps of the device leave it so. A stretch is opened from rest and ended by marks. At
 /// rest, and where a stretch is done, the journal is progress and leads to the driver's state.
 pub fn stretches_are_progress()
-    ensures rests { (task : Task) (lines : List DriverLine) (steps : List Step) (telling : Telling) → telling.journal ≡ map Stepped steps → IsAtRest task lines state_opened telling }
-    ensures steps { (task : Task) (lines : List DriverLine) (state : State) (steps : List Step) (old new : Telling) → Went old new (map Stepped steps) → IsAtRest task lines state old → IsAtRest task lines state new }
-    ensures opens { (task : Task) (lines : List DriverLine) (state : State) (old new : Telling) → Accessed old new Begin → IsAtRest task lines state old → IsOpen task lines (begun (course_of task lines old)).turn state new }
-    ensures closes { (task : Task) (lines : List DriverLine) (state' : State) (old new : Telling) → Accessed old new End → IsDone task lines state' old → IsAtRest task lines state' new }
-    ensures at_rest { (task : Task) (lines : List DriverLine) (state : State) (telling : Telling) → IsAtRest task lines state telling → IsProgress task lines telling × (state_of task lines telling ≡ state) }
-    ensures done { (task : Task) (lines : List DriverLine) (state' : State) (telling : Telling) → IsDone task lines state' telling → IsProgress task lines telling × (state_of task lines telling ≡ state') }
+    ensures rests { (task : Task) (lines : List DriverLine) (steps : List Step) (telling : Telling) → telling.journal ≡ map Stepped steps → IsAtRest task lines lines state_opened telling }
+    ensures steps { (task : Task) (lines left : List DriverLine) (state : State) (steps : List Step) (old new : Telling) → Went old new (map Stepped steps) → IsAtRest task lines left state old → IsAtRest task lines left state new }
+    ensures opens { (task : Task) (lines left : List DriverLine) (state : State) (old new : Telling) → Accessed old new Begin → IsAtRest task lines left state old → IsOpen task lines (drop 1 left) (slice_get left 0) state new }
+    ensures closes { (task : Task) (lines left : List DriverLine) (state' : State) (old new : Telling) → Accessed old new End → IsDone task lines left state' old → IsAtRest task lines left state' new }
+    ensures at_rest { (task : Task) (lines left : List DriverLine) (state : State) (telling : Telling) → IsAtRest task lines left state telling → IsProgress task lines telling × (state_of task lines telling ≡ state) }
+    ensures done { (task : Task) (lines left : List DriverLine) (state' : State) (telling : Telling) → IsDone task lines left state' telling → IsProgress task lines telling × (state_of task lines telling ≡ state') }
 {}
 
 /// Each call of a bring-up in an open stretch of its own, for an interrupt or not, makes just the accesses that progress expects and leads
 /// where it says, and it stands to the world after it as before: for the codecs on the link, one to four with well-formed graphs, of which
-/// some pin has a route. Before the reset CORB's engine does not run. So no answer is refused, and the agenda asks their commands in order. The last call does the same, and the device
-/// keeps how it stands.
+/// some pin has a route. Before the reset CORB's engine does not run. So no answer is refused, and the agenda asks their commands in order.
+/// The last call does the same, and it is known which graphs were walked. At every moment from the last answer on, between any two
+/// accesses too, each codec is there with its graph and set up by its plan.
 pub fn bring_ups_keep_to_progress<T: Setter>()
     ensures { (setter : T) (format : Format) (verbs : RawCodec → List Command) (graphs : List RawCodec) (task : Task)
         → IsTaskOfCodecs (λ graph. T.IsPlanBy setter graph format) (λ graph plan. T.verbs_by setter graph plan format TAG) verbs graphs task
-        → KeepsToProgress (λ graph. T.IsPlanBy setter graph format) (λ graph plan. T.verbs_by setter graph plan format TAG) verbs graphs task }
+        → KeepsToProgress (λ graph. T.IsPlanBy setter graph format) (λ graph plan. T.verbs_by setter graph plan format TAG) verbs
+        (λ graph settings plan. T.IsOpenBy setter graph settings plan format TAG) graphs task }
 {
     agendas_follow::<T>();
     agendas_agree::<T>();
@@ -50,15 +51,14 @@ pub fn bring_ups_keep_to_progress<T: Setter>()
     a_reset_stays();
 }
 
-/// Once all commands are answered each codec is set up by its plan: in the phase `Ready` its settings are what the verbs of its plan make
-/// of settings of its graph, wherever the bring-up stands to the world as before and after each of its calls.
+/// Once all commands are answered each codec is set up by its plan: in the phase `Ready`, wherever the bring-up stands to the world as before
+/// and after each of its calls.
 pub fn ready_codecs_are_set_up<T: Setter>()
     ensures { (setter : T) (format : Format) (verbs : RawCodec → List Command) (graphs : List RawCodec) (task : Task)
         → IsTaskOfCodecs (λ graph. T.IsPlanBy setter graph format) (λ graph plan. T.verbs_by setter graph plan format TAG) verbs graphs task
         → (written : ℕ) (bring_up : BringUp) (world : World) → bring_up.phase ≡ Ready
         → IsBroughtUp (λ graph. T.IsPlanBy setter graph format) verbs graphs task written bring_up world
-        → (graph : RawCodec) (plan : Plan) (now : CodecState) → Contains graphs graph → T.IsPlanBy setter graph format plan
-        → codec_at graph.address world.codecs ≡ Some now → (now.graph ≡ graph) × T.IsOpenBy setter graph now.settings plan format TAG }
+        → AreSetUp (λ graph. T.IsPlanBy setter graph format) (λ graph settings plan. T.IsOpenBy setter graph settings plan format TAG) graphs world }
 {
     agendas_follow::<T>();
     agendas_agree::<T>();

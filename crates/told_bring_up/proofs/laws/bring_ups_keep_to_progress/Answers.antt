@@ -1,4 +1,6 @@
-use Rattle.std.proofs.Common.{◌≡◌, ◌≢◌, List, [], ◌∷◌, map, refl}
+use Rattle.std.proofs.Common.{◌≡◌, ◌≢◌, List, [], ◌∷◌, map, refl, lit≤}
+use Rattle.codec_graph.specs.Settings.{Entries}
+use Rattle.told_bring_up.proofs.Ready.{SetterLaws}
 use Rattle.verb_codes.specs.declared.verbs.Command.{Command}
 use Rattle.codec_graph.specs.declared.raw.RawCodec.{RawCodec}
 use Rattle.route_planner.specs.declared.routes.Plan.{Plan}
@@ -38,4 +40,9 @@ returns g c = λ setter format verbs graphs task of.
     } in
     let begins = begins_by IsPlanBy verbs graphs of.some (λ first rest agenda are is. c.agendas_follow.ensures.begins setter format verbs first rest agenda are is) in
     let steady : Steady = record { can_reset = c.a_reset_stays.ensures.before; settling = c.a_reset_stays.ensures.later } in
-    whole IsPlanBy verbs_by verbs graphs task laws begins of notes steady
+    let IsOpenBy : RawCodec → Entries → Plan → Type 0 = λ graph settings plan. g.T.Setter.IsOpenBy setter graph settings plan format TAG in
+    let opening : SetterLaws IsPlanBy verbs_by IsOpenBy = record {
+      encodable = λ graph plan well planned. g.met.T.Setter.encodable setter graph plan format 1 well planned (lit≤ tt);
+      opens = λ graph plan settings well planned are. g.met.T.Setter.opens setter graph plan format 1 settings well planned (lit≤ tt) (lit≤ tt) are;
+    } in
+    whole IsPlanBy verbs_by verbs IsOpenBy graphs task laws of opening notes steady begins

@@ -4,7 +4,8 @@ use Rattle.codec_graph.specs.declared.raw.RawCodec.{RawCodec}
 use Rattle.route_planner.specs.declared.routes.Plan.{Plan}
 use Rattle.driver_commands.specs.declared.answers.TheConstants.{TAG}
 use Rattle.told_bring_up.proofs.Following.{AgendaLaws}
-use Rattle.told_bring_up.proofs.Ready.{set_up}
+use Rattle.codec_graph.specs.Settings.{Entries}
+use Rattle.told_bring_up.proofs.Ready.{SetterLaws, ready_for_good}
 use Rattle.told_bring_up.proofs.laws.ready_codecs_are_set_up.Goals as goal
 
 pub returns : goal.returns
@@ -17,6 +18,9 @@ returns g c = λ setter format verbs graphs task of.
       routed = λ count answer old new follows reply none. c.agendas_follow.ensures.routed setter format verbs graphs count answer old new of.right follows reply none;
       agrees = λ count agenda task follows is_for. c.agendas_agree.ensures setter format verbs graphs count agenda task of.right.well_formed follows is_for;
     } in
-    set_up IsPlanBy verbs_by verbs graphs task laws of (λ graph plan well planned. g.met.T.Setter.encodable setter graph plan format 1 well planned (lit≤ tt))
-    (λ graph settings plan. g.T.Setter.IsOpenBy setter graph settings plan format TAG)
-    (λ graph plan settings well planned are. g.met.T.Setter.opens setter graph plan format 1 settings well planned (lit≤ tt) (lit≤ tt) are)
+    let IsOpenBy : RawCodec → Entries → Plan → Type 0 = λ graph settings plan. g.T.Setter.IsOpenBy setter graph settings plan format TAG in
+    let opening : SetterLaws IsPlanBy verbs_by IsOpenBy = record {
+      encodable = λ graph plan well planned. g.met.T.Setter.encodable setter graph plan format 1 well planned (lit≤ tt);
+      opens = λ graph plan settings well planned are. g.met.T.Setter.opens setter graph plan format 1 settings well planned (lit≤ tt) (lit≤ tt) are;
+    } in
+    λ written bring_up world was stands. (ready_for_good IsPlanBy verbs_by verbs IsOpenBy graphs task laws of opening written bring_up world was stands).set_up
