@@ -25,7 +25,7 @@ use Rattle.driver_commands.specs.Standing.{answers_of}
 use Rattle.codec_bring_up.specs.declared.bringing.BringUp.{BringUp}
 use Rattle.codec_bring_up.specs.Calls.{state_of}
 use Rattle.told_bring_up.specs.Standing.{IsTaskOfCodecs, IsLastSent, HaveTaken, IsAsking}
-use Rattle.told_bring_up.specs.SettingUp.{AreForGood}
+use Rattle.told_bring_up.specs.SettingUp.{AreSetUpForGood}
 use Rattle.told_bring_up.proofs.Noting.{Laws}
 use Rattle.told_bring_up.proofs.Following.{AgendaLaws, Later, stage_on, taken_one}
 use Rattle.told_bring_up.proofs.Ready.{SetterLaws, AllTaken, can_be_sent, taken_set_up}
@@ -81,7 +81,7 @@ module _ (IsPlanBy : RawCodec → Plan → Type 0) (verbs_by : RawCodec → Plan
     (laws : AgendaLaws IsPlanBy verbs_by verbs graphs) (of : IsTaskOfCodecs IsPlanBy verbs_by verbs graphs task) (setter : SetterLaws IsPlanBy verbs_by IsOpenBy) (notes : Laws) where
   pub answered_for_good : (old : BringUp) (written : ℕ) (begun there : World) (course : Course) → graphs_in begun.codecs ≡ graphs → (a : IsAsking IsPlanBy verbs graphs task written old begun) → Later begun there
       → Stands a.from a.read old.engine.corb.address old.engine.rirb.address old.engine.rings there → old.sent ≡ length task.orders → course.state ≡ state_of old → course.written ≡ written → is_answered course there ≡ true
-      → AreForGood IsPlanBy IsOpenBy graphs there
+      → AreSetUpForGood IsPlanBy IsOpenBy graphs there
   answered_for_good old written begun there course graphs_are a later stands all state_is written_is answered =
       let outstanding = old.engine.rings.outstanding in
       let asked = asked_of outstanding in

@@ -18,7 +18,7 @@ use Rattle.driver_progress.specs.States.{State}
 use Rattle.driver_progress.specs.Tasks.{Task, DriverLine}
 use Rattle.driver_progress.specs.Progress.{Course, course_of, is_answered, noted}
 use Rattle.driver_stretches.specs.Unread.{IsUnread, AreUnread}
-use Rattle.told_bring_up.specs.SettingUp.{is_ready, are_answered, AreForGood, SetUpAt, StaysSetUp}
+use Rattle.told_bring_up.specs.SettingUp.{is_ready, are_answered, AreSetUpForGood, SetUpAt, StaysSetUp}
 use Rattle.told_bring_up.proofs.Calm.{AreCalm, IsLast, calm_front, calm_back}
 use Rattle.told_bring_up.proofs.Same.{steps_for_good, write_for_good}
 use Rattle.told_bring_up.proofs.Always.{access_always, at_access, course_there}
@@ -173,7 +173,7 @@ same_state task course world (DmaWrite at bytes) none = refl
 -- ---- codecs that are set up
 
 abbrev pub ForGoodAt : (IsPlanBy : RawCodec → Plan → Type 0) (IsOpenBy : RawCodec → Entries → Plan → Type 0) (graphs : List RawCodec) → Task → World → Course → Type 0
-ForGoodAt IsPlanBy IsOpenBy graphs task world course = are_answered task course ≡ true → AreForGood IsPlanBy IsOpenBy graphs world
+ForGoodAt IsPlanBy IsOpenBy graphs task world course = are_answered task course ≡ true → AreSetUpForGood IsPlanBy IsOpenBy graphs world
 
 -- from the last answer on they are, in a stretch that began in this state
 pub record IsFine (IsPlanBy : RawCodec → Plan → Type 0) (IsOpenBy : RawCodec → Entries → Plan → Type 0) (graphs : List RawCodec) (task : Task) (lines : List DriverLine) (state : State) (telling : Telling) : Type 0 where
@@ -201,7 +201,7 @@ module _ (IsPlanBy : RawCodec → Plan → Type 0) (IsOpenBy : RawCodec → Entr
         state_is = ap (λ (course : Course). course.state) (course_there task lines event old new accessed) ∙ stays ∙ fine.state_is;
       }
 
-  event_good : (event : Event) (world : World) → IsNoLook event → AreCalm (requests_in event) → AreForGood IsPlanBy IsOpenBy graphs world → AreForGood IsPlanBy IsOpenBy graphs (happens world event)
+  event_good : (event : Event) (world : World) → IsNoLook event → AreCalm (requests_in event) → AreSetUpForGood IsPlanBy IsOpenBy graphs world → AreSetUpForGood IsPlanBy IsOpenBy graphs (happens world event)
   event_good (Stepped step) world none calm good = absurd none
   event_good Begin world none calm good = absurd none
   event_good End world none calm good = absurd none

@@ -36,7 +36,7 @@ use Rattle.driver_progress.specs.Tasks.{Task, Order}
 use Rattle.driver_commands.specs.Standing.{answers_of}
 use Rattle.codec_bring_up.specs.declared.bringing.BringUp.{BringUp}
 use Rattle.told_bring_up.specs.Standing.{IsTaskOfCodecs, IsLastSent, HaveTaken, IsAsking, StandsIn, IsBroughtUp}
-use Rattle.told_bring_up.specs.SettingUp.{AreSetUp, AreForGood}
+use Rattle.told_bring_up.specs.SettingUp.{AreSetUp, AreSetUpForGood}
 use Rattle.told_bring_up.proofs.Following.{AgendaLaws}
 use Rattle.told_bring_up.proofs.Replying.{all_low, at_place, found_there, other_address, same_address, words_mapped}
 
@@ -292,7 +292,7 @@ module _ (IsPlanBy : RawCodec → Plan → Type 0) (verbs_by : RawCodec → Plan
         },
       )
 
-  pub ready_for_good : (written : ℕ) (bring_up : BringUp) (world : World) → bring_up.phase ≡ Ready → IsBroughtUp IsPlanBy verbs graphs task written bring_up world → AreForGood IsPlanBy IsOpenBy graphs world
+  pub ready_for_good : (written : ℕ) (bring_up : BringUp) (world : World) → bring_up.phase ≡ Ready → IsBroughtUp IsPlanBy verbs graphs task written bring_up world → AreSetUpForGood IsPlanBy IsOpenBy graphs world
   ready_for_good written bring_up world was stands =
       let a = subst (λ (phase : Phase). StandsIn phase IsPlanBy verbs graphs task written bring_up world) was stands.stage in
       let taken = all_taken written bring_up world was stands.graphs_are a in record {

@@ -17,7 +17,7 @@ use Rattle.hda_world.proofs.Callers.{access_leaves}
 use Rattle.codec_histories.specs.Histories.{words_of}
 use Rattle.codec_histories.specs.Readings.{IsReading}
 use Rattle.codec_histories.proofs.Callers.{remembers_itself, steps_remember, only_asked}
-use Rattle.told_bring_up.specs.SettingUp.{AreSetUp, AreForGood}
+use Rattle.told_bring_up.specs.SettingUp.{AreSetUp, AreSetUpForGood}
 use Rattle.told_bring_up.proofs.Idle.{SubmitsNone, idle_steps, write_idle}
 
 -- these codecs have the graphs and the settings of those
@@ -96,14 +96,14 @@ module _ (IsPlanBy : RawCodec → Plan → Type 0) (IsOpenBy : RawCodec → Entr
         opened = λ plan planned. subst (λ (settings : Entries). IsOpenBy graph settings plan) (sym found.settings_are) (there.opened plan planned);
       }
 
-  pub steps_for_good : (steps : List Step) (world : World) → AreForGood IsPlanBy IsOpenBy graphs world → AreForGood IsPlanBy IsOpenBy graphs (after_steps steps world)
+  pub steps_for_good : (steps : List Step) (world : World) → AreSetUpForGood IsPlanBy IsOpenBy graphs world → AreSetUpForGood IsPlanBy IsOpenBy graphs (after_steps steps world)
   steps_for_good steps world are =
       let idle = idle_steps steps world are.idle in record {
         idle = idle.idle;
         set_up = alike_set_up world (after_steps steps world) (steps_alike steps world idle.commands_are) are.set_up;
       }
 
-  pub write_for_good : (world : World) (at : ℕ) (width : Width) (value : ℕ) → SubmitsNone at width value → AreForGood IsPlanBy IsOpenBy graphs world → AreForGood IsPlanBy IsOpenBy graphs (after_write at width value world)
+  pub write_for_good : (world : World) (at : ℕ) (width : Width) (value : ℕ) → SubmitsNone at width value → AreSetUpForGood IsPlanBy IsOpenBy graphs world → AreSetUpForGood IsPlanBy IsOpenBy graphs (after_write at width value world)
   write_for_good world at width value none are =
       let leaves = access_leaves world at value width in record {
         idle = write_idle world at width value none are.idle;

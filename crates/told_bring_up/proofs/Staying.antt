@@ -41,7 +41,7 @@ use Rattle.codec_bring_up.specs.Calls.{state_of, Leads, Ends}
 use Rattle.codec_bring_up.specs.Told.{Looked, LooksOn, IsStill}
 use Rattle.told_bring_up.specs.Stretches.{IsOpen, IsDone}
 use Rattle.told_bring_up.specs.Standing.{IsTaskOfCodecs, IsLastSent, IsAsking, StandsIn, IsBroughtUp}
-use Rattle.told_bring_up.specs.SettingUp.{is_ready, are_answered, StaysSetUp, AreForGood}
+use Rattle.told_bring_up.specs.SettingUp.{is_ready, are_answered, StaysSetUp, AreSetUpForGood}
 use Rattle.told_bring_up.proofs.Rows.{IsAccess, AreAccesses, accesses_row}
 use Rattle.told_bring_up.proofs.Grows.{row_on, both_on, steps_on, world_after}
 use Rattle.told_bring_up.proofs.Noting.{Laws}
@@ -151,61 +151,65 @@ module _ (IsPlanBy : RawCodec → Plan → Type 0) (verbs_by : RawCodec → Plan
   -- where the flag is read, and the last answer is there
   found_there : (old : BringUp) (written : ℕ) (begun there : World) (course : Course) (flag : ℕ) → is_asking old.phase ≡ true → graphs_in begun.codecs ≡ graphs → (a : IsAsking IsPlanBy verbs graphs task written old begun) → Later begun there
       → Stands a.from a.read old.engine.corb.address old.engine.rirb.address old.engine.rings there → course.state ≡ state_of old → course.written ≡ written → are_answered task (noted task course there (Read RIRBSTS One flag)) ≡ true
-      → AreForGood IsPlanBy IsOpenBy graphs there
+      → AreSetUpForGood IsPlanBy IsOpenBy graphs there
   found_there old written begun there course flag asking graphs_are a later stood state_is written_is answered = by (answered_parts task (noted task course there (Read RIRBSTS One flag)) answered)
     where
-      by : (course.state.phase ≡ Ready) ⊎ FoundLast (is_asking course.state.phase) course.within (course.state.sent == length task.orders) (is_answered course there) → AreForGood IsPlanBy IsOpenBy graphs there
+      by : (course.state.phase ≡ Ready) ⊎ FoundLast (is_asking course.state.phase) course.within (course.state.sent == length task.orders) (is_answered course there) → AreSetUpForGood IsPlanBy IsOpenBy graphs there
       by (inl ready) = absurd (not_true (sym (ap is_asking (sym (ap (λ (state : State). state.phase) state_is) ∙ ready)) ∙ asking))
       by (inr found) =
           let all = sym (ap (λ (state : State). state.sent) state_is) ∙ are_same course.state.sent (length task.orders) found.sent_is in
           answered_for_good IsPlanBy verbs_by verbs IsOpenBy graphs task laws of setter notes old written begun there course graphs_are a later stood all state_is written_is found.answered_is
 
-  -- one that looks for the answer to the outstanding command
+  -- the look for the answer to the outstanding command, until the flag is read
+  flagged_fine : (left : List DriverLine) (turn : Option DriverLine) (old : BringUp) (made first : List Event) (clock : ℕ) (reads : PollReads) (rest : List Event) (before after : Telling) → IsOpen task lines left turn (state_of old) before
+      → is_asking old.phase ≡ true → graphs_in (world_of before).codecs ≡ graphs → (a : IsAsking IsPlanBy verbs graphs task (course_of task lines before).written old (world_of before))
+      → (looked : Looked old made first clock reads rest a.from a.read before after) → Fine (state_of old) before → Fine (state_of old) looked.look_made.by.2.0
+  flagged_fine left turn old made first clock reads rest before after opened asking graphs_are a looked fine =
+      let state = state_of old in
+      let begins = looked.begins in
+      let one = looked.look_made.by.0 in
+      let reads_clock = looked.look_made.by.1 in
+      let reads_flag = looked.look_made.by.2.1 in
+      let look = Read WALCLK Four clock in
+      let clock_made : Makes (look ∷ []) begins one = record { by = (one, reads_clock, refl) } in
+      let asks_at = λ (course : Course) (is : course.state ≡ state). subst (λ (state : State). is_asking state.phase ≡ true) (sym is) asking in
+      let first_row = (course_row task lines first before begins looked.first_made looked.plain).0 in
+      let clock_row = (course_row task lines (look ∷ []) begins one clock_made (refl, tt {0})).0 in
+      let started = calm_row IsPlanBy IsOpenBy graphs task lines state first before begins looked.first_made.by (plain_no_looks first looked.plain)
+      (λ answered. absurd (unanswered task (course_of task lines before) (asks_at (course_of task lines before) opened.state_is) opened.unanswered answered)) fine in
+      let unfound = ap (λ (course : Course). course.answered) first_row ∙ opened.unanswered in
+      let clocked = calm_row IsPlanBy IsOpenBy graphs task lines state (look ∷ []) begins one clock_made.by (refl, tt {0})
+      (λ answered. absurd (unanswered task (course_of task lines begins) (asks_at (course_of task lines begins) started.state_is) unfound answered)) started in
+      let written = ap (λ (course : Course). course.written) clock_row ∙ ap (λ (course : Course). course.written) first_row in
+      let there = after_steps reads_flag.steps (world_of one) in
+      let Stood : World → Type 0 = Stands a.from a.read old.engine.corb.address old.engine.rirb.address old.engine.rings in
+      let kept = keeps_standing a.from a.read old.engine.corb.address old.engine.rirb.address old.engine.rings responses_apart in
+      let stood = kept_steps Stood kept reads_flag.steps (world_of one) (subst Stood (sym (world_after look begins one reads_clock)) (kept_steps Stood kept reads_clock.steps (world_of begins) looked.stood)) in
+      let to_one : Later (world_of before) (world_of one) = record {
+        on = both_on (world_of before) (world_of begins) (world_of one) (row_on first before begins looked.first_made) (row_on (look ∷ []) begins one clock_made);
+        remembers = λ start begun is. row_remembers (look ∷ []) begins one clock_made start begun (row_remembers first before begins looked.first_made start begun is);
+      } in
+      let later = later_steps reads_flag.steps (world_of before) (world_of one) to_one in
+      access_fine IsPlanBy IsOpenBy graphs task lines state (Read RIRBSTS One reads.flag) one looked.look_made.by.2.0 reads_flag clocked refl
+      (λ good answered. found_there old (course_of task lines before).written (world_of before) there (course_of task lines one) reads.flag asking graphs_are a later stood clocked.state_is written answered)
+
+  -- and all of a stretch with one
   looked_fine : (left : List DriverLine) (turn : Option DriverLine) (old : BringUp) (state' : State) (made first : List Event) (clock : ℕ) (reads : PollReads) (rest : List Event) (before after : Telling) → IsOpen task lines left turn (state_of old) before
       → Makes made before after → is_asking old.phase ≡ true → IsSilent task (state_of old) turn → graphs_in (world_of before).codecs ≡ graphs → (a : IsAsking IsPlanBy verbs graphs task (course_of task lines before).written old (world_of before))
       → Looked old made first clock reads rest a.from a.read before after → AreNoLooks rest → IsDone task lines left state' after → Fine (state_of old) before → Fine (state_of old) after
   looked_fine left turn old state' made first clock reads rest before after opened makes asking silent graphs_are a looked none done fine =
       let rings = old.engine.rings in
-      let corb = old.engine.corb.address in
       let rirb = old.engine.rirb.address in
       let state = state_of old in
-      let begins = looked.begins in
-      let one = looked.look_made.by.0 in
-      let reads_clock = looked.look_made.by.1 in
-      let two = looked.look_made.by.2.0 in
-      let reads_flag = looked.look_made.by.2.1 in
-      let poll_made = looked.look_made.by.2.2 in
       let batch = if has_bit reads.flag 0 then batch_accesses rirb rings reads.pointer reads.entries else [] in
-      let asks_at = λ (course : Course) (is : course.state ≡ state). subst (λ (state : State). is_asking state.phase ≡ true) (sym is) asking in
-      -- before the flag is read
-      let started = calm_row IsPlanBy IsOpenBy graphs task lines state first before begins looked.first_made.by (plain_no_looks first looked.plain)
-      (λ answered. absurd (unanswered task (course_of task lines before) (asks_at (course_of task lines before) opened.state_is) opened.unanswered answered)) fine in
-      let first_row = (course_row task lines first before begins looked.first_made looked.plain).0 in
-      let unfound = ap (λ (course : Course). course.answered) first_row ∙ opened.unanswered in
-      let clocked = calm_row IsPlanBy IsOpenBy graphs task lines state (Read WALCLK Four clock ∷ []) begins one (one, reads_clock, refl) (refl, tt {0})
-      (λ answered. absurd (unanswered task (course_of task lines begins) (asks_at (course_of task lines begins) started.state_is) unfound answered)) started in
-      let clock_row = (course_row task lines (Read WALCLK Four clock ∷ []) begins one (record { by = (one, reads_clock, refl) }) (refl, tt {0})).0 in
-      let written = ap (λ (course : Course). course.written) clock_row ∙ ap (λ (course : Course). course.written) first_row in
-      -- as it is read
-      let there = after_steps reads_flag.steps (world_of one) in
-      let Stood : World → Type 0 = Stands a.from a.read corb rirb rings in
-      let kept = keeps_standing a.from a.read corb rirb rings responses_apart in
-      let stood = kept_steps Stood kept reads_flag.steps (world_of one) (subst Stood (sym (world_after (Read WALCLK Four clock) begins one reads_clock)) (kept_steps Stood kept reads_clock.steps (world_of begins) looked.stood)) in
-      let to_one : Later (world_of before) (world_of one) = record {
-        on = both_on (world_of before) (world_of begins) (world_of one) (row_on first before begins looked.first_made) (row_on (Read WALCLK Four clock ∷ []) begins one (record { by = (one, reads_clock, refl) }));
-        remembers = λ start begun is. row_remembers (Read WALCLK Four clock ∷ []) begins one (record { by = (one, reads_clock, refl) }) start begun (row_remembers first before begins looked.first_made start begun is);
-      } in
-      let later = later_steps reads_flag.steps (world_of before) (world_of one) to_one in
-      let flagged = access_fine IsPlanBy IsOpenBy graphs task lines state (Read RIRBSTS One reads.flag) one two reads_flag clocked refl
-      (λ good answered. found_there old (course_of task lines before).written (world_of before) there (course_of task lines one) reads.flag asking graphs_are a later stood clocked.state_is written answered) in
-      -- and after it
-      let polled = calm_row IsPlanBy IsOpenBy graphs task lines state batch two looked.ends poll_made (batch_no_looks (has_bit reads.flag 0) rirb rings reads) (λ answered. batch_calm (has_bit reads.flag 0) rirb rings reads) flagged in
+      let flagged = flagged_fine left turn old made first clock reads rest before after opened asking graphs_are a looked fine in
+      let polled = calm_row IsPlanBy IsOpenBy graphs task lines state batch looked.look_made.by.2.0 looked.ends looked.look_made.by.2.2 (batch_no_looks (has_bit reads.flag 0) rirb rings reads)
+      (λ answered. batch_calm (has_bit reads.flag 0) rirb rings reads) flagged in
       let are = looked_accesses old made first clock reads rest a.from a.read before after looked none in
-      calm_row IsPlanBy IsOpenBy graphs task lines state rest looked.ends after looked.rest_made.by none
-      (λ answered.
-      let last = last_of task (course_of task lines looked.ends) state polled.state_is answered in
-      let calm = subst (λ (made : List Event). AreCalm (requests_of made)) looked.made_is (calm_made task lines left turn state state' made before after opened makes.by are done silent last) in
-      calm_after (ask_accesses rirb clock rings reads) rest (calm_after first (ask_accesses rirb clock rings reads ++ rest) calm)) polled
+      let calm : IsLast task state → AreCalm (requests_of rest) = λ last.
+      calm_after (ask_accesses rirb clock rings reads) rest (calm_after first (ask_accesses rirb clock rings reads ++ rest)
+      (subst (λ (made : List Event). AreCalm (requests_of made)) looked.made_is (calm_made task lines left turn state state' made before after opened makes.by are done silent last))) in
+      calm_row IsPlanBy IsOpenBy graphs task lines state rest looked.ends after looked.rest_made.by none (λ answered. calm (last_of task (course_of task lines looked.ends) state polled.state_is answered)) polled
 
   -- ---- by phase
 
@@ -259,7 +263,7 @@ module _ (IsPlanBy : RawCodec → Plan → Type 0) (verbs_by : RawCodec → Plan
   -- it leaves all set up where it leads to Ready
   pub record LeavesFine (old new : BringUp) (after : Telling) : Type 0 where
     pub fine : Fine (state_of old) after
-    pub ready : is_ready new.phase ≡ true → AreForGood IsPlanBy IsOpenBy graphs (world_of after)
+    pub ready : is_ready new.phase ≡ true → AreSetUpForGood IsPlanBy IsOpenBy graphs (world_of after)
 
   -- where the last access leads by what was read
   closed_to : (left : List DriverLine) (old new : BringUp) (made : List Event) (before after : Telling) → IsOpen task lines left None (state_of old) before → Makes made before after → AreAccesses made → IsDone task lines left (state_of new) after

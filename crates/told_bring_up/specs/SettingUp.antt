@@ -72,11 +72,11 @@ abbrev pub IsIdle : World → Type 0
 IsIdle world = world.registers.global.corb_read_pointer ≡ world.registers.global.corb_write_pointer
 
 -- all codecs are set up, and no command comes
-pub record AreForGood (IsPlanBy : RawCodec → Plan → Type 0) (IsOpenBy : RawCodec → Entries → Plan → Type 0) (graphs : List RawCodec) (world : World) : Type 0 where
+pub record AreSetUpForGood (IsPlanBy : RawCodec → Plan → Type 0) (IsOpenBy : RawCodec → Entries → Plan → Type 0) (graphs : List RawCodec) (world : World) : Type 0 where
   pub idle : IsIdle world
   pub set_up : AreSetUp IsPlanBy IsOpenBy graphs world
 
 -- so it is in an open stretch whose accesses were made, where all commands are answered then or by where it leads
 pub record RemainSetUp (IsPlanBy : RawCodec → Plan → Type 0) (IsOpenBy : RawCodec → Entries → Plan → Type 0) (graphs : List RawCodec) (task : Task) (lines : List DriverLine) (bring_up : BringUp) (telling : Telling) : Type 0 where
-  pub before : are_answered task (course_of task lines telling) ≡ true → AreForGood IsPlanBy IsOpenBy graphs (world_of telling)
-  pub after : is_ready bring_up.phase ≡ true → AreForGood IsPlanBy IsOpenBy graphs (world_of telling)
+  pub before : are_answered task (course_of task lines telling) ≡ true → AreSetUpForGood IsPlanBy IsOpenBy graphs (world_of telling)
+  pub after : is_ready bring_up.phase ≡ true → AreSetUpForGood IsPlanBy IsOpenBy graphs (world_of telling)

@@ -125,6 +125,7 @@ WalkedIn (Late from to limit) all = ⊥
 WalkedIn (Malformed codec fault) all = ⊥
 WalkedIn Failed all = Unit {0}
 
+-- what a bring-up leaves: which graphs were walked, by how many commands were sent and by the phase
 pub record IsEnded (graphs : List RawCodec) (task : Task) (bring_up : BringUp) : Type 0 where
   pub walked : HasWalked graphs task bring_up
   pub by_phase : WalkedIn bring_up.phase (bring_up.agenda.graphs.items ≡ graphs)
