@@ -1,0 +1,5 @@
+pub mod Events
+pub mod Goes
+pub mod Closes
+pub mod Ran
+pub mod Counting

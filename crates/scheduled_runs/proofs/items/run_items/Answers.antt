@@ -1,0 +1,50 @@
+use Rattle.std.proofs.Common.{◌≡◌, ◌+◌, List, [], ◌∷◌, ◌++◌, take, get_or, ap, sym, subst, ◌∙◌, refl, arith}
+use Rattle.std.proofs.lemmas.List.{take_more}
+use Rattle.hda_schedule.specs.declared.schedule.Item.{Item}
+use Rattle.scheduled_runs.specs.Going.{Means, Ran}
+use Rattle.scheduled_runs.proofs.Ran.{ran_none, ran_both}
+use Rattle.scheduled_runs.proofs.Counting.{count_more, count_within, one_line}
+use Rattle.scheduled_runs.proofs.items.run_items.Goals as goal
+
+pub loop-item-init : goal.loop-item-init
+loop-item-init g c =
+    let driver = c.args.driver.now in
+    record {
+      ran = ran_none _ driver.bring_up.agenda.format c.pieces_follow.ensures.none driver.bring_up c.args.rig.now c.requires.between;
+      writer = refl;
+      setter = refl;
+      runs = refl;
+      calls = omega arith;
+    }
+
+pub run_item-requires-clause-few : goal.run_item-requires-clause-few
+run_item-requires-clause-few g c =
+    let items = c.args.items.now in
+    let within = count_within items c.loop-item.item-index c.item-item.result c.loop-item-test.true in
+    let here = ap one_line c.item-item.is in
+    omega (arith, within, here, c.loop-item.invariant.calls, c.loop-item.invariant.runs, c.requires.few)
+
+pub loop-item-preserved : goal.loop-item-preserved
+loop-item-preserved g c =
+    let items = c.args.items.now in
+    let i = c.loop-item.item-index in
+    let driver = c.args.driver.now in
+    let format = driver.bring_up.agenda.format in
+    let means : Means = record { IsPlanBy = g.T.Setter.IsPlanBy driver.setter; verbs_by = g.T.Setter.verbs_by driver.setter; IsOpenBy = g.T.Setter.IsOpenBy driver.setter } in
+    let now = c.loop-item.driver in
+    let means' : Means = record { IsPlanBy = g.T.Setter.IsPlanBy now.setter; verbs_by = g.T.Setter.verbs_by now.setter; IsOpenBy = g.T.Setter.IsOpenBy now.setter } in
+    let same : means' ≡ means = ap (λ setter. record { IsPlanBy = g.T.Setter.IsPlanBy setter; verbs_by = g.T.Setter.verbs_by setter; IsOpenBy = g.T.Setter.IsOpenBy setter }) c.loop-item.invariant.setter in
+    let item : c.item-item.result ≡ get_or items i c.item-item.result = c.item-item.is in
+    let turn : take (i + 1) items ≡ take i items ++ c.item-item.result ∷ [] = take_more items i c.item-item.result c.loop-item-test.true ∙ ap (λ (one : Item). take i items ++ one ∷ []) (sym item) in
+    let step = c.in_ok-run_item.ensures in
+    let more = count_more items i c.item-item.result c.loop-item-test.true in
+    let here = ap one_line item in
+    record {
+      ran = subst (λ (front : List Item). Ran means format front driver.bring_up c.run_item.new.driver.bring_up c.args.rig.now c.run_item.new.rig) (sym turn)
+          (ran_both means means' format c.pieces_follow.ensures.both (take i items) (c.item-item.result ∷ []) driver.bring_up now.bring_up c.run_item.new.driver.bring_up c.args.rig.now c.loop-item.rig c.run_item.new.rig
+          same refl c.loop-item.invariant.ran step.ran);
+      writer = step.writer ∙ c.loop-item.invariant.writer;
+      setter = step.setter ∙ c.loop-item.invariant.setter;
+      runs = step.runs ∙ c.loop-item.invariant.runs;
+      calls = omega (arith, step.calls, more, here, c.loop-item.invariant.calls);
+    }

@@ -1,0 +1,16 @@
+use Rattle.std.proofs.Common.{◌≡◌, ◌+◌, length}
+use Rattle.scheduled_runs.specs.Lines.{lines_in}
+use Rattle.scheduled_runs.specs.Going.{Ran}
+use Rattle.scheduled_runs.proofs.Counting.{items_times}
+use Rattle.scheduled_runs.proofs.items.run_part.Given as goal
+
+-- the items were run so often
+abbrev pub invariant-loop : goal.invariant-loop
+invariant-loop g l = record {
+  ran : Ran (record { IsPlanBy = g.T.Setter.IsPlanBy l.fn.driver.setter; verbs_by = g.T.Setter.verbs_by l.fn.driver.setter; IsOpenBy = g.T.Setter.IsOpenBy l.fn.driver.setter }) l.fn.driver.bring_up.agenda.format
+      (items_times l.part.items l.counter) l.fn.driver.bring_up l.driver.bring_up l.fn.rig l.rig;
+  writer : l.driver.writer ≡ l.fn.driver.writer;
+  setter : l.driver.setter ≡ l.fn.driver.setter;
+  runs : l.driver.runs ≡ l.fn.driver.runs;
+  calls : l.driver.calls ≡ l.fn.driver.calls + length (lines_in (items_times l.part.items l.counter));
+}

@@ -1,0 +1,101 @@
+//! Calls of a driver over a rig.
+ghost use Rattle.std.specs.Prelude.{◌≡◌, ◌≤◌, ◌<◌, ◌+◌, [], ◌∷◌, false, IfOk, OnOk};
+ghost use Rattle.hda_schedule.specs.declared.schedule.Item.TheVariants.{Drive};
+ghost use Rattle.period_writer.specs.Rings.{ring_bytes};
+ghost use Rattle.codec_bring_up.specs.Calls.{Leads, IsKept};
+ghost use Rattle.rig.specs.Rigs.{telling_of, setting_of};
+ghost use Rattle.scheduled_runs.specs.Going as spec;
+
+use audio_driver::{Closed, Driver};
+use driver_commands::TAG;
+use driver_progress::Phase;
+use hda_platform::Platform;
+use hda_schedule::DriverLine;
+use jack_counts::events_are_of_pins;
+use rig::{Rig, runs_follow};
+use route_setup::Setter;
+use std::alloc::AllocError;
+use told_bring_up::bring_ups_keep_to_progress;
+
+/// The accesses for which a call asks room.
+const CALL_ACCESSES: u32 = 400;
+
+/// Calls a driver as a line says: for an interrupt or not, and with its budget.
+fn call<T: Setter, P: Platform>(
+    platform: &mut P,
+    driver: &mut Driver<T>,
+    line: &DriverLine,
+) -> Result<Phase, AllocError>
+    requires few { driver.old.calls < driver.old.runs }
+    requires room { 400 ≤ P.spare_accesses platform.old }
+    requires bytes_room { ring_bytes driver.old.writer.geometry.periods driver.old.writer.geometry.period + 8192 ≤ P.spare_bytes platform.old }
+    ensures leads { OnOk result (Leads (λ graph. T.IsPlanBy driver.old.setter graph driver.old.bring_up.agenda.format) (λ graph plan. T.verbs_by driver.old.setter graph plan driver.old.bring_up.agenda.format TAG) line.now.irq driver.old.bring_up driver.new.bring_up (P.told platform.old) (P.told platform.new)) }
+    ensures kept { IsKept driver.old.bring_up driver.new.bring_up }
+    ensures writer { driver.new.writer ≡ driver.old.writer }
+    ensures setter { driver.new.setter ≡ driver.old.setter }
+    ensures runs { driver.new.runs ≡ driver.old.runs }
+    ensures calls { driver.new.calls ≡ driver.old.calls + 1 }
+    ensures fixed { P.fixed platform.new ≡ P.fixed platform.old }
+{
+    if line.irq {
+        driver.irq(platform, line.budget)
+    } else {
+        driver.run(platform, line.budget)
+    }
+}
+
+/// Runs a driver line of a schedule: a call of the driver with the steps of the line's groups between its accesses.
+///
+/// # Errors
+/// Want of memory.
+pub(crate) fn run_line<T: Setter>(
+    rig: &mut Rig,
+    driver: &mut Driver<T>,
+    line: &DriverLine,
+    bytes: u32,
+) -> Result<(), AllocError>
+    requires between { (setting_of rig.old).in_run ≡ false }
+    requires few { driver.old.calls < driver.old.runs }
+    requires room { ring_bytes driver.old.writer.geometry.periods driver.old.writer.geometry.period + 8192 ≤ bytes }
+    ensures ran { OnOk result (spec.Ran (record { IsPlanBy = T.IsPlanBy driver.old.setter; verbs_by = T.verbs_by driver.old.setter; IsOpenBy = T.IsOpenBy driver.old.setter }) driver.old.bring_up.agenda.format (Drive line.now ∷ []) driver.old.bring_up driver.new.bring_up rig.old rig.new) }
+    ensures writer { OnOk result (driver.new.writer ≡ driver.old.writer) }
+    ensures setter { OnOk result (driver.new.setter ≡ driver.old.setter) }
+    ensures runs { OnOk result (driver.new.runs ≡ driver.old.runs) }
+    ensures calls { OnOk result (driver.new.calls ≡ driver.old.calls + 1) }
+{
+    bring_ups_keep_to_progress::<T>();
+    runs_follow();
+    rig.begin(line.groups.as_slice(), CALL_ACCESSES, bytes)?;
+    call(rig, driver, line)?;
+    rig.end();
+    Ok(())
+}
+
+/// The last call of a driver, in a run without steps.
+///
+/// # Errors
+/// Want of memory.
+pub(crate) fn run_last<T: Setter + Drop>(
+    rig: &mut Rig,
+    driver: Driver<T>,
+    bytes: u32,
+) -> Result<Closed, AllocError>
+    requires between { (setting_of rig.old).in_run ≡ false }
+    requires room { ring_bytes driver.writer.geometry.periods driver.writer.geometry.period + 8192 ≤ bytes }
+    ensures closed { IfOk result (λ closed. spec.IsClosed (record { IsPlanBy = T.IsPlanBy driver.setter; verbs_by = T.verbs_by driver.setter; IsOpenBy = T.IsOpenBy driver.setter }) driver.bring_up.agenda.format driver.bring_up driver.writer closed (telling_of rig.old) (telling_of rig.new)) }
+    ensures machine { OnOk result ((setting_of rig.new).machine ≡ (setting_of rig.old).machine) }
+{
+    bring_ups_keep_to_progress::<T>();
+    runs_follow();
+    events_are_of_pins();
+    match rig.begin(&[], CALL_ACCESSES, bytes) {
+        Ok(()) => {}
+        Err(failed) => {
+            let _ = driver.abandon();
+            return Err(failed);
+        }
+    }
+    let closed = driver.close(rig)?;
+    rig.end();
+    Ok(closed)
+}

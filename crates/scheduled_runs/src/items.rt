@@ -1,0 +1,120 @@
+//! The items of a schedule, one after another.
+ghost use Rattle.std.specs.Prelude.{◌≡◌, ◌≤◌, ◌+◌, [], ◌∷◌, length, false, OnOk};
+ghost use Rattle.hda_schedule.specs.Counts.{items_in, items_of};
+ghost use Rattle.period_writer.specs.Rings.{ring_bytes};
+ghost use Rattle.rig.specs.Rigs.{setting_of};
+ghost use Rattle.scheduled_runs.specs.Lines.{lines_in, lines_of};
+ghost use Rattle.scheduled_runs.specs.Going as spec;
+
+use crate::calls::run_line;
+use audio_driver::Driver;
+use driver_commands::TAG;
+use hda_schedule::{Item, Part, Schedule};
+use rig::{Rig, pieces_follow};
+use route_setup::Setter;
+use std::alloc::AllocError;
+use told_bring_up::bring_ups_keep_to_progress;
+
+/// Runs an item: a step of the device, or a call of the driver.
+///
+/// # Errors
+/// Want of memory.
+fn run_item<T: Setter>(
+    rig: &mut Rig,
+    driver: &mut Driver<T>,
+    item: &Item,
+    bytes: u32,
+) -> Result<(), AllocError>
+    requires between { (setting_of rig.old).in_run ≡ false }
+    requires few { driver.old.calls + length (lines_in (item.now ∷ [])) ≤ driver.old.runs }
+    requires room { ring_bytes driver.old.writer.geometry.periods driver.old.writer.geometry.period + 8192 ≤ bytes }
+    ensures ran { OnOk result (spec.Ran (record { IsPlanBy = T.IsPlanBy driver.old.setter; verbs_by = T.verbs_by driver.old.setter; IsOpenBy = T.IsOpenBy driver.old.setter }) driver.old.bring_up.agenda.format (item.now ∷ []) driver.old.bring_up driver.new.bring_up rig.old rig.new) }
+    ensures writer { OnOk result (driver.new.writer ≡ driver.old.writer) }
+    ensures setter { OnOk result (driver.new.setter ≡ driver.old.setter) }
+    ensures runs { OnOk result (driver.new.runs ≡ driver.old.runs) }
+    ensures calls { OnOk result (driver.new.calls ≡ driver.old.calls + length (lines_in (item.now ∷ []))) }
+{
+    bring_ups_keep_to_progress::<T>();
+    pieces_follow();
+    match item {
+        Item::Device(step) => rig.step(step),
+        Item::Drive(line) => run_line(rig, driver, line, bytes),
+    }
+}
+
+/// Runs some items in turn.
+///
+/// # Errors
+/// Want of memory.
+fn run_items<T: Setter>(
+    rig: &mut Rig,
+    driver: &mut Driver<T>,
+    items: &[Item],
+    bytes: u32,
+) -> Result<(), AllocError>
+    requires between { (setting_of rig.old).in_run ≡ false }
+    requires few { driver.old.calls + length (lines_in items.now) ≤ driver.old.runs }
+    requires room { ring_bytes driver.old.writer.geometry.periods driver.old.writer.geometry.period + 8192 ≤ bytes }
+    ensures ran { OnOk result (spec.Ran (record { IsPlanBy = T.IsPlanBy driver.old.setter; verbs_by = T.verbs_by driver.old.setter; IsOpenBy = T.IsOpenBy driver.old.setter }) driver.old.bring_up.agenda.format items.now driver.old.bring_up driver.new.bring_up rig.old rig.new) }
+    ensures writer { OnOk result (driver.new.writer ≡ driver.old.writer) }
+    ensures setter { OnOk result (driver.new.setter ≡ driver.old.setter) }
+    ensures runs { OnOk result (driver.new.runs ≡ driver.old.runs) }
+    ensures calls { OnOk result (driver.new.calls ≡ driver.old.calls + length (lines_in items.now)) }
+{
+    pieces_follow();
+    for item in items {
+        run_item(rig, driver, item, bytes)?;
+    }
+    Ok(())
+}
+
+/// Runs the items of a part, as often as it is repeated.
+///
+/// # Errors
+/// Want of memory.
+fn run_part<T: Setter>(
+    rig: &mut Rig,
+    driver: &mut Driver<T>,
+    part: &Part,
+    bytes: u32,
+) -> Result<(), AllocError>
+    requires between { (setting_of rig.old).in_run ≡ false }
+    requires few { driver.old.calls + length (lines_in (items_in part.now)) ≤ driver.old.runs }
+    requires room { ring_bytes driver.old.writer.geometry.periods driver.old.writer.geometry.period + 8192 ≤ bytes }
+    ensures ran { OnOk result (spec.Ran (record { IsPlanBy = T.IsPlanBy driver.old.setter; verbs_by = T.verbs_by driver.old.setter; IsOpenBy = T.IsOpenBy driver.old.setter }) driver.old.bring_up.agenda.format (items_in part.now) driver.old.bring_up driver.new.bring_up rig.old rig.new) }
+    ensures writer { OnOk result (driver.new.writer ≡ driver.old.writer) }
+    ensures setter { OnOk result (driver.new.setter ≡ driver.old.setter) }
+    ensures runs { OnOk result (driver.new.runs ≡ driver.old.runs) }
+    ensures calls { OnOk result (driver.new.calls ≡ driver.old.calls + length (lines_in (items_in part.now))) }
+{
+    pieces_follow();
+    for _ in 0..part.times {
+        run_items(rig, driver, part.items.as_slice(), bytes)?;
+    }
+    Ok(())
+}
+
+/// Runs the items of a schedule with its repeats written out.
+///
+/// # Errors
+/// Want of memory.
+pub(crate) fn run_schedule<T: Setter>(
+    rig: &mut Rig,
+    driver: &mut Driver<T>,
+    schedule: &Schedule,
+    bytes: u32,
+) -> Result<(), AllocError>
+    requires between { (setting_of rig.old).in_run ≡ false }
+    requires few { driver.old.calls + length (lines_of schedule.now) ≤ driver.old.runs }
+    requires room { ring_bytes driver.old.writer.geometry.periods driver.old.writer.geometry.period + 8192 ≤ bytes }
+    ensures ran { OnOk result (spec.Ran (record { IsPlanBy = T.IsPlanBy driver.old.setter; verbs_by = T.verbs_by driver.old.setter; IsOpenBy = T.IsOpenBy driver.old.setter }) driver.old.bring_up.agenda.format (items_of schedule.now) driver.old.bring_up driver.new.bring_up rig.old rig.new) }
+    ensures writer { OnOk result (driver.new.writer ≡ driver.old.writer) }
+    ensures setter { OnOk result (driver.new.setter ≡ driver.old.setter) }
+    ensures runs { OnOk result (driver.new.runs ≡ driver.old.runs) }
+{
+    pieces_follow();
+    for part in schedule.parts.as_slice() {
+        run_part(rig, driver, part, bytes)?;
+    }
+    Ok(())
+}

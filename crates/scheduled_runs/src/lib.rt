@@ -1,0 +1,8 @@
+//! Runs of a driver over a machine by a schedule: the steps of the device and the calls of the driver in their order, and then the last
+//! call. This project's own.
+#![tactic(auto)]
+
+mod calls;
+mod driving;
+mod items;
+mod lines;
