@@ -3,3 +3,4 @@ pub mod Goes
 pub mod Closes
 pub mod Ran
 pub mod Counting
+pub mod Phases

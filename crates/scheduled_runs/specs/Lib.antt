@@ -1,4 +1,6 @@
 pub mod Lines
 pub mod Events
+pub mod Walks
 -- what private functions promise one another
 pub mod Going
+pub mod Openings

@@ -6,3 +6,6 @@ mod calls;
 mod driving;
 mod items;
 mod lines;
+mod walking;
+
+pub use walking::{walk, walk_format};

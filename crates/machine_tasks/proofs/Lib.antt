@@ -1,0 +1,10 @@
+pub mod Whole
+pub mod Few
+pub mod Fifo
+pub mod Defaults
+pub mod Tasked
+pub mod Beginning
+pub mod Room
+pub mod Given
+pub mod Lengths
+pub mod Pushed

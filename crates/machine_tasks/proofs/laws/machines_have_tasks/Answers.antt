@@ -1,0 +1,6 @@
+use Rattle.machine_tasks.proofs.Whole.{whole}
+use Rattle.machine_tasks.proofs.Tasked.{tasked}
+use Rattle.machine_tasks.proofs.laws.machines_have_tasks.Goals as goal
+
+pub returns : goal.returns
+returns c = λ format machine plans geometry blocks sound read have routed. tasked format machine plans geometry blocks sound (whole machine sound read) have routed

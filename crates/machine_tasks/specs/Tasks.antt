@@ -1,0 +1,61 @@
+-- What a driver has to do for a machine that a codec file describes. This project's own.
+use Rattle.std.specs.Prelude.{◌==◌, false, List, [], ◌∷◌, ◌++◌, length, map, if◌then◌else◌}
+use Rattle.std.specs.List.{AllZip}
+use Rattle.verb_codes.specs.declared.verbs.Command.{Command}
+use Rattle.codec_graph.specs.declared.raw.RawCodec.{RawCodec}
+use Rattle.stream_format.specs.declared.format.Format.{Format}
+use Rattle.route_planner.specs.declared.routes.Plan.{Plan}
+use Rattle.route_planner.specs.Plans.{IsPlan}
+use Rattle.setup_verbs.specs.VerbList.{setup_verbs}
+use Rattle.codec_agenda.specs.Planned.{verbs_for}
+use Rattle.hda_files.specs.declared.machine.CodecFile.{CodecFile}
+use Rattle.hda_files.specs.declared.machine.Machine.{Machine}
+use Rattle.period_writer.specs.declared.geometry.Geometry.{Geometry}
+use Rattle.period_writer.specs.declared.writer.Writer.{Writer}
+use Rattle.period_writer.specs.Blocks.{addresses_of}
+use Rattle.driver_progress.specs.Tasks.{Task, Blocks, order_of, walks_over}
+use Rattle.driver_commands.specs.declared.answers.TheConstants.{TAG}
+use Rattle.codec_bring_up.specs.declared.bringing.BringUp.{BringUp}
+
+-- the graphs of a file's codecs, in order
+abbrev pub graphs_of : List CodecFile → List RawCodec
+graphs_of files = map (λ (file : CodecFile). file.graph) files
+
+-- each codec of the file has its plan, in order
+abbrev pub HavePlans : Format → List CodecFile → List Plan → Type 0
+HavePlans format files plans = AllZip (λ (file : CodecFile) (plan : Plan). IsPlan file.graph format plan) files plans
+
+-- the verbs of a graph for its plan, while the stream that is played has this format
+abbrev pub verbs_by : Format → RawCodec → Plan → List Command
+verbs_by format graph plan = setup_verbs graph plan format TAG
+
+-- the verbs of the first of some codecs that has the graph's address, by its plan
+abbrev pub verbs_in : Format → List CodecFile → List Plan → RawCodec → List Command
+verbs_in format [] plans graph = []
+verbs_in format (file ∷ files) [] graph = []
+verbs_in format (file ∷ files) (plan ∷ plans) graph =
+    if file.graph.address == graph.address then verbs_by format file.graph plan else verbs_in format files plans graph
+
+-- all commands: the walks over the codecs, and then the verbs of each codec by its plan
+abbrev pub commands_of : Format → List CodecFile → List Plan → List Command
+commands_of format files plans = walks_over (graphs_of files) ++ verbs_for (verbs_by format) (graphs_of files) plans
+
+-- what is to be done with these blocks: these commands, and nothing to play
+abbrev pub task_of : Format → Machine → List Plan → Geometry → Blocks → Task
+task_of format machine plans geometry blocks = record {
+  orders = map order_of (commands_of format machine.codecs plans);
+  walks = length (walks_over (graphs_of machine.codecs));
+  geometry = geometry;
+  pcm = [];
+  plays = false;
+  blocks = blocks;
+}
+
+-- where the blocks of a driver lie
+abbrev pub blocks_of : BringUp → Writer → Blocks
+blocks_of bring_up writer = record {
+  corb = bring_up.engine.corb.address;
+  rirb = bring_up.engine.rirb.address;
+  list = writer.list.address;
+  periods = addresses_of writer.periods.items;
+}

@@ -1,0 +1,46 @@
+//! Laws of what is to be done for machines, each the contract of a function that does nothing.
+ghost use Rattle.std.specs.Prelude.{◌≡◌, ℕ, List, true};
+ghost use Rattle.std.specs.List.{list_any};
+ghost use Rattle.codec_graph.specs.declared.raw.RawCodec.{RawCodec};
+ghost use Rattle.stream_format.specs.declared.format.Format.{Format};
+ghost use Rattle.route_planner.specs.declared.routes.Plan.{Plan};
+ghost use Rattle.route_planner.specs.Plans.{IsPlan};
+ghost use Rattle.codec_agenda.specs.Planned.{has_route};
+ghost use Rattle.dma_pool.specs.Pools.{PoolState};
+ghost use Rattle.hda_files.specs.declared.machine.Machine.{Machine};
+ghost use Rattle.hda_files.specs.Machines.{IsSound};
+ghost use Rattle.period_writer.specs.declared.geometry.Geometry.{Geometry};
+ghost use Rattle.period_writer.specs.declared.writer.Writer.{Writer};
+ghost use Rattle.driver_progress.specs.Tasks.{Blocks};
+ghost use Rattle.codec_bring_up.specs.declared.bringing.BringUp.{BringUp};
+ghost use Rattle.audio_driver.specs.Opening.{IsOpened, HasNoRuns};
+ghost use Rattle.told_bring_up.specs.Standing.{IsTaskOfCodecs};
+ghost use Rattle.machine_tasks.specs.Tasks.{HavePlans, graphs_of, verbs_by, verbs_in, task_of, blocks_of};
+ghost use Rattle.machine_tasks.specs.Reading.{IsRead, IsWhole};
+ghost use Rattle.machine_tasks.specs.Starting.{BeginsAt, IsAllFree};
+
+/// A machine that a codec file describes has well-formed graphs, of four codecs at most, and each codec begins with settings of its graph
+/// that have the configuration default of each pin. Its FIFO has 8 to 4,096 bytes.
+pub fn read_machines_are_whole()
+    ensures { (machine : Machine) → IsSound machine → IsRead machine → IsWhole machine }
+{}
+
+/// What is to be done for a machine of which some pin has a route, with any ring of periods and blocks, is the task of its codecs: the walks
+/// over them, and then the set-up verbs of each by its plan.
+pub fn machines_have_tasks()
+    ensures { (format : Format) (machine : Machine) (plans : List Plan) (geometry : Geometry) (blocks : Blocks)
+        → IsSound machine → IsRead machine → HavePlans format machine.codecs plans → list_any has_route plans ≡ true
+        → IsTaskOfCodecs (λ (graph : RawCodec). IsPlan graph format) (verbs_by format) (verbs_in format machine.codecs plans) (graphs_of machine.codecs) (task_of format machine plans geometry blocks) }
+{}
+
+/// A driver that was just opened, for any number of calls, stands to the start of a machine as its task asks, and nothing was done yet.
+pub fn opened_drivers_can_begin()
+    ensures { (format : Format) (machine : Machine) (plans : List Plan) (geometry : Geometry) (most : ℕ) (bring_up : BringUp) (writer : Writer)
+        → IsSound machine → IsRead machine → IsOpened geometry most bring_up writer
+        → BeginsAt format machine plans (task_of format machine plans geometry (blocks_of bring_up writer)) bring_up }
+{}
+
+/// In a pool that fills the region and of which nothing is taken there are runs for the blocks of a driver with any ring of periods.
+pub fn a_full_pool_has_room()
+    ensures { (geometry : Geometry) (pool : PoolState) → IsAllFree pool → HasNoRuns geometry pool → ⊥ }
+{}

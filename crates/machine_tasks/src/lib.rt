@@ -1,0 +1,11 @@
+//! What a driver has to do for a machine that a codec file describes: its commands and how many they are, and that a driver that was just
+//! opened can begin it.
+#![tactic(auto)]
+
+mod counting;
+mod laws;
+
+pub use counting::command_count;
+pub use laws::{
+    a_full_pool_has_room, machines_have_tasks, opened_drivers_can_begin, read_machines_are_whole,
+};

@@ -1,0 +1,15 @@
+-- Where a driver begins that plays nothing. This project's own.
+use Rattle.std.specs.Prelude.{◌≡◌, ℕ}
+use Rattle.period_writer.specs.declared.geometry.Geometry.{Geometry}
+use Rattle.period_writer.specs.declared.writer.Writer.{Writer}
+use Rattle.codec_bring_up.specs.declared.bringing.BringUp.{BringUp}
+use Rattle.audio_driver.specs.Opening.{IsOpened}
+use Rattle.scheduled_runs.specs.Walks.{walk_format}
+
+-- it was just opened, for so many calls
+pub record IsFresh (calls : ℕ) (bring_up : BringUp) (writer : Writer) : Type 0 where
+  pub geometry : Geometry
+  pub opened : IsOpened geometry calls bring_up writer
+  pub format : geometry.format ≡ walk_format
+  pub periods : geometry.periods ≡ 4
+  pub period : geometry.period ≡ 8

@@ -1,0 +1,163 @@
+//! A walk: the reset, the walk over all codecs and their set-up, by a schedule.
+ghost use Rattle.std.specs.Prelude.{◌≡◌, ◌≤◌, ◌+◌, true, IfOk};
+ghost use Rattle.std.specs.List.{list_any};
+ghost use Rattle.codec_agenda.specs.Planned.{has_route};
+ghost use Rattle.hda_files.specs.Machines.{IsSound};
+ghost use Rattle.hda_schedule.specs.Schedules.{IsLimited};
+ghost use Rattle.machine_tasks.specs.Reading.{IsRead};
+ghost use Rattle.machine_tasks.specs.Tasks.{HavePlans};
+ghost use Rattle.scheduled_runs.specs.Openings.{IsFresh};
+ghost use Rattle.scheduled_runs.specs.Walks as spec;
+
+use crate::driving::drive;
+use crate::lines::line_count;
+use audio_driver::{Driver, OpenFault};
+use dma_pool::{MOST_GRANULES, Pool};
+use driver_progress::Phase;
+use hda_files::Machine;
+use hda_items::Items;
+use hda_schedule::Schedule;
+use machine_tasks::{
+    a_full_pool_has_room, command_count, machines_have_tasks, opened_drivers_can_begin,
+    read_machines_are_whole,
+};
+use period_writer::Geometry;
+use rig::Rig;
+use route_planner::Plan;
+use route_setup::Analog;
+use sound_report::{PlayFault, Played};
+use std::alloc::{AllocError, Global};
+use stream_format::{Bits, Format, Rate};
+use wav_reader::{Supply, Wav};
+
+/// The ring of a driver that plays nothing: so many periods, of so many units each.
+const PERIODS: u8 = 4;
+const PERIOD: u8 = 8;
+
+/// Room for the pieces of memory of a call: the bytes of that ring, and 8,192.
+const CALL_BYTES: u32 = 20_480;
+
+/// The format for which a walk sets codecs up: 48 kHz, 16 bits, 2 channels.
+pub fn walk_format() -> Format
+    ensures { result ≡ spec.walk_format }
+{
+    Format {
+        rate: Rate::R48,
+        bits: Bits::B16,
+        channels: 2,
+    }
+}
+
+/// A supply without sound.
+fn no_sound(alloc: Global) -> Supply {
+    Supply::whole(Wav {
+        format: walk_format(),
+        mono: false,
+        frames: 0,
+        pcm: Items::new(alloc),
+    })
+}
+
+/// A driver that plays nothing, for so many calls, whose blocks lie in a region of its own.
+///
+/// # Errors
+/// Want of memory.
+fn silent_driver(alloc: Global, fifo: u16, calls: u32) -> Result<Driver<Analog>, AllocError>
+    requires some { 8 ≤ fifo }
+    requires small { fifo ≤ 4096 }
+    requires few { calls ≤ 1000000 }
+    ensures fresh { IfOk result (λ driver. IsFresh calls driver.bring_up driver.writer) }
+    ensures calls { IfOk result (λ driver. driver.calls ≡ 0) }
+    ensures runs { IfOk result (λ driver. driver.runs ≡ calls) }
+{
+    a_full_pool_has_room();
+    let Ok(geometry) = Geometry::new(PERIODS, PERIOD, fifo, walk_format()) else {
+        unreachable!();
+    };
+    let pool = Pool::new(alloc, MOST_GRANULES)?;
+    match Driver::open(alloc, pool, geometry, no_sound(alloc), calls, false) {
+        Ok(driver) => Ok(driver),
+        Err(OpenFault::OutOfMemory) => Err(AllocError),
+        Err(OpenFault::NoRun) => unreachable!(),
+    }
+}
+
+/// Why a walk ended before it was done, where the driver came so far and sent so many of so many commands.
+fn fault_of(phase: Phase, sent: u32, of: u32) -> Option<PlayFault>
+    requires { spec.can_end phase ≡ true }
+    ensures { spec.IsWalkFault phase sent of result }
+{
+    match phase {
+        Phase::Ready => None,
+        Phase::Unanswered {
+            codec,
+            command,
+            issued,
+            noticed,
+        } => Some(PlayFault::Unanswered {
+            codec,
+            command,
+            issued,
+            noticed,
+        }),
+        Phase::Reset | Phase::Settling | Phase::Walking | Phase::SettingUp => {
+            Some(PlayFault::CommandsLeft { sent, of })
+        }
+        Phase::Playing
+        | Phase::Drained
+        | Phase::NothingRouted
+        | Phase::Late { .. }
+        | Phase::Malformed { .. }
+        | Phase::Failed => unreachable!(),
+    }
+}
+
+/// Runs a driver over a machine by a schedule until its codecs are set up for the first stream, in the format of [`walk_format`], or the
+/// schedule ends: it resets the controller, walks over all codecs, plans their routes and sends the verbs that open them. Nothing is played.
+/// The machine is one that a codec file describes, with these plans of its codecs, of which some has a route.
+///
+/// # Errors
+/// Want of memory.
+pub fn walk(
+    alloc: Global,
+    machine: Machine,
+    plans: Vec<Plan>,
+    schedule: &Schedule,
+) -> Result<Played, AllocError>
+    requires sound { IsSound machine }
+    requires read { IsRead machine }
+    requires plans { HavePlans spec.walk_format machine.codecs plans.items }
+    requires routed { list_any has_route plans.items ≡ true }
+    requires limits { IsLimited schedule.now }
+    ensures { IfOk result (λ played. spec.IsWalked machine plans.items schedule.now played) }
+{
+    read_machines_are_whole();
+    machines_have_tasks();
+    opened_drivers_can_begin();
+    let commands = command_count(
+        alloc,
+        machine.codecs.as_slice(),
+        plans.as_slice(),
+        walk_format(),
+    )?;
+    let fifo = machine.fifo;
+    let mut rig = Rig::new(alloc, machine)?;
+    let driver = silent_driver(alloc, fifo, line_count(schedule))?;
+    let closed = drive(&mut rig, driver, schedule, CALL_BYTES)?;
+    let (machine, _, journal) = rig.parts();
+    Ok(Played {
+        machine,
+        format: walk_format(),
+        total: 0,
+        commands,
+        plans: Items::from_vec(plans),
+        graphs: Items::from_vec(closed.graphs),
+        runs: Items::from_vec(closed.runs),
+        silences: Items::from_vec(closed.silences),
+        heard: Items::new(alloc),
+        jacks: Items::from_vec(closed.jacks),
+        journal,
+        walk: true,
+        fault: fault_of(closed.phase, closed.sent, commands),
+    })
+}
