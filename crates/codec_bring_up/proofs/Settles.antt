@@ -51,6 +51,15 @@ codecs_some (Some rings) status bits is =
     let below = mod-lt status {m = 2 ^ 15} (omega arith) in
     (λ zero. codecs.1 (sym codecs.0 ∙ zero), omega arith, refl, codecs.0)
 
+-- and once they had their time it was not too early
+found_late : (none : Bool) (codecs : ℕ) → TooEarly ≡ (if none then NoCodec else Codecs codecs) → ⊥
+found_late true codecs is = cc
+found_late false codecs is = cc
+
+pub too_early : (settled : Bool) (reads : StartReads) → TooEarly ≡ found_if settled reads → settled ≡ true → ⊥
+too_early true reads found is = found_late (codecs_if (rings_read reads) reads.status == 0) (codecs_if (rings_read reads) reads.status) found
+too_early false reads found is = not_zero (sym is)
+
 pub found_some : (settled : Bool) (reads : StartReads) (bits : ℕ) → Codecs bits ≡ found_if settled reads → (bits ≢ 0) × (bits < 2 ^ 15) × (is_some (rings_read reads) ≡ true) × (settled ≡ true) × (bits ≡ codecs_in reads.status)
 found_some false reads bits is = cc
 found_some true reads bits is = let some = codecs_some (rings_read reads) reads.status bits is in (some.0, some.1, some.2, refl, some.3)

@@ -80,9 +80,9 @@ pub record LeadsUnread (old new : BringUp) (before after : Option Telling) : Typ
   pub jacks : new.jacks ≡ old.jacks
   pub agenda : (old.phase ≡ Settling → new.phase ≡ Walking → ⊥) → new.agenda ≡ old.agenda
   pub begun : old.phase ≡ Settling → new.phase ≡ Walking → Begins (slice_index (values_of made STATESTS) 0) new.agenda
-  pub resets : old.phase ≡ Reset → Between (ResetsTo false new) before after
+  pub resets : old.phase ≡ Reset → Between (ResetsTo false made new) before after
   pub untaken : old.phase ≡ Reset → Between LeavesUntaken before after
-  pub settles : old.phase ≡ Settling → Between (SettlesTo old new made) before after
+  pub settles : old.phase ≡ Settling → Between (SettlesTo false old new made) before after
 
 -- a call, for an interrupt or not: it makes just the accesses that are to be made, and leads where it is to lead, for every task with its
 -- blocks that plays nothing once all is set up, and agrees with the agenda after the call where commands are sent
@@ -100,9 +100,9 @@ pub record Leads (IsPlanBy : RawCodec → Plan → Type 0) (verbs_by : RawCodec 
   pub reads : ReadsOn IsPlanBy verbs_by made old new
   pub begun : old.phase ≡ Settling → new.phase ≡ Walking → Begins (slice_index (values_of made STATESTS) 0) new.agenda
   -- and on a platform that tells: from a world that can be reset, to the rings that run, and on from there
-  pub resets : old.phase ≡ Reset → Between (ResetsTo irq new) before after
+  pub resets : old.phase ≡ Reset → Between (ResetsTo irq made new) before after
   pub untaken : old.phase ≡ Reset → Between LeavesUntaken before after
-  pub settles : old.phase ≡ Settling → Between (SettlesTo old new made) before after
+  pub settles : old.phase ≡ Settling → Between (SettlesTo irq old new made) before after
   pub stays : goes_on old.phase ≡ true → Between (Stays irq old new made) before after
 
 -- what calls keep: the rings' blocks and the format; each looks for an answer once at most

@@ -1,7 +1,7 @@
 -- What is told of the calls of a bring-up. This project's own, over High Definition Audio 1.0a, 4.3 and 4.4.
-use Rattle.std.specs.Prelude.{◌≡◌, ◌≢◌, ◌⊎◌, ℕ, Bool, true, false, List, [], ◌++◌, length, slice_index, Option, None, Some}
+use Rattle.std.specs.Prelude.{◌≡◌, ◌≢◌, ◌⊎◌, ℕ, Bool, true, false, ◌&&◌, not, List, [], ◌++◌, length, slice_index, Option, None, Some}
 use Rattle.verb_codes.specs.Words.{has_bit}
-use Rattle.hda_registers.specs.declared.places.TheConstants.{STATESTS}
+use Rattle.hda_registers.specs.declared.places.TheConstants.{STATESTS, INTSTS, WALCLK}
 use Rattle.hda_world.specs.Worlds.{World, TakenCommand}
 use Rattle.hda_world.specs.Events.{Event}
 use Rattle.hda_world.specs.Tellings.{Telling, world_of, Between, Makes}
@@ -16,6 +16,7 @@ use Rattle.driver_progress.specs.declared.phase.Phase.TheVariants.{Reset, Settli
 use Rattle.driver_progress.specs.declared.phase.Phase.{Phase}
 use Rattle.driver_progress.specs.Seen.{values_of, interrupts_at}
 use Rattle.driver_progress.specs.Tasks.{Order}
+use Rattle.driver_progress.specs.Expected.{has_settled}
 use Rattle.driver_progress.specs.Noting.{ArePlain}
 use Rattle.driver_stretches.specs.Unread.{AreUnread}
 use Rattle.driver_stretches.specs.Beginning.{CanReset, IsSettling}
@@ -29,25 +30,32 @@ use Rattle.codec_bring_up.specs.declared.bringing.BringUp.{BringUp}
 
 -- ---- before the first command
 
--- from a world that can be reset, the reset leads to one where the codecs announce themselves; a call for an interrupt that finds none
--- leaves it so
-abbrev pub ResetsTo : (irq : Bool) → (new : BringUp) → Telling → Telling → Type 0
-ResetsTo irq new before after =
-    (corb rirb : ℕ) → CanReset corb rirb (world_of before)
-    → (IsSettling corb rirb (world_of after) × (new.phase ≡ Settling)) ⊎ ((irq ≡ true) × CanReset corb rirb (world_of after) × (new.phase ≡ Reset))
+-- whether a call was one for an interrupt and read that there is none (3.3.15)
+abbrev pub found_none : (irq : Bool) → (made : List Event) → Bool
+found_none irq made = irq && not (has_bit (slice_index (values_of made INTSTS) 0) interrupts_at)
 
--- a look whether the codecs had their time: too early nothing has changed; else just the codecs on the link are found, which have these
--- addresses, and the engine stands to the world as a start leaves it. No codec takes a command meanwhile
-pub record Settles (status : ℕ) (addresses : List ℕ) (before : List TakenCommand) (old new : BringUp) (world : World) : Type 0 where
+-- from a world that can be reset, the reset leads to one where the codecs announce themselves; a call for an interrupt that found none
+-- leaves it so
+abbrev pub ResetsTo : (irq : Bool) → (made : List Event) → (new : BringUp) → Telling → Telling → Type 0
+ResetsTo irq made new before after =
+    (corb rirb : ℕ) → CanReset corb rirb (world_of before)
+    → (IsSettling corb rirb (world_of after) × (new.phase ≡ Settling)) ⊎ ((found_none irq made ≡ true) × CanReset corb rirb (world_of after) × (new.phase ≡ Reset))
+
+-- a look whether the codecs had their time, none where a call for an interrupt found none: too early nothing has changed; once they had it,
+-- by the clock that was read, just the codecs on the link are found, which have these addresses, and the engine stands to the world as a
+-- start leaves it. No codec takes a command meanwhile
+pub record Settles (none : Bool) (clock status : ℕ) (addresses : List ℕ) (before : List TakenCommand) (old new : BringUp) (world : World) : Type 0 where
+  pub stays : none ≡ true → new.phase ≡ Settling
+  pub late : none ≡ false → has_settled old.kept clock ≡ true → new.phase ≡ Walking
   pub early : new.phase ≡ Settling → IsSettling old.engine.corb.address old.engine.rirb.address world
   pub untaken : new.phase ≡ Settling → world.commands ≡ before
   pub codecs : new.phase ≡ Walking → AreCodecs (codecs_in status) addresses
   pub started : new.phase ≡ Walking → IsStarted old.engine.corb.address old.engine.rirb.address new.engine.rings before world
 
-abbrev pub SettlesTo : (old new : BringUp) → (made : List Event) → Telling → Telling → Type 0
-SettlesTo old new made before after =
+abbrev pub SettlesTo : (irq : Bool) → (old new : BringUp) → (made : List Event) → Telling → Telling → Type 0
+SettlesTo irq old new made before after =
     IsSettling old.engine.corb.address old.engine.rirb.address (world_of before) → addresses_of (world_of before).codecs ≢ []
-    → Settles (slice_index (values_of made STATESTS) 0) (addresses_of (world_of before).codecs) (world_of before).commands old new (world_of after)
+    → Settles (found_none irq made) (slice_index (values_of made WALCLK) 0) (slice_index (values_of made STATESTS) 0) (addresses_of (world_of before).codecs) (world_of before).commands old new (world_of after)
 
 -- ---- while commands are sent, and after them
 

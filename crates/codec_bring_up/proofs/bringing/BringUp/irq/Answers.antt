@@ -52,9 +52,9 @@ returns-then-has_interrupt-clause-leads g c =
       unread = λ not. unread_both (interrupt_accesses looks.interrupts looks.stream) leads.made (interrupt_unread looks.interrupts looks.stream) (leads.unread not);
       reads = reads_after _ _ leads.made made old new entries leads.reads;
       begun = λ was is. subst (λ (values : List ℕ). Begins (slice_index values 0) new.agenda) (sym (interrupt_values looks.interrupts looks.stream leads.made)) (leads.begun was is);
-      resets = λ was. told_map (λ before after both. resets_after new looks.interrupts looks.stream before both.0 after both.1 both.2) (told_both looks.made (leads.resets was));
+      resets = λ was. told_map (λ before after both. resets_after new looks.interrupts looks.stream leads.made before both.0 after both.1 both.2) (told_both looks.made (leads.resets was));
       untaken = λ was. told_map (λ before after both commands is. both.2 commands (looked_untaken looks.interrupts looks.stream before both.0 both.1 commands is)) (told_both looks.made (leads.untaken was));
-      settles = λ was. told_map (λ before after both. settles_after old new looks.interrupts looks.stream leads.made before both.0 after both.1 both.2) (told_both looks.made (leads.settles was));
+      settles = λ was. told_map (λ before after both. settles_after old new looks.interrupts looks.stream leads.made before both.0 after on both.1 both.2) (told_both looks.made (leads.settles was));
       stays = λ asking. told_map (λ before after both. interrupted_stays old new looks.interrupts looks.stream leads.made before both.0 after on both.1 both.2) (told_both looks.made (leads.stays asking));
     }) c.run.ensures.leads
 
@@ -73,8 +73,8 @@ returns-else-has_interrupt-clause-leads g c =
       unread = λ not. interrupt_unread looks.interrupts looks.stream;
       reads = reads_none _ _ made old old none (λ still. refl) refl;
       begun = λ was is. absurd (walks_settles old.phase was is);
-      resets = λ was. told_map (λ before after makes. resets_looked old looks.interrupts looks.stream before after was makes) looks.made;
+      resets = λ was. told_map (λ before after makes. resets_looked old looks.interrupts looks.stream before after was off makes) looks.made;
       untaken = λ was. told_map (λ before after makes. looked_untaken looks.interrupts looks.stream before after makes) looks.made;
-      settles = λ was. told_map (λ before after makes. settles_looked old looks.interrupts looks.stream made before after was makes) looks.made;
+      settles = λ was. told_map (λ before after makes. settles_looked old looks.interrupts looks.stream before after was off makes) looks.made;
       stays = λ asking. told_map (λ before after makes. interrupts_stay old looks.interrupts looks.stream before after makes) looks.made;
     }

@@ -4,13 +4,14 @@ use Rattle.hda_world.specs.Tellings.{world_of}
 use Rattle.hda_world.specs.Discovery.{addresses_of}
 use Rattle.hda_world.proofs.Callers.{told_map}
 use Rattle.driver_stretches.specs.Announcing.{AreCodecs}
+use Rattle.codec_bring_up.proofs.Leading.{not_true}
 use Rattle.codec_bring_up.proofs.Unread.{walks_settles, walking_settles, reset_settles}
 use Rattle.driver_progress.specs.Expected.{has_settled}
 use Rattle.driver_stretches.specs.Settling.{settle_accesses}
 use Rattle.driver_stretches.proofs.Callers.{settle_unread}
 use Rattle.driver_stretches.specs.declared.settling.Settled.TheVariants.{TooEarly, NoCodec, Codecs}
 use Rattle.codec_bring_up.specs.Calls.{state_of}
-use Rattle.codec_bring_up.proofs.Settles.{found_some, found_started, begins_phase, settle_with, begins_with, found_named}
+use Rattle.codec_bring_up.proofs.Settles.{too_early, found_some, found_started, begins_phase, settle_with, begins_with, found_named}
 use Rattle.codec_bring_up.proofs.bringing.BringUp.settle.Goals as goal
 
 pub new-requires-clause-some : goal.new-requires-clause-some
@@ -45,6 +46,8 @@ returns-in-TooEarly-clause-leads g c =
       resets = λ was. absurd (reset_settles old.phase was c.requires.phase);
       untaken = λ was. absurd (reset_settles old.phase was c.requires.phase);
       settles = λ was. told_map (λ before after leads settling some. record {
+        stays = λ none. was;
+        late = λ found settled. absurd (too_early (has_settled old.kept settles.clock) settles.reads settles.answer_is settled);
         early = λ still. (leads settling).0;
         untaken = λ still. (leads settling).1;
         codecs = λ walking. absurd (walks_settles old.phase was walking);
@@ -84,6 +87,8 @@ returns-in_ok-self-in-Codecs-clause-leads g c =
       resets = λ was. absurd (reset_settles old.phase was c.requires.phase);
       untaken = λ was. absurd (reset_settles old.phase was c.requires.phase);
       settles = λ was. told_map (λ before after leads settling some. record {
+        stays = λ none. absurd (not_true none);
+        late = λ found settled. refl;
         early = λ still. absurd (walking_settles still);
         untaken = λ still. absurd (walking_settles still);
         codecs = λ walking. subst (λ (bits : ℕ). AreCodecs bits (addresses_of (world_of before).codecs)) (found_named (has_settled old.kept settles.clock) settles.reads c.in-Codecs.codecs settles.clock old.engine.corb.address old.engine.rirb.address settles.answer_is) (leads settling).0;
