@@ -7,7 +7,7 @@ use Rattle.codec_graph.specs.declared.raw.RawCodec.{RawCodec}
 use Rattle.route_planner.specs.declared.routes.Plan.{Plan}
 use Rattle.hda_world.specs.Worlds.{World, TakenCommand}
 use Rattle.hda_world.specs.Events.{Event}
-use Rattle.hda_world.specs.Tellings.{Telling, world_of}
+use Rattle.hda_world.specs.Tellings.{Telling, world_of, Makes}
 use Rattle.command_engine.specs.declared.ring_places.RingPlaces.{RingPlaces}
 use Rattle.command_engine.specs.declared.answers.Outstanding.{Outstanding}
 use Rattle.command_engine.specs.Belonging.{from_after}
@@ -17,6 +17,7 @@ use Rattle.driver_progress.specs.declared.phase.Phase.{Phase}
 use Rattle.driver_progress.specs.declared.phase.Phase.TheVariants.{Reset, Settling, Walking, SettingUp, Ready, Playing, Drained, NothingRouted, Unanswered, Late, Malformed, Failed}
 use Rattle.driver_progress.specs.Phases.{is_asking, goes_on, can_follow}
 use Rattle.driver_progress.specs.Tasks.{Task, Order, DriverLine}
+use Rattle.driver_progress.specs.Seen.{seen_by, values_of}
 use Rattle.driver_progress.specs.Progress.{Course, course_of}
 use Rattle.driver_stretches.specs.Answers.{AnswersAgree}
 use Rattle.driver_stretches.specs.Commands.{ask_accesses}
@@ -26,6 +27,8 @@ use Rattle.codec_bring_up.specs.Calls.{state_of, is_ended, AgreesAfter, ReadsOn,
 use Rattle.codec_bring_up.specs.Told.{LooksOn, IsGivenUp}
 use Rattle.told_bring_up.specs.Stretches.{IsOpen, IsDone}
 use Rattle.told_bring_up.specs.Standing.{IsTaskOfCodecs, IsAsking, StandsIn}
+use Rattle.told_bring_up.proofs.Accesses.{submit_are, looked_accesses}
+use Rattle.told_bring_up.proofs.Finding.{going_finds}
 use Rattle.told_bring_up.proofs.Rows.{stretch_done}
 use Rattle.told_bring_up.proofs.Walked.{walked_by}
 use Rattle.told_bring_up.proofs.Grows.{row_on, both_on}
@@ -114,12 +117,12 @@ module _ (IsPlanBy : RawCodec → Plan → Type 0) (verbs_by : RawCodec → Plan
   pub looks_on : Laws → (lines left : List DriverLine) (budget : ℕ) (irq : Bool) (old new : BringUp) (made : List Event) (before after : Telling) → IsOpen task lines left (Some (record { irq = irq; budget = budget })) (state_of old) before
       → goes_on old.phase ≡ true → graphs_in (world_of before).codecs ≡ graphs → (a : IsAsking IsPlanBy verbs graphs task (course_of task lines before).written old (world_of before)) → ReadsOn IsPlanBy verbs_by made old new
       → (is_ended old.phase (is_some (answer_in old.engine.rings made)) new.phase ≡ false → AgreesAfter old new task → IsStretch task (state_of old) (Some (record { irq = irq; budget = budget })) made (is_some (answer_in old.engine.rings made)) (state_of new))
-      → IsKept old new → LooksOn irq old new made a.from a.read before after → Kept lines left new after
-  looks_on notes lines left budget irq old new made before after opened goes graphs_are a reads is kept on =
+      → IsKept old new → Makes made before after → LooksOn irq old new made a.from a.read before after → Kept lines left new after
+  looks_on notes lines left budget irq old new made before after opened goes graphs_are a reads is kept makes on =
       let looked = on.looked in
       let rings = old.engine.rings in
       let found = answer_in rings made in
-      let line = Some (record { irq = irq; budget = budget }) in
+      let line : Option DriverLine = Some (record { irq = irq; budget = budget }) in
       let ask = ask_accesses old.engine.rirb.address on.clock rings on.reads in
       let rest = submit_made old.engine.corb.address (rings_polled rings on.reads) on.order in
       let started = world_of before in
@@ -150,7 +153,9 @@ module _ (IsPlanBy : RawCodec → Plan → Type 0) (verbs_by : RawCodec → Plan
       let noted = call_noted notes task lines left line irq old new made a.from a.read before after opened a.agree on idle_then in
       let stretch = is (not_over old.phase new.phase found looks.goes) (λ asking goes. laws.agrees _ new.agenda task stood.follows of.is_for) in
       let written = sym (ap (λ (course : Course). course.written) noted.course) in record {
-        done = stretch_done task lines left line (state_of old) (state_of new) made (is_some found) noted.written before after opened noted.course (noted.conforms opened.conforms) stretch;
+        done = stretch_done task lines left line (state_of old) (state_of new) made (is_some found) noted.written before after opened makes.by
+            (looked_accesses old made on.first on.clock on.reads rest a.from a.read before after looked (submit_are old.engine.corb.address (rings_polled rings on.reads) on.order))
+            noted.course (noted.conforms opened.conforms) stretch (λ some. going_finds old.phase (state_of old) (seen_by (values_of made) (is_some found)) goes);
         graphs_are = (to_after.remembers a.taken.start a.taken.begun known).graphs ∙ sym a.taken.remembers.graphs ∙ graphs_are;
         stage = stands_then rings.outstanding on.clock (course_of task lines after).written new finish (leads_to rings.outstanding on.clock old.phase new.phase found goes looks.goes on.waits) (record {
           from = from';

@@ -41,6 +41,7 @@ use Rattle.codec_bring_up.specs.Told.{LooksLast}
 use Rattle.codec_bring_up.proofs.Callers.{unread_none, answer_none}
 use Rattle.told_bring_up.specs.Stretches.{IsOpen, IsDone}
 use Rattle.told_bring_up.specs.Standing.{IsTaskOfCodecs, IsAsking, StandsIn}
+use Rattle.told_bring_up.proofs.Accesses.{shut_are, looked_accesses}
 use Rattle.told_bring_up.proofs.Rows.{unread_row, unread_done, stretch_done}
 use Rattle.told_bring_up.proofs.Grows.{row_on}
 use Rattle.told_bring_up.proofs.Looking.{look_noted}
@@ -224,7 +225,7 @@ module _ (IsPlanBy : RawCodec → Plan → Type 0) (verbs_by : RawCodec → Plan
       let leads = stretch.leads in
       let still = closed_still task (state_of old) seen (tally_next task (state_of old) None seen) old.phase not old.early in
       let phase : new.phase ≡ old.phase = ap (λ (state : State). state.phase) leads ∙ ap (λ (state : State). state.phase) still in record {
-        done = unread_done task lines left None (state_of old) (state_of new) ends.made before after opened ends.by.is unread stretch;
+        done = unread_done task lines left None (state_of old) (state_of new) ends.made before after opened ends.by.is unread stretch (tt {0});
         phase_is = phase;
         sent_is = ap (λ (state : State). state.sent) leads ∙ ap (λ (state : State). state.sent) still;
         agenda_is = ends.reads.left (λ asking. none) (λ settling walking. no_walking (sym (phase ∙ settling) ∙ walking));
@@ -279,7 +280,8 @@ module _ (IsPlanBy : RawCodec → Plan → Type 0) (verbs_by : RawCodec → Plan
       let seen = seen_by (values_of made) (is_some found) in
       let phase = ap (λ (state : State). state.phase) stretch.leads in
       let noted = last_noted notes task lines left old new made a.from a.read before after opened a.agree on in record {
-        done = stretch_done task lines left None (state_of old) (state_of new) made (is_some found) noted.written before after opened noted.course (noted.conforms opened.conforms) stretch;
+        done = stretch_done task lines left None (state_of old) (state_of new) made (is_some found) noted.written before after opened ends.by.is.by
+            (looked_accesses old made [] on.clock on.reads shut_accesses a.from a.read before after looked shut_are) noted.course (noted.conforms opened.conforms) stretch (tt {0});
         ended = record {
           walked = walked_by IsPlanBy verbs_by verbs graphs task of new.sent new.engine.rings.outstanding new.agenda follows;
           by_phase = ended_in new follows (subst EndsIn (sym phase) (closed_ends task (state_of old) seen (tally_next task (state_of old) None seen) old.phase asking goes));

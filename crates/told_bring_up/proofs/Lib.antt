@@ -1,3 +1,5 @@
+pub mod Accesses
+pub mod Finding
 pub mod Rows
 pub mod Grows
 pub mod Looking

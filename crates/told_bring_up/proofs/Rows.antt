@@ -9,6 +9,7 @@ use Rattle.hda_world.specs.Events.{Event, Stepped, Begin, End, Read, Write, DmaR
 use Rattle.hda_world.specs.Tellings.{Telling, world_of, Went, Accessed, MakesBy, Makes}
 use Rattle.driver_progress.specs.Tasks.{Task, DriverLine}
 use Rattle.driver_progress.specs.States.{State, state_opened}
+use Rattle.driver_progress.specs.Seen.{seen_by, values_of}
 use Rattle.driver_progress.specs.Next.{next}
 use Rattle.driver_progress.specs.Progress.{Conforms, IsProgress, FitsIf, ended_if, state_of, Course, course_of, course_after, course_opened, is_answered, noted, seen_in, Fits, FitsAt}
 use Rattle.driver_progress.specs.Noting.{with_accesses}
@@ -16,7 +17,9 @@ use Rattle.driver_progress.proofs.Callers.{ConformsTo, steps_leave_course, steps
 use Rattle.driver_stretches.specs.Unread.{IsUnread, AreUnread}
 use Rattle.driver_commands.specs.Commanding.{IsStretch}
 use Rattle.told_bring_up.proofs.Grows.{event_on}
-use Rattle.told_bring_up.specs.Stretches.{IsAtRest, IsOpen, IsDone}
+use Rattle.told_bring_up.specs.Stretches.{FindsBy, Finds, FindsAll, HasFound, IsAtRest, IsOpen, IsDone}
+use Rattle.told_bring_up.proofs.Accesses.{IsAccess, AreAccesses, unread_accesses}
+use Rattle.told_bring_up.proofs.Finding.{steps_find, finds_went, finds_access, row_finds}
 
 -- ---- an event after some steps of the device
 
@@ -35,6 +38,7 @@ pub opens : (task : Task) (lines left : List DriverLine) (state : State) (old ne
 opens task lines left state old new accessed rest =
     let is = course_access task lines Begin old new accessed in record {
       conforms = conforms_access task lines Begin old new accessed (tt {0}) rest.conforms;
+      finds = finds_access task lines Begin old new accessed (tt {0}) rest.finds;
       within = ap (λ (course : Course). course.within) is;
       left_is = ap (λ (course : Course). course.left) is ∙ ap (λ (left : List DriverLine). drop 1 left) rest.left_is;
       turn_is = ap (λ (course : Course). course.turn) is ∙ ap (λ (left : List DriverLine). slice_get left 0) rest.left_is;
@@ -47,6 +51,7 @@ pub closes : (task : Task) (lines left : List DriverLine) (state' : State) (old 
 closes task lines left state' old new accessed done =
     let is = course_access task lines End old new accessed in record {
       conforms = conforms_access task lines End old new accessed done.fits done.conforms;
+      finds = finds_access task lines End old new accessed done.found done.finds;
       within = ap (λ (course : Course). course.within) is;
       left_is = ap (λ (course : Course). course.left) is ∙ done.left_is;
       state_is = ap (λ (course : Course). course.state) is ∙ done.leads;
@@ -98,19 +103,6 @@ unread_row task lines (event ∷ made) old new makes unread =
 
 -- ---- accesses of any kind
 
-abbrev pub IsAccess : Event → Type 0
-IsAccess (Stepped step) = ⊥
-IsAccess Begin = ⊥
-IsAccess End = ⊥
-IsAccess (Read at width value) = Unit {0}
-IsAccess (Write at width value) = Unit {0}
-IsAccess (DmaRead at bytes) = Unit {0}
-IsAccess (DmaWrite at bytes) = Unit {0}
-
-abbrev pub AreAccesses : List Event → Type 0
-AreAccesses [] = Unit {0}
-AreAccesses (event ∷ events) = IsAccess event × AreAccesses events
-
 -- the stretch that they are of stays open, and they are added to what was made
 pub record AreOfStretch (old new : Course) (made : List Event) : Type 0 where
   pub state_is : new.state ≡ old.state
@@ -145,27 +137,30 @@ accesses_row task lines (event ∷ made) old new makes are =
 
 -- the course after it, from that at its beginning
 pub stretch_done : (task : Task) (lines left : List DriverLine) (turn : Option DriverLine) (state state' : State) (made : List Event) (found : Bool) (written : ℕ) (old new : Telling) → IsOpen task lines left turn state old
-    → course_of task lines new ≡ record (with_accesses (course_of task lines old) made) { written = written; answered = found } → ConformsTo task lines new → IsStretch task state turn made found state' → IsDone task lines left state' new
-stretch_done task lines left turn state state' made found written old new opened is conforms stretch =
+    → MakesBy made old new → AreAccesses made → course_of task lines new ≡ record (with_accesses (course_of task lines old) made) { written = written; answered = found } → ConformsTo task lines new → IsStretch task state turn made found state'
+    → FindsBy turn state (seen_by (values_of made) found) → IsDone task lines left state' new
+stretch_done task lines left turn state state' made found written old new opened makes are is conforms stretch finds =
     let first = course_of task lines old in
     let all = is
     ∙ ap (λ (front : List Event). record first { made = front ++ made; written = written; answered = found }) opened.none_made
     ∙ ap (λ (state : State). record first { state = state; made = made; written = written; answered = found }) opened.state_is
     ∙ ap (λ (turn : Option DriverLine). record first { state = state; turn = turn; made = made; written = written; answered = found }) opened.turn_is in record {
       conforms = conforms;
+      finds = row_finds task lines made old new makes are opened.finds;
       within = ap (λ (course : Course). course.within) all ∙ opened.within;
       left_is = ap (λ (course : Course). course.left) all ∙ opened.left_is;
       fits = subst (Fits task) (sym all) stretch.fits;
+      found = subst Finds (sym all) finds;
       leads = ap (λ (course : Course). next task course.state course.turn (seen_in course)) all ∙ sym stretch.leads;
     }
 
 pub unread_done : (task : Task) (lines left : List DriverLine) (turn : Option DriverLine) (state state' : State) (made : List Event) (old new : Telling) → IsOpen task lines left turn state old → Makes made old new → AreUnread made
-    → IsStretch task state turn made false state' → IsDone task lines left state' new
-unread_done task lines left turn state state' made old new opened makes unread stretch =
+    → IsStretch task state turn made false state' → FindsBy turn state (seen_by (values_of made) false) → IsDone task lines left state' new
+unread_done task lines left turn state state' made old new opened makes unread stretch finds =
     let row = unread_row task lines made old new makes.by unread in
-    stretch_done task lines left turn state state' made false row.written old new opened
+    stretch_done task lines left turn state state' made false row.written old new opened makes.by (unread_accesses made unread)
     (row.course ∙ ap (λ (answered : Bool). record (with_accesses (course_of task lines old) made) { written = row.written; answered = answered }) opened.unanswered)
-    (row.conforms opened.conforms) stretch
+    (row.conforms opened.conforms) stretch finds
 
 -- ---- how many responses were written when CORBWP was written last: no more than are written
 
@@ -203,6 +198,7 @@ pub rests : (task : Task) (lines : List DriverLine) (steps : List Step) (telling
 rests task lines steps telling none =
     let is = ap (λ (journal : List Event). course_after task journal telling.start (course_opened lines)) none ∙ steps_leave_course task steps telling.start (course_opened lines) in record {
       conforms = subst (λ (journal : List Event). Conforms task journal telling.start (course_opened lines)) (sym none) (steps_conform task steps telling.start (course_opened lines));
+      finds = subst (λ (journal : List Event). FindsAll task journal telling.start (course_opened lines)) (sym none) (steps_find task steps telling.start (course_opened lines));
       within = ap (λ (course : Course). course.within) is;
       left_is = ap (λ (course : Course). course.left) is;
       state_is = ap (λ (course : Course). course.state) is;
@@ -220,6 +216,7 @@ pub rest_stays : (task : Task) (lines left : List DriverLine) (state : State) (s
 rest_stays task lines left state steps old new went rest =
     let is = stepped task lines steps old new went in record {
       conforms = stepped_conforms task lines steps old new went rest.conforms;
+      finds = finds_went task lines old new (map Stepped steps) went (steps_find task steps (world_of old) (course_of task lines old)) rest.finds;
       within = ap (λ (course : Course). course.within) is ∙ rest.within;
       left_is = ap (λ (course : Course). course.left) is ∙ rest.left_is;
       state_is = ap (λ (course : Course). course.state) is ∙ rest.state_is;
@@ -227,14 +224,17 @@ rest_stays task lines left state steps old new went rest =
 
 -- ---- that all of it is progress
 
-pub rest_progress : (task : Task) (lines left : List DriverLine) (state : State) (telling : Telling) → IsAtRest task lines left state telling → IsProgress task lines telling × (state_of task lines telling ≡ state)
+pub rest_progress : (task : Task) (lines left : List DriverLine) (state : State) (telling : Telling) → IsAtRest task lines left state telling → IsProgress task lines telling × (state_of task lines telling ≡ state) × HasFound task lines telling
 rest_progress task lines left state telling rest = (
   record { conforms = rest.conforms; last = subst (λ (within : Bool). FitsIf within task (course_of task lines telling)) (sym rest.within) (tt {0}) },
   ap (λ (within : Bool). (ended_if within task (course_of task lines telling)).state) rest.within ∙ rest.state_is,
+  rest.finds,
 )
 
-pub done_progress : (task : Task) (lines left : List DriverLine) (state' : State) (telling : Telling) → IsDone task lines left state' telling → IsProgress task lines telling × (state_of task lines telling ≡ state')
+pub done_progress : (task : Task) (lines left : List DriverLine) (state' : State) (telling : Telling) → IsDone task lines left state' telling → IsProgress task lines telling × (state_of task lines telling ≡ state') × HasFound task lines telling × Finds (course_of task lines telling)
 done_progress task lines left state' telling done = (
   record { conforms = done.conforms; last = subst (λ (within : Bool). FitsIf within task (course_of task lines telling)) (sym done.within) done.fits },
   ap (λ (within : Bool). (ended_if within task (course_of task lines telling)).state) done.within ∙ done.leads,
+  done.finds,
+  done.found,
 )

@@ -42,7 +42,8 @@ use Rattle.codec_bring_up.specs.Told.{Looked, LooksOn, IsStill}
 use Rattle.told_bring_up.specs.Stretches.{IsOpen, IsDone}
 use Rattle.told_bring_up.specs.Standing.{IsTaskOfCodecs, IsLastSent, IsAsking, StandsIn, IsBroughtUp}
 use Rattle.told_bring_up.specs.SettingUp.{is_ready, are_answered, StaysSetUp, AreSetUpForGood}
-use Rattle.told_bring_up.proofs.Rows.{IsAccess, AreAccesses, accesses_row}
+use Rattle.told_bring_up.proofs.Accesses.{IsAccess, AreAccesses, shut_are, looked_accesses}
+use Rattle.told_bring_up.proofs.Rows.{accesses_row}
 use Rattle.told_bring_up.proofs.Grows.{row_on, both_on, steps_on, world_after}
 use Rattle.told_bring_up.proofs.Noting.{Laws}
 use Rattle.told_bring_up.proofs.Following.{AgendaLaws, Later, row_remembers}
@@ -97,10 +98,6 @@ no_looks_accesses : (events : List Event) → AreNoLooks events → AreAccesses 
 no_looks_accesses [] none = tt {0}
 no_looks_accesses (event ∷ events) none = (no_look_access event none.0, no_looks_accesses events none.1)
 
-accesses_both : (front back : List Event) → AreAccesses front → AreAccesses back → AreAccesses (front ++ back)
-accesses_both [] back first second = second
-accesses_both (event ∷ front) back first second = (first.0, accesses_both front back first.1 second)
-
 -- those after some others
 calm_after : (front back : List Event) → AreCalm (requests_of (front ++ back)) → AreCalm (requests_of back)
 calm_after [] back calm = calm
@@ -139,14 +136,6 @@ module _ (IsPlanBy : RawCodec → Plan → Type 0) (verbs_by : RawCodec → Plan
     on = both_on begun world (after_steps steps world) later.on (steps_on steps world);
     remembers = λ start from is. steps_remember start from steps world (later.remembers start from is);
   }
-
-  looked_accesses : (old : BringUp) (made first : List Event) (clock : ℕ) (reads : PollReads) (rest : List Event) (from read : ℕ) (before after : Telling) → Looked old made first clock reads rest from read before after → AreNoLooks rest → AreAccesses made
-  looked_accesses old made first clock reads rest from read before after looked none =
-      let rings = old.engine.rings in
-      let rirb = old.engine.rirb.address in
-      let batch = if has_bit reads.flag 0 then batch_accesses rirb rings reads.pointer reads.entries else [] in
-      subst AreAccesses (sym looked.made_is) (accesses_both first (ask_accesses rirb clock rings reads ++ rest) (no_looks_accesses first (plain_no_looks first looked.plain))
-      (accesses_both (ask_accesses rirb clock rings reads) rest (tt {0}, (tt {0}, no_looks_accesses batch (batch_no_looks (has_bit reads.flag 0) rirb rings reads))) (no_looks_accesses rest none)))
 
   -- where the flag is read, and the last answer is there
   found_there : (old : BringUp) (written : ℕ) (begun there : World) (course : Course) (flag : ℕ) → is_asking old.phase ≡ true → graphs_in begun.codecs ≡ graphs → (a : IsAsking IsPlanBy verbs graphs task written old begun) → Later begun there
@@ -205,7 +194,7 @@ module _ (IsPlanBy : RawCodec → Plan → Type 0) (verbs_by : RawCodec → Plan
       let flagged = flagged_fine left turn old made first clock reads rest before after opened asking graphs_are a looked fine in
       let polled = calm_row IsPlanBy IsOpenBy graphs task lines state batch looked.look_made.by.2.0 looked.ends looked.look_made.by.2.2 (batch_no_looks (has_bit reads.flag 0) rirb rings reads)
       (λ answered. batch_calm (has_bit reads.flag 0) rirb rings reads) flagged in
-      let are = looked_accesses old made first clock reads rest a.from a.read before after looked none in
+      let are = looked_accesses old made first clock reads rest a.from a.read before after looked (no_looks_accesses rest none) in
       let calm : IsLast task state → AreCalm (requests_of rest) = λ last.
       calm_after (ask_accesses rirb clock rings reads) rest (calm_after first (ask_accesses rirb clock rings reads ++ rest)
       (subst (λ (made : List Event). AreCalm (requests_of made)) looked.made_is (calm_made task lines left turn state state' made before after opened makes.by are done silent last))) in
@@ -315,7 +304,7 @@ module _ (IsPlanBy : RawCodec → Plan → Type 0) (verbs_by : RawCodec → Plan
       let on = (ends.looks asking).is a.from a.read a.stands in
       let none : AreNoLooks shut_accesses = (tt {0}, (tt {0}, (tt {0}, tt {0}))) in
       let leaves = looked_fine left None old (state_of new) ends.made [] on.clock on.reads shut_accesses before after opened ends.by.is asking (tt {0}) graphs_are a on.looked none done fine in
-      let are = looked_accesses old ends.made [] on.clock on.reads shut_accesses a.from a.read before after on.looked none in
+      let are = looked_accesses old ends.made [] on.clock on.reads shut_accesses a.from a.read before after on.looked shut_are in
       let course = course_of task lines after in
       let seen = seen_in course in
       let closes = closed_to left old new ends.made before after opened ends.by.is are done in record {

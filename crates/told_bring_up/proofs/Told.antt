@@ -8,8 +8,9 @@ use Rattle.codec_graph.specs.declared.raw.RawCodec.{RawCodec}
 use Rattle.codec_graph.specs.CodecStates.{CodecState}
 use Rattle.route_planner.specs.declared.routes.Plan.{Plan}
 use Rattle.ring_entries.specs.declared.response.Response.{Response}
-use Rattle.hda_registers.specs.declared.places.TheConstants.{STATESTS}
+use Rattle.hda_registers.specs.declared.places.TheConstants.{STATESTS, WALCLK}
 use Rattle.hda_world.specs.Worlds.{World}
+use Rattle.hda_world.specs.Events.{Event}
 use Rattle.hda_world.specs.Tellings.{Telling, world_of}
 use Rattle.hda_world.specs.Discovery.{addresses_of}
 use Rattle.command_engine.specs.declared.answers.Outstanding.{Outstanding}
@@ -39,10 +40,11 @@ use Rattle.driver_commands.specs.Standing.{Agrees, answers_of}
 use Rattle.driver_commands.specs.Commanding.{IsStretch, answer_in}
 use Rattle.codec_bring_up.specs.declared.bringing.BringUp.{BringUp}
 use Rattle.codec_bring_up.specs.Calls.{state_of, AgreesAfter, Leads, IsKept, IsTaskOf, Begins}
-use Rattle.codec_bring_up.specs.Told.{Settles, IsStill, LooksOn}
+use Rattle.codec_bring_up.specs.Told.{found_none, Settles, IsStill, LooksOn}
 use Rattle.codec_bring_up.proofs.Callers.{unread_none, answer_none}
-use Rattle.told_bring_up.specs.Stretches.{IsOpen}
+use Rattle.told_bring_up.specs.Stretches.{FindsIn, IsOpen}
 use Rattle.told_bring_up.specs.Standing.{IsTaskOfCodecs, IsLastSent, IsAsking, HaveTaken, CanBegin, Announce, StandsIn}
+use Rattle.told_bring_up.proofs.Finding.{reset_finds, settle_finds, going_finds}
 use Rattle.told_bring_up.proofs.Rows.{unread_done, written_within}
 use Rattle.told_bring_up.proofs.Grows.{row_on}
 use Rattle.told_bring_up.proofs.Noting.{Laws}
@@ -79,6 +81,11 @@ settling_walks {phase} was walking = no_walking (sym was ∙ walking)
 addresses_are : (codecs : List CodecState) → addresses_of codecs ≡ map (λ (graph : RawCodec). graph.address) (graphs_in codecs)
 addresses_are [] = refl
 addresses_are (codec ∷ codecs) = ap (λ (rest : List ℕ). codec.graph.address ∷ rest) (addresses_are codecs)
+
+-- where no call for an interrupt found none, the reset was made
+settled_else : {A B C D : Type 0} (none : Bool) → none ≡ false → (A × B) ⊎ ((none ≡ true) × C × D) → B
+settled_else none some (inl settles) = settles.1
+settled_else none some (inr left) = absurd (not_true (sym some ∙ left.0))
 
 module _ (IsPlanBy : RawCodec → Plan → Type 0) (verbs_by : RawCodec → Plan → List Command) (verbs : RawCodec → List Command) (graphs : List RawCodec) (task : Task) (laws : AgendaLaws IsPlanBy verbs_by verbs graphs)
     (begins : (agenda : Agenda) → agenda.addresses.items ≡ map (λ (graph : RawCodec). graph.address) graphs → BeginsWalk agenda.addresses.items [] agenda → Follows IsPlanBy verbs graphs 0 agenda)
@@ -127,24 +134,27 @@ module _ (IsPlanBy : RawCodec → Plan → Type 0) (verbs_by : RawCodec → Plan
       let not = ap is_asking was in
       let unread = leads.unread not in
       let stretch = stretch_of lines left budget irq old new before after call unread (unasked old new not) in
+      let seen = seen_by (values_of leads.made) false in
       let untaken = (leads.untaken was).is (world_of before).commands (record { stopped = can.stopped; commands_are = refl }) in
       let same = unchanged leads.made before after leads.by.is untaken.commands_are in
       let defaults = same.defaults can.defaults in
-      let sent = ap (λ (state : State). state.sent) stretch.leads ∙ resets_on task (state_of old) line (seen_by (values_of leads.made) false) was ∙ can.none_sent in
+      let sent = ap (λ (state : State). state.sent) stretch.leads ∙ resets_on task (state_of old) line seen was ∙ can.none_sent in
+      let resets = (leads.resets was).is old.engine.corb.address old.engine.rirb.address can.can in
       let corb = ap (λ corb. corb.address) call.kept.corb in
       let rirb = ap (λ rirb. rirb.address) call.kept.rirb in record {
-        done = unread_done task lines left (Some line) (state_of old) (state_of new) leads.made before after call.opened leads.by.is unread stretch;
+        done = unread_done task lines left (Some line) (state_of old) (state_of new) leads.made before after call.opened leads.by.is unread stretch
+            (reset_finds task (state_of old) line seen was (λ some. sym (ap (λ (state : State). state.phase) stretch.leads) ∙ settled_else (found_none irq leads.made) some resets));
         graphs_are = graphs_on lines left budget irq old new before after call;
-        stage = by corb rirb sent (ap (λ (agenda : Agenda). agenda.graphs.items) (same_agenda call unread (λ settling walking. settling_reset was settling)) ∙ can.none_walked) defaults untaken ((leads.resets was).is old.engine.corb.address old.engine.rirb.address can.can);
+        stage = by leads.made corb rirb sent (ap (λ (agenda : Agenda). agenda.graphs.items) (same_agenda call unread (λ settling walking. settling_reset was settling)) ∙ can.none_walked) defaults untaken resets;
       }
     where
-      by : new.engine.corb.address ≡ old.engine.corb.address → new.engine.rirb.address ≡ old.engine.rirb.address → new.sent ≡ 0 → new.agenda.graphs.items ≡ [] → All KeepsDefaults (world_of after).codecs → IsUntaken (world_of before).commands (world_of after)
-          → (IsSettling old.engine.corb.address old.engine.rirb.address (world_of after) × (new.phase ≡ Settling)) ⊎ ((irq ≡ true) × CanReset old.engine.corb.address old.engine.rirb.address (world_of after) × (new.phase ≡ Reset))
+      by : (made : List Event) → new.engine.corb.address ≡ old.engine.corb.address → new.engine.rirb.address ≡ old.engine.rirb.address → new.sent ≡ 0 → new.agenda.graphs.items ≡ [] → All KeepsDefaults (world_of after).codecs → IsUntaken (world_of before).commands (world_of after)
+          → (IsSettling old.engine.corb.address old.engine.rirb.address (world_of after) × (new.phase ≡ Settling)) ⊎ ((found_none irq made ≡ true) × CanReset old.engine.corb.address old.engine.rirb.address (world_of after) × (new.phase ≡ Reset))
           → StandsIn new.phase IsPlanBy verbs graphs task (course_of task lines after).written new (world_of after)
-      by corb rirb sent none defaults untaken (inl settles) =
+      by made corb rirb sent none defaults untaken (inl settles) =
           subst (λ (phase : Phase). StandsIn phase IsPlanBy verbs graphs task (course_of task lines after).written new (world_of after)) (sym settles.1)
           (record { settling = subst (λ (rirb : ℕ). IsSettling new.engine.corb.address rirb (world_of after)) (sym rirb) (subst (λ (corb : ℕ). IsSettling corb old.engine.rirb.address (world_of after)) (sym corb) settles.0); defaults = defaults; none_sent = sent; none_walked = none })
-      by corb rirb sent none defaults untaken (inr still) =
+      by made corb rirb sent none defaults untaken (inr still) =
           subst (λ (phase : Phase). StandsIn phase IsPlanBy verbs graphs task (course_of task lines after).written new (world_of after)) (sym still.2)
           (record {
             can = subst (λ (rirb : ℕ). CanReset new.engine.corb.address rirb (world_of after)) (sym rirb) (subst (λ (corb : ℕ). CanReset corb old.engine.rirb.address (world_of after)) (sym corb) still.1);
@@ -180,13 +190,15 @@ module _ (IsPlanBy : RawCodec → Plan → Type 0) (verbs_by : RawCodec → Plan
       let unread = leads.unread not in
       let stretch = stretch_of lines left budget irq old new before after call unread (unasked old new not) in
       let settles = (leads.settles was).is announce.settling (some_codec (world_of before) call.graphs_are) in
-      let on = subst (IsSettledOn (state_of old)) (sym stretch.leads) (settles_on task (state_of old) line (seen_by (values_of leads.made) false) was) in record {
-        done = unread_done task lines left (Some line) (state_of old) (state_of new) leads.made before after call.opened leads.by.is unread stretch;
+      let seen = seen_by (values_of leads.made) false in
+      let on = subst (IsSettledOn (state_of old)) (sym stretch.leads) (settles_on task (state_of old) line seen was) in record {
+        done = unread_done task lines left (Some line) (state_of old) (state_of new) leads.made before after call.opened leads.by.is unread stretch
+            (settle_finds task (state_of old) line seen was (λ some settled. sym (ap (λ (state : State). state.phase) stretch.leads) ∙ settles.late some settled));
         graphs_are = graphs_on lines left budget irq old new before after call;
         stage = by call settles (on.sent ∙ announce.none_sent) on.phase;
       }
     where
-      by : (call : Called lines left budget irq old new before after) → Settles (slice_index (values_of call.leads.made STATESTS) 0) (addresses_of (world_of before).codecs) (world_of before).commands old new (world_of after) → new.sent ≡ 0
+      by : (call : Called lines left budget irq old new before after) → Settles (found_none irq call.leads.made) (slice_index (values_of call.leads.made WALCLK) 0) (slice_index (values_of call.leads.made STATESTS) 0) (addresses_of (world_of before).codecs) (world_of before).commands old new (world_of after) → new.sent ≡ 0
           → (new.phase ≡ old.phase) ⊎ ((new.phase ≡ Walking) × (new.engine.rings.outstanding ≡ None)) → StandsIn new.phase IsPlanBy verbs graphs task (course_of task lines after).written new (world_of after)
       by call settles sent (inl same) =
           let phase = same ∙ was in
@@ -251,7 +263,8 @@ module _ (IsPlanBy : RawCodec → Plan → Type 0) (verbs_by : RawCodec → Plan
         follows = stage.follows;
         taken = stage.taken;
       } in record {
-        done = unread_done task lines left (Some line) (state_of old) (state_of new) leads.made before after call.opened leads.by.is still.unread (stretch_of lines left budget irq old new before after call still.unread agrees);
+        done = unread_done task lines left (Some line) (state_of old) (state_of new) leads.made before after call.opened leads.by.is still.unread (stretch_of lines left budget irq old new before after call still.unread agrees)
+            (λ some. going_finds old.phase (state_of old) (seen_by (values_of leads.made) false) goes);
         graphs_are = graphs_on lines left budget irq old new before after call;
         stage = subst (λ (bring_up : BringUp). StandsIn bring_up.phase IsPlanBy verbs graphs task (course_of task lines after).written bring_up (world_of after)) (sym still.same)
             (stands_in IsPlanBy verbs_by verbs graphs task laws of old.phase (course_of task lines after).written old (world_of after) goes asking);
@@ -264,15 +277,15 @@ module _ (IsPlanBy : RawCodec → Plan → Type 0) (verbs_by : RawCodec → Plan
       by : (call : Called lines left budget irq old new before after) → LooksOn irq old new call.leads.made a.from a.read before after ⊎ IsStill old new call.leads.made a.from a.read after → Ends lines left new after
       by call (inl on) =
           looks_on IsPlanBy verbs_by verbs graphs task laws of notes lines left budget irq old new call.leads.made before after call.opened goes call.graphs_are a call.leads.reads
-          (λ ended agrees. call.leads.is task budget call.blocks call.silent ended agrees) call.kept on
+          (λ ended agrees. call.leads.is task budget call.blocks call.silent ended agrees) call.kept call.leads.by.is on
       by call (inr still) = still_told lines left budget irq old new before after call goes a still
 
   -- ---- once it is over
 
   over_told : (lines left : List DriverLine) (budget : ℕ) (irq : Bool) (old new : BringUp) (before after : Telling) (phase : Phase) → Called lines left budget irq old new before after → old.phase ≡ phase → is_asking phase ≡ false
-      → ((seen : Seen) (tally : Tally) → led task (state_of old) seen tally phase ≡ state_of old) → (phase ≡ Settling → ⊥)
+      → ((seen : Seen) (tally : Tally) → led task (state_of old) seen tally phase ≡ state_of old) → (phase ≡ Settling → ⊥) → ((seen : Seen) → FindsIn phase (state_of old) seen)
       → (new.agenda ≡ old.agenda → new.sent ≡ old.sent → StandsIn phase IsPlanBy verbs graphs task (course_of task lines after).written new (world_of after)) → Ends lines left new after
-  over_told lines left budget irq old new before after phase call was not still unsettled stage =
+  over_told lines left budget irq old new before after phase call was not still unsettled finds stage =
       let leads = call.leads in
       let line : DriverLine = record { irq = irq; budget = budget } in
       let unasking = ap is_asking was ∙ not in
@@ -283,7 +296,8 @@ module _ (IsPlanBy : RawCodec → Plan → Type 0) (verbs_by : RawCodec → Plan
       let stays = ap (λ (phase : Phase). led task (state_of old) seen tally phase) was ∙ still seen tally in
       let same = ap (λ (state : State). state.phase) stretch.leads ∙ over_on task (state_of old) line seen stays ∙ was in
       let sent = ap (λ (state : State). state.sent) stretch.leads ∙ over_sent task (state_of old) line seen stays in record {
-        done = unread_done task lines left (Some line) (state_of old) (state_of new) leads.made before after call.opened leads.by.is unread stretch;
+        done = unread_done task lines left (Some line) (state_of old) (state_of new) leads.made before after call.opened leads.by.is unread stretch
+            (λ some. subst (λ (phase : Phase). FindsIn phase (state_of old) seen) (sym was) (finds seen));
         graphs_are = graphs_on lines left budget irq old new before after call;
         stage = subst (λ (phase : Phase). StandsIn phase IsPlanBy verbs graphs task (course_of task lines after).written new (world_of after)) (sym same) (stage (same_agenda call unread (λ settling walking. unsettled (sym was ∙ settling))) sent);
       }
@@ -301,7 +315,7 @@ module _ (IsPlanBy : RawCodec → Plan → Type 0) (verbs_by : RawCodec → Plan
   call_told lines left budget irq old new before after Drained was call stage = absurd stage
   call_told lines left budget irq old new before after NothingRouted was call stage = absurd stage
   call_told lines left budget irq old new before after (Unanswered codec command issued noticed) was call stage =
-      over_told lines left budget irq old new before after (Unanswered codec command issued noticed) call was refl (λ seen tally. refl) (λ is. no_unanswered codec command issued noticed is) (λ same sent. walked_on graphs task old new same sent stage)
+      over_told lines left budget irq old new before after (Unanswered codec command issued noticed) call was refl (λ seen tally. refl) (λ is. no_unanswered codec command issued noticed is) (λ seen. tt {0}) (λ same sent. walked_on graphs task old new same sent stage)
   call_told lines left budget irq old new before after (Late from to limit) was call stage = absurd stage
   call_told lines left budget irq old new before after (Malformed codec fault) was call stage = absurd stage
-  call_told lines left budget irq old new before after Failed was call stage = over_told lines left budget irq old new before after Failed call was refl (λ seen tally. refl) (λ is. no_failed is) (λ same sent. walked_on graphs task old new same sent stage)
+  call_told lines left budget irq old new before after Failed was call stage = over_told lines left budget irq old new before after Failed call was refl (λ seen tally. refl) (λ is. no_failed is) (λ seen. tt {0}) (λ same sent. walked_on graphs task old new same sent stage)

@@ -202,5 +202,12 @@ module _ (IsPlanBy : RawCodec → Plan → Type 0) (verbs_by : RawCodec → Plan
     closes = closes_told;
     ends = ends_told;
     ends_over = ends_over_told;
-    over = λ lines bring_up telling over. let progress = rest_progress task lines over.left (state_of bring_up) telling over.rest in (progress.0, progress.1, over.ended, over.set_up);
+    over = λ lines bring_up telling over.
+        let progress = rest_progress task lines over.left (state_of bring_up) telling over.rest in record {
+          state_is = progress.1;
+          keeps = progress.0;
+          finds = progress.2;
+          ended = over.ended;
+          set_up = over.set_up;
+        };
   }

@@ -14,7 +14,7 @@ use Rattle.driver_progress.specs.Progress as progress
 use Rattle.driver_progress.specs.Progress.{course_of, IsProgress}
 use Rattle.codec_bring_up.specs.declared.bringing.BringUp.{BringUp}
 use Rattle.codec_bring_up.specs.Calls.{state_of, IsKept, Leads, Ends}
-use Rattle.told_bring_up.specs.Stretches.{IsAtRest, IsOpen, IsDone}
+use Rattle.told_bring_up.specs.Stretches.{HasFound, IsAtRest, IsOpen, IsDone}
 use Rattle.told_bring_up.specs.Standing.{IsBroughtUp, IsEnded}
 use Rattle.told_bring_up.specs.SettingUp.{StaysSetUp, RemainSetUp}
 
@@ -51,6 +51,15 @@ pub record IsOver (IsPlanBy : RawCodec → Plan → Type 0) (IsOpenBy : RawCodec
   pub ended : IsEnded graphs task bring_up
   pub set_up : StaysSetUp IsPlanBy IsOpenBy graphs task lines telling
 
+-- all that is then known: the journal is progress, each stretch found what it was to find, it leads to the driver's state, which graphs were
+-- walked, and all codecs were set up at every moment from the last answer on
+pub record HasGone (IsPlanBy : RawCodec → Plan → Type 0) (IsOpenBy : RawCodec → Entries → Plan → Type 0) (graphs : List RawCodec) (task : Task) (lines : List DriverLine) (bring_up : BringUp) (telling : Telling) : Type 0 where
+  pub state_is : progress.state_of task lines telling ≡ state_of bring_up
+  pub keeps : IsProgress task lines telling
+  pub finds : HasFound task lines telling
+  pub ended : IsEnded graphs task bring_up
+  pub set_up : StaysSetUp IsPlanBy IsOpenBy graphs task lines telling
+
 pub record KeepsToProgress (IsPlanBy : RawCodec → Plan → Type 0) (verbs_by : RawCodec → Plan → List Command) (verbs : RawCodec → List Command) (IsOpenBy : RawCodec → Entries → Plan → Type 0) (graphs : List RawCodec) (task : Task) : Type 0 where
   -- where nothing happened yet, and steps of the device
   pub begins : (lines : List DriverLine) (bring_up : BringUp) (telling : Telling) → telling.journal ≡ [] → state_of bring_up ≡ state_opened → IsBroughtUp IsPlanBy verbs graphs task 0 bring_up (world_of telling)
@@ -72,7 +81,5 @@ pub record KeepsToProgress (IsPlanBy : RawCodec → Plan → Type 0) (verbs_by :
       → HasShut IsPlanBy IsOpenBy graphs task lines left new after
   pub ends_over : (lines left : List DriverLine) (bring_up : BringUp) (old new : Telling) → Accessed old new End → HasShut IsPlanBy IsOpenBy graphs task lines left bring_up old
       → IsOver IsPlanBy IsOpenBy graphs task lines bring_up new
-  -- then the journal is progress and leads to the state, the graphs that were walked are known, and all codecs were set up at every moment
-  -- from the last answer on
-  pub over : (lines : List DriverLine) (bring_up : BringUp) (telling : Telling) → IsOver IsPlanBy IsOpenBy graphs task lines bring_up telling
-      → IsProgress task lines telling × (progress.state_of task lines telling ≡ state_of bring_up) × IsEnded graphs task bring_up × StaysSetUp IsPlanBy IsOpenBy graphs task lines telling
+  -- then all of it was as it was to be
+  pub over : (lines : List DriverLine) (bring_up : BringUp) (telling : Telling) → IsOver IsPlanBy IsOpenBy graphs task lines bring_up telling → HasGone IsPlanBy IsOpenBy graphs task lines bring_up telling

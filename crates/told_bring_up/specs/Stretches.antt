@@ -1,14 +1,71 @@
--- A stretch of a driver as it is told: between two of them, at its beginning, and once its accesses were made. This project's own.
-use Rattle.std.specs.Prelude.{◌≡◌, true, false, List, [], Option}
+-- A stretch of a driver as it is told: what it is to find, and how it goes between two of them, at its beginning, and once its accesses were
+-- made. This project's own.
+use Rattle.std.specs.Prelude.{◌≡◌, true, false, List, [], ◌∷◌, Option, None, Some}
+use Rattle.std.specs.Option.{is_some}
+use Rattle.verb_codes.specs.Words.{has_bit}
+use Rattle.hda_world.specs.Worlds.{World}
+use Rattle.hda_world.specs.Events.{Event, Stepped, Begin, End, Read, Write, DmaRead, DmaWrite, happens}
 use Rattle.hda_world.specs.Tellings.{Telling}
+use Rattle.driver_progress.specs.declared.phase.Phase.{Phase}
+use Rattle.driver_progress.specs.declared.phase.Phase.TheVariants.{Reset, Settling, Walking, SettingUp, Ready, Playing, Drained, NothingRouted, Unanswered, Late, Malformed, Failed}
 use Rattle.driver_progress.specs.Tasks.{Task, DriverLine}
 use Rattle.driver_progress.specs.States.{State}
-use Rattle.driver_progress.specs.Next.{next}
-use Rattle.driver_progress.specs.Progress.{course_of, course_opened, seen_in, Conforms, Fits}
+use Rattle.driver_progress.specs.Seen.{Seen, clock_of}
+use Rattle.driver_progress.specs.Expected.{has_settled, rings_seen}
+use Rattle.driver_progress.specs.Next.{next, finds_none}
+use Rattle.driver_progress.specs.Progress.{Course, course_of, course_opened, noted, seen_in, Conforms, Fits}
 
--- no stretch is open, each that was made the accesses that were to be made, and those of these lines are left
+-- ---- what a stretch is to find
+
+-- by phase: the reset leads out of reset (4.3), and once the codecs had their time, one announced itself and both sizes of the rings are
+-- named
+abbrev pub FindsIn : Phase → State → Seen → Type 0
+FindsIn Reset state seen = has_bit seen.control 0 ≡ true
+FindsIn Settling state seen = has_settled state.kept (clock_of seen) ≡ true → is_some (rings_seen seen) ≡ true
+FindsIn Walking state seen = Unit {0}
+FindsIn SettingUp state seen = Unit {0}
+FindsIn Ready state seen = Unit {0}
+FindsIn Playing state seen = Unit {0}
+FindsIn Drained state seen = Unit {0}
+FindsIn NothingRouted state seen = Unit {0}
+FindsIn (Unanswered codec command issued noticed) state seen = Unit {0}
+FindsIn (Late from to limit) state seen = Unit {0}
+FindsIn (Malformed codec fault) state seen = Unit {0}
+FindsIn Failed state seen = Unit {0}
+
+-- a stretch of a line does, but one for an interrupt that found none; the closing one leads nowhere
+abbrev pub FindsBy : Option DriverLine → State → Seen → Type 0
+FindsBy None state seen = Unit {0}
+FindsBy (Some line) state seen = finds_none line seen ≡ false → FindsIn state.phase state seen
+
+abbrev pub Finds : Course → Type 0
+Finds course = FindsBy course.turn course.state (seen_in course)
+
+-- where it ends it did
+abbrev pub FindsAt : Course → Event → Type 0
+FindsAt course End = Finds course
+FindsAt course (Stepped step) = Unit {0}
+FindsAt course Begin = Unit {0}
+FindsAt course (Read at width value) = Unit {0}
+FindsAt course (Write at width value) = Unit {0}
+FindsAt course (DmaRead at bytes) = Unit {0}
+FindsAt course (DmaWrite at bytes) = Unit {0}
+
+-- wherever one of them ends
+abbrev pub FindsAll : Task → List Event → World → Course → Type 0
+FindsAll task [] world course = Unit {0}
+FindsAll task (event ∷ events) world course = FindsAt course event × FindsAll task events (happens world event) (noted task course world event)
+
+-- so it did in all that is told, from these lines on
+abbrev pub HasFound : Task → (lines : List DriverLine) → Telling → Type 0
+HasFound task lines telling = FindsAll task telling.journal telling.start (course_opened lines)
+
+-- ---- as it is told
+
+-- no stretch is open, each that was made the accesses that were to be made and found what it was to find, and those of these lines are left
 pub record IsAtRest (task : Task) (lines left : List DriverLine) (state : State) (telling : Telling) : Type 0 where
   pub conforms : Conforms task telling.journal telling.start (course_opened lines)
+  pub finds : HasFound task lines telling
   pub within : (course_of task lines telling).within ≡ false
   pub left_is : (course_of task lines telling).left ≡ left
   pub state_is : (course_of task lines telling).state ≡ state
@@ -16,6 +73,7 @@ pub record IsAtRest (task : Task) (lines left : List DriverLine) (state : State)
 -- one is open, of this line or the closing one, and made no access; those of these lines are left after it
 pub record IsOpen (task : Task) (lines left : List DriverLine) (turn : Option DriverLine) (state : State) (telling : Telling) : Type 0 where
   pub conforms : Conforms task telling.journal telling.start (course_opened lines)
+  pub finds : HasFound task lines telling
   pub within : (course_of task lines telling).within ≡ true
   pub left_is : (course_of task lines telling).left ≡ left
   pub turn_is : (course_of task lines telling).turn ≡ turn
@@ -23,10 +81,12 @@ pub record IsOpen (task : Task) (lines left : List DriverLine) (turn : Option Dr
   pub none_made : (course_of task lines telling).made ≡ []
   pub unanswered : (course_of task lines telling).answered ≡ false
 
--- it made the accesses that were to be made, and leads to this state
+-- it made the accesses that were to be made, found what it was to find, and leads to this state
 pub record IsDone (task : Task) (lines left : List DriverLine) (state' : State) (telling : Telling) : Type 0 where
   pub conforms : Conforms task telling.journal telling.start (course_opened lines)
+  pub finds : HasFound task lines telling
   pub within : (course_of task lines telling).within ≡ true
   pub left_is : (course_of task lines telling).left ≡ left
   pub fits : Fits task (course_of task lines telling)
+  pub found : Finds (course_of task lines telling)
   pub leads : next task (course_of task lines telling).state (course_of task lines telling).turn (seen_in (course_of task lines telling)) ≡ state'
