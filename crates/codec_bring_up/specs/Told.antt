@@ -1,4 +1,4 @@
--- What is told of the calls of a bring-up. This project's own, over High Definition Audio 1.0a, 4.3 and 4.4.
+-- What is told of the calls of a bring-up. This project's own, over High Definition Audio 1.0a, 3.3.15, 4.3 and 4.4.
 use Rattle.std.specs.Prelude.{◌≡◌, ◌≢◌, ◌⊎◌, ℕ, Bool, true, false, ◌&&◌, not, List, [], ◌++◌, length, slice_index, Option, None, Some}
 use Rattle.verb_codes.specs.Words.{has_bit}
 use Rattle.hda_registers.specs.declared.places.TheConstants.{STATESTS, INTSTS, WALCLK}
@@ -30,7 +30,7 @@ use Rattle.codec_bring_up.specs.declared.bringing.BringUp.{BringUp}
 
 -- ---- before the first command
 
--- whether a call was one for an interrupt and read that there is none (3.3.15)
+-- whether a call was one for an interrupt, and read of INTSTS that there is none (3.3.15)
 abbrev pub found_none : (irq : Bool) → (made : List Event) → Bool
 found_none irq made = irq && not (has_bit (slice_index (values_of made INTSTS) 0) interrupts_at)
 

@@ -1,5 +1,5 @@
 -- A stretch of a driver as it is told: what it is to find, and how it goes between two of them, at its beginning, and once its accesses were
--- made. This project's own.
+-- made. This project's own, over High Definition Audio 1.0a, 4.3.
 use Rattle.std.specs.Prelude.{◌≡◌, true, false, List, [], ◌∷◌, Option, None, Some}
 use Rattle.std.specs.Option.{is_some}
 use Rattle.verb_codes.specs.Words.{has_bit}
@@ -17,8 +17,8 @@ use Rattle.driver_progress.specs.Progress.{Course, course_of, course_opened, not
 
 -- ---- what a stretch is to find
 
--- by phase: the reset leads out of reset (4.3), and once the codecs had their time, one announced itself and both sizes of the rings are
--- named
+-- by phase: GCTL says that the controller is out of reset, and once the codecs had their time, one announced itself and both sizes of the
+-- rings are named
 abbrev pub FindsIn : Phase → State → Seen → Type 0
 FindsIn Reset state seen = has_bit seen.control 0 ≡ true
 FindsIn Settling state seen = has_settled state.kept (clock_of seen) ≡ true → is_some (rings_seen seen) ≡ true
@@ -33,7 +33,7 @@ FindsIn (Late from to limit) state seen = Unit {0}
 FindsIn (Malformed codec fault) state seen = Unit {0}
 FindsIn Failed state seen = Unit {0}
 
--- a stretch of a line does, but one for an interrupt that found none; the closing one leads nowhere
+-- a stretch of a line finds it, but one for an interrupt that found none; the closing one is to find nothing
 abbrev pub FindsBy : Option DriverLine → State → Seen → Type 0
 FindsBy None state seen = Unit {0}
 FindsBy (Some line) state seen = finds_none line seen ≡ false → FindsIn state.phase state seen
@@ -41,7 +41,7 @@ FindsBy (Some line) state seen = finds_none line seen ≡ false → FindsIn stat
 abbrev pub Finds : Course → Type 0
 Finds course = FindsBy course.turn course.state (seen_in course)
 
--- where it ends it did
+-- where it ends, it has
 abbrev pub FindsAt : Course → Event → Type 0
 FindsAt course End = Finds course
 FindsAt course (Stepped step) = Unit {0}
@@ -56,7 +56,7 @@ abbrev pub FindsAll : Task → List Event → World → Course → Type 0
 FindsAll task [] world course = Unit {0}
 FindsAll task (event ∷ events) world course = FindsAt course event × FindsAll task events (happens world event) (noted task course world event)
 
--- so it did in all that is told, from these lines on
+-- in all that is told, from these lines on
 abbrev pub HasFound : Task → (lines : List DriverLine) → Telling → Type 0
 HasFound task lines telling = FindsAll task telling.journal telling.start (course_opened lines)
 

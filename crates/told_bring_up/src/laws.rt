@@ -36,9 +36,9 @@ pub fn stretches_are_progress()
 /// Each call of a bring-up in an open stretch of its own, for an interrupt or not, makes just the accesses that progress expects and leads
 /// where it says, and it stands to the world after it as before: for the codecs on the link, one to four with well-formed graphs, of which
 /// some pin has a route. Before the reset CORB's engine does not run. So no answer is refused, and the agenda asks their commands in order.
-/// The last call does the same, and it is known which graphs were walked. The first stretch, but one for an interrupt that found none, leads
-/// out of reset, and once the codecs had their time a stretch finds them and both rings' sizes. At every moment from the last answer on,
-/// between any two accesses too, each codec is there with its graph and set up by its plan.
+/// The last call does the same, and it is known which graphs were walked. But for calls for an interrupt that found none, the controller is out
+/// of reset after the first call, and a look that is late enough finds a codec and both rings' sizes. At every moment from the last answer
+/// on, between any two accesses too, each codec is there with its graph and set up by its plan.
 pub fn bring_ups_keep_to_progress<T: Setter>()
     ensures { (setter : T) (format : Format) (verbs : RawCodec → List Command) (graphs : List RawCodec) (task : Task)
         → IsTaskOfCodecs (λ graph. T.IsPlanBy setter graph format) (λ graph plan. T.verbs_by setter graph plan format TAG) verbs graphs task
