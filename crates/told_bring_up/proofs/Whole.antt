@@ -204,9 +204,9 @@ module _ (IsPlanBy : RawCodec → Plan → Type 0) (verbs_by : RawCodec → Plan
     ends_over = ends_over_told;
     over = λ lines bring_up telling over.
         let progress = rest_progress task lines over.left (state_of bring_up) telling over.rest in record {
-          state_is = progress.1;
-          keeps = progress.0;
+          progress = progress.0;
           finds = progress.2;
+          state_is = progress.1;
           ended = over.ended;
           set_up = over.set_up;
         };

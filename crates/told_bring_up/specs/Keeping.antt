@@ -10,7 +10,7 @@ use Rattle.hda_world.specs.Tellings.{Telling, world_of, Went, Accessed}
 use Rattle.driver_progress.specs.declared.phase.Phase.TheVariants.{Ready}
 use Rattle.driver_progress.specs.Tasks.{Task, DriverLine}
 use Rattle.driver_progress.specs.States.{state_opened}
-use Rattle.driver_progress.specs.Progress as progress
+use Rattle.driver_progress.specs.Progress as course
 use Rattle.driver_progress.specs.Progress.{course_of, IsProgress}
 use Rattle.codec_bring_up.specs.declared.bringing.BringUp.{BringUp}
 use Rattle.codec_bring_up.specs.Calls.{state_of, IsKept, Leads, Ends}
@@ -51,12 +51,12 @@ pub record IsOver (IsPlanBy : RawCodec → Plan → Type 0) (IsOpenBy : RawCodec
   pub ended : IsEnded graphs task bring_up
   pub set_up : StaysSetUp IsPlanBy IsOpenBy graphs task lines telling
 
--- all that is then known: the journal is progress, each stretch found what it was to find, it leads to the driver's state, which graphs were
+-- all that is then known: the journal is progress and leads to the driver's state, each stretch found what it was to find, which graphs were
 -- walked, and all codecs were set up at every moment from the last answer on
 pub record HasGone (IsPlanBy : RawCodec → Plan → Type 0) (IsOpenBy : RawCodec → Entries → Plan → Type 0) (graphs : List RawCodec) (task : Task) (lines : List DriverLine) (bring_up : BringUp) (telling : Telling) : Type 0 where
-  pub state_is : progress.state_of task lines telling ≡ state_of bring_up
-  pub keeps : IsProgress task lines telling
+  pub progress : IsProgress task lines telling
   pub finds : HasFound task lines telling
+  pub state_is : course.state_of task lines telling ≡ state_of bring_up
   pub ended : IsEnded graphs task bring_up
   pub set_up : StaysSetUp IsPlanBy IsOpenBy graphs task lines telling
 
