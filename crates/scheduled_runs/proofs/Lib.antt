@@ -4,3 +4,4 @@ pub mod Closes
 pub mod Ran
 pub mod Counting
 pub mod Phases
+pub mod Walked

@@ -1,6 +1,6 @@
 -- That no stretch leads to the phase of want of memory, and in which phases a walk can end.
 use Rattle.std.proofs.Common.{◌≡◌, ℕ, Bool, true, false, List, [], ◌∷◌, refl, Option, None, Some, if◌then◌else◌}
-use Rattle.std.specs.Prelude.{slice_get}
+use Rattle.std.specs.Prelude.{nat_le, length}
 use Rattle.command_engine.specs.declared.answers.Outstanding.{Outstanding}
 use Rattle.command_engine.specs.declared.ring_places.RingPlaces.{RingPlaces}
 use Rattle.hda_world.specs.Worlds.{World}
@@ -41,7 +41,8 @@ if_well true one other first second = first
 if_well false one other first second = second
 
 answers_well : (task : Task) (answers : ℕ) → is_failed (phase_of_answers task answers) ≡ false
-answers_well task answers = if_well _ Ready _ refl (if_well _ SettingUp Walking refl refl)
+answers_well task answers =
+    if_well (nat_le (length task.orders) answers) Ready (if nat_le task.walks answers then SettingUp else Walking) refl (if_well (nat_le task.walks answers) SettingUp Walking refl refl)
 
 polled_well : (task : Task) (state : State) (clock : ℕ) (outstanding : Option Outstanding) → IsWell state → is_failed (phase_polled task state clock outstanding) ≡ false
 polled_well task state clock None well = answers_well task state.sent

@@ -23,6 +23,7 @@ use Rattle.driver_progress.specs.States.{State}
 use Rattle.driver_progress.specs.Progress.{state_of, IsProgress}
 use Rattle.driver_commands.specs.declared.answers.TheConstants.{TAG}
 use Rattle.jack_counts.specs.Jacks.{Counts}
+use Rattle.told_bring_up.specs.Stretches.{HasFound}
 use Rattle.told_bring_up.specs.Standing.{AreWalked, WalkedIn}
 use Rattle.told_bring_up.specs.SettingUp.{StaysSetUp}
 use Rattle.sound_report.specs.declared.played.Played.{Played}
@@ -75,6 +76,7 @@ can_end Failed = false
 -- of the machine's, and all of them from the set-up on; from the answer to the last command on, at every moment all codecs are set up
 pub record IsWalkedBy (machine : Machine) (schedule : Schedule) (task : Task) (state : State) (telling : Telling) (played : Played) : Type 0 where
   pub progress : IsProgress task (lines_of schedule) telling
+  pub finds : HasFound task (lines_of schedule) telling
   pub state_is : state_of task (lines_of schedule) telling ≡ state
   pub fault : IsWalkFault state.phase state.sent played.commands played.fault
   pub walked : AreWalked (graphs_of machine.codecs) played.graphs task.walks state.sent

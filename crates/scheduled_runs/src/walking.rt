@@ -28,6 +28,7 @@ use route_setup::Analog;
 use sound_report::{PlayFault, Played};
 use std::alloc::{AllocError, Global};
 use stream_format::{Bits, Format, Rate};
+use told_bring_up::bring_ups_keep_to_progress;
 use wav_reader::{Supply, Wav};
 
 /// The ring of a driver that plays nothing: so many periods, of so many units each.
@@ -134,6 +135,7 @@ pub fn walk(
     read_machines_are_whole();
     machines_have_tasks();
     opened_drivers_can_begin();
+    bring_ups_keep_to_progress::<Analog>();
     let commands = command_count(
         alloc,
         machine.codecs.as_slice(),

@@ -1,0 +1,107 @@
+use Rattle.std.proofs.Common.{◌≡◌, ◌≤◌, ℕ, true, List, [], length, refl, sym, ap, subst, ◌∙◌, arith, Some}
+use Rattle.codec_graph.specs.declared.raw.RawCodec.{RawCodec}
+use Rattle.stream_format.specs.declared.format.Format.{Format}
+use Rattle.route_planner.specs.declared.routes.Plan.{Plan}
+use Rattle.hda_files.specs.declared.machine.Machine.{Machine}
+use Rattle.hda_files.specs.declared.machine.CodecFile.{CodecFile}
+use Rattle.hda_world.specs.declared.world.TheConstants.{REGION_BYTES}
+use Rattle.hda_world.specs.Events.{Event, AreHonest}
+use Rattle.hda_world.specs.JournalEvents.{events_of}
+use Rattle.hda_world.specs.Tellings.{Telling}
+use Rattle.codec_bring_up.specs.Calls.{state_of}
+use Rattle.driver_progress.specs.declared.phase.Phase.{Phase}
+use Rattle.driver_progress.specs.Tasks.{Task, Blocks}
+use Rattle.jack_counts.specs.Jacks.{Counts}
+use Rattle.rig.specs.Rigs.{telling_of, setting_of}
+use Rattle.rig.specs.Replays.{telling_from, start_of}
+use Rattle.rig.specs.Follows.{Follows}
+use Rattle.machine_tasks.specs.Tasks.{graphs_of, verbs_in, commands_of, task_of, blocks_of}
+use Rattle.machine_tasks.specs.Starting.{BeginsAt}
+use Rattle.scheduled_runs.specs.Lines.{lines_of}
+use Rattle.scheduled_runs.specs.Events.{told_in}
+use Rattle.scheduled_runs.specs.Going.{Means, IsTask, IsDriven, plan_by, open_by}
+use Rattle.scheduled_runs.specs.Walks.{walk_format, can_end, IsWalkFault}
+use Rattle.scheduled_runs.proofs.Goes.{Keeps}
+use Rattle.scheduled_runs.proofs.Counting.{few_lines}
+use Rattle.scheduled_runs.proofs.Walked.{analog, gone, gone_ends, walked_by, journal_is, honest_from, some_same}
+use Rattle.scheduled_runs.proofs.walking.walk.Goals as goal
+
+pub silent_driver-requires-clause-few : goal.silent_driver-requires-clause-few
+silent_driver-requires-clause-few c =
+    let lines = few_lines c.args.schedule.now in
+    omega (arith, c.line_count.ensures, lines, c.requires.limits.steps)
+
+pub fault_of-requires : goal.fault_of-requires
+fault_of-requires c =
+    let driver = c.in_ok-driver.driver in
+    let fresh = c.in_ok-driver.ensures.fresh in
+    let format : driver.bring_up.agenda.format ≡ walk_format = driver.bring_up.formats ∙ fresh.opened.format ∙ fresh.format in
+    let before = telling_of c.in_ok-rig.rig in
+    let after = telling_of c.drive.new.rig in
+    let driven : IsDriven analog walk_format c.args.schedule.now driver.bring_up driver.writer c.in_ok-closed.closed before after =
+    subst (λ (f : Format). IsDriven analog f c.args.schedule.now driver.bring_up driver.writer c.in_ok-closed.closed before after) format c.in_ok-closed.ensures.driven in
+    let at : before ≡ telling_from REGION_BYTES c.args.machine [] = some_same c.in_ok-rig.ensures.told in
+    let task = task_of walk_format c.args.machine c.args.plans.items fresh.geometry (blocks_of driver.bring_up driver.writer) in
+    let keeps : Keeps analog walk_format = λ verbs graphs task is. c.bring_ups_keep_to_progress.ensures driver.setter walk_format verbs graphs task is.of_codecs in
+    let is : IsTask analog walk_format (verbs_in walk_format c.args.machine.codecs c.args.plans.items) (graphs_of c.args.machine.codecs) task = record {
+      of_codecs = c.machines_have_tasks.ensures walk_format c.args.machine c.args.plans.items fresh.geometry (blocks_of driver.bring_up driver.writer) c.requires.sound c.requires.read c.requires.plans c.requires.routed;
+      silent = refl;
+    } in
+    let begins : BeginsAt walk_format c.args.machine c.args.plans.items task driver.bring_up =
+    c.opened_drivers_can_begin.ensures walk_format c.args.machine c.args.plans.items fresh.geometry _ driver.bring_up driver.writer c.requires.sound c.requires.read fresh.opened in
+    let has = gone walk_format keeps c.args.machine c.args.plans.items task c.args.schedule.now driver.bring_up driver.writer c.in_ok-closed.closed before after is begins at driven in
+    subst (λ (phase : Phase). can_end phase ≡ true) (sym driven.phase) (gone_ends walk_format (graphs_of c.args.machine.codecs) task (lines_of c.args.schedule.now) driven.ended after has)
+
+pub returns : goal.returns
+returns c =
+    let driver = c.in_ok-driver.driver in
+    let fresh = c.in_ok-driver.ensures.fresh in
+    let format : driver.bring_up.agenda.format ≡ walk_format = driver.bring_up.formats ∙ fresh.opened.format ∙ fresh.format in
+    let before = telling_of c.in_ok-rig.rig in
+    let after = telling_of c.drive.new.rig in
+    let driven : IsDriven analog walk_format c.args.schedule.now driver.bring_up driver.writer c.in_ok-closed.closed before after =
+    subst (λ (f : Format). IsDriven analog f c.args.schedule.now driver.bring_up driver.writer c.in_ok-closed.closed before after) format c.in_ok-closed.ensures.driven in
+    let at : before ≡ telling_from REGION_BYTES c.args.machine [] = some_same c.in_ok-rig.ensures.told in
+    let task = task_of walk_format c.args.machine c.args.plans.items fresh.geometry (blocks_of driver.bring_up driver.writer) in
+    let keeps : Keeps analog walk_format = λ verbs graphs task is. c.bring_ups_keep_to_progress.ensures driver.setter walk_format verbs graphs task is.of_codecs in
+    let is : IsTask analog walk_format (verbs_in walk_format c.args.machine.codecs c.args.plans.items) (graphs_of c.args.machine.codecs) task = record {
+      of_codecs = c.machines_have_tasks.ensures walk_format c.args.machine c.args.plans.items fresh.geometry (blocks_of driver.bring_up driver.writer) c.requires.sound c.requires.read c.requires.plans c.requires.routed;
+      silent = refl;
+    } in
+    let begins : BeginsAt walk_format c.args.machine c.args.plans.items task driver.bring_up =
+    c.opened_drivers_can_begin.ensures walk_format c.args.machine c.args.plans.items fresh.geometry _ driver.bring_up driver.writer c.requires.sound c.requires.read fresh.opened in
+    let has = gone walk_format keeps c.args.machine c.args.plans.items task c.args.schedule.now driver.bring_up driver.writer c.in_ok-closed.closed before after is begins at driven in
+    let machine = c.args.machine in
+    let journal = events_of c.parts-machine.result.2 in
+    let same_machine = c.in_ok-closed.ensures.machine ∙ c.in_ok-rig.ensures.machine in
+    let told : journal ≡ after.journal = c.parts-machine.ensures.journal in
+    let is_after : after ≡ telling_from REGION_BYTES machine journal =
+    ap (λ (m : Machine). telling_from REGION_BYTES m after.journal) same_machine ∙ ap (λ (events : List Event). telling_from REGION_BYTES machine events) (sym told) in
+    let whole : driven.events ≡ journal = sym (told ∙ journal_is machine before after driven.events at driven.went) in
+    let ended = driven.ended in
+    let graphs = c.from_vec-2.ensures ∙ ap (λ graphs. graphs.items) driven.graphs in
+    let fault : IsWalkFault ended.phase ended.sent c.in_ok-commands.commands c.fault_of.result =
+    subst (λ (phase : Phase). IsWalkFault phase ended.sent c.in_ok-commands.commands c.fault_of.result) driven.phase
+    (subst (λ (sent : ℕ). IsWalkFault c.in_ok-closed.closed.phase sent c.in_ok-commands.commands c.fault_of.result) driven.sent c.fault_of.ensures) in
+    record {
+      machine_is = c.parts-machine.ensures.machine ∙ same_machine;
+      format_is = c.walk_format-2.ensures;
+      plans_are = c.from_vec.ensures;
+      walk = refl;
+      commands = c.in_ok-commands.ensures
+          ∙ ap (λ (codecs : List CodecFile). length (commands_of c.walk_format.result codecs c.as_slice-2.result.now)) c.as_slice.ensures
+          ∙ ap (λ (plans : List Plan). length (commands_of c.walk_format.result machine.codecs plans)) c.as_slice-2.ensures.value
+          ∙ ap (λ (f : Format). length (commands_of f machine.codecs c.args.plans.items)) c.walk_format.ensures;
+      total = refl;
+      runs = c.from_vec-3.ensures ∙ ap (λ runs. runs.items) driven.runs ∙ fresh.opened.runs;
+      silences = c.from_vec-4.ensures ∙ ap (λ silences. silences.items) driven.silences ∙ fresh.opened.silences;
+      heard = c.new-2.ensures;
+      replays = subst (λ (events : List Event). AreHonest events (start_of REGION_BYTES machine)) whole (honest_from machine before after driven.events at driven.went);
+      follows = subst (Follows c.args.schedule.now) whole driven.follows;
+      geometry = fresh.geometry;
+      blocks = blocks_of driver.bring_up driver.writer;
+      state = state_of ended;
+      driven = walked_by machine c.args.plans.items c.args.schedule.now task ended _ after is_after graphs fault has;
+      jacks = subst (λ jacks. Counts (told_in journal) jacks) (sym c.from_vec-5.ensures)
+          (subst (λ (events : List Event). Counts (told_in events) c.in_ok-closed.closed.jacks.items) whole (driven.counted [] fresh.opened.jacks));
+    }
