@@ -119,14 +119,28 @@ leaves-amplifier output place gain codec settings nid = other-amplifier codec ni
 controls-leave : (keys : _) → AllLeave (control_verbs keys)
 controls-leave keys = (
   leaves-map SetSelect leaves-select keys.select,
-  (leaves-map SetPower leaves-power keys.power_state,
-  (leaves-map SetStream leaves-stream keys.stream,
-  (leaves-map SetPin leaves-pin keys.control,
-  (leaves-map SetUnsol leaves-unsol keys.unsol,
-  (leaves-map SetEapd leaves-eapd keys.eapd,
-  (leaves-map SetDigital leaves-digital keys.digital,
-  (leaves-map output_gain (leaves-amplifier true 0) keys.gain_out,
-  (leaves-map SetFormat leaves-format keys.format, tt)))))))),
+  (
+    leaves-map SetPower leaves-power keys.power_state,
+    (
+      leaves-map SetStream leaves-stream keys.stream,
+      (
+        leaves-map SetPin leaves-pin keys.control,
+        (
+          leaves-map SetUnsol leaves-unsol keys.unsol,
+          (
+            leaves-map SetEapd leaves-eapd keys.eapd,
+            (
+              leaves-map SetDigital leaves-digital keys.digital,
+              (
+                leaves-map output_gain (leaves-amplifier true 0) keys.gain_out,
+                (leaves-map SetFormat leaves-format keys.format, tt),
+              ),
+            ),
+          ),
+        ),
+      ),
+    ),
+  ),
 )
 
 gains-leave : (gains places : List ℕ) → AllLeave (map (gain_verb gains) places)

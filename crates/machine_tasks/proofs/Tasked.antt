@@ -40,7 +40,7 @@ stand_by_address low (file ∷ files) increasing sound above = (
   above (omega arith),
   (All-head IsSoundCodec file files sound).address,
   stand_by_address (file.graph.address + 1) files (increasing-tail file.graph.address (addresses_in files) increasing) (All-tail IsSoundCodec file files sound)
-  (λ some. (let same = length-map files (λ (one : CodecFile). one.graph.address) in let step = increasing 0 (omega (arith, some, same)) in omega (arith, step))),
+      (λ some. (let same = length-map files (λ (one : CodecFile). one.graph.address) in let step = increasing 0 (omega (arith, some, same)) in omega (arith, step))),
 )
 
 above_low : (low : ℕ) (graphs : List RawCodec) → AscendFrom low graphs → All (λ (graph : RawCodec). low ≤ graph.address) graphs

@@ -40,12 +40,7 @@ pub fn command_count(
 }
 
 /// How many of them go to one codec.
-fn codec_count(
-    alloc: Global,
-    graph: &Graph,
-    plan: &Plan,
-    format: Format,
-) -> Result<u32, AllocError>
+fn codec_count(alloc: Global, graph: &Graph, plan: &Plan, format: Format) -> Result<u32, AllocError>
     requires { IsPlan graph.now format plan.now }
     ensures value { IfOk result (λ count. count ≡ length (walk_commands graph.now) + length (verbs_by format graph.now plan.now)) }
     ensures few { IfOk result (λ count. count ≤ 50000) }
@@ -115,12 +110,7 @@ fn list_word_count(node: &RawNode) -> u32
 }
 
 /// How many verbs set the codec up for its plan.
-fn verb_count(
-    alloc: Global,
-    graph: &Graph,
-    plan: &Plan,
-    format: Format,
-) -> Result<u32, AllocError>
+fn verb_count(alloc: Global, graph: &Graph, plan: &Plan, format: Format) -> Result<u32, AllocError>
     requires { IsPlan graph.now format plan.now }
     ensures value { IfOk result (λ count. count ≡ length (verbs_by format graph.now plan.now)) }
     ensures few { IfOk result (λ count. count ≤ 40000) }
