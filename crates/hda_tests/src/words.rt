@@ -95,29 +95,97 @@ const BAD: [&str; 56] = [
     "route A --=48000",
 ];
 
+/// Words of `walk`, with the names of the codec file and of the schedule.
+const GOOD_WALKS: [(&str, &str, &str); 13] = [
+    ("walk A.toml S.txt", "A.toml", "S.txt"),
+    ("walk A A", "A", "A"),
+    ("walk -- A S", "A", "S"),
+    ("walk A -- S", "A", "S"),
+    ("walk A S --", "A", "S"),
+    ("walk A -- -S", "A", "-S"),
+    ("walk -- -A --S", "-A", "--S"),
+    ("walk -- -- --", "--", "--"),
+    ("walk -- - -", "-", "-"),
+    ("walk -- A --rate=48000", "A", "--rate=48000"),
+    ("walk  ", "", ""),
+    ("walk walk route", "walk", "route"),
+    ("walk A=1 S=--rate", "A=1", "S=--rate"),
+];
+
+const BAD_WALKS: [&str; 27] = [
+    "walk",
+    "walk A",
+    "walk A S T",
+    "walk A S ",
+    "walk A S -- T",
+    "walk --",
+    "walk A --",
+    "walk -- A",
+    "walk -",
+    "walk - S",
+    "walk A -",
+    "walk A - -- S",
+    "walk A -S",
+    "walk -A S",
+    "walk A S -s",
+    "walk --rate 48000 A S",
+    "walk A S --rate=48000",
+    "walk A S --channels 2",
+    "walk --FILE=A S",
+    "walk --=1 A S",
+    "walk A S --help",
+    "walk -h",
+    "walk help A S",
+    "Walk A S",
+    "walks A S",
+    "wal A S",
+    "A walk S",
+];
+
 #[test]
 fn takes_good_words(rt: HostRuntime) -> Result<(), Fail> {
     for (row, name, rate, channels) in GOOD {
         let words = words_of(rt.alloc(), row)?;
-        let Request::Route { codec, format } = read_words(rt.alloc(), words.as_slice())?;
-        assert!(rt; codec == name, "{row}");
-        assert!(rt;
-            format.rate == rate && format.bits == Bits::B16 && format.channels == channels,
-            "{row}"
-        );
+        let is_asked = match read_words(rt.alloc(), words.as_slice())? {
+            Request::Route { codec, format } => {
+                codec == name
+                    && format.rate == rate
+                    && format.bits == Bits::B16
+                    && format.channels == channels
+            }
+            Request::Walk { .. } => false,
+        };
+        assert!(rt; is_asked, "{row}");
     }
     Ok(())
 }
 
 #[test]
+fn takes_good_walks(rt: HostRuntime) -> Result<(), Fail> {
+    for (row, file, steps) in GOOD_WALKS {
+        let words = words_of(rt.alloc(), row)?;
+        let is_asked = match read_words(rt.alloc(), words.as_slice())? {
+            Request::Route { .. } => false,
+            Request::Walk { codec, schedule } => codec == file && schedule == steps,
+        };
+        assert!(rt; is_asked, "{row}");
+    }
+    Ok(())
+}
+
+/// Whether the words of a row are refused.
+fn are_refused(alloc: Global, row: &str) -> Result<bool, AllocError> {
+    let words = words_of(alloc, row)?;
+    Ok(read_words(alloc, words.as_slice()).is_err_and(|fault| fault == WordsFault::NoCommand))
+}
+
+#[test]
 fn refuses_bad_words(rt: HostRuntime) -> Result<(), Fail> {
     for row in BAD {
-        let words = words_of(rt.alloc(), row)?;
-        assert!(rt;
-            read_words(rt.alloc(), words.as_slice()).is_err_and(|fault| fault
-                == WordsFault::NoCommand),
-            "{row}"
-        );
+        assert!(rt; are_refused(rt.alloc(), row)?, "{row}");
+    }
+    for row in BAD_WALKS {
+        assert!(rt; are_refused(rt.alloc(), row)?, "{row}");
     }
     let none = Vec::new(rt.alloc());
     assert!(rt;

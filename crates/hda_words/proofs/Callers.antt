@@ -1,4 +1,4 @@
--- What callers of `read_words` may cite: what a request asks determines the request, and all that is asked has 16 bits.
+-- What callers of `read_words` may cite: what a request asks determines the request, and all routes that are asked for have 16 bits.
 use Rattle.std.proofs.Common.{◌≡◌, ◌∙◌, ℕ, List, [], ◌∷◌, Option, Some, None, refl, sym, ap}
 use Rattle.std.specs.Prelude.{◌==◌, if◌then◌else◌, option_and_then, option_map}
 use Rattle.std.specs.Borrow.{Bor}
@@ -7,11 +7,11 @@ use Rattle.stream_format.specs.declared.format.Rate.TheVariants.{R8, R16, R44, R
 use Rattle.stream_format.specs.declared.format.Bits.{Bits}
 use Rattle.stream_format.specs.declared.format.Bits.TheVariants.{B16, B24, B32}
 use Rattle.stream_format.specs.declared.format.Format.{Format}
-use Rattle.hda_words.specs.Asked.{Asked, asked_by, asked_of, asked_with, bits_of, grammar_named, hertz, request_of, route}
+use Rattle.hda_words.specs.Asked.{Asked, asked_by, asked_of, asked_with, bits_of, grammar_named, hertz, request_of, route, walk}
 use Rattle.hda_words.specs.Commands.{CommandGrammar}
 use Rattle.hda_words.specs.Lines.{CommandLine, line_of}
 use Rattle.hda_words.specs.declared.table.CommandName.{CommandName}
-use Rattle.hda_words.specs.declared.table.CommandName.TheVariants.{Route}
+use Rattle.hda_words.specs.declared.table.CommandName.TheVariants.{Route, Walk}
 use Rattle.hda_words.specs.declared.request.Request.TheVariants as request
 
 -- a rate by its blocks in a second, and a sample size by its bits
@@ -58,13 +58,25 @@ asked_by-same codec other format second e = record {
   channels = cc;
 }
 
+-- two requests of `walk` that ask the same name the same files
+pub record IsSameWalk (codec other schedule second : Bor (List ℕ)) : Type 0 where
+  pub codec_name : codec.now ≡ other.now
+  pub schedule_name : schedule.now ≡ second.now
+
+pub asked_by-same_walk : (codec other schedule second : Bor (List ℕ)) → asked_by (request.Walk codec schedule) ≡ asked_by (request.Walk other second)
+    → IsSameWalk codec other schedule second
+asked_by-same_walk codec other schedule second e = record { codec_name = cc; schedule_name = cc }
+
 -- ---- 16 bits
 
+-- the bits of a route; of a walk those that its format has
 abbrev bits_asked : Asked → ℕ
 bits_asked (route codec rate bits channels) = bits
+bits_asked (walk codec schedule) = 16
 
 command_bits : (command : CommandName) (line : CommandLine) → bits_asked (asked_of command line) ≡ 16
 command_bits Route line = refl
+command_bits Walk line = refl
 
 line_bits : (command : CommandName) (line : Option CommandLine) (asked : Asked) → option_map (asked_of command) line ≡ Some asked → bits_asked asked ≡ 16
 line_bits command None asked e = let bad : None ≡ Some asked = e in cc

@@ -1,15 +1,16 @@
 -- What the parts of the words make of a line.
-use Rattle.std.proofs.Common.{◌≡◌, ◌∙◌, ℕ, Bool, true, false, List, [], ◌∷◌, map, length, Option, Some, None, refl, sym, ap, ap₂, subst, true≢false, eqb-true, take, drop, ◌-◌, arith, length-drop}
+use Rattle.std.proofs.Common.{◌≡◌, ◌∙◌, ◌⊎◌, inl, inr, ℕ, Bool, true, false, List, [], ◌∷◌, map, length, Option, Some, None, refl, sym, ap, ap₂, subst, true≢false, eqb-true, take, drop, ◌-◌, arith, length-drop}
 use Rattle.std.proofs.lemmas.List.{drop-map, take_all}
 use Rattle.std.specs.Prelude.{⊤, ◌==◌, ◌||◌, if◌then◌else◌, option_map, option_and_then}
 use Rattle.std.specs.Str.{bytes_eq}
 use Rattle.std.proofs.lemmas.Slice.Eq.{bytes_eq-Decides}
 use Rattle.clap.specs.declared.parser.matches.ArgMatches.{ArgMatches}
 use Rattle.hda_words.specs.Numbers.{Numbers, if_taken, is_taken, number_written}
-use Rattle.hda_words.specs.Commands.{CommandGrammar, OptionGrammar, option_names, route_grammar}
+use Rattle.hda_words.specs.Commands.{CommandGrammar, OptionGrammar, option_names, route_grammar, walk_grammar}
 use Rattle.hda_words.specs.Words.{Part, Word, has_single, is_among, operands_of, part_met, parts_from, parts_of, single_at, values_of, with_part, word_of}
 use Rattle.hda_words.specs.Words as words
 use Rattle.hda_words.specs.Asked.{grammar_named}
+use Rattle.hda_words.specs.declared.table.CommandName.TheVariants.{Route, Walk}
 use Rattle.hda_words.specs.Lines.{AllTaken, CommandLine, IsLineOf, line_of, line_of_parts, line_with, number_of, number_once, numbers_of, with_number}
 use Rattle.hda_words.specs.ClapCommand.{FindsParts, HoldsParts, numbers_found, operands_id, values_found}
 
@@ -143,16 +144,49 @@ fits_of grammar (Some parts) line defaults is =
 pub route_line : (ws : List (List ℕ)) (line : CommandLine) → line_of route_grammar ws ≡ Some line → IsLineOf route_grammar line
 route_line ws line is = fits_of route_grammar (parts_of (option_names route_grammar) ws) line (refl, (refl, tt)) is
 
+pub walk_line : (ws : List (List ℕ)) (line : CommandLine) → line_of walk_grammar ws ≡ Some line → IsLineOf walk_grammar line
+walk_line ws line is = fits_of walk_grammar (parts_of (option_names walk_grammar) ws) line tt is
+
 -- the words after the first
 pub words_after : {X Y : Type 0} (f : X → Y) (xs : List X) → map f (take (length xs - 1) (drop 1 xs)) ≡ drop 1 (map f xs)
 words_after f xs = ap (map f) (take_all (length xs - 1) (drop 1 xs) (simp length-drop (omega arith))) ∙ sym (drop-map f 1 xs)
 
 -- ---- the commands
 
-named_route : (b : Bool) (grammar : CommandGrammar) → (if b then Some route_grammar else None) ≡ Some grammar → grammar ≡ route_grammar
-named_route true grammar is = let same : route_grammar ≡ grammar = cc in sym same
-named_route false grammar is = let bad : None ≡ Some grammar = is in cc
+-- a command of the table
+pub data IsCommand (grammar : CommandGrammar) : Type 0 where
+  is_route : grammar ≡ route_grammar → IsCommand grammar
+  is_walk : grammar ≡ walk_grammar → IsCommand grammar
 
--- a command that has a name is `route`
-pub named_is_route : (name : List ℕ) (grammar : CommandGrammar) → grammar_named name ≡ Some grammar → grammar ≡ route_grammar
-named_is_route name grammar is = named_route (bytes_eq route_grammar.name name) grammar is
+named_first : (b : Bool) (first grammar : CommandGrammar) (others : Option CommandGrammar) → (if b then Some first else others) ≡ Some grammar
+    → (first ≡ grammar) ⊎ (others ≡ Some grammar)
+named_first true first grammar others is = let same : first ≡ grammar = cc in inl same
+named_first false first grammar others is = inr is
+
+named_later : (name : List ℕ) (grammar : CommandGrammar) → (walk_grammar ≡ grammar) ⊎ (None ≡ Some grammar) → IsCommand grammar
+named_later name grammar (inl same) = is_walk (sym same)
+named_later name grammar (inr none) = let bad : None ≡ Some grammar = none in cc
+
+named_split : (name : List ℕ) (grammar : CommandGrammar) → (route_grammar ≡ grammar) ⊎ ((if bytes_eq walk_grammar.name name then Some walk_grammar else None) ≡ Some grammar)
+    → IsCommand grammar
+named_split name grammar (inl same) = is_route (sym same)
+named_split name grammar (inr later) = named_later name grammar (named_first (bytes_eq walk_grammar.name name) walk_grammar grammar None later)
+
+-- a grammar that has a name is one of the table
+pub named_command : (name : List ℕ) (grammar : CommandGrammar) → grammar_named name ≡ Some grammar → IsCommand grammar
+named_command name grammar is =
+    named_split name grammar (named_first (bytes_eq route_grammar.name name) route_grammar grammar (if bytes_eq walk_grammar.name name then Some walk_grammar else None) is)
+
+-- no option of the table has the name of the operands
+pub command_apart : (grammar : CommandGrammar) → IsCommand grammar → is_among (option_names grammar) operands_id ≡ false
+command_apart grammar (is_route same) = subst (λ (g : CommandGrammar). is_among (option_names g) operands_id ≡ false) (sym same) refl
+command_apart grammar (is_walk same) = subst (λ (g : CommandGrammar). is_among (option_names g) operands_id ≡ false) (sym same) refl
+
+-- a grammar of the table is told by its command
+pub command_route : (grammar : CommandGrammar) → grammar.command ≡ Route → IsCommand grammar → grammar ≡ route_grammar
+command_route grammar named (is_route same) = same
+command_route grammar named (is_walk same) = let bad : Walk ≡ Route = sym (ap (λ (g : CommandGrammar). g.command) same) ∙ named in cc
+
+pub command_walk : (grammar : CommandGrammar) → grammar.command ≡ Walk → IsCommand grammar → grammar ≡ walk_grammar
+command_walk grammar named (is_walk same) = same
+command_walk grammar named (is_route same) = let bad : Route ≡ Walk = sym (ap (λ (g : CommandGrammar). g.command) same) ∙ named in cc

@@ -8,7 +8,7 @@ use Rattle.stream_format.specs.declared.format.Bits.TheVariants.{B16, B24, B32}
 use Rattle.hda_words.specs.Commands.{CommandGrammar, commands}
 use Rattle.hda_words.specs.Lines.{CommandLine, line_of}
 use Rattle.hda_words.specs.declared.table.CommandName.{CommandName}
-use Rattle.hda_words.specs.declared.table.CommandName.TheVariants.{Route}
+use Rattle.hda_words.specs.declared.table.CommandName.TheVariants.{Route, Walk}
 use Rattle.hda_words.specs.declared.request.Request.{Request}
 use Rattle.hda_words.specs.declared.request.Request.TheVariants as request
 
@@ -16,6 +16,8 @@ use Rattle.hda_words.specs.declared.request.Request.TheVariants as request
 pub data Asked : Type 0 where
   -- `route`: the name of the codec file, the blocks of a second, the bits of a sample, and the channels
   route : List ℕ → ℕ → ℕ → ℕ → Asked
+  -- `walk`: the names of the codec file and of the schedule
+  walk : List ℕ → List ℕ → Asked
 
 -- the blocks of a second
 abbrev pub hertz : Rate → ℕ
@@ -35,10 +37,16 @@ bits_of B32 = 32
 -- what a request of the program asks
 abbrev pub asked_by : Request → Asked
 asked_by (request.Route codec format) = route codec.now (hertz format.rate) (bits_of format.bits) format.channels
+asked_by (request.Walk codec schedule) = walk codec.now schedule.now
+
+-- an operand of a line
+abbrev pub operand_at : CommandLine → ℕ → List ℕ
+operand_at line place = unwrap_or (slice_get line.operands place) []
 
 -- what a command with this line asks: `route` takes 16 bits always
 abbrev pub asked_of : CommandName → CommandLine → Asked
-asked_of Route line = route (unwrap_or (slice_get line.operands 0) []) (slice_index line.numbers 0) 16 (slice_index line.numbers 1)
+asked_of Route line = route (operand_at line 0) (slice_index line.numbers 0) 16 (slice_index line.numbers 1)
+asked_of Walk line = walk (operand_at line 0) (operand_at line 1)
 
 abbrev pub grammar_named : List ℕ → Option CommandGrammar
 grammar_named name = find (λ grammar. bytes_eq grammar.name name) commands

@@ -2,7 +2,7 @@
 use Rattle.std.specs.Prelude.{ℕ, List, [], ◌∷◌, codes, map}
 use Rattle.hda_words.specs.Numbers.{Numbers, listed}
 use Rattle.hda_words.specs.declared.table.CommandName.{CommandName}
-use Rattle.hda_words.specs.declared.table.CommandName.TheVariants.{Route}
+use Rattle.hda_words.specs.declared.table.CommandName.TheVariants.{Route, Walk}
 
 -- an option `--name`, the numbers that it takes, and that which stands for it where it isn't given
 pub record OptionGrammar : Type 0 where
@@ -43,6 +43,10 @@ route_grammar = record {
   options = rate_option ∷ channels_option ∷ [];
 }
 
+-- `walk CODEC SCHEDULE`
+abbrev pub walk_grammar : CommandGrammar
+walk_grammar = record { command = Walk; name = codes "walk"; operands = 2; options = [] }
+
 -- all commands of the program
 abbrev pub commands : List CommandGrammar
-commands = route_grammar ∷ []
+commands = route_grammar ∷ walk_grammar ∷ []

@@ -1,7 +1,7 @@
 //! What the words ask the program to do.
 ghost use Rattle.std.specs.Prelude.{◌≡◌, IfOk, Some, None, Err, map, string_bytes, true};
 ghost use Rattle.hda_words.specs.Asked.{asked_by, asked_of, hertz, request_of};
-ghost use Rattle.hda_words.specs.Commands.{rate_option, route_grammar};
+ghost use Rattle.hda_words.specs.Commands.{rate_option, route_grammar, walk_grammar};
 ghost use Rattle.hda_words.specs.Lines.{IsLineOf};
 ghost use Rattle.hda_words.specs.Numbers.{is_taken};
 ghost use Rattle.hda_words.specs.Seen.{line_seen};
@@ -21,6 +21,13 @@ pub enum Request<'a> {
         codec: &'a str,
         /// The format of the routes: 16 bits always.
         format: Format,
+    },
+    /// Drives the machine of a codec file by a schedule until its codecs are set up.
+    Walk {
+        /// The name of the codec file.
+        codec: &'a str,
+        /// The name of the schedule.
+        schedule: &'a str,
     },
 }
 
@@ -81,6 +88,17 @@ fn route_of<'a>(line: &Line<'a>) -> Request<'a>
     }
 }
 
+/// What a line of `walk` asks.
+fn walk_of<'a>(line: &Line<'a>) -> Request<'a>
+    requires { IsLineOf walk_grammar (line_seen line.now) }
+    ensures { asked_by result ≡ asked_of CommandName.Walk (line_seen line.now) }
+{
+    Request::Walk {
+        codec: line.operands[0],
+        schedule: line.operands[1],
+    }
+}
+
 /// Reads the words that stand after the program's name.
 ///
 /// The first is the name of a command, and those after it are its operands and options. Without `--rate` and `--channels` a route is
@@ -94,5 +112,6 @@ pub fn read_words<'a>(alloc: Global, words: &'a [String]) -> Result<Request<'a>,
     let line = read_line(alloc, &row, words)?;
     match row.command {
         CommandName::Route => Ok(route_of(&line)),
+        CommandName::Walk => Ok(walk_of(&line)),
     }
 }

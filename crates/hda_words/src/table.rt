@@ -9,6 +9,8 @@ ghost use Rattle.hda_words.specs.Tables.{grammar_of};
 pub enum CommandName {
     /// Plans the routes of a codec file.
     Route,
+    /// Sets the codecs of a codec file up by a schedule.
+    Walk,
 }
 
 /// The numbers that an option takes.
@@ -61,7 +63,14 @@ const ROUTE: CommandRow = CommandRow {
     options: &ROUTE_OPTIONS,
 };
 
-const COMMANDS: [CommandRow; 1] = [ROUTE];
+const WALK: CommandRow = CommandRow {
+    command: CommandName::Walk,
+    name: "walk",
+    operands: 2,
+    options: &[],
+};
+
+const COMMANDS: [CommandRow; 2] = [ROUTE, WALK];
 
 /// The row with this name.
 fn row_named(rows: &[CommandRow], name: &str) -> Option<CommandRow>
