@@ -1,147 +1,283 @@
--- What the words and the statuses of the program come to.
-use Rattle.std.proofs.Common.{◌≡◌, ℕ, ◌≤◌, inl, inr, ◌≢◌, Bool, true, false, if◌then◌else◌, Result, Ok, Err, List, length, Option, Some, refl, sym, ap, subst, ◌∙◌, arith}
-use Rattle.std.specs.List.{list_any}
+-- What the statuses of the program come to, and when it gives a run.
+use Rattle.std.proofs.Common.{◌≡◌, ◌≢◌, ◌∙◌, ◌≤◌, ℕ, List, true, false, inl, inr, Option, Some, None, refl, sym, ap, subst, arith}
+use Rattle.std.specs.Prelude.{◌⊎◌, IfSome, IsNone, IsSome}
 use Rattle.stream_format.specs.declared.format.Format.{Format}
-use Rattle.route_planner.specs.declared.routes.Plan.{Plan}
-use Rattle.hda_words.specs.declared.request.Request.{Request}
-use Rattle.hda_words.specs.declared.request.Request.TheVariants as request
-use Rattle.hda_words.specs.Asked.{route, hertz, bits_of, asked_by, request_of}
 use Rattle.hda_outside.specs.Shelf.{Files}
-use Rattle.hda_files.specs.declared.machine.Machine.{Machine}
-use Rattle.hda_files.specs.declared.fault.FileFault.{FileFault}
-use Rattle.hda_files.specs.declared.fault.FileFault.TheVariants.{OutOfMemory}
-use Rattle.hda_files.specs.Machines.{Reads}
-use Rattle.hda_play.specs.Writing.{WroteText}
-use Rattle.hda_play.specs.Answers.{IsMeant, IsFile, IsRouteOf, IsRefused, IsPlanned, RouteAnswers, RequestAnswers, NamesOther, ReadingAnswers, HasEnded, plans_status, has_route, most_codec_bytes}
+use Rattle.hda_words.specs.Asked.{route, walk, hertz, bits_of}
+use Rattle.sound_report.specs.declared.played.Played.{Played}
+use Rattle.sound_report.specs.declared.played.PlayFault.{PlayFault}
+use Rattle.sound_report.specs.declared.played.PlayFault.TheVariants as fault
+use Rattle.sound_report.specs.declared.status.Status.{Status}
+use Rattle.sound_report.specs.declared.status.Status.TheVariants.{Done, WordsRefused, ShelfFailed, CodecRefused, ScheduleRefused, NothingRouted}
+use Rattle.sound_report.specs.Statuses.{number_of}
+use Rattle.hda_play.specs.Answers.{HasEnded, HasWritten}
+use Rattle.hda_play.specs.Asks.{IsNoCommand, IsRouteOf, IsWalkOf}
+use Rattle.hda_play.specs.Causes.{HasBadCodecFile, HasBadSchedule, HasPlanned, HasReported, HasUnreadFile, HasWalked, IsOfRun, IsRunless}
+use Rattle.hda_play.specs.Meanings.{Meant, of_run, status_of, telling}
+use Rattle.hda_play.proofs.Cases.{Case, cases, usage, unread, bad_codec, bad_schedule, routed, unrouted_case, ran}
 
--- bytes that were read and what they read as make an answer
-pub RouteAnswers-read : (told : Option Files) (failed : List ℕ → Type 0) (name : List ℕ) (format : Format) (bytes : List ℕ) (reading : Result Machine FileFault) (status : ℕ) (text : List ℕ) → IsFile told name bytes → length bytes ≤ most_codec_bytes → Reads bytes reading → ReadingAnswers format reading status text → RouteAnswers told failed name format status text
-RouteAnswers-read told failed name format bytes reading status text file short reads answers = inr (inr (bytes, file, short, (reading, reads, answers)))
+-- ---- numbers
 
--- what was meant and how it was written make the end
-pub HasEnded-wrote : (told : Option Files) (failed : List ℕ → Type 0) (words : List (List ℕ)) (before after : Option (List ℕ)) (sink_failed : Type 0) (meant : ℕ) (text : List ℕ) (status : ℕ) → IsMeant told failed words meant text → WroteText meant text before after sink_failed status → HasEnded told failed words before after sink_failed status
-HasEnded-wrote told failed words before after sink_failed meant text status m (inl whole) = inl (text, rw whole.0 m, whole.1)
-HasEnded-wrote told failed words before after sink_failed meant text status m (inr (inl sink)) = inr (inl (sink.0, sink.1, (meant, text, m, sink.2)))
-HasEnded-wrote told failed words before after sink_failed meant text status m (inr (inr memory)) = inr (inr (memory.0, inr (meant, text, m, memory.1)))
+-- a run ends with 0, or with 9 to 11
+run_low : (fault : Option PlayFault) → 1 ≤ number_of (status_of fault) → 9 ≤ number_of (status_of fault)
+run_low None some = absurd (omega (arith, some))
+run_low (Some (fault.Unanswered codec command issued noticed)) some = omega arith
+run_low (Some (fault.Late from to limit)) some = omega arith
+run_low (Some (fault.CommandsLeft sent of)) some = omega arith
+run_low (Some (fault.FramesLeft written heard of)) some = omega arith
 
--- plans are no refusal
-plans_status-not_5 : (plans : List Plan) → 5 ≡ plans_status plans → ⊥
-plans_status-not_5 plans e = by_case (list_any has_route plans) e where
-  by_case : (b : Bool) → ◌≡◌ {A = ℕ} 5 (if b then 0 else 8) → ⊥
-  by_case true e = absurd (omega (arith, e))
-  by_case false e = absurd (omega (arith, e))
+run_most : (fault : Option PlayFault) → number_of (status_of fault) ≤ 11
+run_most None = omega arith
+run_most (Some (fault.Unanswered codec command issued noticed)) = omega arith
+run_most (Some (fault.Late from to limit)) = omega arith
+run_most (Some (fault.CommandsLeft sent of)) = omega arith
+run_most (Some (fault.FramesLeft written heard of)) = omega arith
 
--- what is meant with status 5 is a refusal of the codec file
-refused_bytes : (told : Option Files) (name : List ℕ) (format : Format) (bytes : List ℕ) (text : List ℕ) (reading : Result Machine FileFault) → IsFile told name bytes → Reads bytes reading → ReadingAnswers format reading 5 text → (fault : FileFault) × IsFile told name bytes × (fault ≢ OutOfMemory) × Reads bytes (Err fault)
-refused_bytes told name format bytes text (Ok machine) file reads answers = absurd (plans_status-not_5 answers.0 answers.2)
-refused_bytes told name format bytes text (Err fault) file reads answers = (fault, file, answers.0, reads)
+number_told : (meant : Meant) (status : Status) (text : List ℕ) → meant ≡ telling status text → number_of meant.status ≡ number_of status
+number_told meant status text e = ap (λ (m : Meant). number_of m.status) e
 
-refused_route : (told : Option Files) (failed : List ℕ → Type 0) (words : List (List ℕ)) (name : List ℕ) (format : Format) (text : List ℕ) → IsRouteOf words name format → RouteAnswers told failed name format 5 text → IsRefused told words
-refused_route told failed words name format text asks (inl unread) = absurd (omega (arith, unread.1))
-refused_route told failed words name format text asks (inr (inl long)) = (name, format, asks, inl long.0)
-refused_route told failed words name format text asks (inr (inr read)) =
-    let r = refused_bytes told name format read.0 text read.3.0 read.1 read.3.1 read.3.2 in
-    (name, format, asks, inr (read.0, r.0, r.1, r.2, r.3))
+number_run : (meant : Meant) (played : Played) → meant ≡ of_run played → number_of meant.status ≡ number_of (status_of played.fault)
+number_run meant played e = ap (λ (m : Meant). number_of m.status) e
 
-refused_meant : (told : Option Files) (failed : List ℕ → Type 0) (words : List (List ℕ)) (text : List ℕ) → IsMeant told failed words 5 text → IsRefused told words
-refused_meant told failed words text (inl usage) = absurd (omega (arith, usage.1))
-refused_meant told failed words text (inr command) = refused_route told failed words command.0 command.1 text command.2 command.3
+-- what was meant with one number has no other
+differs : {X : Type 0} (meant : Meant) (status : Status) (text : List ℕ) (n : ℕ) → meant ≡ telling status text → number_of meant.status ≡ n → (number_of status ≡ n → ⊥) → X
+differs meant status text n e number wrong = absurd (wrong (sym (number_told meant status text e) ∙ number))
 
--- an end with status 5 is a refusal of the codec file
-pub IsRefused-wrote : (told : Option Files) (failed : List ℕ → Type 0) (words : List (List ℕ)) (before after : Option (List ℕ)) (sink_failed : Type 0) (meant : ℕ) (text : List ℕ) (status : ℕ) → IsMeant told failed words meant text → WroteText meant text before after sink_failed status → status ≡ 5 → IsRefused told words
-IsRefused-wrote told failed words before after sink_failed meant text status m (inl whole) five =
-    let P : ℕ → Type 0 = λ n. IsMeant told failed words n text in refused_meant told failed words text (subst P (sym whole.0 ∙ five) m)
-IsRefused-wrote told failed words before after sink_failed meant text status m (inr (inl sink)) five = absurd (omega (arith, sink.0, five))
-IsRefused-wrote told failed words before after sink_failed meant text status m (inr (inr memory)) five = absurd (omega (arith, memory.0, five))
+run_differs : {X : Type 0} (meant : Meant) (played : Played) (n : ℕ) → meant ≡ of_run played → number_of meant.status ≡ n → 1 ≤ n → n ≤ 8 → X
+run_differs meant played n e number some few =
+    let is : number_of (status_of played.fault) ≡ n = sym (number_run meant played e) ∙ number in
+    absurd (omega (arith, run_low played.fault (omega (arith, is, some)), is, few))
 
--- ---- the causes of the other statuses
+-- ---- the causes
 
--- a status of plans says whether some pin has a route
-plans_status-routed : (plans : List Plan) → 0 ≡ plans_status plans → list_any has_route plans ≡ true
-plans_status-routed plans e = by_case (list_any has_route plans) e where
-  by_case : (b : Bool) → ◌≡◌ {A = ℕ} 0 (if b then 0 else 8) → b ≡ true
-  by_case true e = refl
-  by_case false e = absurd (omega (arith, e))
+-- plans that were walked have a route
+was_planned : {told : Option Files} {words : List (List ℕ)} {played : Played} → HasWalked told words played → HasPlanned told words true
+was_planned walked = record {
+  name = walked.codec;
+  format = _;
+  machine = walked.machine;
+  plans = walked.plans;
+  wants = inr (walked.name, walked.asks, refl);
+  file = walked.file;
+  planned = walked.planned;
+  routed = walked.routed;
+}
 
-plans_status-unrouted : (plans : List Plan) → 8 ≡ plans_status plans → list_any has_route plans ≡ false
-plans_status-unrouted plans e = by_case (list_any has_route plans) e where
-  by_case : (b : Bool) → ◌≡◌ {A = ℕ} 8 (if b then 0 else 8) → b ≡ false
-  by_case true e = absurd (omega (arith, e))
-  by_case false e = refl
+module _ (told : Option Files) (failed : List ℕ → Type 0) (words : List (List ℕ)) where
+  -- the words are those of no command
+  no_command : (meant : Meant) → Case told failed words meant → number_of meant.status ≡ 2 → IsNoCommand words
+  no_command meant (usage refused text e) number = refused
+  no_command meant (unread name names failure text e) number = differs meant ShelfFailed text 2 e number (λ wrong. absurd (omega (arith, wrong)))
+  no_command meant (bad_codec bad text e) number = differs meant CodecRefused text 2 e number (λ wrong. absurd (omega (arith, wrong)))
+  no_command meant (bad_schedule bad text e) number = differs meant ScheduleRefused text 2 e number (λ wrong. absurd (omega (arith, wrong)))
+  no_command meant (routed name format asks planned text e) number = differs meant Done text 2 e number (λ wrong. absurd (omega (arith, wrong)))
+  no_command meant (unrouted_case planned text e) number = differs meant NothingRouted text 2 e number (λ wrong. absurd (omega (arith, wrong)))
+  no_command meant (ran played walked e) number = run_differs meant played 2 e number (omega arith) (omega arith)
 
-plans_status-not_3 : (plans : List Plan) → 3 ≡ plans_status plans → ⊥
-plans_status-not_3 plans e = by_case (list_any has_route plans) e where
-  by_case : (b : Bool) → ◌≡◌ {A = ℕ} 3 (if b then 0 else 8) → ⊥
-  by_case true e = absurd (omega (arith, e))
-  by_case false e = absurd (omega (arith, e))
+  -- the shelf failed under a name of the words
+  unread_file : (meant : Meant) → Case told failed words meant → number_of meant.status ≡ 3 → HasUnreadFile failed words
+  unread_file meant (usage refused text e) number = differs meant WordsRefused text 3 e number (λ wrong. absurd (omega (arith, wrong)))
+  unread_file meant (unread name names failure text e) number = (name, names, failure)
+  unread_file meant (bad_codec bad text e) number = differs meant CodecRefused text 3 e number (λ wrong. absurd (omega (arith, wrong)))
+  unread_file meant (bad_schedule bad text e) number = differs meant ScheduleRefused text 3 e number (λ wrong. absurd (omega (arith, wrong)))
+  unread_file meant (routed name format asks planned text e) number = differs meant Done text 3 e number (λ wrong. absurd (omega (arith, wrong)))
+  unread_file meant (unrouted_case planned text e) number = differs meant NothingRouted text 3 e number (λ wrong. absurd (omega (arith, wrong)))
+  unread_file meant (ran played walked e) number = run_differs meant played 3 e number (omega arith) (omega arith)
 
--- what a file says is no failure of the shelf
-not_unread : (format : Format) (reading : Result Machine FileFault) (text : List ℕ) → ReadingAnswers format reading 3 text → ⊥
-not_unread format (Ok machine) text answers = plans_status-not_3 answers.0 answers.2
-not_unread format (Err fault) text answers = absurd (omega (arith, answers.1))
+  -- the codec file is refused
+  bad_codec_file : (meant : Meant) → Case told failed words meant → number_of meant.status ≡ 5 → HasBadCodecFile told words
+  bad_codec_file meant (usage refused text e) number = differs meant WordsRefused text 5 e number (λ wrong. absurd (omega (arith, wrong)))
+  bad_codec_file meant (unread name names failure text e) number = differs meant ShelfFailed text 5 e number (λ wrong. absurd (omega (arith, wrong)))
+  bad_codec_file meant (bad_codec bad text e) number = bad
+  bad_codec_file meant (bad_schedule bad text e) number = differs meant ScheduleRefused text 5 e number (λ wrong. absurd (omega (arith, wrong)))
+  bad_codec_file meant (routed name format asks planned text e) number = differs meant Done text 5 e number (λ wrong. absurd (omega (arith, wrong)))
+  bad_codec_file meant (unrouted_case planned text e) number = differs meant NothingRouted text 5 e number (λ wrong. absurd (omega (arith, wrong)))
+  bad_codec_file meant (ran played walked e) number = run_differs meant played 5 e number (omega arith) (omega arith)
 
--- the shelf failed under the name of the file that the words ask for
-abbrev pub IsUnread : (List ℕ → Type 0) → List (List ℕ) → Type 0
-IsUnread failed words = (name : List ℕ) × (format : Format) × IsRouteOf words name format × failed name
+  -- the schedule is refused
+  bad_schedule_file : (meant : Meant) → Case told failed words meant → number_of meant.status ≡ 7 → HasBadSchedule told words
+  bad_schedule_file meant (usage refused text e) number = differs meant WordsRefused text 7 e number (λ wrong. absurd (omega (arith, wrong)))
+  bad_schedule_file meant (unread name names failure text e) number = differs meant ShelfFailed text 7 e number (λ wrong. absurd (omega (arith, wrong)))
+  bad_schedule_file meant (bad_codec bad text e) number = differs meant CodecRefused text 7 e number (λ wrong. absurd (omega (arith, wrong)))
+  bad_schedule_file meant (bad_schedule bad text e) number = bad
+  bad_schedule_file meant (routed name format asks planned text e) number = differs meant Done text 7 e number (λ wrong. absurd (omega (arith, wrong)))
+  bad_schedule_file meant (unrouted_case planned text e) number = differs meant NothingRouted text 7 e number (λ wrong. absurd (omega (arith, wrong)))
+  bad_schedule_file meant (ran played walked e) number = run_differs meant played 7 e number (omega arith) (omega arith)
 
-unread_meant : (told : Option Files) (failed : List ℕ → Type 0) (words : List (List ℕ)) (text : List ℕ) → IsMeant told failed words 3 text → IsUnread failed words
-unread_meant told failed words text (inl usage) = absurd (omega (arith, usage.1))
-unread_meant told failed words text (inr command) = by_answer command.3
-  where
-    by_answer : RouteAnswers told failed command.0 command.1 3 text → IsUnread failed words
-    by_answer (inl unread) = (command.0, command.1, command.2, unread.0)
-    by_answer (inr (inl long)) = absurd (omega (arith, long.1))
-    by_answer (inr (inr read)) = absurd (not_unread command.1 read.3.0 text read.3.2)
+  -- some pin has a route
+  some_routed : (meant : Meant) → Case told failed words meant → number_of meant.status ≡ 0 → HasPlanned told words true
+  some_routed meant (usage refused text e) number = differs meant WordsRefused text 0 e number (λ wrong. absurd (omega (arith, wrong)))
+  some_routed meant (unread name names failure text e) number = differs meant ShelfFailed text 0 e number (λ wrong. absurd (omega (arith, wrong)))
+  some_routed meant (bad_codec bad text e) number = differs meant CodecRefused text 0 e number (λ wrong. absurd (omega (arith, wrong)))
+  some_routed meant (bad_schedule bad text e) number = differs meant ScheduleRefused text 0 e number (λ wrong. absurd (omega (arith, wrong)))
+  some_routed meant (routed name format asks planned text e) number = planned
+  some_routed meant (unrouted_case planned text e) number = differs meant NothingRouted text 0 e number (λ wrong. absurd (omega (arith, wrong)))
+  some_routed meant (ran played walked e) number = was_planned walked
 
--- what plans some machine has
-planned_bytes : (told : Option Files) (words : List (List ℕ)) (name : List ℕ) (format : Format) (bytes : List ℕ) (reading : Result Machine FileFault) (status : ℕ) (text : List ℕ) (some : Bool)
-    → IsRouteOf words name format → IsFile told name bytes → Reads bytes reading → ReadingAnswers format reading status text
-    → (status ≡ 5 → ⊥) → ((plans : List Plan) → status ≡ plans_status plans → list_any has_route plans ≡ some) → IsPlanned told words some
-planned_bytes told words name format bytes (Ok machine) status text some asks file reads answers not_5 says =
-    (name, format, bytes, machine, answers.0, asks, file, reads, answers.1, says answers.0 answers.2)
-planned_bytes told words name format bytes (Err fault) status text some asks file reads answers not_5 says = absurd (not_5 answers.1)
+  -- no pin has a route
+  none_routed : (meant : Meant) → Case told failed words meant → number_of meant.status ≡ 8 → HasPlanned told words false
+  none_routed meant (usage refused text e) number = differs meant WordsRefused text 8 e number (λ wrong. absurd (omega (arith, wrong)))
+  none_routed meant (unread name names failure text e) number = differs meant ShelfFailed text 8 e number (λ wrong. absurd (omega (arith, wrong)))
+  none_routed meant (bad_codec bad text e) number = differs meant CodecRefused text 8 e number (λ wrong. absurd (omega (arith, wrong)))
+  none_routed meant (bad_schedule bad text e) number = differs meant ScheduleRefused text 8 e number (λ wrong. absurd (omega (arith, wrong)))
+  none_routed meant (routed name format asks planned text e) number = differs meant Done text 8 e number (λ wrong. absurd (omega (arith, wrong)))
+  none_routed meant (unrouted_case planned text e) number = planned
+  none_routed meant (ran played walked e) number = run_differs meant played 8 e number (omega arith) (omega arith)
 
-planned_meant : (told : Option Files) (failed : List ℕ → Type 0) (words : List (List ℕ)) (status : ℕ) (text : List ℕ) (some : Bool) → IsMeant told failed words status text
-    → (status ≡ 2 → ⊥) → (status ≡ 3 → ⊥) → (status ≡ 5 → ⊥) → ((plans : List Plan) → status ≡ plans_status plans → list_any has_route plans ≡ some) → IsPlanned told words some
-planned_meant told failed words status text some (inl usage) not_2 not_3 not_5 says = absurd (not_2 usage.1)
-planned_meant told failed words status text some (inr command) not_2 not_3 not_5 says = by_answer command.3
-  where
-    by_answer : RouteAnswers told failed command.0 command.1 status text → IsPlanned told words some
-    by_answer (inl unread) = absurd (not_3 unread.1)
-    by_answer (inr (inl long)) = absurd (not_5 long.1)
-    by_answer (inr (inr read)) = planned_bytes told words command.0 command.1 read.0 read.3.0 status text some command.2 read.1 read.3.1 read.3.2 not_5 says
+  -- nothing is meant with the sink's status
+  never_sink : (meant : Meant) → Case told failed words meant → number_of meant.status ≡ 4 → ⊥
+  never_sink meant (usage refused text e) number = differs meant WordsRefused text 4 e number (λ wrong. absurd (omega (arith, wrong)))
+  never_sink meant (unread name names failure text e) number = differs meant ShelfFailed text 4 e number (λ wrong. absurd (omega (arith, wrong)))
+  never_sink meant (bad_codec bad text e) number = differs meant CodecRefused text 4 e number (λ wrong. absurd (omega (arith, wrong)))
+  never_sink meant (bad_schedule bad text e) number = differs meant ScheduleRefused text 4 e number (λ wrong. absurd (omega (arith, wrong)))
+  never_sink meant (routed name format asks planned text e) number = differs meant Done text 4 e number (λ wrong. absurd (omega (arith, wrong)))
+  never_sink meant (unrouted_case planned text e) number = differs meant NothingRouted text 4 e number (λ wrong. absurd (omega (arith, wrong)))
+  never_sink meant (ran played walked e) number = run_differs meant played 4 e number (omega arith) (omega arith)
 
--- a status that is neither the sink's nor want of memory is the one that was meant
-meant_status : (meant : ℕ) (text : List ℕ) (before after : Option (List ℕ)) (sink_failed : Type 0) (status : ℕ) → WroteText meant text before after sink_failed status
-    → (status ≡ 4 → ⊥) → (status ≡ 12 → ⊥) → status ≡ meant
-meant_status meant text before after sink_failed status (inl whole) not_4 not_12 = whole.0
-meant_status meant text before after sink_failed status (inr (inl sink)) not_4 not_12 = absurd (not_4 sink.0)
-meant_status meant text before after sink_failed status (inr (inr memory)) not_4 not_12 = absurd (not_12 memory.0)
+-- the words are not those of both commands
+not_both : (words : List (List ℕ)) (name : List ℕ) (format : Format) (codec schedule : List ℕ) → IsRouteOf words name format → IsWalkOf words codec schedule → ⊥
+not_both words name format codec schedule routes walks =
+    let bad : Some (route name (hertz format.rate) (bits_of format.bits) format.channels) ≡ Some (walk codec schedule) = sym routes ∙ walks in cc
 
-pub IsUnread-wrote : (told : Option Files) (failed : List ℕ → Type 0) (words : List (List ℕ)) (before after : Option (List ℕ)) (sink_failed : Type 0) (meant : ℕ) (text : List ℕ) (status : ℕ) → IsMeant told failed words meant text → WroteText meant text before after sink_failed status → status ≡ 3 → IsUnread failed words
-IsUnread-wrote told failed words before after sink_failed meant text status m wrote three =
-    let same = meant_status meant text before after sink_failed status wrote (λ e. absurd (omega (arith, e, three))) (λ e. absurd (omega (arith, e, three))) in
-    let P : ℕ → Type 0 = λ n. IsMeant told failed words n text in unread_meant told failed words text (subst P (sym same ∙ three) m)
+-- a number that is 0 or at least 9 is none from 1 to 8
+out_of : {X : Type 0} (n : ℕ) → (n ≡ 0) ⊎ (9 ≤ n) → 1 ≤ n → n ≤ 8 → X
+out_of n (inl none) some few = absurd (omega (arith, none, some))
+out_of n (inr many) some few = absurd (omega (arith, many, few))
 
-pub IsRouted-wrote : (told : Option Files) (failed : List ℕ → Type 0) (words : List (List ℕ)) (before after : Option (List ℕ)) (sink_failed : Type 0) (meant : ℕ) (text : List ℕ) (status : ℕ) → IsMeant told failed words meant text → WroteText meant text before after sink_failed status → status ≡ 0 → IsPlanned told words true
-IsRouted-wrote told failed words before after sink_failed meant text status m wrote none =
-    let same = meant_status meant text before after sink_failed status wrote (λ e. absurd (omega (arith, e, none))) (λ e. absurd (omega (arith, e, none))) in
-    let P : ℕ → Type 0 = λ n. IsMeant told failed words n text in
-    planned_meant told failed words 0 text true (subst P (sym same ∙ none) m) (λ e. absurd (omega (arith, e))) (λ e. absurd (omega (arith, e))) (λ e. absurd (omega (arith, e))) plans_status-routed
+-- ---- an end
 
-pub IsUnrouted-wrote : (told : Option Files) (failed : List ℕ → Type 0) (words : List (List ℕ)) (before after : Option (List ℕ)) (sink_failed : Type 0) (meant : ℕ) (text : List ℕ) (status : ℕ) → IsMeant told failed words meant text → WroteText meant text before after sink_failed status → status ≡ 8 → IsPlanned told words false
-IsUnrouted-wrote told failed words before after sink_failed meant text status m wrote eight =
-    let same = meant_status meant text before after sink_failed status wrote (λ e. absurd (omega (arith, e, eight))) (λ e. absurd (omega (arith, e, eight))) in
-    let P : ℕ → Type 0 = λ n. IsMeant told failed words n text in
-    planned_meant told failed words 8 text false (subst P (sym same ∙ eight) m) (λ e. absurd (omega (arith, e))) (λ e. absurd (omega (arith, e))) (λ e. absurd (omega (arith, e))) plans_status-unrouted
+module _ (told : Option Files) (failed : List ℕ → Type 0) (words : List (List ℕ)) (before after : Option (List ℕ)) (sink_failed : Type 0) (play : Option Played) (status : ℕ) where
+  -- a status that is neither the sink's nor want of memory is the one that was meant
+  meant_number : (meant : Meant) (n : ℕ) → HasWritten before after sink_failed meant status → status ≡ n → (n ≡ 4 → ⊥) → (n ≡ 12 → ⊥) → number_of meant.status ≡ n
+  meant_number meant n (inl whole) is no_sink no_memory = sym whole.0 ∙ is
+  meant_number meant n (inr (inl sink)) is no_sink no_memory = absurd (no_sink (sym is ∙ sink.0))
+  meant_number meant n (inr (inr memory)) is no_sink no_memory = absurd (no_memory (sym is ∙ memory.0))
 
--- ---- requests
+  -- such a status comes of what was meant
+  caused : {X : Type 0} (n : ℕ) → ((meant : Meant) → Case told failed words meant → number_of meant.status ≡ n → X) → (n ≡ 4 → ⊥) → (n ≡ 12 → ⊥)
+      → HasEnded told failed words before after sink_failed play status → status ≡ n → X
+  caused n cause no_sink no_memory (inl answered) is =
+      cause answered.meant (cases told failed words answered.meant answered.is) (meant_number answered.meant n answered.written is no_sink no_memory)
+  caused n cause no_sink no_memory (inr memory) is = absurd (no_memory (sym is ∙ memory.0))
 
--- an answer to a request of the words is meant by them
-pub request_meant : (told : Option Files) (failed : List ℕ → Type 0) (words : List (List ℕ)) (asked : Request) (status : ℕ) (text : List ℕ)
-    → request_of words ≡ Some (asked_by asked) → RequestAnswers told failed asked status text → IsMeant told failed words status text
-request_meant told failed words (request.Route codec format) status text is answers = inr (codec.now, format, is, answers)
+  pub refused_words : HasEnded told failed words before after sink_failed play status → status ≡ 2 → IsNoCommand words
+  refused_words = caused 2 (no_command told failed words) (λ e. absurd (omega (arith, e))) (λ e. absurd (omega (arith, e)))
 
--- a name that the words do not ask for is another than the request's
-pub other_name : (words : List (List ℕ)) (asked : Request) (name : List ℕ) → request_of words ≡ Some (asked_by asked) → ((format : Format) → IsRouteOf words name format → ⊥) → NamesOther asked name
-other_name words (request.Route codec format) name is other = λ same. other format (is ∙ ap (λ (n : List ℕ). Some (route n (hertz format.rate) (bits_of format.bits) format.channels)) (sym same))
+  pub shelf_failed : HasEnded told failed words before after sink_failed play status → status ≡ 3 → HasUnreadFile failed words
+  shelf_failed = caused 3 (unread_file told failed words) (λ e. absurd (omega (arith, e))) (λ e. absurd (omega (arith, e)))
+
+  pub refused_codec : HasEnded told failed words before after sink_failed play status → status ≡ 5 → HasBadCodecFile told words
+  refused_codec = caused 5 (bad_codec_file told failed words) (λ e. absurd (omega (arith, e))) (λ e. absurd (omega (arith, e)))
+
+  pub refused_schedule : HasEnded told failed words before after sink_failed play status → status ≡ 7 → HasBadSchedule told words
+  refused_schedule = caused 7 (bad_schedule_file told failed words) (λ e. absurd (omega (arith, e))) (λ e. absurd (omega (arith, e)))
+
+  pub was_routed : HasEnded told failed words before after sink_failed play status → status ≡ 0 → HasPlanned told words true
+  was_routed = caused 0 (some_routed told failed words) (λ e. absurd (omega (arith, e))) (λ e. absurd (omega (arith, e)))
+
+  pub was_unrouted : HasEnded told failed words before after sink_failed play status → status ≡ 8 → HasPlanned told words false
+  was_unrouted = caused 8 (none_routed told failed words) (λ e. absurd (omega (arith, e))) (λ e. absurd (omega (arith, e)))
+
+  -- at the sink's status its count of faults rose
+  sink_answered : (meant : Meant) → Case told failed words meant → HasWritten before after sink_failed meant status → status ≡ 4 → sink_failed
+  sink_answered meant case (inl whole) four = absurd (never_sink told failed words meant case (sym whole.0 ∙ four))
+  sink_answered meant case (inr (inl sink)) four = sink.1
+  sink_answered meant case (inr (inr memory)) four = absurd (omega (arith, memory.0, four))
+
+  pub sink_faulted : HasEnded told failed words before after sink_failed play status → status ≡ 4 → sink_failed
+  sink_faulted (inl answered) four = sink_answered answered.meant (cases told failed words answered.meant answered.is) answered.written four
+  sink_faulted (inr memory) four = absurd (omega (arith, memory.0, four))
+
+  -- ---- the run
+
+  no_run : (P : Played → Type 0) (meant : Meant) (of : Status) (text : List ℕ) → meant ≡ telling of text → play ≡ meant.play → IfSome play P
+  no_run P meant of text e is =
+      let none : play ≡ None = is ∙ ap (λ (m : Meant). m.play) e in subst (λ (o : Option Played). IfSome o P) (sym none) tt
+
+  run_of : (P : Played → Type 0) (meant : Meant) (played : Played) → meant ≡ of_run played → play ≡ meant.play → P played → IfSome play P
+  run_of P meant played e is holds =
+      let some : play ≡ Some played = is ∙ ap (λ (m : Meant). m.play) e in subst (λ (o : Option Played). IfSome o P) (sym some) holds
+
+  -- what holds of the run that was meant holds of the run that is given
+  of_given : (P : Played → Type 0) (meant : Meant) → Case told failed words meant → play ≡ meant.play → ((played : Played) → HasWalked told words played → meant ≡ of_run played → P played) → IfSome play P
+  of_given P meant (usage refused text e) is holds = no_run P meant WordsRefused text e is
+  of_given P meant (unread name names failure text e) is holds = no_run P meant ShelfFailed text e is
+  of_given P meant (bad_codec bad text e) is holds = no_run P meant CodecRefused text e is
+  of_given P meant (bad_schedule bad text e) is holds = no_run P meant ScheduleRefused text e is
+  of_given P meant (routed name format asks planned text e) is holds = no_run P meant Done text e is
+  of_given P meant (unrouted_case planned text e) is holds = no_run P meant NothingRouted text e is
+  of_given P meant (ran played walked e) is holds = run_of P meant played e is (holds played walked e)
+
+  given : (P : Played → Type 0) → HasEnded told failed words before after sink_failed play status
+      → ((meant : Meant) (played : Played) → HasWalked told words played → meant ≡ of_run played → HasWritten before after sink_failed meant status → P played) → IfSome play P
+  given P (inl answered) holds =
+      of_given P answered.meant (cases told failed words answered.meant answered.is) answered.given (λ played walked e. holds answered.meant played walked e answered.written)
+  given P (inr memory) holds = subst (λ (o : Option Played). IfSome o P) (sym memory.1) tt
+
+  pub run_walked : HasEnded told failed words before after sink_failed play status → IfSome play (HasWalked told words)
+  run_walked ended = given (HasWalked told words) ended (λ meant played walked e written. walked)
+
+  reported_as : (played : Played) → HasWritten before after sink_failed (of_run played) status → HasReported before after played status
+  reported_as played (inl whole) = inl whole
+  reported_as played (inr (inl sink)) = inr (inl sink.0, sink.2)
+  reported_as played (inr (inr memory)) = inr (inr memory.0, memory.1)
+
+  pub run_reported : HasEnded told failed words before after sink_failed play status → IfSome play (λ played. HasReported before after played status)
+  run_reported ended = given (λ played. HasReported before after played status) ended (λ meant played walked e written.
+      reported_as played (subst (λ (m : Meant). HasWritten before after sink_failed m status) e written))
+
+  none_given : (o : Option Played) → IfSome o (λ played. ⊥) → IsNone o
+  none_given None holds = refl
+  none_given (Some played) holds = absurd holds
+
+  -- no run is given at a status of a refusal
+  not_refusal : (n : ℕ) → status ≡ n → (2 ≤ n) → (n ≢ 4) → (n ≢ 12) → (n ≤ 8) ⊎ (12 ≤ n) → (meant : Meant) (played : Played) → meant ≡ of_run played
+      → HasWritten before after sink_failed meant status → ⊥
+  not_refusal n is some no_sink no_memory (inl few) meant played e written =
+      run_differs meant played n e (meant_number meant n written is no_sink no_memory) (omega (arith, some)) few
+  not_refusal n is some no_sink no_memory (inr many) meant played e written =
+      let number : number_of (status_of played.fault) ≡ n = sym (number_run meant played e) ∙ meant_number meant n written is no_sink no_memory in
+      omega (arith, run_most played.fault, number, many)
+
+  refusal_runless : (n : ℕ) → HasEnded told failed words before after sink_failed play status → status ≡ n → (2 ≤ n) → (n ≢ 4) → (n ≢ 12) → (n ≤ 8) ⊎ (12 ≤ n) → IsNone play
+  refusal_runless n ended is some no_sink no_memory range =
+      none_given play (given (λ played. ⊥) ended (λ meant played walked e written. not_refusal n is some no_sink no_memory range meant played e written))
+
+  pub runless : HasEnded told failed words before after sink_failed play status → IsRunless status → IsNone play
+  runless ended (inl is) = refusal_runless 2 ended is (omega arith) (λ e. absurd (omega (arith, e))) (λ e. absurd (omega (arith, e))) (inl (omega arith))
+  runless ended (inr (inl is)) = refusal_runless 3 ended is (omega arith) (λ e. absurd (omega (arith, e))) (λ e. absurd (omega (arith, e))) (inl (omega arith))
+  runless ended (inr (inr (inl is))) = refusal_runless 5 ended is (omega arith) (λ e. absurd (omega (arith, e))) (λ e. absurd (omega (arith, e))) (inl (omega arith))
+  runless ended (inr (inr (inr (inl is)))) = refusal_runless 6 ended is (omega arith) (λ e. absurd (omega (arith, e))) (λ e. absurd (omega (arith, e))) (inl (omega arith))
+  runless ended (inr (inr (inr (inr (inl is))))) = refusal_runless 7 ended is (omega arith) (λ e. absurd (omega (arith, e))) (λ e. absurd (omega (arith, e))) (inl (omega arith))
+  runless ended (inr (inr (inr (inr (inr (inl is)))))) = refusal_runless 8 ended is (omega arith) (λ e. absurd (omega (arith, e))) (λ e. absurd (omega (arith, e))) (inl (omega arith))
+  runless ended (inr (inr (inr (inr (inr (inr is)))))) = refusal_runless 13 ended is (omega arith) (λ e. absurd (omega (arith, e))) (λ e. absurd (omega (arith, e))) (inr (omega arith))
+
+  -- `route` makes no run
+  pub route_runless : HasEnded told failed words before after sink_failed play status → (name : List ℕ) (format : Format) → IsRouteOf words name format → IsNone play
+  route_runless ended name format is = none_given play (given (λ played. ⊥) ended (λ meant played walked e written. not_both words name format walked.codec walked.name is walked.asks))
+
+  -- `walk` gives its run at the statuses of a run
+  some_given : (meant : Meant) (played : Played) → meant ≡ of_run played → play ≡ meant.play → IsSome play
+  some_given meant played e is =
+      let some : play ≡ Some played = is ∙ ap (λ (m : Meant). m.play) e in subst (λ (o : Option Played). IsSome o) (sym some) refl
+
+  walk_case : (n : ℕ) (codec name : List ℕ) → IsWalkOf words codec name → (meant : Meant) → Case told failed words meant → play ≡ meant.play → number_of meant.status ≡ n
+      → (n ≡ 0) ⊎ (9 ≤ n) → IsSome play
+  walk_case n codec name walks meant (usage refused text e) is number range = differs meant WordsRefused text n e number (λ bad. out_of n range (omega (arith, bad)) (omega (arith, bad)))
+  walk_case n codec name walks meant (unread file names failure text e) is number range = differs meant ShelfFailed text n e number (λ bad. out_of n range (omega (arith, bad)) (omega (arith, bad)))
+  walk_case n codec name walks meant (bad_codec bad text e) is number range = differs meant CodecRefused text n e number (λ wrong. out_of n range (omega (arith, wrong)) (omega (arith, wrong)))
+  walk_case n codec name walks meant (bad_schedule bad text e) is number range = differs meant ScheduleRefused text n e number (λ wrong. out_of n range (omega (arith, wrong)) (omega (arith, wrong)))
+  walk_case n codec name walks meant (routed file format asks planned text e) is number range = absurd (not_both words file format codec name asks walks)
+  walk_case n codec name walks meant (unrouted_case planned text e) is number range = differs meant NothingRouted text n e number (λ bad. out_of n range (omega (arith, bad)) (omega (arith, bad)))
+  walk_case n codec name walks meant (ran played walked e) is number range = some_given meant played e is
+
+  walk_at : (n : ℕ) (codec name : List ℕ) → IsWalkOf words codec name → HasEnded told failed words before after sink_failed play status → status ≡ n → (n ≢ 4) → (n ≢ 12)
+      → (n ≡ 0) ⊎ (9 ≤ n) → IsSome play
+  walk_at n codec name walks (inl answered) is no_sink no_memory range =
+      walk_case n codec name walks answered.meant (cases told failed words answered.meant answered.is) answered.given (meant_number answered.meant n answered.written is no_sink no_memory) range
+  walk_at n codec name walks (inr memory) is no_sink no_memory range = absurd (no_memory (sym is ∙ memory.0))
+
+  pub walk_runs : HasEnded told failed words before after sink_failed play status → (codec name : List ℕ) → IsWalkOf words codec name → IsOfRun status → IsSome play
+  walk_runs ended codec name walks (inl is) = walk_at 0 codec name walks ended is (λ e. absurd (omega (arith, e))) (λ e. absurd (omega (arith, e))) (inl refl)
+  walk_runs ended codec name walks (inr (inl is)) = walk_at 9 codec name walks ended is (λ e. absurd (omega (arith, e))) (λ e. absurd (omega (arith, e))) (inr (omega arith))
+  walk_runs ended codec name walks (inr (inr is)) = walk_at 11 codec name walks ended is (λ e. absurd (omega (arith, e))) (λ e. absurd (omega (arith, e))) (inr (omega arith))

@@ -1,1 +1,4 @@
-pub mod Endings
+mod ReadLemmas
+mod WalkLemmas
+mod Cases
+mod Endings

@@ -1,4 +1,9 @@
 pub mod Text
+pub mod Asks
+pub mod Plans
+pub mod Walked
+pub mod Meanings
+-- what the files come to, and what private functions promise one another of them
+pub mod Files
 pub mod Answers
--- what private functions promise one another
-pub mod Writing
+pub mod Causes

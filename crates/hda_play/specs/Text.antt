@@ -10,6 +10,8 @@ use Rattle.hda_files.specs.declared.fault.Key.{Key}
 use Rattle.hda_files.specs.declared.fault.FileFault.{FileFault}
 use Rattle.hda_files.specs.declared.fault.FileFault.TheVariants.{Toml, MissingKey, WrongType, OutOfRange, Doubled, List as InList, Graph, TooManyPins, OutOfMemory}
 use Rattle.hda_files.specs.Keys.{key_name}
+use Rattle.hda_schedule.specs.declared.fault.SchedFault.{SchedFault}
+use Rattle.hda_schedule.specs.declared.fault.SchedFault.TheVariants as schedule
 use Rattle.sound_report.specs.PlanLines.{nid_text, newline}
 
 -- the name of a graph's fault, and its node identifier
@@ -62,9 +64,21 @@ fault_text (Graph address fault) = node_fault_text (graph_fault_name fault) addr
 fault_text TooManyPins = codes "TooManyPins"
 fault_text OutOfMemory = []
 
+-- the fault of a schedule
+abbrev pub schedule_fault_text : SchedFault → List ℕ
+schedule_fault_text (schedule.Line number) = codes "Line " ++ decimal number
+schedule_fault_text (schedule.Nested number) = codes "Nested " ++ decimal number
+schedule_fault_text schedule.Unclosed = codes "Unclosed"
+schedule_fault_text schedule.TooManySteps = codes "TooManySteps"
+schedule_fault_text schedule.TooManyFrames = codes "TooManyFrames"
+schedule_fault_text schedule.OutOfMemory = []
+
 -- the last lines of the program
-abbrev pub refused_line : List ℕ → List ℕ
-refused_line fault = codes "codec refused: " ++ fault ++ newline
+abbrev pub codec_refused_line : List ℕ → List ℕ
+codec_refused_line fault = codes "codec refused: " ++ fault ++ newline
+
+abbrev pub schedule_refused_line : List ℕ → List ℕ
+schedule_refused_line fault = codes "schedule refused: " ++ fault ++ newline
 
 abbrev pub unreadable_line : List ℕ → List ℕ
 unreadable_line name = codes "cannot read: " ++ name ++ newline

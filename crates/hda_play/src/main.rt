@@ -1,13 +1,21 @@
-//! Plans the routes of a codec's output pins. `hda_main` is the program over any shelf and sink; `main` gives it the
-//! machine's files and standard output.
+//! Plans the routes of a codec's output pins, and drives a machine until its codecs are set up. `hda_main` is the program over any
+//! shelf and sink; `main` gives it the machine's files and standard output.
 #![tactic(auto)]
 
 mod answer;
+mod codec;
+mod message;
+mod plans;
+mod route;
 mod run;
+mod schedule;
+mod stand_in;
 mod text;
+mod walk;
 
 use hda_outside::{FileShelf, OutSink};
 use run::hda_main;
+use sound_report::Status;
 use std::alloc::Global;
 use std::env;
 use std::io::{self, ErrorKind};
@@ -18,7 +26,7 @@ fn main(rt: HostRuntime) -> ExitCode {
     let mut out = OutSink::new(&rt);
     let ended = match words(&rt) {
         Ok(words) => hda_main(rt.alloc(), words.as_slice(), &mut shelf, &mut out).status,
-        Err(error) if error.kind() == ErrorKind::OutOfMemory => run::OUT_OF_MEMORY,
+        Err(error) if error.kind() == ErrorKind::OutOfMemory => Status::OutOfMemory.number(),
         Err(_) => hda_main(rt.alloc(), &[], &mut shelf, &mut out).status,
     };
     ExitCode::from(ended)
@@ -34,6 +42,12 @@ fn words<R: std::rt::Env + AllocGlobal>(rt: &R) -> io::Result<Vec<String>> {
 }
 
 #[cfg(test)]
+mod graph_tests;
+#[cfg(test)]
 mod refusal_tests;
+#[cfg(test)]
+mod schedule_tests;
+#[cfg(test)]
+mod test_files;
 #[cfg(test)]
 mod tests;

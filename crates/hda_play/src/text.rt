@@ -4,6 +4,7 @@ ghost use Rattle.hda_play.specs.Text as text;
 
 use codec_graph::GraphFault;
 use hda_files::{FileFault, Key, Place};
+use hda_schedule::SchedFault;
 use sound_report::push_nid;
 use std::alloc::AllocError;
 use verb_codes::ListFault;
@@ -93,5 +94,19 @@ pub fn push_fault(out: &mut String, fault: FileFault) -> Result<(), AllocError>
         FileFault::Graph(address, fault) => push_graph_fault(out, address, fault),
         FileFault::TooManyPins => out.push_str("TooManyPins"),
         FileFault::OutOfMemory => Ok(()),
+    }
+}
+
+/// The fault of a schedule.
+pub fn push_schedule_fault(out: &mut String, fault: SchedFault) -> Result<(), AllocError>
+    ensures { OnOk result (string_bytes out.new ≡ string_bytes out.old ++ text.schedule_fault_text fault) }
+{
+    match fault {
+        SchedFault::Line(number) => write!(out, "Line {number}"),
+        SchedFault::Nested(number) => write!(out, "Nested {number}"),
+        SchedFault::Unclosed => out.push_str("Unclosed"),
+        SchedFault::TooManySteps => out.push_str("TooManySteps"),
+        SchedFault::TooManyFrames => out.push_str("TooManyFrames"),
+        SchedFault::OutOfMemory => Ok(()),
     }
 }

@@ -1,18 +1,59 @@
-use Rattle.std.proofs.Common.{map, string_bytes}
-use Rattle.hda_play.proofs.Endings.{HasEnded-wrote, IsRefused-wrote, IsUnread-wrote, IsRouted-wrote, IsUnrouted-wrote}
+use Rattle.std.proofs.Common.{map, string_bytes, inl}
+use Rattle.hda_outside.specs.Counts.{Rose}
+use Rattle.hda_play.specs.Meanings.{answer_meant}
+use Rattle.hda_play.proofs.Endings.{run_walked, run_reported, runless, route_runless, shelf_failed, refused_codec, refused_schedule, was_routed, was_unrouted}
 use Rattle.hda_play.proofs.run.hda_main.Goals as goal
 
-pub returns-in-Ok-clause-ended : goal.returns-in-Ok-clause-ended
-returns-in-Ok-clause-ended g c = HasEnded-wrote _ _ (map string_bytes c.args.words.now) _ _ _ c.in-Ok.answer.status _ c.write_answer-status.result c.in-Ok.ensures.meant c.write_answer-status.ensures.ended
+pub returns-in-Ok-clause-walked : goal.returns-in-Ok-clause-walked
+returns-in-Ok-clause-walked g c = run_walked (g.S.Shelf.told c.args.shelf.now) (λ name. Rose (g.S.Shelf.faults c.args.shelf.now name) (g.S.Shelf.faults c.answer_words.new.shelf name))
+    (map string_bytes c.args.words.now) (g.K.Sink.taken c.args.out.now) (g.K.Sink.taken c.write_answer.new.out) (Rose (g.K.Sink.faults c.args.out.now) (g.K.Sink.faults c.write_answer.new.out))
+    c.write_answer.result.play c.write_answer.result.status
+    (inl (record { meant = answer_meant c.in-Ok.answer; is = c.in-Ok.ensures.meant; given = c.write_answer.ensures.play; written = c.write_answer.ensures.written }))
 
-pub returns-in-Ok-clause-refused_file : goal.returns-in-Ok-clause-refused_file
-returns-in-Ok-clause-refused_file g c = λ five. IsRefused-wrote _ _ (map string_bytes c.args.words.now) _ _ _ c.in-Ok.answer.status _ c.write_answer-status.result c.in-Ok.ensures.meant c.write_answer-status.ensures.ended five
+pub returns-in-Ok-clause-reported : goal.returns-in-Ok-clause-reported
+returns-in-Ok-clause-reported g c = run_reported (g.S.Shelf.told c.args.shelf.now) (λ name. Rose (g.S.Shelf.faults c.args.shelf.now name) (g.S.Shelf.faults c.answer_words.new.shelf name))
+    (map string_bytes c.args.words.now) (g.K.Sink.taken c.args.out.now) (g.K.Sink.taken c.write_answer.new.out) (Rose (g.K.Sink.faults c.args.out.now) (g.K.Sink.faults c.write_answer.new.out))
+    c.write_answer.result.play c.write_answer.result.status
+    (inl (record { meant = answer_meant c.in-Ok.answer; is = c.in-Ok.ensures.meant; given = c.write_answer.ensures.play; written = c.write_answer.ensures.written }))
+
+pub returns-in-Ok-clause-runless : goal.returns-in-Ok-clause-runless
+returns-in-Ok-clause-runless g c = runless (g.S.Shelf.told c.args.shelf.now) (λ name. Rose (g.S.Shelf.faults c.args.shelf.now name) (g.S.Shelf.faults c.answer_words.new.shelf name))
+    (map string_bytes c.args.words.now) (g.K.Sink.taken c.args.out.now) (g.K.Sink.taken c.write_answer.new.out) (Rose (g.K.Sink.faults c.args.out.now) (g.K.Sink.faults c.write_answer.new.out))
+    c.write_answer.result.play c.write_answer.result.status
+    (inl (record { meant = answer_meant c.in-Ok.answer; is = c.in-Ok.ensures.meant; given = c.write_answer.ensures.play; written = c.write_answer.ensures.written }))
+
+pub returns-in-Ok-clause-route_runless : goal.returns-in-Ok-clause-route_runless
+returns-in-Ok-clause-route_runless g c = route_runless (g.S.Shelf.told c.args.shelf.now) (λ name. Rose (g.S.Shelf.faults c.args.shelf.now name) (g.S.Shelf.faults c.answer_words.new.shelf name))
+    (map string_bytes c.args.words.now) (g.K.Sink.taken c.args.out.now) (g.K.Sink.taken c.write_answer.new.out) (Rose (g.K.Sink.faults c.args.out.now) (g.K.Sink.faults c.write_answer.new.out))
+    c.write_answer.result.play c.write_answer.result.status
+    (inl (record { meant = answer_meant c.in-Ok.answer; is = c.in-Ok.ensures.meant; given = c.write_answer.ensures.play; written = c.write_answer.ensures.written }))
 
 pub returns-in-Ok-clause-unread : goal.returns-in-Ok-clause-unread
-returns-in-Ok-clause-unread g c = λ is. IsUnread-wrote _ _ (map string_bytes c.args.words.now) _ _ _ c.in-Ok.answer.status _ c.write_answer-status.result c.in-Ok.ensures.meant c.write_answer-status.ensures.ended is
+returns-in-Ok-clause-unread g c = shelf_failed (g.S.Shelf.told c.args.shelf.now) (λ name. Rose (g.S.Shelf.faults c.args.shelf.now name) (g.S.Shelf.faults c.answer_words.new.shelf name))
+    (map string_bytes c.args.words.now) (g.K.Sink.taken c.args.out.now) (g.K.Sink.taken c.write_answer.new.out) (Rose (g.K.Sink.faults c.args.out.now) (g.K.Sink.faults c.write_answer.new.out))
+    c.write_answer.result.play c.write_answer.result.status
+    (inl (record { meant = answer_meant c.in-Ok.answer; is = c.in-Ok.ensures.meant; given = c.write_answer.ensures.play; written = c.write_answer.ensures.written }))
+
+pub returns-in-Ok-clause-refused_codec : goal.returns-in-Ok-clause-refused_codec
+returns-in-Ok-clause-refused_codec g c = refused_codec (g.S.Shelf.told c.args.shelf.now) (λ name. Rose (g.S.Shelf.faults c.args.shelf.now name) (g.S.Shelf.faults c.answer_words.new.shelf name))
+    (map string_bytes c.args.words.now) (g.K.Sink.taken c.args.out.now) (g.K.Sink.taken c.write_answer.new.out) (Rose (g.K.Sink.faults c.args.out.now) (g.K.Sink.faults c.write_answer.new.out))
+    c.write_answer.result.play c.write_answer.result.status
+    (inl (record { meant = answer_meant c.in-Ok.answer; is = c.in-Ok.ensures.meant; given = c.write_answer.ensures.play; written = c.write_answer.ensures.written }))
+
+pub returns-in-Ok-clause-refused_schedule : goal.returns-in-Ok-clause-refused_schedule
+returns-in-Ok-clause-refused_schedule g c = refused_schedule (g.S.Shelf.told c.args.shelf.now) (λ name. Rose (g.S.Shelf.faults c.args.shelf.now name) (g.S.Shelf.faults c.answer_words.new.shelf name))
+    (map string_bytes c.args.words.now) (g.K.Sink.taken c.args.out.now) (g.K.Sink.taken c.write_answer.new.out) (Rose (g.K.Sink.faults c.args.out.now) (g.K.Sink.faults c.write_answer.new.out))
+    c.write_answer.result.play c.write_answer.result.status
+    (inl (record { meant = answer_meant c.in-Ok.answer; is = c.in-Ok.ensures.meant; given = c.write_answer.ensures.play; written = c.write_answer.ensures.written }))
 
 pub returns-in-Ok-clause-routed : goal.returns-in-Ok-clause-routed
-returns-in-Ok-clause-routed g c = λ is. IsRouted-wrote _ _ (map string_bytes c.args.words.now) _ _ _ c.in-Ok.answer.status _ c.write_answer-status.result c.in-Ok.ensures.meant c.write_answer-status.ensures.ended is
+returns-in-Ok-clause-routed g c = was_routed (g.S.Shelf.told c.args.shelf.now) (λ name. Rose (g.S.Shelf.faults c.args.shelf.now name) (g.S.Shelf.faults c.answer_words.new.shelf name))
+    (map string_bytes c.args.words.now) (g.K.Sink.taken c.args.out.now) (g.K.Sink.taken c.write_answer.new.out) (Rose (g.K.Sink.faults c.args.out.now) (g.K.Sink.faults c.write_answer.new.out))
+    c.write_answer.result.play c.write_answer.result.status
+    (inl (record { meant = answer_meant c.in-Ok.answer; is = c.in-Ok.ensures.meant; given = c.write_answer.ensures.play; written = c.write_answer.ensures.written }))
 
 pub returns-in-Ok-clause-nothing_routed : goal.returns-in-Ok-clause-nothing_routed
-returns-in-Ok-clause-nothing_routed g c = λ is. IsUnrouted-wrote _ _ (map string_bytes c.args.words.now) _ _ _ c.in-Ok.answer.status _ c.write_answer-status.result c.in-Ok.ensures.meant c.write_answer-status.ensures.ended is
+returns-in-Ok-clause-nothing_routed g c = was_unrouted (g.S.Shelf.told c.args.shelf.now) (λ name. Rose (g.S.Shelf.faults c.args.shelf.now name) (g.S.Shelf.faults c.answer_words.new.shelf name))
+    (map string_bytes c.args.words.now) (g.K.Sink.taken c.args.out.now) (g.K.Sink.taken c.write_answer.new.out) (Rose (g.K.Sink.faults c.args.out.now) (g.K.Sink.faults c.write_answer.new.out))
+    c.write_answer.result.play c.write_answer.result.status
+    (inl (record { meant = answer_meant c.in-Ok.answer; is = c.in-Ok.ensures.meant; given = c.write_answer.ensures.play; written = c.write_answer.ensures.written }))

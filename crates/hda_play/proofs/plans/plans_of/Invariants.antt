@@ -1,6 +1,6 @@
 use Rattle.std.proofs.Common.{take}
-use Rattle.hda_play.specs.Answers.{ArePlans}
-use Rattle.hda_play.proofs.answer.plans_of.Given as goal
+use Rattle.hda_play.specs.Plans.{ArePlans}
+use Rattle.hda_play.proofs.plans.plans_of.Given as goal
 
 -- the codecs so far have their plans
 abbrev pub invariant-loop-codec : goal.invariant-loop-codec

@@ -4,7 +4,7 @@ use Rattle.std.proofs.lemmas.Slice.Zip.{all_zipped_more}
 use Rattle.hda_files.specs.declared.machine.CodecFile.{CodecFile}
 use Rattle.route_planner.specs.declared.routes.Plan.{Plan}
 use Rattle.route_planner.specs.Plans.{IsPlan}
-use Rattle.hda_play.proofs.answer.plans_of.Goals as goal
+use Rattle.hda_play.proofs.plans.plans_of.Goals as goal
 
 pub loop-codec-preserved : goal.loop-codec-preserved
 loop-codec-preserved c =

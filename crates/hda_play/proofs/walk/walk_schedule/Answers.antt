@@ -1,0 +1,10 @@
+use Rattle.std.proofs.Common.{◌≡◌, true, rules, inr, refl}
+use Rattle.hda_play.specs.Asks.{walk_format}
+use Rattle.hda_play.specs.Plans.{ArePlans, have_route}
+use Rattle.hda_play.proofs.walk.walk_schedule.Goals as goal
+
+pub returns-in_ok-walk : goal.returns-in_ok-walk
+returns-in_ok-walk c =
+    let planned : ArePlans walk_format c.args.machine.codecs c.in_ok-plans.plans.items = search rules in
+    let routed : have_route c.in_ok-plans.plans.items ≡ true = search rules in
+    (c.in_ok-plans.plans.items, planned, inr (c.in_ok-walk.field-0, routed, c.in_ok-walk.ensures, refl))

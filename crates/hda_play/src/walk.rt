@@ -1,0 +1,84 @@
+//! What `walk` answers.
+ghost use Rattle.std.specs.Prelude.{◌≡◌, ◌≢◌, ◌≤◌, ℕ, List, IfOk};
+ghost use Rattle.hda_files.specs.Machines.{IsSound};
+ghost use Rattle.hda_outside.specs.Counts.{Rose};
+ghost use Rattle.hda_play.specs.Answers.{MachineWalks, ScheduleAnswers, WalkAnswers};
+ghost use Rattle.hda_play.specs.Asks.{walk_format};
+ghost use Rattle.hda_play.specs.Files.{IsGoodSchedule};
+ghost use Rattle.hda_play.specs.Meanings.{answer_meant};
+
+use crate::answer::Answer;
+use crate::codec::read_codec;
+use crate::plans::{have_route, nothing_routed, plans_of};
+use crate::schedule::read_steps;
+use crate::stand_in::walk;
+use hda_files::Machine;
+use hda_outside::Shelf;
+use hda_schedule::Schedule;
+use route_planner::{Bits, Format, Rate};
+use std::alloc::{AllocError, Global};
+
+/// What `walk` answers for the codec file and the schedule of these names.
+pub fn answer_walk<S: Shelf>(
+    alloc: Global,
+    shelf: &mut S,
+    codec: &str,
+    schedule: &str,
+) -> Result<Answer, AllocError>
+    ensures answers { IfOk result (λ answer. WalkAnswers (S.told shelf.old) (λ name. Rose (S.faults shelf.old name) (S.faults shelf.new name))
+        codec.now schedule.now (answer_meant answer)) }
+    ensures asked { (other : List ℕ) → other ≢ codec.now → other ≢ schedule.now → S.asked shelf.new other ≡ S.asked shelf.old other }
+    ensures told { S.told shelf.new ≡ S.told shelf.old }
+    ensures later { (other : List ℕ) → S.faults shelf.old other ≤ S.faults shelf.new other }
+{
+    match read_codec(alloc, shelf, codec)? {
+        Ok(machine) => walk_machine(alloc, shelf, machine, schedule),
+        Err(message) => Ok(Answer::Message(message)),
+    }
+}
+
+/// What `walk` answers for a machine and the schedule of this name.
+fn walk_machine<S: Shelf>(
+    alloc: Global,
+    shelf: &mut S,
+    machine: Machine,
+    name: &str,
+) -> Result<Answer, AllocError>
+    requires { IsSound machine }
+    ensures answers { IfOk result (λ answer. MachineWalks (S.told shelf.old) (λ name. Rose (S.faults shelf.old name) (S.faults shelf.new name))
+        machine name.now (answer_meant answer)) }
+    ensures asked { (other : List ℕ) → other ≢ name.now → S.asked shelf.new other ≡ S.asked shelf.old other }
+    ensures told { S.told shelf.new ≡ S.told shelf.old }
+    ensures later { (other : List ℕ) → S.faults shelf.old other ≤ S.faults shelf.new other }
+{
+    match read_steps(alloc, shelf, name)? {
+        Ok(schedule) => walk_schedule(alloc, machine, &schedule),
+        Err(message) => Ok(Answer::Message(message)),
+    }
+}
+
+/// The format of a walk: 48 kHz, 16 bits and 2 channels.
+fn walk_format() -> Format
+    ensures { result ≡ walk_format }
+{
+    Format {
+        rate: Rate::R48,
+        bits: Bits::B16,
+        channels: 2,
+    }
+}
+
+/// What `walk` answers for a machine and a schedule: it runs nothing where no pin has a route.
+fn walk_schedule(alloc: Global, machine: Machine, schedule: &Schedule) -> Result<Answer, AllocError>
+    requires sound { IsSound machine }
+    requires good { IsGoodSchedule schedule.now }
+    ensures { IfOk result (λ answer. ScheduleAnswers machine schedule.now (answer_meant answer)) }
+{
+    let plans = plans_of(alloc, machine.codecs.as_slice(), walk_format())?;
+    if have_route(plans.as_slice()) {
+        Ok(Answer::Run(walk(alloc, machine, plans, schedule)?))
+    } else {
+        let message = nothing_routed(alloc, machine.codecs.as_slice(), plans.as_slice())?;
+        Ok(Answer::Message(message))
+    }
+}
