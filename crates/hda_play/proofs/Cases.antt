@@ -12,7 +12,8 @@ use Rattle.sound_report.specs.declared.played.Played.{Played}
 use Rattle.sound_report.specs.declared.status.Status.TheVariants.{Done, WordsRefused, ShelfFailed, CodecRefused, ScheduleRefused, NothingRouted}
 use Rattle.sound_report.specs.PlanLines.{plans_lines}
 use Rattle.hda_play.specs.Answers.{IsMeant, RouteAnswers, WalkAnswers, MachineWalks, PlansWalk}
-use Rattle.hda_play.specs.Asks.{IsNoCommand, IsRouteOf, IsWalkOf, Names, NamesCodecFile, codec_of, files_asked, walk_format}
+use Rattle.hda_play.specs.Asks.{IsNoCommand, IsRouteOf, IsWalkOf, Names, NamesCodecFile, codec_of, files_asked}
+use Rattle.scheduled_runs.specs.Walks.{walk_format}
 use Rattle.hda_play.specs.Causes.{HasBadCodecFile, HasBadSchedule, HasPlanned, HasWalked}
 use Rattle.hda_play.specs.Files.{CodecStops, IsMachineOf, IsScheduleOf, ScheduleStops}
 use Rattle.hda_play.specs.Meanings.{Meant, of_run, telling, unrouted}

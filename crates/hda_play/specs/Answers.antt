@@ -13,12 +13,12 @@ use Rattle.sound_report.specs.declared.played.Played.{Played}
 use Rattle.sound_report.specs.declared.status.Status.TheVariants.{Done, WordsRefused, SinkFailed, OutOfMemory}
 use Rattle.sound_report.specs.PlanLines.{plans_lines}
 use Rattle.sound_report.specs.Statuses.{number_of}
-use Rattle.hda_play.specs.Asks.{IsNoCommand, IsRouteOf, IsWalkOf, walk_format}
+use Rattle.hda_play.specs.Asks.{IsNoCommand, IsRouteOf, IsWalkOf}
+use Rattle.scheduled_runs.specs.Walks.{walk_format, IsWalked}
 use Rattle.hda_play.specs.Files.{IsMachineOf, IsScheduleOf, CodecStops, ScheduleStops}
 use Rattle.hda_play.specs.Meanings.{Meant, telling, unrouted, of_run}
 use Rattle.hda_play.specs.Plans.{ArePlans, have_route}
 use Rattle.hda_play.specs.Text.{usage_line}
-use Rattle.hda_play.specs.Walked.{IsWalked}
 
 -- ---- `route`
 

@@ -1,14 +1,8 @@
 -- What the words ask for, and which files they name. This project's own.
 use Rattle.std.specs.Prelude.{◌≡◌, ◌⊎◌, ℕ, List, [], ◌∷◌, Option, Some, None, Contains, option_map, refl}
-use Rattle.std.proofs.Common.{lit≤}
 use Rattle.stream_format.specs.declared.format.Format.{Format}
-use Rattle.stream_format.specs.declared.format.Rate.TheVariants.{R48}
-use Rattle.stream_format.specs.declared.format.Bits.TheVariants.{B16}
+use Rattle.scheduled_runs.specs.Walks.{walk_format}
 use Rattle.hda_words.specs.Asked.{Asked, route, walk, hertz, bits_of, request_of}
-
--- a walk is for 48 kHz, 16 bits and 2 channels
-abbrev pub walk_format : Format
-walk_format = record { rate = R48; bits = B16; channels = 2; even = refl; some = lit≤ tt; few = lit≤ tt }
 
 -- the words are those of no command
 abbrev pub IsNoCommand : List (List ℕ) → Type 0

@@ -10,11 +10,11 @@ use Rattle.sound_report.specs.declared.played.Played.{Played}
 use Rattle.sound_report.specs.declared.status.Status.TheVariants.{Done, WordsRefused, ShelfFailed, SinkFailed, CodecRefused, WavRefused, ScheduleRefused, NothingRouted, Unanswered, ScheduleEnded, OutOfMemory, GeometryRefused}
 use Rattle.sound_report.specs.Statuses.{number_of}
 use Rattle.sound_report.specs.Texts.{text_of}
-use Rattle.hda_play.specs.Asks.{Names, NamesCodecFile, IsWalkOf, WantsPlans, walk_format}
+use Rattle.hda_play.specs.Asks.{Names, NamesCodecFile, IsWalkOf, WantsPlans}
+use Rattle.scheduled_runs.specs.Walks.{walk_format, IsWalked}
 use Rattle.hda_play.specs.Files.{IsMachineOf, IsScheduleOf, IsCodecRefused, IsScheduleRefused}
 use Rattle.hda_play.specs.Meanings.{status_of}
 use Rattle.hda_play.specs.Plans.{ArePlans, have_route}
-use Rattle.hda_play.specs.Walked.{IsWalked}
 
 -- the shelf failed under a name of the words
 abbrev pub HasUnreadFile : (List ℕ → Type 0) → List (List ℕ) → Type 0

@@ -1,7 +1,6 @@
 pub mod Text
 pub mod Asks
 pub mod Plans
-pub mod Walked
 pub mod Meanings
 -- what the files come to, and what private functions promise one another of them
 pub mod Files

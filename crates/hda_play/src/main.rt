@@ -9,7 +9,6 @@ mod plans;
 mod route;
 mod run;
 mod schedule;
-mod stand_in;
 mod text;
 mod walk;
 
@@ -51,3 +50,5 @@ mod schedule_tests;
 mod test_files;
 #[cfg(test)]
 mod tests;
+#[cfg(test)]
+mod walk_tests;

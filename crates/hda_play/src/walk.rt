@@ -3,7 +3,7 @@ ghost use Rattle.std.specs.Prelude.{◌≡◌, ◌≢◌, ◌≤◌, ℕ, List, 
 ghost use Rattle.hda_files.specs.Machines.{IsSound};
 ghost use Rattle.hda_outside.specs.Counts.{Rose};
 ghost use Rattle.hda_play.specs.Answers.{MachineWalks, ScheduleAnswers, WalkAnswers};
-ghost use Rattle.hda_play.specs.Asks.{walk_format};
+ghost use Rattle.machine_tasks.specs.Reading.{IsRead};
 ghost use Rattle.hda_play.specs.Files.{IsGoodSchedule};
 ghost use Rattle.hda_play.specs.Meanings.{answer_meant};
 
@@ -11,11 +11,10 @@ use crate::answer::Answer;
 use crate::codec::read_codec;
 use crate::plans::{have_route, nothing_routed, plans_of};
 use crate::schedule::read_steps;
-use crate::stand_in::walk;
 use hda_files::Machine;
 use hda_outside::Shelf;
 use hda_schedule::Schedule;
-use route_planner::{Bits, Format, Rate};
+use scheduled_runs::{walk, walk_format};
 use std::alloc::{AllocError, Global};
 
 /// What `walk` answers for the codec file and the schedule of these names.
@@ -44,7 +43,8 @@ fn walk_machine<S: Shelf>(
     machine: Machine,
     name: &str,
 ) -> Result<Answer, AllocError>
-    requires { IsSound machine }
+    requires sound { IsSound machine }
+    requires read { IsRead machine }
     ensures answers { IfOk result (λ answer. MachineWalks (S.told shelf.old) (λ name. Rose (S.faults shelf.old name) (S.faults shelf.new name))
         machine name.now (answer_meant answer)) }
     ensures asked { (other : List ℕ) → other ≢ name.now → S.asked shelf.new other ≡ S.asked shelf.old other }
@@ -57,20 +57,10 @@ fn walk_machine<S: Shelf>(
     }
 }
 
-/// The format of a walk: 48 kHz, 16 bits and 2 channels.
-fn walk_format() -> Format
-    ensures { result ≡ walk_format }
-{
-    Format {
-        rate: Rate::R48,
-        bits: Bits::B16,
-        channels: 2,
-    }
-}
-
 /// What `walk` answers for a machine and a schedule: it runs nothing where no pin has a route.
 fn walk_schedule(alloc: Global, machine: Machine, schedule: &Schedule) -> Result<Answer, AllocError>
     requires sound { IsSound machine }
+    requires read { IsRead machine }
     requires good { IsGoodSchedule schedule.now }
     ensures { IfOk result (λ answer. ScheduleAnswers machine schedule.now (answer_meant answer)) }
 {

@@ -13,9 +13,9 @@ use Rattle.driver_progress.specs.declared.phase.Phase.TheVariants.{Reset, Settli
 use Rattle.driver_progress.specs.Tasks.{Task, Order, DriverLine}
 use Rattle.driver_progress.specs.Seen.{Seen, clock_of}
 use Rattle.driver_progress.specs.States.{State}
-use Rattle.driver_progress.specs.Next.{next, led, closed, led_by, tally_next, phase_polled, phase_of_answers, outstanding_if, after_poll, submitted_if, walking_if, settled_if, reset_if, phase_played, finds_none}
+use Rattle.driver_progress.specs.Next.{next, led, closed, tally_next, phase_polled, phase_of_answers, outstanding_if, after_poll, submitted_if, walking_if, settled_if, reset_if, phase_played, finds_none}
 use Rattle.driver_progress.specs.Expected.{next_order, has_settled, rings_seen}
-use Rattle.driver_progress.specs.Progress.{Course, course_after, noted, ended, ended_if, seen_in}
+use Rattle.driver_progress.specs.Progress.{Course, course_after, noted, ended_if, seen_in}
 use Rattle.told_bring_up.specs.Standing.{WalkedIn}
 use Rattle.scheduled_runs.specs.Walks.{can_end}
 

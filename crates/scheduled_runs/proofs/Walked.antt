@@ -1,7 +1,6 @@
 -- What comes of a walk.
-use Rattle.std.proofs.Common.{◌≡◌, ℕ, List, [], ◌∷◌, ◌++◌, true, false, length, refl, sym, ap, subst, ◌∙◌, Some}
+use Rattle.std.proofs.Common.{◌≡◌, List, [], ◌++◌, true, refl, sym, ap, subst, ◌∙◌, Some}
 use Rattle.codec_graph.specs.declared.raw.RawCodec.{RawCodec}
-use Rattle.codec_graph.specs.Settings.{Entries}
 use Rattle.stream_format.specs.declared.format.Format.{Format}
 use Rattle.route_planner.specs.declared.routes.Plan.{Plan}
 use Rattle.route_planner.specs.Plans.{IsPlan}
@@ -14,21 +13,19 @@ use Rattle.hda_world.specs.Events.{Event, AreHonest}
 use Rattle.hda_world.specs.Tellings.{Telling, Went, world_of}
 use Rattle.sound_report.specs.declared.played.Played.{Played}
 use Rattle.period_writer.specs.declared.writer.Writer.{Writer}
-use Rattle.driver_progress.specs.declared.phase.Phase.{Phase}
 use Rattle.driver_progress.specs.Tasks.{Task, DriverLine}
 use Rattle.driver_progress.specs.States.{State}
-use Rattle.driver_progress.specs.Progress as progress
 use Rattle.driver_progress.specs.Progress.{course_of, course_opened}
 use Rattle.codec_bring_up.specs.declared.bringing.BringUp.{BringUp}
 use Rattle.codec_bring_up.specs.Calls.{state_of}
 use Rattle.told_bring_up.specs.Standing.{AreWalked, WalkedIn}
-use Rattle.told_bring_up.specs.Keeping.{IsOver, HasGone, KeepsToProgress}
+use Rattle.told_bring_up.specs.Keeping.{HasGone}
 use Rattle.audio_driver.specs.declared.driver.closing.Closed.{Closed}
 use Rattle.rig.specs.Replays.{start_of, telling_from}
-use Rattle.machine_tasks.specs.Tasks.{graphs_of, verbs_in, task_of}
+use Rattle.machine_tasks.specs.Tasks.{graphs_of, verbs_in}
 use Rattle.machine_tasks.specs.Starting.{BeginsAt}
 use Rattle.scheduled_runs.specs.Lines.{lines_of}
-use Rattle.scheduled_runs.specs.Going.{Means, IsTask, UnderWay, IsDriven, plan_by, verbs_for, open_by}
+use Rattle.scheduled_runs.specs.Going.{Means, IsTask, UnderWay, IsDriven, plan_by, open_by}
 use Rattle.scheduled_runs.specs.Walks.{walk_format, can_end, journal_of, IsWalkFault, IsWalkedBy}
 use Rattle.scheduled_runs.proofs.Goes.{Keeps}
 use Rattle.scheduled_runs.proofs.Phases.{is_failed, course_well, ended_well, ends}

@@ -33,6 +33,7 @@ use wav_reader::{Supply, Wav};
 
 /// The ring of a driver that plays nothing: so many periods, of so many units each.
 const PERIODS: u8 = 4;
+
 const PERIOD: u8 = 8;
 
 /// Room for the pieces of memory of a call: the bytes of that ring, and 8,192.

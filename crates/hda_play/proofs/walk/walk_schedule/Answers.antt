@@ -1,5 +1,5 @@
 use Rattle.std.proofs.Common.{◌≡◌, true, rules, inr, refl}
-use Rattle.hda_play.specs.Asks.{walk_format}
+use Rattle.scheduled_runs.specs.Walks.{walk_format}
 use Rattle.hda_play.specs.Plans.{ArePlans, have_route}
 use Rattle.hda_play.proofs.walk.walk_schedule.Goals as goal
 

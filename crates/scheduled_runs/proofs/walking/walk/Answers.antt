@@ -1,5 +1,4 @@
-use Rattle.std.proofs.Common.{◌≡◌, ◌≤◌, ℕ, true, List, [], length, refl, sym, ap, subst, ◌∙◌, arith, Some}
-use Rattle.codec_graph.specs.declared.raw.RawCodec.{RawCodec}
+use Rattle.std.proofs.Common.{◌≡◌, ℕ, true, List, [], length, refl, sym, ap, subst, ◌∙◌, arith}
 use Rattle.stream_format.specs.declared.format.Format.{Format}
 use Rattle.route_planner.specs.declared.routes.Plan.{Plan}
 use Rattle.hda_files.specs.declared.machine.Machine.{Machine}
@@ -7,19 +6,17 @@ use Rattle.hda_files.specs.declared.machine.CodecFile.{CodecFile}
 use Rattle.hda_world.specs.declared.world.TheConstants.{REGION_BYTES}
 use Rattle.hda_world.specs.Events.{Event, AreHonest}
 use Rattle.hda_world.specs.JournalEvents.{events_of}
-use Rattle.hda_world.specs.Tellings.{Telling}
 use Rattle.codec_bring_up.specs.Calls.{state_of}
 use Rattle.driver_progress.specs.declared.phase.Phase.{Phase}
-use Rattle.driver_progress.specs.Tasks.{Task, Blocks}
 use Rattle.jack_counts.specs.Jacks.{Counts}
-use Rattle.rig.specs.Rigs.{telling_of, setting_of}
+use Rattle.rig.specs.Rigs.{telling_of}
 use Rattle.rig.specs.Replays.{telling_from, start_of}
 use Rattle.rig.specs.Follows.{Follows}
 use Rattle.machine_tasks.specs.Tasks.{graphs_of, verbs_in, commands_of, task_of, blocks_of}
 use Rattle.machine_tasks.specs.Starting.{BeginsAt}
 use Rattle.scheduled_runs.specs.Lines.{lines_of}
 use Rattle.scheduled_runs.specs.Events.{told_in}
-use Rattle.scheduled_runs.specs.Going.{Means, IsTask, IsDriven, plan_by, open_by}
+use Rattle.scheduled_runs.specs.Going.{IsTask, IsDriven}
 use Rattle.scheduled_runs.specs.Walks.{walk_format, can_end, IsWalkFault}
 use Rattle.scheduled_runs.proofs.Goes.{Keeps}
 use Rattle.scheduled_runs.proofs.Counting.{few_lines}
