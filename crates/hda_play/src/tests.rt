@@ -129,8 +129,8 @@ fn answers_files(rt: HostRuntime) -> Result<(), AllocError> {
     ];
     for (words, text, status, want) in cases {
         let (ended, said) = told(alloc, words, &[("codec.toml", text)])?;
-        assert_eq!(rt; ended, status.number(), "at {want}");
-        assert!(rt; said.as_str() == want, "at {want}");
+        assert_eq!(rt; ended, status.number(), "{said}");
+        assert!(rt; said.as_str() == want, "{said}");
     }
     Ok(())
 }
