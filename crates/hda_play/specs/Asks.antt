@@ -1,5 +1,5 @@
 -- What the words ask for, and which files they name. This project's own.
-use Rattle.std.specs.Prelude.{◌≡◌, ◌⊎◌, ℕ, List, [], ◌∷◌, Option, Some, None, Contains, option_map, refl}
+use Rattle.std.specs.Prelude.{◌≡◌, ◌⊎◌, ℕ, List, [], ◌∷◌, Option, Some, None, Contains, option_map}
 use Rattle.stream_format.specs.declared.format.Format.{Format}
 use Rattle.scheduled_runs.specs.Walks.{walk_format}
 use Rattle.hda_words.specs.Asked.{Asked, route, walk, hertz, bits_of, request_of}
