@@ -34,19 +34,28 @@ use Rattle.scheduled_runs.proofs.Phases.{is_failed, course_well, ended_well, end
 abbrev pub analog : Means
 analog = record { IsPlanBy = IsPlan; verbs_by = setup_verbs; IsOpenBy = IsSetUp }
 
--- a driver over a machine from its start, for one task, leads to where it has gone
-pub gone : (format : Format) → Keeps analog format → (machine : Machine) (plans : List Plan) (task : Task) (schedule : Schedule) (old : BringUp) (writer : Writer) (closed : Closed) (before after : Telling)
-    → IsTask analog format (verbs_in format machine.codecs plans) (graphs_of machine.codecs) task → BeginsAt format machine plans task old → before ≡ telling_from REGION_BYTES machine []
-    → (driven : IsDriven analog format schedule old writer closed before after)
-    → HasGone (plan_by analog format) (open_by analog format) (graphs_of machine.codecs) task (lines_of schedule) driven.ended after
-gone format keeps machine plans task schedule old writer closed before after is begins at driven =
-    let verbs = verbs_in format machine.codecs plans in
+pub some_same : {A : Type 0} {one other : A} → Some one ≡ Some other → one ≡ other
+some_same {A} {one} {other} same = cc
+
+-- a driver over a machine from its start, for one task, and where it has gone
+pub record Gone (machine : Machine) (task : Task) (schedule : Schedule) (old : BringUp) (writer : Writer) (closed : Closed) (before after : Telling) : Type 0 where
+  pub start : before ≡ telling_from REGION_BYTES machine []
+  pub driven : IsDriven analog walk_format schedule old writer closed before after
+  pub has : HasGone (plan_by analog walk_format) (open_by analog walk_format) (graphs_of machine.codecs) task (lines_of schedule) driven.ended after
+
+pub gone : Keeps analog walk_format → (machine : Machine) (plans : List Plan) (task : Task) (schedule : Schedule) (old : BringUp) (writer : Writer) (closed : Closed) (before after : Telling)
+    → IsTask analog walk_format (verbs_in walk_format machine.codecs plans) (graphs_of machine.codecs) task → BeginsAt walk_format machine plans task old → Some before ≡ Some (telling_from REGION_BYTES machine [])
+    → old.agenda.format ≡ walk_format → IsDriven analog old.agenda.format schedule old writer closed before after → Gone machine task schedule old writer closed before after
+gone keeps machine plans task schedule old writer closed before after is begins at format drives =
+    let verbs = verbs_in walk_format machine.codecs plans in
     let graphs = graphs_of machine.codecs in
     let law = keeps verbs graphs task is in
+    let start : before ≡ telling_from REGION_BYTES machine [] = some_same at in
+    let driven = subst (λ (f : Format). IsDriven analog f schedule old writer closed before after) format drives in
     let first = law.begins (lines_of schedule) old (telling_from REGION_BYTES machine []) refl begins.state begins.stands in
-    let under_way : UnderWay analog format verbs graphs task (lines_of schedule) (lines_of schedule) old before =
-    subst (λ (telling : Telling). UnderWay analog format verbs graphs task (lines_of schedule) (lines_of schedule) old telling) (sym at) first in
-    law.over (lines_of schedule) driven.ended after (driven.over verbs graphs task (lines_of schedule) is under_way)
+    let under_way : UnderWay analog walk_format verbs graphs task (lines_of schedule) (lines_of schedule) old before =
+    subst (λ (telling : Telling). UnderWay analog walk_format verbs graphs task (lines_of schedule) (lines_of schedule) old telling) (sym start) first in
+    record { start = start; driven = driven; has = law.over (lines_of schedule) driven.ended after (driven.over verbs graphs task (lines_of schedule) is under_way) }
 
 -- so a walk can end in its phase
 pub gone_ends : (format : Format) (graphs : List RawCodec) (task : Task) (lines : List DriverLine) (ended : BringUp) (telling : Telling)
@@ -78,6 +87,3 @@ journal_is machine before after events at went = went.journal ∙ ap (λ (tellin
 
 pub honest_from : (machine : Machine) (before after : Telling) (events : List Event) → before ≡ telling_from REGION_BYTES machine [] → Went before after events → AreHonest events (start_of REGION_BYTES machine)
 honest_from machine before after events at went = subst (λ (telling : Telling). AreHonest events (world_of telling)) at went.honest
-
-pub some_same : {A : Type 0} {one other : A} → Some one ≡ Some other → one ≡ other
-some_same {A} {one} {other} same = cc

@@ -1,4 +1,5 @@
 use Rattle.std.proofs.Common.{◌≡◌, ℕ, true, List, [], length, refl, sym, ap, subst, ◌∙◌, arith}
+use Rattle.driver_progress.specs.Tasks.{Task}
 use Rattle.stream_format.specs.declared.format.Format.{Format}
 use Rattle.route_planner.specs.declared.routes.Plan.{Plan}
 use Rattle.hda_files.specs.declared.machine.Machine.{Machine}
@@ -16,11 +17,14 @@ use Rattle.machine_tasks.specs.Tasks.{graphs_of, verbs_in, commands_of, task_of,
 use Rattle.machine_tasks.specs.Starting.{BeginsAt}
 use Rattle.scheduled_runs.specs.Lines.{lines_of}
 use Rattle.scheduled_runs.specs.Events.{told_in}
-use Rattle.scheduled_runs.specs.Going.{IsTask, IsDriven}
+use Rattle.scheduled_runs.specs.Going.{IsTask}
 use Rattle.scheduled_runs.specs.Walks.{walk_format, can_end, IsWalkFault}
 use Rattle.scheduled_runs.proofs.Goes.{Keeps}
 use Rattle.scheduled_runs.proofs.Counting.{few_lines}
-use Rattle.scheduled_runs.proofs.Walked.{analog, gone, gone_ends, walked_by, journal_is, honest_from, some_same}
+use Rattle.scheduled_runs.proofs.Walked.{analog, Gone, gone, gone_ends, walked_by, journal_is, honest_from}
+use Rattle.period_writer.specs.declared.geometry.Geometry.{Geometry}
+use Rattle.period_writer.specs.declared.writer.Writer.{Writer}
+use Rattle.codec_bring_up.specs.declared.bringing.BringUp.{BringUp}
 use Rattle.scheduled_runs.proofs.walking.walk.Goals as goal
 
 pub silent_driver-requires-clause-few : goal.silent_driver-requires-clause-few
@@ -28,17 +32,16 @@ silent_driver-requires-clause-few c =
     let lines = few_lines c.args.schedule.now in
     omega (arith, c.line_count.ensures, lines, c.requires.limits.steps)
 
-pub fault_of-requires : goal.fault_of-requires
-fault_of-requires c =
+abbrev task_for : (machine : Machine) (plans : List Plan) → Geometry → BringUp → Writer → Task
+task_for machine plans geometry bring_up writer = task_of walk_format machine plans geometry (blocks_of bring_up writer)
+
+-- where the driver has gone
+over : (c : goal.After-from_vec-5) → Gone c.args.machine (task_for c.args.machine c.args.plans.items c.in_ok-driver.ensures.fresh.geometry c.in_ok-driver.driver.bring_up c.in_ok-driver.driver.writer)
+    c.args.schedule.now c.in_ok-driver.driver.bring_up c.in_ok-driver.driver.writer c.in_ok-closed.closed (telling_of c.in_ok-rig.rig) (telling_of c.drive.new.rig)
+over c =
     let driver = c.in_ok-driver.driver in
     let fresh = c.in_ok-driver.ensures.fresh in
-    let format : driver.bring_up.agenda.format ≡ walk_format = driver.bring_up.formats ∙ fresh.opened.format ∙ fresh.format in
-    let before = telling_of c.in_ok-rig.rig in
-    let after = telling_of c.drive.new.rig in
-    let driven : IsDriven analog walk_format c.args.schedule.now driver.bring_up driver.writer c.in_ok-closed.closed before after =
-    subst (λ (f : Format). IsDriven analog f c.args.schedule.now driver.bring_up driver.writer c.in_ok-closed.closed before after) format c.in_ok-closed.ensures.driven in
-    let at : before ≡ telling_from REGION_BYTES c.args.machine [] = some_same c.in_ok-rig.ensures.told in
-    let task = task_of walk_format c.args.machine c.args.plans.items fresh.geometry (blocks_of driver.bring_up driver.writer) in
+    let task = task_for c.args.machine c.args.plans.items fresh.geometry driver.bring_up driver.writer in
     let keeps : Keeps analog walk_format = λ verbs graphs task is. c.bring_ups_keep_to_progress.ensures driver.setter walk_format verbs graphs task is.of_codecs in
     let is : IsTask analog walk_format (verbs_in walk_format c.args.machine.codecs c.args.plans.items) (graphs_of c.args.machine.codecs) task = record {
       of_codecs = c.machines_have_tasks.ensures walk_format c.args.machine c.args.plans.items fresh.geometry (blocks_of driver.bring_up driver.writer) c.requires.sound c.requires.read c.requires.plans c.requires.routed;
@@ -46,28 +49,27 @@ fault_of-requires c =
     } in
     let begins : BeginsAt walk_format c.args.machine c.args.plans.items task driver.bring_up =
     c.opened_drivers_can_begin.ensures walk_format c.args.machine c.args.plans.items fresh.geometry _ driver.bring_up driver.writer c.requires.sound c.requires.read fresh.opened in
-    let has = gone walk_format keeps c.args.machine c.args.plans.items task c.args.schedule.now driver.bring_up driver.writer c.in_ok-closed.closed before after is begins at driven in
-    subst (λ (phase : Phase). can_end phase ≡ true) (sym driven.phase) (gone_ends walk_format (graphs_of c.args.machine.codecs) task (lines_of c.args.schedule.now) driven.ended after has)
+    gone keeps c.args.machine c.args.plans.items task c.args.schedule.now driver.bring_up driver.writer c.in_ok-closed.closed (telling_of c.in_ok-rig.rig) (telling_of c.drive.new.rig) is begins
+    c.in_ok-rig.ensures.told (driver.bring_up.formats ∙ fresh.opened.format ∙ fresh.format) c.in_ok-closed.ensures.driven
+
+pub fault_of-requires : goal.fault_of-requires
+fault_of-requires c =
+    let gone = over c in
+    let driver = c.in_ok-driver.driver in
+    let task = task_for c.args.machine c.args.plans.items c.in_ok-driver.ensures.fresh.geometry driver.bring_up driver.writer in
+    subst (λ (phase : Phase). can_end phase ≡ true) (sym gone.driven.phase)
+    (gone_ends walk_format (graphs_of c.args.machine.codecs) task (lines_of c.args.schedule.now) gone.driven.ended (telling_of c.drive.new.rig) gone.has)
 
 pub returns : goal.returns
 returns c =
     let driver = c.in_ok-driver.driver in
     let fresh = c.in_ok-driver.ensures.fresh in
-    let format : driver.bring_up.agenda.format ≡ walk_format = driver.bring_up.formats ∙ fresh.opened.format ∙ fresh.format in
+    let task = task_for c.args.machine c.args.plans.items fresh.geometry driver.bring_up driver.writer in
     let before = telling_of c.in_ok-rig.rig in
     let after = telling_of c.drive.new.rig in
-    let driven : IsDriven analog walk_format c.args.schedule.now driver.bring_up driver.writer c.in_ok-closed.closed before after =
-    subst (λ (f : Format). IsDriven analog f c.args.schedule.now driver.bring_up driver.writer c.in_ok-closed.closed before after) format c.in_ok-closed.ensures.driven in
-    let at : before ≡ telling_from REGION_BYTES c.args.machine [] = some_same c.in_ok-rig.ensures.told in
-    let task = task_of walk_format c.args.machine c.args.plans.items fresh.geometry (blocks_of driver.bring_up driver.writer) in
-    let keeps : Keeps analog walk_format = λ verbs graphs task is. c.bring_ups_keep_to_progress.ensures driver.setter walk_format verbs graphs task is.of_codecs in
-    let is : IsTask analog walk_format (verbs_in walk_format c.args.machine.codecs c.args.plans.items) (graphs_of c.args.machine.codecs) task = record {
-      of_codecs = c.machines_have_tasks.ensures walk_format c.args.machine c.args.plans.items fresh.geometry (blocks_of driver.bring_up driver.writer) c.requires.sound c.requires.read c.requires.plans c.requires.routed;
-      silent = refl;
-    } in
-    let begins : BeginsAt walk_format c.args.machine c.args.plans.items task driver.bring_up =
-    c.opened_drivers_can_begin.ensures walk_format c.args.machine c.args.plans.items fresh.geometry _ driver.bring_up driver.writer c.requires.sound c.requires.read fresh.opened in
-    let has = gone walk_format keeps c.args.machine c.args.plans.items task c.args.schedule.now driver.bring_up driver.writer c.in_ok-closed.closed before after is begins at driven in
+    let gone = over c.before.before.before.before in
+    let at = gone.start in
+    let driven = gone.driven in
     let machine = c.args.machine in
     let journal = events_of c.parts-machine.result.2 in
     let same_machine = c.in_ok-closed.ensures.machine ∙ c.in_ok-rig.ensures.machine in
@@ -98,7 +100,7 @@ returns c =
       geometry = fresh.geometry;
       blocks = blocks_of driver.bring_up driver.writer;
       state = state_of ended;
-      driven = walked_by machine c.args.plans.items c.args.schedule.now task ended _ after is_after graphs fault has;
+      driven = walked_by machine c.args.plans.items c.args.schedule.now task ended _ after is_after graphs fault gone.has;
       jacks = subst (λ jacks. Counts (told_in journal) jacks) (sym c.from_vec-5.ensures)
           (subst (λ (events : List Event). Counts (told_in events) c.in_ok-closed.closed.jacks.items) whole (driven.counted [] fresh.opened.jacks));
     }
