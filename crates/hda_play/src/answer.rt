@@ -24,6 +24,9 @@ pub enum Answer {
 }
 
 /// What the program answers to its words.
+///
+/// # Errors
+/// Want of memory.
 pub fn answer_words<S: Shelf>(
     alloc: Global,
     words: &[String],
@@ -43,6 +46,9 @@ pub fn answer_words<S: Shelf>(
 }
 
 /// What the program answers to a request.
+///
+/// # Errors
+/// Want of memory.
 fn answer_request<S: Shelf>(
     alloc: Global,
     shelf: &mut S,

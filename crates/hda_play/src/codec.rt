@@ -13,6 +13,9 @@ use std::alloc::{AllocError, Global};
 const MOST_CODEC_BYTES: u64 = 262_144;
 
 /// Reads the codec file of this name: its machine, or the message with which the command ends.
+///
+/// # Errors
+/// Want of memory.
 pub fn read_codec<S: Shelf>(
     alloc: Global,
     shelf: &mut S,

@@ -11,6 +11,9 @@ use sound_report::{Status, push_plans};
 use std::alloc::{AllocError, Global};
 
 /// The plan of each codec.
+///
+/// # Errors
+/// Want of memory.
 pub fn plans_of(
     alloc: Global,
     codecs: &[CodecFile],
@@ -50,6 +53,9 @@ fn is_route(outcome: &Outcome) -> bool
 }
 
 /// The lines of plans of which some has a route.
+///
+/// # Errors
+/// Want of memory.
 pub fn routed(alloc: Global, codecs: &[CodecFile], plans: &[Plan]) -> Result<Message, AllocError>
     ensures { IfOk result (λ message. message_meant message ≡ telling Status.Done (plans_lines codecs.now plans.now)) }
 {
@@ -62,6 +68,9 @@ pub fn routed(alloc: Global, codecs: &[CodecFile], plans: &[Plan]) -> Result<Mes
 }
 
 /// The lines of plans of which none has a route, and one that says so.
+///
+/// # Errors
+/// Want of memory.
 pub fn nothing_routed(
     alloc: Global,
     codecs: &[CodecFile],

@@ -13,6 +13,9 @@ use route_planner::Format;
 use std::alloc::{AllocError, Global};
 
 /// What `route` answers for the codec file of this name and for this format.
+///
+/// # Errors
+/// Want of memory.
 pub fn answer_route<S: Shelf>(
     alloc: Global,
     shelf: &mut S,

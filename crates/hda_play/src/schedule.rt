@@ -10,6 +10,9 @@ use hda_schedule::{MOST_SCHEDULE_BYTES, SchedFault, Schedule, read_schedule};
 use std::alloc::{AllocError, Global};
 
 /// Reads the schedule of this name: the schedule, or the message with which the command ends.
+///
+/// # Errors
+/// Want of memory.
 pub fn read_steps<S: Shelf>(
     alloc: Global,
     shelf: &mut S,

@@ -18,6 +18,9 @@ use scheduled_runs::{walk, walk_format};
 use std::alloc::{AllocError, Global};
 
 /// What `walk` answers for the codec file and the schedule of these names.
+///
+/// # Errors
+/// Want of memory.
 pub fn answer_walk<S: Shelf>(
     alloc: Global,
     shelf: &mut S,
@@ -37,6 +40,9 @@ pub fn answer_walk<S: Shelf>(
 }
 
 /// What `walk` answers for a machine and the schedule of this name.
+///
+/// # Errors
+/// Want of memory.
 fn walk_machine<S: Shelf>(
     alloc: Global,
     shelf: &mut S,
@@ -58,6 +64,9 @@ fn walk_machine<S: Shelf>(
 }
 
 /// What `walk` answers for a machine and a schedule: it runs nothing where no pin has a route.
+///
+/// # Errors
+/// Want of memory.
 fn walk_schedule(alloc: Global, machine: Machine, schedule: &Schedule) -> Result<Answer, AllocError>
     requires sound { IsSound machine }
     requires read { IsRead machine }

@@ -14,7 +14,7 @@ use Rattle.hda_world.specs.declared.world.TheConstants.{REGION_BYTES}
 use Rattle.hda_controller.specs.Openings.{codecs_in}
 use Rattle.rig.specs.Replays.{start_of}
 use Rattle.command_engine.specs.declared.ring_places.RingPlaces.{RingPlaces}
-use Rattle.command_engine.specs.Courses.{HasBlocks, AscendFrom, graphs_in}
+use Rattle.command_engine.specs.Courses.{HasBlocks, AscendFrom, AscendByAddress, graphs_in}
 use Rattle.period_writer.specs.declared.geometry.Geometry.{Geometry}
 use Rattle.period_writer.specs.declared.writer.Writer.{Writer}
 use Rattle.driver_progress.specs.declared.phase.Phase.{Phase}
@@ -23,9 +23,14 @@ use Rattle.driver_progress.specs.States.{State, state_opened}
 use Rattle.driver_stretches.specs.Beginning.{HasOnly}
 use Rattle.period_writer.specs.Runs.{tally_opened}
 use Rattle.codec_bring_up.specs.declared.bringing.BringUp.{BringUp}
-use Rattle.codec_bring_up.specs.Calls.{state_of}
+use Rattle.codec_bring_up.specs.Calls.{state_of, IsTaskOf}
+use Rattle.driver_progress.specs.Tasks.{Task}
+use Rattle.verb_codes.specs.declared.verbs.Command.{Command}
+use Rattle.hda_world.specs.Worlds.{World}
+use Rattle.codec_histories.specs.Readings.{KeepsDefaults}
+use Rattle.std.specs.Prelude.{All}
 use Rattle.audio_driver.specs.Opening.{IsOpened}
-use Rattle.told_bring_up.specs.Standing.{CanBegin, StandsIn}
+use Rattle.told_bring_up.specs.Standing.{CanBegin, StandsIn, IsBroughtUp}
 use Rattle.machine_tasks.specs.Tasks.{graphs_of, verbs_in, task_of, blocks_of}
 use Rattle.machine_tasks.specs.Reading.{IsWhole}
 use Rattle.machine_tasks.specs.Starting.{BeginsAt}
@@ -92,3 +97,23 @@ begins format machine plans geometry most bring_up writer sound whole opened =
       };
       state = opened_state bring_up geometry most writer opened;
     }
+
+-- so it stands to every world of which nothing was asked yet
+pub stands_before : (IsPlanBy : RawCodec → Plan → Type 0) (verbs : RawCodec → List Command) (task : Task) (geometry : Geometry) (most : ℕ) (bring_up : BringUp) (writer : Writer) (world : World)
+    → IsOpened geometry most bring_up writer → IsTaskOf bring_up task → length world.memory ≡ REGION_BYTES → AscendByAddress world.codecs → HasOnly world → world.registers.global.corb_run ≡ 0 → All KeepsDefaults world.codecs
+    → IsBroughtUp IsPlanBy verbs (graphs_in world.codecs) task 0 bring_up world × (state_of bring_up ≡ state_opened)
+stands_before IsPlanBy verbs task geometry most bring_up writer world opened blocks whole ascend only stopped defaults = (
+  record {
+    blocks = blocks;
+    graphs_are = refl;
+    stage = subst (λ (phase : Phase). StandsIn phase IsPlanBy verbs (graphs_in world.codecs) task 0 bring_up world) (sym opened.phase)
+        (record {
+          can = record { blocks = blocks_inside bring_up (length world.memory) whole; ascend = ascend; only = only };
+          stopped = stopped;
+          defaults = defaults;
+          none_sent = opened.sent;
+          none_walked = opened.graphs;
+        });
+  },
+  opened_state bring_up geometry most writer opened,
+)

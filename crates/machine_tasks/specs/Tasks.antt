@@ -1,5 +1,5 @@
 -- What a driver has to do for a machine that a codec file describes. This project's own.
-use Rattle.std.specs.Prelude.{◌==◌, false, List, [], ◌∷◌, ◌++◌, length, map, if◌then◌else◌}
+use Rattle.std.specs.Prelude.{ℕ, ◌==◌, false, List, [], ◌∷◌, ◌++◌, length, map, if◌then◌else◌}
 use Rattle.std.specs.List.{AllZip}
 use Rattle.verb_codes.specs.declared.verbs.Command.{Command}
 use Rattle.codec_graph.specs.declared.raw.RawCodec.{RawCodec}
@@ -14,7 +14,6 @@ use Rattle.period_writer.specs.declared.geometry.Geometry.{Geometry}
 use Rattle.period_writer.specs.declared.writer.Writer.{Writer}
 use Rattle.period_writer.specs.Blocks.{addresses_of}
 use Rattle.driver_progress.specs.Tasks.{Task, Blocks, order_of, walks_over}
-use Rattle.driver_commands.specs.declared.answers.TheConstants.{TAG}
 use Rattle.codec_bring_up.specs.declared.bringing.BringUp.{BringUp}
 
 -- the graphs of a file's codecs, in order
@@ -25,9 +24,13 @@ graphs_of files = map (λ (file : CodecFile). file.graph) files
 abbrev pub HavePlans : Format → List CodecFile → List Plan → Type 0
 HavePlans format files plans = AllZip (λ (file : CodecFile) (plan : Plan). IsPlan file.graph format plan) files plans
 
--- the verbs of a graph for its plan, while the stream that is played has this format
+-- the tag of the stream that is played
+abbrev pub stream_tag : ℕ
+stream_tag = 1
+
+-- the verbs of a graph for its plan, while that stream has this format
 abbrev pub verbs_by : Format → RawCodec → Plan → List Command
-verbs_by format graph plan = setup_verbs graph plan format TAG
+verbs_by format graph plan = setup_verbs graph plan format stream_tag
 
 -- the verbs of the first of some codecs that has the graph's address, by its plan
 abbrev pub verbs_in : Format → List CodecFile → List Plan → RawCodec → List Command

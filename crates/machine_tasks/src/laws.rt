@@ -1,5 +1,13 @@
 //! Laws of what is to be done for machines, each the contract of a function that does nothing.
-ghost use Rattle.std.specs.Prelude.{◌≡◌, ℕ, List, true};
+ghost use Rattle.std.specs.Prelude.{◌≡◌, ℕ, List, All, length, true};
+ghost use Rattle.verb_codes.specs.declared.verbs.Command.{Command};
+ghost use Rattle.hda_world.specs.declared.world.TheConstants.{REGION_BYTES};
+ghost use Rattle.hda_world.specs.Worlds.{World};
+ghost use Rattle.command_engine.specs.Courses.{AscendByAddress, graphs_in};
+ghost use Rattle.codec_histories.specs.Readings.{KeepsDefaults};
+ghost use Rattle.driver_progress.specs.States.{state_opened};
+ghost use Rattle.driver_stretches.specs.Beginning.{HasOnly};
+ghost use Rattle.codec_bring_up.specs.Calls.{state_of, IsTaskOf};
 ghost use Rattle.std.specs.List.{list_any};
 ghost use Rattle.codec_graph.specs.declared.raw.RawCodec.{RawCodec};
 ghost use Rattle.stream_format.specs.declared.format.Format.{Format};
@@ -11,13 +19,15 @@ ghost use Rattle.hda_files.specs.declared.machine.Machine.{Machine};
 ghost use Rattle.hda_files.specs.Machines.{IsSound};
 ghost use Rattle.period_writer.specs.declared.geometry.Geometry.{Geometry};
 ghost use Rattle.period_writer.specs.declared.writer.Writer.{Writer};
-ghost use Rattle.driver_progress.specs.Tasks.{Blocks};
+ghost use Rattle.driver_progress.specs.Tasks.{Blocks, Task};
 ghost use Rattle.codec_bring_up.specs.declared.bringing.BringUp.{BringUp};
 ghost use Rattle.audio_driver.specs.Opening.{IsOpened, HasNoRuns};
-ghost use Rattle.told_bring_up.specs.Standing.{IsTaskOfCodecs};
+ghost use Rattle.told_bring_up.specs.Standing.{IsTaskOfCodecs, IsBroughtUp};
 ghost use Rattle.machine_tasks.specs.Tasks.{HavePlans, graphs_of, verbs_by, verbs_in, task_of, blocks_of};
 ghost use Rattle.machine_tasks.specs.Reading.{IsRead, IsWhole};
 ghost use Rattle.machine_tasks.specs.Starting.{BeginsAt, IsAllFree};
+
+use route_setup::Setter;
 
 /// A machine that a codec file describes has well-formed graphs, of four codecs at most, and each codec begins with settings of its graph
 /// that have the configuration default of each pin. Its FIFO has 8 to 4,096 bytes.
@@ -38,6 +48,16 @@ pub fn opened_drivers_can_begin()
     ensures { (format : Format) (machine : Machine) (plans : List Plan) (geometry : Geometry) (most : ℕ) (bring_up : BringUp) (writer : Writer)
         → IsSound machine → IsRead machine → IsOpened geometry most bring_up writer
         → BeginsAt format machine plans (task_of format machine plans geometry (blocks_of bring_up writer)) bring_up }
+{}
+
+/// A driver that was just opened stands to every world of which nothing was asked yet, for each task with its blocks: codecs stand by
+/// address, none but these announced itself, they have their pins' configuration defaults, and CORB's engine does not run. Nothing was
+/// done yet.
+pub fn opened_drivers_stand<T: Setter>()
+    ensures { (setter : T) (format : Format) (verbs : RawCodec → List Command) (task : Task) (geometry : Geometry) (most : ℕ) (bring_up : BringUp) (writer : Writer) (world : World)
+        → IsOpened geometry most bring_up writer → IsTaskOf bring_up task → length world.memory ≡ REGION_BYTES → AscendByAddress world.codecs → HasOnly world
+        → world.registers.global.corb_run ≡ 0 → All KeepsDefaults world.codecs
+        → IsBroughtUp (λ graph. T.IsPlanBy setter graph format) verbs (graphs_in world.codecs) task 0 bring_up world × (state_of bring_up ≡ state_opened) }
 {}
 
 /// In a pool that fills the region and of which nothing is taken there are runs for the blocks of a driver with any ring of periods.

@@ -6,10 +6,11 @@ use Rattle.codec_bring_up.specs.declared.bringing.BringUp.{BringUp}
 use Rattle.audio_driver.specs.Opening.{IsOpened}
 use Rattle.scheduled_runs.specs.Walks.{walk_format}
 
--- it was just opened, for so many calls
-pub record IsFresh (calls : ℕ) (bring_up : BringUp) (writer : Writer) : Type 0 where
+-- it was just opened, for a FIFO of so many bytes and so many calls
+pub record IsFresh (fifo calls : ℕ) (bring_up : BringUp) (writer : Writer) : Type 0 where
   pub geometry : Geometry
   pub opened : IsOpened geometry calls bring_up writer
   pub format : geometry.format ≡ walk_format
   pub periods : geometry.periods ≡ 4
   pub period : geometry.period ≡ 8
+  pub fifo_is : geometry.fifo ≡ fifo

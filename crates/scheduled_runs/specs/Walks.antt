@@ -21,7 +21,6 @@ use Rattle.driver_progress.specs.declared.phase.Phase.TheVariants.{Reset, Settli
 use Rattle.driver_progress.specs.Tasks.{Task, Blocks}
 use Rattle.driver_progress.specs.States.{State}
 use Rattle.driver_progress.specs.Progress.{state_of, IsProgress}
-use Rattle.driver_commands.specs.declared.answers.TheConstants.{TAG}
 use Rattle.jack_counts.specs.Jacks.{Counts}
 use Rattle.told_bring_up.specs.Stretches.{HasFound}
 use Rattle.told_bring_up.specs.Standing.{AreWalked, WalkedIn}
@@ -31,7 +30,7 @@ use Rattle.sound_report.specs.declared.played.PlayFault.{PlayFault}
 use Rattle.sound_report.specs.declared.played.PlayFault.TheVariants as faults
 use Rattle.rig.specs.Follows.{Follows}
 use Rattle.rig.specs.Replays.{start_of, telling_from}
-use Rattle.machine_tasks.specs.Tasks.{graphs_of, commands_of, task_of}
+use Rattle.machine_tasks.specs.Tasks.{graphs_of, commands_of, task_of, stream_tag}
 use Rattle.scheduled_runs.specs.Lines.{lines_of}
 use Rattle.scheduled_runs.specs.Events.{told_in}
 
@@ -81,8 +80,15 @@ pub record IsWalkedBy (machine : Machine) (schedule : Schedule) (task : Task) (s
   pub fault : IsWalkFault state.phase state.sent played.commands played.fault
   pub walked : AreWalked (graphs_of machine.codecs) played.graphs task.walks state.sent
   pub all_walked : WalkedIn state.phase (played.graphs ≡ graphs_of machine.codecs)
-  pub set_up : StaysSetUp (λ (graph : RawCodec) (plan : Plan). IsPlan graph walk_format plan) (λ (graph : RawCodec) (settings : Entries) (plan : Plan). IsSetUp graph settings plan walk_format TAG)
+  pub set_up : StaysSetUp (λ (graph : RawCodec) (plan : Plan). IsPlan graph walk_format plan) (λ (graph : RawCodec) (settings : Entries) (plan : Plan). IsSetUp graph settings plan walk_format stream_tag)
       (graphs_of machine.codecs) task (lines_of schedule) telling
+
+-- the ring with which a walk opens its driver, though it plays nothing: four periods of eight units
+pub record IsWalkRing (machine : Machine) (geometry : Geometry) : Type 0 where
+  pub periods : geometry.periods ≡ 4
+  pub period : geometry.period ≡ 8
+  pub fifo : geometry.fifo ≡ machine.fifo
+  pub format : geometry.format ≡ walk_format
 
 -- the run of a walk over a machine whose codecs have these plans
 pub record IsWalked (machine : Machine) (plans : List Plan) (schedule : Schedule) (played : Played) : Type 0 where
@@ -101,6 +107,7 @@ pub record IsWalked (machine : Machine) (plans : List Plan) (schedule : Schedule
   pub follows : Follows schedule (journal_of played)
   -- wherever the driver's blocks lay, it made the accesses that are to be made, and no others
   pub geometry : Geometry
+  pub ring : IsWalkRing machine geometry
   pub blocks : Blocks
   pub state : State
   pub driven : IsWalkedBy machine schedule (task_of walk_format machine plans geometry blocks) state (telling_from REGION_BYTES machine (journal_of played)) played

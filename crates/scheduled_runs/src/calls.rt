@@ -21,6 +21,9 @@ use told_bring_up::bring_ups_keep_to_progress;
 const CALL_ACCESSES: u32 = 400;
 
 /// Calls a driver as a line says: for an interrupt or not, and with its budget.
+///
+/// # Errors
+/// Want of memory.
 fn call<T: Setter, P: Platform>(
     platform: &mut P,
     driver: &mut Driver<T>,

@@ -31,9 +31,10 @@ use stream_format::{Bits, Format, Rate};
 use told_bring_up::bring_ups_keep_to_progress;
 use wav_reader::{Supply, Wav};
 
-/// The ring of a driver that plays nothing: so many periods, of so many units each.
+/// How many periods the ring of a driver has that plays nothing.
 const PERIODS: u8 = 4;
 
+/// The units of each of them.
 const PERIOD: u8 = 8;
 
 /// Room for the pieces of memory of a call: the bytes of that ring, and 8,192.
@@ -68,7 +69,7 @@ fn silent_driver(alloc: Global, fifo: u16, calls: u32) -> Result<Driver<Analog>,
     requires some { 8 ≤ fifo }
     requires small { fifo ≤ 4096 }
     requires few { calls ≤ 1000000 }
-    ensures fresh { IfOk result (λ driver. IsFresh calls driver.bring_up driver.writer) }
+    ensures fresh { IfOk result (λ driver. IsFresh fifo calls driver.bring_up driver.writer) }
     ensures calls { IfOk result (λ driver. driver.calls ≡ 0) }
     ensures runs { IfOk result (λ driver. driver.runs ≡ calls) }
 {

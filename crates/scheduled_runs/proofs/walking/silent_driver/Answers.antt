@@ -15,4 +15,5 @@ returns-in-Ok-open-clause-fresh c = record {
   format = c.in-Ok.ensures.format ∙ c.walk_format.ensures;
   periods = c.in-Ok.ensures.periods;
   period = c.in-Ok.ensures.period;
+  fifo_is = c.in-Ok.ensures.fifo;
 }

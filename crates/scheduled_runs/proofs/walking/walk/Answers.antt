@@ -98,6 +98,7 @@ returns c =
       replays = subst (λ (events : List Event). AreHonest events (start_of REGION_BYTES machine)) whole (honest_from machine before after driven.events at driven.went);
       follows = subst (Follows c.args.schedule.now) whole driven.follows;
       geometry = fresh.geometry;
+      ring = record { periods = fresh.periods; period = fresh.period; fifo = fresh.fifo_is; format = fresh.format };
       blocks = blocks_of driver.bring_up driver.writer;
       state = state_of ended;
       driven = walked_by machine c.args.plans.items c.args.schedule.now task ended _ after is_after graphs fault gone.has;
