@@ -50,5 +50,3 @@ mod schedule_tests;
 mod test_files;
 #[cfg(test)]
 mod tests;
-#[cfg(test)]
-mod walk_tests;
