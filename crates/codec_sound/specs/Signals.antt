@@ -27,7 +27,7 @@ IsAmong channels Altered = Unit {0}
 
 -- ---- one widget
 
--- the function group or the widget is in another power state than D0 (7.3.3.10)
+-- the function group or the widget is in another power state than 0, fully on (7.3.3.10)
 abbrev pub is_off : RawCodec → Entries → ℕ → RawNode → Bool
 is_off codec settings nid node =
     not (setting_of settings codec.group control.Power == 0)

@@ -9,7 +9,7 @@ use crate::signals::{Signal, Table};
 use crate::streams::LinkStream;
 use codec_graph::{Control, RawCodec, RawNode, Settings, bits_of};
 
-/// Whether the function group or the widget is in another power state than D0 (HDA 1.0a, 7.3.3.10).
+/// Whether the function group or the widget is in another power state than 0, fully on (HDA 1.0a, 7.3.3.10).
 pub(crate) fn is_off(codec: &RawCodec, settings: &Settings, nid: u8, node: &RawNode) -> bool
     ensures { result ≡ spec.is_off codec.now settings.now nid node.now }
 {

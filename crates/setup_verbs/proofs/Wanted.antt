@@ -183,7 +183,7 @@ if_wanted W codec nid verb c value test writes is = record { writes = λ setting
     by true = all_written W codec nid c value is
     by false = All-nil (λ (w : ControlKey × ℕ). w.1 ≡ W w.0)
 
--- the power state D0 is wanted everywhere
+-- every widget is wanted fully on
 pub wanted-power : (codec : RawCodec) (plan : Plan) (format : Format) (tag nid : ℕ) → wanted codec plan format tag (key nid control.Power) ≡ 0
 unfolding wanted
 wanted-power codec plan format tag nid = by (node_at codec nid)

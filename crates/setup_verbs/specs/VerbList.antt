@@ -25,7 +25,7 @@ only_if applies verb = if applies then verb ∷ [] else []
 
 -- ---- steps 1 to 3
 
--- a node of some route is put into the power state D0 (7.3.3.10)
+-- a node of some route is put into the power state 0, fully on (7.3.3.10)
 abbrev pub power_verbs : RawNode → Role → List Verb
 power_verbs node role = only_if (is_used role && has_power_control node) (SetPower 0)
 
