@@ -16,7 +16,7 @@ use Rattle.period_writer.specs.Runs.{Tally}
 use Rattle.period_writer.specs.Lines.{line_of}
 use Rattle.period_writer.specs.Standing.{Ring, limit_in}
 use Rattle.period_writer.specs.Owning.{IsPlaying}
-use Rattle.period_writer.specs.Outcomes.{HasDrained, WasLate}
+use Rattle.period_writer.specs.Outcomes.{HasDrained, WasStopped}
 use Rattle.period_writer.proofs.Callers.{playing_owns, playing_within}
 use Rattle.line_heard.specs.Plays.{without_holes, sounds, Plays, PlaysBelow, IsSilent}
 use Rattle.line_heard.specs.Steady.{IsSteadyFrame, Steady}
@@ -77,13 +77,13 @@ module _ (codecs : List CodecState) (tag word : ℕ) (layout : Layout) (known : 
           each : (at : ℕ) → at < world.output.left → slice_index world.output.entered at ≡ slice_index (line_of tally pcm ++ replicate (world.output.left - tally.course.reach) 0) at
           each at below = by at below (order at)
 
-    -- after a late run the line below its last recorded reach
-    pub late_heard : (ring : Ring) (pcm : List ℕ) (tally : Tally) → WasLate ring pcm tally world → PlaysBelow layout pair (line_of tally pcm) tally.course.reach list
-    late_heard ring pcm tally late =
-        let long = late.written.whole in
+    -- after a stop the line below the last recorded reach
+    pub stopped_heard : (ring : Ring) (pcm : List ℕ) (tally : Tally) → WasStopped ring pcm tally world → PlaysBelow layout pair (line_of tally pcm) tally.course.reach list
+    stopped_heard ring pcm tally stopped =
+        let long = stopped.written.whole in
         let behind = sent.behind in
         plays_below layout pair world.output.entered world.output.left sent.behind list heard_is (line_of tally pcm) tally.course.reach (omega (arith, long))
-        (λ at below under. late.fetched at (omega (arith, below, behind)) under)
+        (λ at below under. stopped.fetched at (omega (arith, below, behind)) under)
 
 -- ---- a pin that hears nothing
 

@@ -15,7 +15,7 @@ ghost use Rattle.period_writer.specs.Runs.{Tally};
 ghost use Rattle.period_writer.specs.Lines.{line_of};
 ghost use Rattle.period_writer.specs.Standing.{Ring, limit_in};
 ghost use Rattle.period_writer.specs.Owning.{IsPlaying};
-ghost use Rattle.period_writer.specs.Outcomes.{HasDrained, WasLate};
+ghost use Rattle.period_writer.specs.Outcomes.{HasDrained, WasStopped};
 ghost use Rattle.line_heard.specs.Plays.{Plays, PlaysBelow, IsSilent};
 ghost use Rattle.line_heard.specs.Steady.{Steady, LeavesSteady};
 
@@ -45,7 +45,7 @@ pub fn a_started_stream_is_steady()
 
 /// A pin that hears a pair of a steady stream heard, but for its holes, the pair's samples of the line that a writer plays, from its
 /// first block on, each once and in order, while no more link frames passed than the limit says. After the line drained zeros may follow
-/// it; after a late run the list has the line below the last recorded reach.
+/// it; after a stop before that, by a late run or by the last one, the list has the line below the last recorded reach.
 pub fn the_line_is_heard()
     ensures playing { (codecs : List CodecState) (tag word : ℕ) (layout : Layout) (from : ℕ) (world : World) (address pin pair : ℕ)
         (ring : Ring) (pcm : List ℕ) (tally : Tally) → layout_of word ≡ Some layout → Steady codecs tag word (block_size layout) from world
@@ -56,9 +56,9 @@ pub fn the_line_is_heard()
         (ring : Ring) (pcm : List ℕ) (tally : Tally) → layout_of word ≡ Some layout → Steady codecs tag word (block_size layout) from world
         → HasSent from world → signal_with (codec_at address codecs) tag word (Some layout) pin ≡ Pair pair → HasDrained ring pcm tally world
         → Plays layout pair (line_of tally pcm) true (heard address pin (drop from world.carried)) }
-    ensures late { (codecs : List CodecState) (tag word : ℕ) (layout : Layout) (from : ℕ) (world : World) (address pin pair : ℕ)
+    ensures stopped { (codecs : List CodecState) (tag word : ℕ) (layout : Layout) (from : ℕ) (world : World) (address pin pair : ℕ)
         (ring : Ring) (pcm : List ℕ) (tally : Tally) → layout_of word ≡ Some layout → Steady codecs tag word (block_size layout) from world
-        → HasSent from world → signal_with (codec_at address codecs) tag word (Some layout) pin ≡ Pair pair → WasLate ring pcm tally world
+        → HasSent from world → signal_with (codec_at address codecs) tag word (Some layout) pin ≡ Pair pair → WasStopped ring pcm tally world
         → PlaysBelow layout pair (line_of tally pcm) tally.course.reach (heard address pin (drop from world.carried)) }
 {}
 

@@ -30,6 +30,8 @@ pub mod RunMoments
 pub mod RunEnds
 pub mod RunTelling
 pub mod RunClause
+pub mod FinishTelling
 pub mod RegistersBeside
 pub mod BetweenRuns
+pub mod StoppedStreams
 pub mod Callers

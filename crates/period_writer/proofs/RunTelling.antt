@@ -8,19 +8,20 @@ use Rattle.hda_registers.specs.Fields.{is_running}
 use Rattle.hda_registers.specs.Access.{value_at}
 use Rattle.hda_registers.proofs.Callers.{read-wall_clock}
 use Rattle.hda_world.specs.Worlds.{World}
-use Rattle.hda_world.specs.Events.{Event, Stepped, Read, Write, happens}
+use Rattle.hda_world.specs.Events.{Event, Stepped, Read, Write, happens, after, AreHonest}
 use Rattle.hda_world.specs.Tellings.{Telling, Makes, world_of}
 use Rattle.hda_world.specs.Kept.{Kept}
-use Rattle.hda_world.proofs.Callers.{kept_both, world_of-went, Weaving, woven, Lead, lead_none, lead_more, lead_some}
+use Rattle.hda_world.specs.Moments.{AreWoven, AtEach}
+use Rattle.hda_world.proofs.Callers.{kept_both, world_of-went, Weaving, woven, Lead, lead_none, lead_more, lead_some, lead_to}
 use Rattle.period_writer.specs.declared.registers.TheConstants.{CONTROL}
 use Rattle.period_writer.specs.declared.course.Ran.TheVariants.{Playing, Drained, Late}
 use Rattle.period_writer.specs.Courses.{IsCourse}
 use Rattle.period_writer.specs.Runs.{RunFacts, Tally, Measures, measures, run_at, run_reach, is_late, has_drained, run_sound, run_sound_end, tally_if}
 use Rattle.period_writer.specs.Lines.{line_of}
-use Rattle.period_writer.specs.Playing.{play_accesses}
+use Rattle.period_writer.specs.Playing.{play_accesses, finish_accesses}
 use Rattle.period_writer.specs.Standing.{Ring, Stands, Paced, size_of, extent_of}
 use Rattle.period_writer.specs.Owning.{WritesBehind, IsWritten, IsPlaying}
-use Rattle.period_writer.specs.Outcomes.{HasNotWrapped, HasDrained, WasLate, RunTells}
+use Rattle.period_writer.specs.Outcomes.{HasNotWrapped, HasDrained, WasStopped, RunTells}
 use Rattle.period_writer.proofs.RingKept.{stands_kept}
 use Rattle.period_writer.proofs.Paces.{paced_kept}
 use Rattle.period_writer.proofs.LineWritten.{next_tally, line_same, written_next}
@@ -151,7 +152,7 @@ module _ (ring : Ring) (pcm : List ℕ) (runs : ℕ) (tally : Tally) (facts : Ru
 
   -- ---- it was late
 
-  late_stop : (frames : ℕ) (known : Bool) (world : World) → Found frames known world → WasLate ring pcm tally (happens world (Write CONTROL One 0))
+  late_stop : (frames : ℕ) (known : Bool) (world : World) → Found frames known world → WasStopped ring pcm tally (happens world (Write CONTROL One 0))
   late_stop frames known world found =
       let stopped = stops world found.0.0.set.out found.0.0.set.runs in
       record {
@@ -164,22 +165,92 @@ module _ (ring : Ring) (pcm : List ℕ) (runs : ℕ) (tally : Tally) (facts : Ru
             ∙ line_same m runs tally facts pcm is written enough at under;
       }
 
-  late_led : (frames : ℕ) (known : Bool) → facts.from ≡ (500 * frames) % 2 ^ 32 → Lead Moment (Found frames known) (Read WALCLK Four facts.to ∷ Write CONTROL One 0 ∷ []) (WasLate ring pcm tally)
+  late_led : (frames : ℕ) (known : Bool) → facts.from ≡ (500 * frames) % 2 ^ 32 → Lead Moment (Found frames known) (Read WALCLK Four facts.to ∷ Write CONTROL One 0 ∷ []) (WasStopped ring pcm tally)
   late_led frames known from =
-      lead_more Moment (Found frames known) (Found frames known) (WasLate ring pcm tally) (found_kept frames known) (Read WALCLK Four facts.to) (Write CONTROL One 0 ∷ [])
+      lead_more Moment (Found frames known) (Found frames known) (WasStopped ring pcm tally) (found_kept frames known) (Read WALCLK Four facts.to) (Write CONTROL One 0 ∷ [])
       (λ world step found. moment_found frames known world (Stepped step) found tt)
       (λ world found honest. (moment_found frames known world (Read WALCLK Four facts.to) found tt, found))
-      (lead_more Moment (Found frames known) (WasLate ring pcm tally) (WasLate ring pcm tally) (found_kept frames known) (Write CONTROL One 0) []
+      (lead_more Moment (Found frames known) (WasStopped ring pcm tally) (WasStopped ring pcm tally) (found_kept frames known) (Write CONTROL One 0) []
       (λ world step found. moment_found frames known world (Stepped step) found tt)
       (λ world found honest. (moment_found frames known world (Write CONTROL One 0) found tt, late_stop frames known world found))
       (lead_none Moment _ _ (λ world late. late)))
 
-  pub late_run : (from to : ℕ) → Lead Moment Before (play_accesses ring.geometry ring.periods tally.course facts (drop tally.course.used pcm) (Late from to)) (WasLate ring pcm tally)
-  late_run from to = moments.run_led ring pcm runs tally facts is started written enough since clock_from (WasLate ring pcm tally) (Read WALCLK Four facts.to ∷ Write CONTROL One 0 ∷ []) late_led
+  pub late_run : Lead Moment Before (finish_accesses ring.geometry ring.periods tally.course facts (drop tally.course.used pcm)) (WasStopped ring pcm tally)
+  late_run = moments.run_led ring pcm runs tally facts is started written enough since clock_from (WasStopped ring pcm tally) (Read WALCLK Four facts.to ∷ Write CONTROL One 0 ∷ []) late_led
+
+  -- ---- it is stopped in time
+
+  -- where all that stands of the line at the last clock stands up to a position, the device fetches it up to there until the stop
+  module _ (in_time : is_late m tally.course facts ≡ false) (most : ℕ)
+      (lasts : (world : World) → length world.output.entered ≤ reach' → Stands ring (extent_of line' at' reach' reach') world → Stands ring (extent_of line' at' most most) world) where
+    abbrev Lasting : (frames : ℕ) (known : Bool) (later : ℕ) → World → Type 0
+    Lasting frames known later world = Found frames known world × ((500 * later < 2 ^ 32 → Stands ring (extent_of line' at' most most) world) × Paced ring false (record { at = 0; since = later }) world)
+
+    lasting_kept : (frames : ℕ) (known : Bool) (later : ℕ) → Kept (Lasting frames known later)
+    lasting_kept frames known later = kept_both _ _ (found_kept frames known) (kept_both _ _ (kept_given (500 * later < 2 ^ 32) _ (stands_kept ring _)) (paced_kept ring false _))
+
+    falls_lasting : (frames : ℕ) (known : Bool) (world : World) → facts.from ≡ (500 * frames) % 2 ^ 32 → Found frames known world → facts.to ≡ (500 * world.frames) % 2 ^ 32 → (later : ℕ) × Lasting frames known later world
+    falls_lasting frames known world from found to = (world.frames, (found, ((λ small. stands small), record { format_is = found.1.0.format_is; before = omega arith; soon = λ no. cc }))) where
+      stands : 500 * world.frames < 2 ^ 32 → Stands ring (extent_of line' at' most most) world
+      stands small =
+          let time = on_time_by frames known world found from to small in_time in
+          let few = time.few in
+          let ordered = found.0.0.ordered in
+          lasts world (omega (arith, few, ordered)) (sure_all world found.0.0 time.few)
+
+    pub record IsSure (world : World) : Type 0 where
+      pub stopped : is_running world.registers.output ≡ false
+      pub no_error : world.registers.output.descriptor_error ≡ 0
+      pub sent : at' ≤ world.output.left
+      pub fetched : (at : ℕ) → at < length world.output.entered → at < most → slice_index world.output.entered at ≡ slice_index line' at
+
+    lasting_stop : (frames : ℕ) (known : Bool) (later : ℕ) (world : World) → Lasting frames known later world → HasNotWrapped (happens world (Write CONTROL One 0)) → IsSure (happens world (Write CONTROL One 0))
+    lasting_stop frames known later world lasting small =
+        let stopped = stops world lasting.0.0.0.set.out lasting.0.0.0.set.runs in
+        let same = stopped.frames in
+        let before = lasting.1.1.before in
+        let stands = lasting.1.0 (omega (arith, small, same, before)) in
+        record {
+          stopped = stopped.stopped;
+          no_error = stopped.error ∙ lasting.0.0.0.set.no_error;
+          sent = subst (λ state. at' ≤ state.left) (sym stopped.state) stands.behind;
+          fetched = λ at below under. ap (λ state. slice_index state.entered at) stopped.state ∙ stands.fetched at (subst (λ state. at < length state.entered) stopped.state below) under;
+        }
+
+    abbrev After : World → Type 0
+    After world = HasNotWrapped world → IsSure world
+
+    lasting_led : (frames : ℕ) (known : Bool) (later : ℕ) → Lead Moment (Lasting frames known later) (Write CONTROL One 0 ∷ []) After
+    lasting_led frames known later =
+        lead_more Moment (Lasting frames known later) After After (lasting_kept frames known later) (Write CONTROL One 0) []
+        (λ world step lasting. moment_found frames known world (Stepped step) lasting.0 tt)
+        (λ world lasting honest. (moment_found frames known world (Write CONTROL One 0) lasting.0 tt, lasting_stop frames known later world lasting))
+        (lead_none Moment _ _ (λ world after. after))
+
+    sure_led : (frames : ℕ) (known : Bool) → facts.from ≡ (500 * frames) % 2 ^ 32 → Lead Moment (Found frames known) (Read WALCLK Four facts.to ∷ Write CONTROL One 0 ∷ []) After
+    sure_led frames known from =
+        lead_more Moment (Found frames known) (λ world. (later : ℕ) × Lasting frames known later world) After (found_kept frames known) (Read WALCLK Four facts.to) (Write CONTROL One 0 ∷ [])
+        (λ world step found. moment_found frames known world (Stepped step) found tt)
+        (λ world found honest. (moment_found frames known world (Read WALCLK Four facts.to) found tt, falls_lasting frames known world from found (clock_of frames known world found honest)))
+        (lead_some Moment (λ (later : ℕ). Lasting frames known later) (Write CONTROL One 0 ∷ []) After (λ later. lasting_led frames known later))
+
+    pub sure_run : Lead Moment Before (finish_accesses ring.geometry ring.periods tally.course facts (drop tally.course.used pcm)) After
+    sure_run = moments.run_led ring pcm runs tally facts is started written enough since clock_from After (Read WALCLK Four facts.to ∷ Write CONTROL One 0 ∷ []) sure_led
+
+  next : IsWritten pcm tally'
+  next = written_next m runs tally facts pcm is written enough
+
+  -- a stream that had more to play has the line up to its new reach
+  pub stopped_run : is_late m tally.course facts ≡ false
+      → Lead Moment Before (finish_accesses ring.geometry ring.periods tally.course facts (drop tally.course.used pcm)) (λ world. HasNotWrapped world → WasStopped ring pcm tally' world)
+  stopped_run in_time =
+      lead_to Moment Before (finish_accesses ring.geometry ring.periods tally.course facts (drop tally.course.used pcm)) (After in_time reach' (λ world few stands. stands)) (λ world. HasNotWrapped world → WasStopped ring pcm tally' world)
+      (λ world after small. let sure = after small in record { stopped = sure.stopped; no_error = sure.no_error; written = next; fetched = sure.fetched })
+      (sure_run in_time reach' (λ world few stands. stands))
 
   -- ---- it has drained
 
-  module _ (in_time : is_late m tally.course facts ≡ false) (done : has_drained m tally.course facts ≡ true) (most : ℕ) (long : reach' ≤ most) where
+  module _ (in_time : is_late m tally.course facts ≡ false) (done : has_drained m tally.course facts ≡ true) where
     sound_over : run_sound_end m tally.course facts ≤ at'
     sound_over = by tally.course.started (facts.left == run_sound m tally.course facts) (nat_le (run_sound_end m tally.course facts) at') refl done where
       by : (a b c : Bool) → nat_le (run_sound_end m tally.course facts) at' ≡ c → (a && b && c) ≡ true → run_sound_end m tally.course facts ≤ at'
@@ -189,62 +260,30 @@ module _ (ring : Ring) (pcm : List ℕ) (runs : ℕ) (tally : Tally) (facts : Ru
       by false b c e all = cc
 
     quiet : (at : ℕ) → at' ≤ at → slice_index line' at ≡ 0
-    quiet at past = let over = sound_over in (written_next m runs tally facts pcm is written enough).quiet at (omega (arith, over, past))
+    quiet at past = let over = sound_over in next.quiet at (omega (arith, over, past))
 
-    abbrev Silent : (frames : ℕ) (known : Bool) (later : ℕ) → World → Type 0
-    Silent frames known later world = Found frames known world × ((500 * later < 2 ^ 32 → Stands ring (extent_of line' at' most most) world) × Paced ring false (record { at = 0; since = later }) world)
+    silent_lasts : (most : ℕ) → reach' ≤ most → (world : World) → length world.output.entered ≤ reach' → Stands ring (extent_of line' at' reach' reach') world → Stands ring (extent_of line' at' most most) world
+    silent_lasts most long world few stands =
+        let some = fifo_below ring.geometry in
+        silent_on ring line' at' most world (omega (arith, some)) long quiet stands few
 
-    silent_kept : (frames : ℕ) (known : Bool) (later : ℕ) → Kept (Silent frames known later)
-    silent_kept frames known later = kept_both _ _ (found_kept frames known) (kept_both _ _ (kept_given (500 * later < 2 ^ 32) _ (stands_kept ring _)) (paced_kept ring false _))
+    ended : (most : ℕ) (long : reach' ≤ most) (world : World) → length world.output.entered ≤ most → IsSure in_time most (silent_lasts most long) world → HasDrained ring pcm tally' world
+    ended most long world all sure = record {
+      stopped = sure.stopped;
+      no_error = sure.no_error;
+      written = next;
+      sent = sure.sent;
+      fetched = λ at below under. sure.fetched at below (omega (arith, below, all));
+      silent = λ at below past. sure.fetched at below (omega (arith, below, all)) ∙ quiet at (omega (arith, past));
+    }
 
-    falls_silent : (frames : ℕ) (known : Bool) (world : World) → facts.from ≡ (500 * frames) % 2 ^ 32 → Found frames known world → facts.to ≡ (500 * world.frames) % 2 ^ 32 → (later : ℕ) × Silent frames known later world
-    falls_silent frames known world from found to = (world.frames, (found, ((λ small. stands small), record { format_is = found.1.0.format_is; before = omega arith; soon = λ no. cc }))) where
-      stands : 500 * world.frames < 2 ^ 32 → Stands ring (extent_of line' at' most most) world
-      stands small =
-          let time = on_time_by frames known world found from to small in_time in
-          let few = time.few in
-          let ordered = found.0.0.ordered in
-          let some = fifo_below ring.geometry in
-          silent_on ring line' at' most world (omega (arith, some)) long quiet (sure_all world found.0.0 time.few) (omega (arith, few, ordered))
-
-    pub record IsSilent (world : World) : Type 0 where
-      pub stopped : is_running world.registers.output ≡ false
-      pub no_error : world.registers.output.descriptor_error ≡ 0
-      pub sent : at' ≤ world.output.left
-      pub fetched : (at : ℕ) → at < length world.output.entered → at < most → slice_index world.output.entered at ≡ slice_index line' at
-
-    silent_stop : (frames : ℕ) (known : Bool) (later : ℕ) (world : World) → Silent frames known later world → HasNotWrapped (happens world (Write CONTROL One 0)) → IsSilent (happens world (Write CONTROL One 0))
-    silent_stop frames known later world silent small =
-        let stopped = stops world silent.0.0.0.set.out silent.0.0.0.set.runs in
-        let same = stopped.frames in
-        let before = silent.1.1.before in
-        let stands = silent.1.0 (omega (arith, small, same, before)) in
-        record {
-          stopped = stopped.stopped;
-          no_error = stopped.error ∙ silent.0.0.0.set.no_error;
-          sent = subst (λ state. at' ≤ state.left) (sym stopped.state) stands.behind;
-          fetched = λ at below under. ap (λ state. slice_index state.entered at) stopped.state ∙ stands.fetched at (subst (λ state. at < length state.entered) stopped.state below) under;
-        }
-
-    abbrev After : World → Type 0
-    After world = HasNotWrapped world → IsSilent world
-
-    silent_led : (frames : ℕ) (known : Bool) (later : ℕ) → Lead Moment (Silent frames known later) (Write CONTROL One 0 ∷ []) After
-    silent_led frames known later =
-        lead_more Moment (Silent frames known later) After After (silent_kept frames known later) (Write CONTROL One 0) []
-        (λ world step silent. moment_found frames known world (Stepped step) silent.0 tt)
-        (λ world silent honest. (moment_found frames known world (Write CONTROL One 0) silent.0 tt, silent_stop frames known later world silent))
-        (lead_none Moment _ _ (λ world after. after))
-
-    drained_led : (frames : ℕ) (known : Bool) → facts.from ≡ (500 * frames) % 2 ^ 32 → Lead Moment (Found frames known) (Read WALCLK Four facts.to ∷ Write CONTROL One 0 ∷ []) After
-    drained_led frames known from =
-        lead_more Moment (Found frames known) (λ world. (later : ℕ) × Silent frames known later world) After (found_kept frames known) (Read WALCLK Four facts.to) (Write CONTROL One 0 ∷ [])
-        (λ world step found. moment_found frames known world (Stepped step) found tt)
-        (λ world found honest. (moment_found frames known world (Read WALCLK Four facts.to) found tt, falls_silent frames known world from found (clock_of frames known world found honest)))
-        (lead_some Moment (λ (later : ℕ). Silent frames known later) (Write CONTROL One 0 ∷ []) After (λ later. silent_led frames known later))
-
-    pub drained_run : Lead Moment Before (play_accesses ring.geometry ring.periods tally.course facts (drop tally.course.used pcm) Drained) After
-    drained_run = moments.run_led ring pcm runs tally facts is started written enough since clock_from After (Read WALCLK Four facts.to ∷ Write CONTROL One 0 ∷ []) drained_led
+    pub drained_run : (events : List Event) (world : World) → AreWoven (finish_accesses ring.geometry ring.periods tally.course facts (drop tally.course.used pcm)) events → AreHonest events world → Before world
+        → HasNotWrapped (after events world) → AtEach Moment events world × HasDrained ring pcm tally' (after events world)
+    drained_run events world woven honest before small =
+        let most = reach' + length (after events world).output.entered in
+        let long : reach' ≤ most = omega arith in
+        let led = sure_run in_time most (silent_lasts most long) events world woven honest before in
+        (led.0, ended most long (after events world) (omega arith) (led.1 small))
 
   -- ---- all of it
 
@@ -278,7 +317,7 @@ module _ (ring : Ring) (pcm : List ℕ) (runs : ℕ) (tally : Tally) (facts : Ru
         → RunTells ring pcm facts.budget tally (Late tally.course.from facts.to) (tally_if true m tally facts) old new
     by weaving =
         let there = world_of-went old new weaving.events weaving.went in
-        let led = late_run tally.course.from facts.to weaving.events (world_of old) weaving.woven weaving.went.honest before in
+        let led = late_run weaving.events (world_of old) weaving.woven weaving.went.honest before in
         record {
           facts = facts;
           budget_is = refl;
@@ -288,30 +327,16 @@ module _ (ring : Ring) (pcm : List ℕ) (runs : ℕ) (tally : Tally) (facts : Ru
           recorded = sym (ap (λ (late : Bool). tally_if late m tally facts) late);
           went = weaving.went;
           moments = led.0;
-          ends = subst (WasLate ring pcm tally) (sym there) led.1;
+          ends = subst (WasStopped ring pcm tally) (sym there) led.1;
         }
 
   pub tells_drained : is_late m tally.course facts ≡ false → has_drained m tally.course facts ≡ true → (old new : Telling) → Before (world_of old)
       → Makes (play_accesses ring.geometry ring.periods tally.course facts (drop tally.course.used pcm) Drained) old new → HasNotWrapped (world_of new) → RunTells ring pcm facts.budget tally Drained tally' old new
   tells_drained in_time done old new before made small = by (woven made) where
-    next : IsWritten pcm tally'
-    next = written_next m runs tally facts pcm is written enough
-
-    ended : (most : ℕ) (long : reach' ≤ most) (world : World) → length world.output.entered ≤ most → IsSilent in_time done most long world → HasDrained ring pcm tally' world
-    ended most long world all silent = record {
-      stopped = silent.stopped;
-      no_error = silent.no_error;
-      written = next;
-      sent = silent.sent;
-      fetched = λ at below under. silent.fetched at below (omega (arith, below, all));
-      silent = λ at below past. silent.fetched at below (omega (arith, below, all)) ∙ quiet in_time done most long at (omega (arith, past));
-    }
-
     by : Weaving (play_accesses ring.geometry ring.periods tally.course facts (drop tally.course.used pcm) Drained) old new → RunTells ring pcm facts.budget tally Drained tally' old new
     by weaving =
         let there = world_of-went old new weaving.events weaving.went in
-        let most = reach' + length (world_of new).output.entered in
-        let led = drained_run in_time done most (omega arith) weaving.events (world_of old) weaving.woven weaving.went.honest before in
+        let led = drained_run in_time done weaving.events (world_of old) weaving.woven weaving.went.honest before (subst HasNotWrapped there small) in
         record {
           facts = facts;
           budget_is = refl;
@@ -321,5 +346,5 @@ module _ (ring : Ring) (pcm : List ℕ) (runs : ℕ) (tally : Tally) (facts : Ru
           recorded = sym (ap (λ (late : Bool). tally_if late m tally facts) in_time);
           went = weaving.went;
           moments = led.0;
-          ends = ended most (omega arith) (world_of new) (omega arith) (subst (IsSilent in_time done most (omega arith)) (sym there) (led.1 (subst HasNotWrapped there small)));
+          ends = subst (HasDrained ring pcm tally') (sym there) led.1;
         }

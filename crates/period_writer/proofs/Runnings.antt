@@ -1,8 +1,9 @@
 -- Runs, put together from their parts.
-use Rattle.std.proofs.Common.{◌≡◌, ◌+◌, ◌-◌, ◌∙◌, ℕ, Bool, false, List, [], ◌∷◌, slice_index, refl, Option, length, drop, ap, subst, arith, if◌then◌else◌}
-use Rattle.hda_registers.specs.declared.shapes.Width.TheVariants.{Four}
+use Rattle.std.proofs.Common.{◌≡◌, ◌+◌, ◌-◌, ◌%◌, ◌∙◌, ℕ, Bool, false, List, [], ◌∷◌, ◌++◌, slice_index, refl, Option, length, drop, ap, subst, arith, append_assoc, if◌then◌else◌}
+use Rattle.std.specs.Prelude.{min}
+use Rattle.hda_registers.specs.declared.shapes.Width.TheVariants.{One, Four}
 use Rattle.hda_registers.specs.declared.places.TheConstants.{WALCLK}
-use Rattle.hda_world.specs.Events.{Read}
+use Rattle.hda_world.specs.Events.{Event, Read, Write}
 use Rattle.hda_world.specs.Tellings.{Telling, Accessed, Between, Makes}
 use Rattle.hda_world.proofs.Callers.{row_one, row_more, row_both}
 use Rattle.period_writer.specs.declared.course.Course.{Course}
@@ -11,13 +12,13 @@ use Rattle.period_writer.specs.declared.course.Ran.TheVariants.{Playing, Drained
 use Rattle.period_writer.specs.declared.course.Run.{Run}
 use Rattle.period_writer.specs.declared.course.Span.{Span}
 use Rattle.period_writer.specs.declared.geometry.Geometry.{Geometry}
-use Rattle.period_writer.specs.declared.registers.TheConstants.{POSITION}
+use Rattle.period_writer.specs.declared.registers.TheConstants.{CONTROL, POSITION}
 use Rattle.period_writer.specs.Rings.{period_bytes, ring_bytes}
 use Rattle.period_writer.specs.Lines.{sound_and_silence}
 use Rattle.period_writer.specs.Places.{line_writes}
-use Rattle.period_writer.specs.Runs.{Tally, Measures, measures, facts_of, run_reach, run_sound, position_from, tally_after, Stretch, taken_up, taken_up_if}
+use Rattle.period_writer.specs.Runs.{RunFacts, Tally, Measures, measures, facts_of, run_reach, run_room, run_sound, whole_blocks, position_from, tally_after, Stretch, taken_up, taken_up_if}
 use Rattle.period_writer.specs.Starting.{reset_accesses, entry_writes, run_accesses}
-use Rattle.period_writer.specs.Playing.{Starts, Plays, run_bytes, stop_accesses}
+use Rattle.period_writer.specs.Playing.{Starts, Plays, TakesTurn, Finishes, run_bytes, stop_accesses, turn_accesses}
 
 pub tally_same : (runs runs' : List Run) (silences silences' : List Span) (course course' : Course) → runs ≡ runs' → silences ≡ silences' → course ≡ course'
     → let one : Tally = record { runs = runs; silences = silences; course = course } in one ≡ record { runs = runs'; silences = silences'; course = course' }
@@ -32,14 +33,15 @@ written m bytes periods tally budget left from lpib to reach sound pcm old new r
     subst (λ (n : ℕ). Between (Makes (line_writes bytes periods tally.course.reach n (sound_and_silence (run_sound m tally.course (facts_of budget left from lpib to)) (n - tally.course.reach) pcm))) old new) reaches
     (subst (λ (n : ℕ). Between (Makes (line_writes bytes periods tally.course.reach reach (sound_and_silence n (reach - tally.course.reach) pcm))) old new) sounds made)
 
-pub plays_so : (geometry : Geometry) (periods : List ℕ) (budget left from lpib to reach sound : ℕ) (pcm pcm' : List ℕ) (tally tally' : Tally) (answer : Ran) (t0 t1 t2 t3 t4 t5 : Option Telling)
+-- a run up to its stop
+pub turn_so : (geometry : Geometry) (periods : List ℕ) (budget left from lpib to reach sound : ℕ) (pcm pcm' : List ℕ) (tally tally' : Tally) (answer : Ran) (t0 t1 t2 t3 t4 : Option Telling)
     → left ≡ length pcm → reach ≡ run_reach (measures geometry) tally.course (facts_of budget left from lpib to) → sound ≡ run_sound (measures geometry) tally.course (facts_of budget left from lpib to)
     → tally' ≡ tally_after (measures geometry) tally (facts_of budget left from lpib to) → answer ≡ tally'.course.ran → pcm' ≡ drop sound pcm
     → Between (λ old new. Accessed old new (Read WALCLK Four from)) t0 t1 → Between (λ old new. Accessed old new (Read POSITION Four lpib)) t1 t2
     → Between (Makes (line_writes (period_bytes geometry.period) periods tally.course.reach reach (sound_and_silence sound (reach - tally.course.reach) pcm))) t2 t3
-    → Between (λ old new. Accessed old new (Read WALCLK Four to)) t3 t4 → Between (Makes (stop_accesses answer)) t4 t5
-    → Plays geometry periods budget pcm tally answer tally' pcm' t0 t5
-plays_so geometry periods budget left from lpib to reach sound pcm pcm' tally tally' answer t0 t1 t2 t3 t4 t5 all reaches sounds after ends rest first second line last stop =
+    → Between (λ old new. Accessed old new (Read WALCLK Four to)) t3 t4
+    → TakesTurn geometry periods budget pcm tally answer tally' pcm' t0 t4
+turn_so geometry periods budget left from lpib to reach sound pcm pcm' tally tally' answer t0 t1 t2 t3 t4 all reaches sounds after ends rest first second line last =
     let m = measures geometry in
     let reaches' = subst (λ (n : ℕ). reach ≡ run_reach (measures geometry) tally.course (facts_of budget n from lpib to)) all reaches in
     let sounds' = subst (λ (n : ℕ). sound ≡ run_sound (measures geometry) tally.course (facts_of budget n from lpib to)) all sounds in
@@ -50,9 +52,55 @@ plays_so geometry periods budget left from lpib to reach sound pcm pcm' tally ta
       to = to;
       tally_is = subst (λ (n : ℕ). tally' ≡ tally_after (measures geometry) tally (facts_of budget n from lpib to)) all after;
       answer_is = ends;
-      made = row_more first (row_more second (row_both line' (row_more last stop)));
+      made = row_more first (row_more second (row_both line' (row_one last)));
       pcm_is = rest ∙ ap (λ (n : ℕ). drop n pcm) sounds';
     }
+
+-- what a run does up to its stop, and then the stop
+stopped_after : (geometry : Geometry) (periods : List ℕ) (course : Course) (facts : RunFacts) (pcm : List ℕ) (stop : List Event) (t0 t1 t2 : Option Telling)
+    → Between (Makes (turn_accesses geometry periods course facts pcm)) t0 t1 → Between (Makes stop) t1 t2
+    → let line = line_writes (period_bytes geometry.period) periods course.reach (run_reach (measures geometry) course facts) (run_bytes (measures geometry) course facts pcm) in
+    Between (Makes (Read WALCLK Four facts.from ∷ Read POSITION Four facts.lpib ∷ (line ++ (Read WALCLK Four facts.to ∷ stop)))) t0 t2
+stopped_after geometry periods course facts pcm stop t0 t1 t2 turn ends =
+    let line = line_writes (period_bytes geometry.period) periods course.reach (run_reach (measures geometry) course facts) (run_bytes (measures geometry) course facts pcm) in
+    subst (λ (rest : List Event). Between (Makes (Read WALCLK Four facts.from ∷ Read POSITION Four facts.lpib ∷ rest)) t0 t2) (append_assoc line (Read WALCLK Four facts.to ∷ []) stop) (row_both turn ends)
+
+pub plays_so : {geometry : Geometry} {periods : List ℕ} {budget : ℕ} {pcm pcm' : List ℕ} {tally tally' : Tally} {answer : Ran} {t0 t1 t2 : Option Telling}
+    → TakesTurn geometry periods budget pcm tally answer tally' pcm' t0 t1 → Between (Makes (stop_accesses answer)) t1 t2 → Plays geometry periods budget pcm tally answer tally' pcm' t0 t2
+plays_so {geometry} {periods} {budget} {pcm} {pcm'} {tally} {tally'} {answer} {t0} {t1} {t2} turn stop = record {
+  from = turn.from;
+  lpib = turn.lpib;
+  to = turn.to;
+  tally_is = turn.tally_is;
+  answer_is = turn.answer_is;
+  made = stopped_after geometry periods tally.course (facts_of budget (length pcm) turn.from turn.lpib turn.to) pcm (stop_accesses answer) t0 t1 t2 turn.made stop;
+  pcm_is = turn.pcm_is;
+}
+
+pub finishes_so : {geometry : Geometry} {periods : List ℕ} {pcm pcm' : List ℕ} {tally tally' : Tally} {answer : Ran} {t0 t1 t2 : Option Telling}
+    → TakesTurn geometry periods 0 pcm tally answer tally' pcm' t0 t1 → Between (λ old new. Accessed old new (Write CONTROL One 0)) t1 t2 → Finishes geometry periods pcm tally answer tally' t0 t2
+finishes_so {geometry} {periods} {pcm} {pcm'} {tally} {tally'} {answer} {t0} {t1} {t2} turn stop = record {
+  from = turn.from;
+  lpib = turn.lpib;
+  to = turn.to;
+  tally_is = turn.tally_is;
+  answer_is = turn.answer_is;
+  made = stopped_after geometry periods tally.course (facts_of 0 (length pcm) turn.from turn.lpib turn.to) pcm (Write CONTROL One 0 ∷ []) t0 t1 t2 turn.made (row_one stop);
+}
+
+-- with a budget of 0 no sound is written
+none_written : (block room left : ℕ) → whole_blocks block (min 0 (min room left)) ≡ 0
+none_written block room left = none (min 0 (min room left)) ((min 0 (min room left)) % block) (least (min room left)) where
+  least : (n : ℕ) → min 0 n ≡ 0
+  least n = grind arith
+
+  none : (n rest : ℕ) → n ≡ 0 → n - rest ≡ 0
+  none n rest is = omega (arith, is)
+
+pub no_sound : {geometry : Geometry} {periods : List ℕ} {pcm pcm' : List ℕ} {tally tally' : Tally} {answer : Ran} {old new : Option Telling} → TakesTurn geometry periods 0 pcm tally answer tally' pcm' old new → pcm' ≡ pcm
+no_sound {geometry} {periods} {pcm} {pcm'} {tally} turn =
+    let m = measures geometry in
+    turn.pcm_is ∙ ap (λ (n : ℕ). drop n pcm) (none_written m.block (run_room m tally.course (facts_of 0 (length pcm) turn.from turn.lpib turn.to)) (length pcm))
 
 pub starts_so : (geometry : Geometry) (list : ℕ) (periods : List ℕ) (budget left from in_reset ready to reach sound : ℕ) (pcm pcm' : List ℕ) (tally tally' : Tally) (t0 t1 t2 t3 t4 t5 t6 : Option Telling)
     → tally.course.started ≡ false → tally.course.reach ≡ 0

@@ -13,7 +13,7 @@ use Rattle.period_writer.specs.declared.course.Ran.TheVariants.{Playing, Drained
 use Rattle.period_writer.specs.Runs.{RunFacts, Tally, measures, facts_of, run_at, tally_after}
 use Rattle.period_writer.specs.Lines.{line_of}
 use Rattle.period_writer.specs.Starting.{rise_accesses}
-use Rattle.period_writer.specs.Playing.{run_bytes, play_accesses}
+use Rattle.period_writer.specs.Playing.{run_bytes, play_accesses, finish_accesses}
 use Rattle.period_writer.specs.Standing.{Ring, AreBesideRirb}
 use Rattle.period_writer.specs.Owning.{IsOwned, IsWritten, IsPlaying}
 
@@ -33,8 +33,8 @@ pub record HasDrained (ring : Ring) (pcm : List ℕ) (tally : Tally) (world : Wo
       → slice_index world.output.entered at ≡ slice_index (line_of tally pcm) at
   pub silent : (at : ℕ) → at < length world.output.entered → tally.course.reach ≤ at → slice_index world.output.entered at ≡ 0
 
--- the stream was stopped by a late run: what was fetched is the line up to the last recorded reach
-pub record WasLate (ring : Ring) (pcm : List ℕ) (tally : Tally) (world : World) : Type 0 where
+-- the stream was stopped: what was fetched is the line up to the last recorded reach
+pub record WasStopped (ring : Ring) (pcm : List ℕ) (tally : Tally) (world : World) : Type 0 where
   pub stopped : is_running world.registers.output ≡ false
   pub no_error : world.registers.output.descriptor_error ≡ 0
   pub written : IsWritten pcm tally
@@ -45,7 +45,7 @@ pub record WasLate (ring : Ring) (pcm : List ℕ) (tally : Tally) (world : World
 abbrev pub EndsAs : Ran → Ring → (pcm : List ℕ) → (tally tally' : Tally) → World → Type 0
 EndsAs Playing ring pcm tally tally' world = IsPlaying ring pcm tally' world
 EndsAs Drained ring pcm tally tally' world = HasDrained ring pcm tally' world
-EndsAs (Late from to) ring pcm tally tally' world = WasLate ring pcm tally world
+EndsAs (Late from to) ring pcm tally tally' world = WasStopped ring pcm tally world
 
 -- a run with this budget that read these clocks and this LPIB: at each moment of it the device owns what the last recorded run left it,
 -- and the run writes elsewhere
@@ -64,6 +64,32 @@ pub record RunTells (ring : Ring) (pcm : List ℕ) (budget : ℕ) (tally : Tally
 abbrev pub RunTellsOf : Ring → (pcm : List ℕ) → (budget : ℕ) → (tally : Tally) → (answer : Ran) → (tally' : Tally) → Telling → Telling → Type 0
 RunTellsOf ring pcm budget tally answer tally' old new =
     IsPlaying ring pcm tally (world_of old) → HasNotWrapped (world_of new) → RunTells ring pcm budget tally answer tally' old new
+
+-- ---- the last run
+
+-- how a last run with this answer left the ring, where these were recorded before it and after it: the stream was stopped in any case
+abbrev pub EndsLast : Ran → Ring → (pcm : List ℕ) → (tally tally' : Tally) → World → Type 0
+EndsLast Playing ring pcm tally tally' world = WasStopped ring pcm tally' world
+EndsLast Drained ring pcm tally tally' world = HasDrained ring pcm tally' world
+EndsLast (Late from to) ring pcm tally tally' world = WasStopped ring pcm tally world
+
+-- the last run, which read these clocks and this LPIB: at each moment up to the stop the device owns what the last recorded run before it
+-- left it, and the run writes elsewhere
+pub record FinishTells (ring : Ring) (pcm : List ℕ) (tally : Tally) (answer : Ran) (tally' : Tally) (old new : Telling) : Type 0 where
+  pub facts : RunFacts
+  pub budget_is : facts.budget ≡ 0
+  pub left_is : facts.left ≡ length (drop tally.course.used pcm)
+  pub events : List Event
+  pub made : Makes (finish_accesses ring.geometry ring.periods tally.course facts (drop tally.course.used pcm)) old new
+  pub recorded : tally' ≡ tally_after (measures ring.geometry) tally facts
+  pub went : Went old new events
+  pub moments : AtEach (IsOwned ring (line_of tally pcm) tally.course.reach tally.course.at (run_at (measures ring.geometry) tally.course facts) tally.course.from) events (world_of old)
+  pub ends : EndsLast answer ring pcm tally tally' (world_of new)
+
+-- it does so from each world in which the writer plays, while WALCLK has not wrapped
+abbrev pub FinishTellsOf : Ring → (pcm : List ℕ) → (tally : Tally) → (answer : Ran) → (tally' : Tally) → Telling → Telling → Type 0
+FinishTellsOf ring pcm tally answer tally' old new =
+    IsPlaying ring pcm tally (world_of old) → HasNotWrapped (world_of new) → FinishTells ring pcm tally answer tally' old new
 
 -- ---- the first run
 

@@ -25,12 +25,26 @@ stop_accesses (Late from to) = Write CONTROL One 0 ∷ []
 abbrev pub run_bytes : Measures → Course → RunFacts → (pcm : List ℕ) → List ℕ
 run_bytes m course facts pcm = sound_and_silence (run_sound m course facts) (run_room m course facts) pcm
 
+-- a later run up to its stop: the clock, LPIB, what the line gains, and the clock
+abbrev pub turn_accesses : Geometry → (periods : List ℕ) → Course → RunFacts → (pcm : List ℕ) → List Event
+turn_accesses geometry periods course facts pcm =
+    Read WALCLK Four facts.from ∷ Read POSITION Four facts.lpib
+    ∷ (line_writes (period_bytes geometry.period) periods course.reach (run_reach (measures geometry) course facts) (run_bytes (measures geometry) course facts pcm)
+    ++ (Read WALCLK Four facts.to ∷ []))
+
 -- a later run: the clock, LPIB, what the line gains, the clock, and where the stream ends, the stop
 abbrev pub play_accesses : Geometry → (periods : List ℕ) → Course → RunFacts → (pcm : List ℕ) → Ran → List Event
 play_accesses geometry periods course facts pcm ran =
     Read WALCLK Four facts.from ∷ Read POSITION Four facts.lpib
     ∷ (line_writes (period_bytes geometry.period) periods course.reach (run_reach (measures geometry) course facts) (run_bytes (measures geometry) course facts pcm)
     ++ (Read WALCLK Four facts.to ∷ stop_accesses ran))
+
+-- the last run: the same, and the stop in any case
+abbrev pub finish_accesses : Geometry → (periods : List ℕ) → Course → RunFacts → (pcm : List ℕ) → List Event
+finish_accesses geometry periods course facts pcm =
+    Read WALCLK Four facts.from ∷ Read POSITION Four facts.lpib
+    ∷ (line_writes (period_bytes geometry.period) periods course.reach (run_reach (measures geometry) course facts) (run_bytes (measures geometry) course facts pcm)
+    ++ (Read WALCLK Four facts.to ∷ Write CONTROL One 0 ∷ []))
 
 -- a first run with this budget, where the list and the periods lie at these addresses and this sound is left: what is told, what is
 -- recorded, and the sound that is left after it
@@ -54,3 +68,23 @@ pub record Plays (geometry : Geometry) (periods : List ℕ) (budget : ℕ) (pcm 
   pub answer_is : answer ≡ tally'.course.ran
   pub made : Between (Makes (play_accesses geometry periods tally.course (facts_of budget (length pcm) from lpib to) pcm answer)) old new
   pub pcm_is : pcm' ≡ drop (run_sound (measures geometry) tally.course (facts_of budget (length pcm) from lpib to)) pcm
+
+-- a later run up to its stop
+pub record TakesTurn (geometry : Geometry) (periods : List ℕ) (budget : ℕ) (pcm : List ℕ) (tally : Tally) (answer : Ran) (tally' : Tally) (pcm' : List ℕ) (old new : Option Telling) : Type 0 where
+  pub from : ℕ
+  pub lpib : ℕ
+  pub to : ℕ
+  pub tally_is : tally' ≡ tally_after (measures geometry) tally (facts_of budget (length pcm) from lpib to)
+  pub answer_is : answer ≡ tally'.course.ran
+  pub made : Between (Makes (turn_accesses geometry periods tally.course (facts_of budget (length pcm) from lpib to) pcm)) old new
+  pub pcm_is : pcm' ≡ drop (run_sound (measures geometry) tally.course (facts_of budget (length pcm) from lpib to)) pcm
+
+-- the last run, which may write no sound, where the periods lie at these addresses and this sound is left: what is told, its answer, and
+-- what is recorded
+pub record Finishes (geometry : Geometry) (periods : List ℕ) (pcm : List ℕ) (tally : Tally) (answer : Ran) (tally' : Tally) (old new : Option Telling) : Type 0 where
+  pub from : ℕ
+  pub lpib : ℕ
+  pub to : ℕ
+  pub tally_is : tally' ≡ tally_after (measures geometry) tally (facts_of 0 (length pcm) from lpib to)
+  pub answer_is : answer ≡ tally'.course.ran
+  pub made : Between (Makes (finish_accesses geometry periods tally.course (facts_of 0 (length pcm) from lpib to) pcm)) old new

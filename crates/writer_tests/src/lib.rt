@@ -6,6 +6,8 @@
 #[cfg(test)]
 mod accesses;
 #[cfg(test)]
+mod last_runs;
+#[cfg(test)]
 mod lies;
 #[cfg(test)]
 mod play;

@@ -90,7 +90,7 @@ pub fn small_ring() -> Result<Geometry, Fail> {
 }
 
 /// The answers to the reads of the clock and of LPIB in a play, in order.
-fn answers_of(alloc: Global, script: &Script) -> Result<Vec<Answer>, AllocError> {
+pub fn answers_of(alloc: Global, script: &Script) -> Result<Vec<Answer>, AllocError> {
     let (from, to, _) = script.first;
     let mut answers = Vec::new(alloc);
     for value in [from, to] {
@@ -203,7 +203,7 @@ fn play_all(
 }
 
 /// What the writer and the platform recorded.
-fn record(platform: &Scripted, writer: &Writer, played: &mut Played) -> Result<(), AllocError> {
+pub fn record(platform: &Scripted, writer: &Writer, played: &mut Played) -> Result<(), AllocError> {
     for run in writer.runs() {
         played
             .runs
@@ -218,7 +218,7 @@ fn record(platform: &Scripted, writer: &Writer, played: &mut Played) -> Result<(
 }
 
 /// Nothing came yet.
-fn nothing(alloc: Global) -> Played {
+pub fn nothing(alloc: Global) -> Played {
     Played {
         rans: Vec::new(alloc),
         runs: Vec::new(alloc),

@@ -2,8 +2,8 @@
 ghost use Rattle.std.specs.Prelude.{◌≡◌, ◌≤◌, ◌<◌, ◌+◌, ℕ, List, true, drop, length, vec_len};
 ghost use Rattle.hda_world.specs.Tellings.{Between, Makes};
 ghost use Rattle.period_writer.specs.Rings.{ring_bytes};
-ghost use Rattle.period_writer.specs.Playing.{Plays, stop_accesses};
-ghost use Rattle.period_writer.specs.Outcomes.{RunTellsOf};
+ghost use Rattle.period_writer.specs.Playing.{Plays, TakesTurn, Finishes, stop_accesses};
+ghost use Rattle.period_writer.specs.Outcomes.{RunTellsOf, FinishTellsOf};
 ghost use Rattle.period_writer.specs.Writers.{tally_of, periods_of, ring_of};
 
 use super::Writer;
@@ -58,6 +58,65 @@ impl Writer {
         ensures accesses { P.spare_accesses platform.old ≤ P.spare_accesses platform.new + (5 + self.old.geometry.periods) }
         ensures bytes { P.spare_bytes platform.old ≤ P.spare_bytes platform.new + ring_bytes self.old.geometry.periods self.old.geometry.period }
     {
+        let ran = self.take_turn(platform, supply, budget);
+        stop_if(platform, ran);
+        ran
+    }
+
+    /// The last run, which writes no sound: it reads where the link is and makes the line longer by silence as [`Writer::run`] does with a
+    /// budget of 0, but stops the stream whatever it finds. For a driver that is closed while it plays. This project's own.
+    ///
+    /// `Late` exactly where more than the geometry's limit of link frames passed between the clock that the run before read first and
+    /// the one that this run reads last. Then it is not recorded. Else `Drained` exactly where no sound is left and the link is past
+    /// the last of it, and `Playing` where there was more to play. The sound that is left stays as it is.
+    ///
+    /// On a platform that tells, where the writer plays, the supply is that of the first run, and WALCLK has not wrapped: at each moment
+    /// up to the stop all that the device fetched below the reach of the last run recorded before is the line, and what it fetches next
+    /// of it stands in the ring; the run writes only to places of positions that were fetched. After the stop what was fetched is the
+    /// line up to the last recorded reach; after `Drained` all sound was sent, and what was fetched past the line is silence.
+    pub fn finish<P: Platform>(&mut self, platform: &mut P, supply: &mut Supply) -> Ran
+        requires started { self.old.course.started ≡ true }
+        requires playing { self.old.course.ran ≡ Ran.Playing }
+        requires free { vec_len self.old.runs < self.old.records }
+        requires room { 5 + self.old.geometry.periods ≤ P.spare_accesses platform.old }
+        requires bytes_room { ring_bytes self.old.geometry.periods self.old.geometry.period ≤ P.spare_bytes platform.old }
+        ensures finishes { Finishes self.old.geometry (periods_of self.old) supply.old (tally_of self.old) result (tally_of self.new) (P.told platform.old) (P.told platform.new) }
+        ensures tells { (pcm : List ℕ) → supply.old ≡ drop self.old.course.used pcm
+            → Between (FinishTellsOf (ring_of self.old) pcm (tally_of self.old) result (tally_of self.new)) (P.told platform.old) (P.told platform.new) }
+        ensures supply { supply.new ≡ supply.old }
+        ensures geometry { self.new.geometry ≡ self.old.geometry }
+        ensures list { self.new.list ≡ self.old.list }
+        ensures periods { self.new.periods.items ≡ self.old.periods.items }
+        ensures records { self.new.records ≡ self.old.records }
+        ensures fixed { P.fixed platform.new ≡ P.fixed platform.old }
+        ensures accesses { P.spare_accesses platform.old ≤ P.spare_accesses platform.new + (5 + self.old.geometry.periods) }
+        ensures bytes { P.spare_bytes platform.old ≤ P.spare_bytes platform.new + ring_bytes self.old.geometry.periods self.old.geometry.period }
+    {
+        let ran = self.take_turn(platform, supply, 0);
+        platform.write(CONTROL, Width::One, STOP);
+        ran
+    }
+
+    /// A run up to its stop.
+    fn take_turn<P: Platform>(
+        &mut self,
+        platform: &mut P,
+        supply: &mut Supply,
+        budget: u32,
+    ) -> Ran
+        requires started { self.old.course.started ≡ true }
+        requires free { vec_len self.old.runs < self.old.records }
+        requires room { 4 + self.old.geometry.periods ≤ P.spare_accesses platform.old }
+        requires bytes_room { ring_bytes self.old.geometry.periods self.old.geometry.period ≤ P.spare_bytes platform.old }
+        ensures turn { TakesTurn self.old.geometry (periods_of self.old) budget supply.old (tally_of self.old) result (tally_of self.new) supply.new (P.told platform.old) (P.told platform.new) }
+        ensures geometry { self.new.geometry ≡ self.old.geometry }
+        ensures list { self.new.list ≡ self.old.list }
+        ensures periods { self.new.periods.items ≡ self.old.periods.items }
+        ensures records { self.new.records ≡ self.old.records }
+        ensures fixed { P.fixed platform.new ≡ P.fixed platform.old }
+        ensures accesses { P.spare_accesses platform.old ≤ P.spare_accesses platform.new + (4 + self.old.geometry.periods) }
+        ensures bytes { P.spare_bytes platform.old ≤ P.spare_bytes platform.new + ring_bytes self.old.geometry.periods self.old.geometry.period }
+    {
         let from = platform.read(places::WALCLK, Width::Four);
         let lpib = platform.read(POSITION, Width::Four);
         let facts = Facts {
@@ -69,8 +128,6 @@ impl Writer {
         let turn = turn_of(&self.geometry, self.course, facts);
         self.write_turn(platform, supply, turn);
         let to = platform.read(places::WALCLK, Width::Four);
-        let ran = self.conclude(turn, facts, to);
-        stop_if(platform, ran);
-        ran
+        self.conclude(turn, facts, to)
     }
 }

@@ -1,4 +1,4 @@
-use Rattle.line_heard.proofs.LineHeard.{playing_heard, drained_heard, late_heard, some_of}
+use Rattle.line_heard.proofs.LineHeard.{playing_heard, drained_heard, stopped_heard, some_of}
 use Rattle.line_heard.proofs.laws.the_line_is_heard.Goals as goal
 
 pub returns-clause-playing : goal.returns-clause-playing
@@ -9,6 +9,6 @@ pub returns-clause-drained : goal.returns-clause-drained
 returns-clause-drained c = λ codecs tag word layout from world address pin pair ring pcm tally known steady sent is drained.
     drained_heard codecs tag word layout known (some_of word layout known) from world steady sent address pin pair is ring pcm tally drained
 
-pub returns-clause-late : goal.returns-clause-late
-returns-clause-late c = λ codecs tag word layout from world address pin pair ring pcm tally known steady sent is late.
-    late_heard codecs tag word layout known (some_of word layout known) from world steady sent address pin pair is ring pcm tally late
+pub returns-clause-stopped : goal.returns-clause-stopped
+returns-clause-stopped c = λ codecs tag word layout from world address pin pair ring pcm tally known steady sent is stopped.
+    stopped_heard codecs tag word layout known (some_of word layout known) from world steady sent address pin pair is ring pcm tally stopped
