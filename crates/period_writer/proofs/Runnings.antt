@@ -42,7 +42,6 @@ pub turn_so : (geometry : Geometry) (periods : List ℕ) (budget left from lpib 
     → Between (λ old new. Accessed old new (Read WALCLK Four to)) t3 t4
     → TakesTurn geometry periods budget pcm tally answer tally' pcm' t0 t4
 turn_so geometry periods budget left from lpib to reach sound pcm pcm' tally tally' answer t0 t1 t2 t3 t4 all reaches sounds after ends rest first second line last =
-    let m = measures geometry in
     let reaches' = subst (λ (n : ℕ). reach ≡ run_reach (measures geometry) tally.course (facts_of budget n from lpib to)) all reaches in
     let sounds' = subst (λ (n : ℕ). sound ≡ run_sound (measures geometry) tally.course (facts_of budget n from lpib to)) all sounds in
     let line' = written (measures geometry) (period_bytes geometry.period) periods tally budget (length pcm) from lpib to reach sound pcm t2 t3 reaches' sounds' line in

@@ -98,12 +98,7 @@ impl Writer {
     }
 
     /// A run up to its stop.
-    fn take_turn<P: Platform>(
-        &mut self,
-        platform: &mut P,
-        supply: &mut Supply,
-        budget: u32,
-    ) -> Ran
+    fn take_turn<P: Platform>(&mut self, platform: &mut P, supply: &mut Supply, budget: u32) -> Ran
         requires started { self.old.course.started ≡ true }
         requires free { vec_len self.old.runs < self.old.records }
         requires room { 4 + self.old.geometry.periods ≤ P.spare_accesses platform.old }
