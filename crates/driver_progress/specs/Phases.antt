@@ -107,3 +107,18 @@ is_settling (Unanswered codec command issued noticed) = false
 is_settling (Late from to limit) = false
 is_settling (Malformed codec fault) = false
 is_settling Failed = false
+
+-- whether all codecs are set up, and no sound was played yet
+abbrev pub is_ready : Phase → Bool
+is_ready Reset = false
+is_ready Settling = false
+is_ready Walking = false
+is_ready SettingUp = false
+is_ready Ready = true
+is_ready Playing = false
+is_ready Drained = false
+is_ready NothingRouted = false
+is_ready (Unanswered codec command issued noticed) = false
+is_ready (Late from to limit) = false
+is_ready (Malformed codec fault) = false
+is_ready Failed = false

@@ -13,3 +13,5 @@ pub use Rattle.driver_stretches.proofs.UnreadRows.{unread_both, reset_unread, se
 -- while CORB's engine does not run no command is taken: over steps, and over a look for interrupts
 pub use Rattle.driver_stretches.proofs.UntakenSteps.{untaken_steps}
 pub use Rattle.driver_stretches.proofs.UntakenRows.{looked_untaken}
+-- that the wall clock goes by the link frames is kept
+pub use Rattle.driver_stretches.proofs.Time.{keeps_time}

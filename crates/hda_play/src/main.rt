@@ -1,20 +1,8 @@
-//! Plans the routes of a codec's output pins, and drives a machine until its codecs are set up. `hda_main` is the program over any
-//! shelf and sink; `main` gives it the machine's files and standard output.
+//! The program over the machine's files and its standard output.
 #![tactic(auto)]
 
-mod answer;
-mod codec;
-mod message;
-mod plans;
-mod route;
-mod run;
-mod schedule;
-mod text;
-mod walk;
-
 use hda_outside::{FileShelf, OutSink};
-use run::hda_main;
-use sound_report::Status;
+use hda_program::{Status, hda_main};
 use std::alloc::Global;
 use std::env;
 use std::io::{self, ErrorKind};
@@ -32,6 +20,9 @@ fn main(rt: HostRuntime) -> ExitCode {
 }
 
 /// The words after the program's name.
+///
+/// # Errors
+/// Want of memory, and words that are not Unicode.
 fn words<R: std::rt::Env + AllocGlobal>(rt: &R) -> io::Result<Vec<String>> {
     let mut words = Vec::new(rt.alloc());
     for word in env::args(rt)?.skip(1) {
@@ -39,14 +30,3 @@ fn words<R: std::rt::Env + AllocGlobal>(rt: &R) -> io::Result<Vec<String>> {
     }
     Ok(words)
 }
-
-#[cfg(test)]
-mod graph_tests;
-#[cfg(test)]
-mod refusal_tests;
-#[cfg(test)]
-mod schedule_tests;
-#[cfg(test)]
-mod test_files;
-#[cfg(test)]
-mod tests;

@@ -103,6 +103,9 @@ fn walk_of<'a>(line: &Line<'a>) -> Request<'a>
 ///
 /// The first is the name of a command, and those after it are its operands and options. Without `--rate` and `--channels` a route is
 /// for 48,000 blocks in a second and 2 channels, and always for 16 bits.
+///
+/// # Errors
+/// [`WordsFault::NoCommand`] where the words are those of no command, and want of memory.
 pub fn read_words<'a>(alloc: Global, words: &'a [String]) -> Result<Request<'a>, WordsFault>
     ensures asked { IfOk result (λ request. request_of (map string_bytes words.now) ≡ Some (asked_by request)) }
     ensures no_command { result ≡ Err WordsFault.NoCommand → request_of (map string_bytes words.now) ≡ None }

@@ -4,6 +4,7 @@ ghost use Rattle.std.proofs.Props.{props};
 ghost use Rattle.period_writer.specs.Rings.{period_bytes, ring_bytes, list_bytes};
 ghost use Rattle.period_writer.specs.Blocks.{addresses_of, AreApart, IsBesideAll};
 ghost use Rattle.period_writer.specs.Courses.{IsCourse};
+ghost use Rattle.period_writer.specs.Runs.{measures};
 
 mod opening;
 mod playing;
@@ -65,6 +66,13 @@ impl Writer {
         ensures { result ≡ self.now.course }
     {
         self.course
+    }
+
+    /// How many link frames may pass from one run to the next.
+    pub fn limit(&self) -> u32
+        ensures { result ≡ (measures self.now.geometry).limit }
+    {
+        self.geometry.limit()
     }
 
     /// Whether there is room to record one run more.

@@ -1,0 +1,28 @@
+use Rattle.std.proofs.Common.{ℕ, List, subst, sym}
+use Rattle.std.specs.Prelude.{IfOk, Contains}
+use Rattle.hda_outside.specs.Counts.{Rose}
+use Rattle.hda_words.specs.Asked.{asked_by}
+use Rattle.hda_words.specs.declared.request.Request.{Request}
+use Rattle.hda_program.specs.Answers.{RequestAnswers}
+use Rattle.hda_program.specs.Asks.{files_of}
+use Rattle.hda_program.specs.Meanings.{answer_meant, message_meant}
+use Rattle.hda_program.proofs.WalkLemmas.{other_first, other_second}
+use Rattle.hda_program.proofs.answer.answer_request.Goals as goal
+
+pub returns-in_ok-message-in-Route-clause-answers : goal.returns-in_ok-message-in-Route-clause-answers
+returns-in_ok-message-in-Route-clause-answers g c =
+    let failed : List ℕ → Type 0 = λ name. Rose (g.S.Shelf.faults c.args.shelf.now name) (g.S.Shelf.faults c.answer_route.new.shelf name) in
+    let P : Request → Type 0 = λ asked. RequestAnswers (g.S.Shelf.told c.args.shelf.now) failed asked (message_meant c.in_ok-message-in-Route.message) in
+    subst P (sym c.in-Route.is) c.in_ok-message-in-Route.ensures.answers
+
+pub returns-in-Walk-clause-answers : goal.returns-in-Walk-clause-answers
+returns-in-Walk-clause-answers g c =
+    let failed : List ℕ → Type 0 = λ name. Rose (g.S.Shelf.faults c.args.shelf.now name) (g.S.Shelf.faults c.answer_walk.new.shelf name) in
+    let P : Request → Type 0 = λ asked. IfOk c.answer_walk.result (λ answer. RequestAnswers (g.S.Shelf.told c.args.shelf.now) failed asked (answer_meant answer)) in
+    subst P (sym c.in-Walk.is) c.answer_walk.ensures.answers
+
+pub returns-in-Walk-clause-asked : goal.returns-in-Walk-clause-asked
+returns-in-Walk-clause-asked g c = λ other apart.
+    let P : Request → Type 0 = λ asked. Contains (files_of (asked_by asked)) other → ⊥ in
+    let both = subst P c.in-Walk.is apart in
+    c.answer_walk.ensures.asked other (other_first c.in-Walk.codec.now c.in-Walk.schedule.now other both) (other_second c.in-Walk.codec.now c.in-Walk.schedule.now other both)

@@ -1,0 +1,71 @@
+use Rattle.std.proofs.Common.{map, string_bytes, inl}
+use Rattle.hda_outside.specs.Counts.{Rose}
+use Rattle.hda_program.specs.Meanings.{answer_meant}
+use Rattle.hda_program.proofs.Endings.{refused_words, sink_faulted, run_walked, run_reported, runless, route_runless, shelf_failed, refused_codec, refused_schedule, was_routed, was_unrouted}
+use Rattle.hda_program.proofs.run.hda_main.Goals as goal
+
+pub returns-in-Ok-clause-walked : goal.returns-in-Ok-clause-walked
+returns-in-Ok-clause-walked g c = run_walked (g.S.Shelf.told c.args.shelf.now) (λ name. Rose (g.S.Shelf.faults c.args.shelf.now name) (g.S.Shelf.faults c.answer_words.new.shelf name))
+    (map string_bytes c.args.words.now) (g.K.Sink.taken c.args.out.now) (g.K.Sink.taken c.write_answer.new.out) (Rose (g.K.Sink.faults c.args.out.now) (g.K.Sink.faults c.write_answer.new.out))
+    c.write_answer.result.play c.write_answer.result.status
+    (inl (record { meant = answer_meant c.in-Ok.answer; is = c.in-Ok.ensures.meant; given = c.write_answer.ensures.play; written = c.write_answer.ensures.written }))
+
+pub returns-in-Ok-clause-reported : goal.returns-in-Ok-clause-reported
+returns-in-Ok-clause-reported g c = run_reported (g.S.Shelf.told c.args.shelf.now) (λ name. Rose (g.S.Shelf.faults c.args.shelf.now name) (g.S.Shelf.faults c.answer_words.new.shelf name))
+    (map string_bytes c.args.words.now) (g.K.Sink.taken c.args.out.now) (g.K.Sink.taken c.write_answer.new.out) (Rose (g.K.Sink.faults c.args.out.now) (g.K.Sink.faults c.write_answer.new.out))
+    c.write_answer.result.play c.write_answer.result.status
+    (inl (record { meant = answer_meant c.in-Ok.answer; is = c.in-Ok.ensures.meant; given = c.write_answer.ensures.play; written = c.write_answer.ensures.written }))
+
+pub returns-in-Ok-clause-runless : goal.returns-in-Ok-clause-runless
+returns-in-Ok-clause-runless g c = runless (g.S.Shelf.told c.args.shelf.now) (λ name. Rose (g.S.Shelf.faults c.args.shelf.now name) (g.S.Shelf.faults c.answer_words.new.shelf name))
+    (map string_bytes c.args.words.now) (g.K.Sink.taken c.args.out.now) (g.K.Sink.taken c.write_answer.new.out) (Rose (g.K.Sink.faults c.args.out.now) (g.K.Sink.faults c.write_answer.new.out))
+    c.write_answer.result.play c.write_answer.result.status
+    (inl (record { meant = answer_meant c.in-Ok.answer; is = c.in-Ok.ensures.meant; given = c.write_answer.ensures.play; written = c.write_answer.ensures.written }))
+
+pub returns-in-Ok-clause-route_runless : goal.returns-in-Ok-clause-route_runless
+returns-in-Ok-clause-route_runless g c = route_runless (g.S.Shelf.told c.args.shelf.now) (λ name. Rose (g.S.Shelf.faults c.args.shelf.now name) (g.S.Shelf.faults c.answer_words.new.shelf name))
+    (map string_bytes c.args.words.now) (g.K.Sink.taken c.args.out.now) (g.K.Sink.taken c.write_answer.new.out) (Rose (g.K.Sink.faults c.args.out.now) (g.K.Sink.faults c.write_answer.new.out))
+    c.write_answer.result.play c.write_answer.result.status
+    (inl (record { meant = answer_meant c.in-Ok.answer; is = c.in-Ok.ensures.meant; given = c.write_answer.ensures.play; written = c.write_answer.ensures.written }))
+
+pub returns-in-Ok-clause-unread : goal.returns-in-Ok-clause-unread
+returns-in-Ok-clause-unread g c = shelf_failed (g.S.Shelf.told c.args.shelf.now) (λ name. Rose (g.S.Shelf.faults c.args.shelf.now name) (g.S.Shelf.faults c.answer_words.new.shelf name))
+    (map string_bytes c.args.words.now) (g.K.Sink.taken c.args.out.now) (g.K.Sink.taken c.write_answer.new.out) (Rose (g.K.Sink.faults c.args.out.now) (g.K.Sink.faults c.write_answer.new.out))
+    c.write_answer.result.play c.write_answer.result.status
+    (inl (record { meant = answer_meant c.in-Ok.answer; is = c.in-Ok.ensures.meant; given = c.write_answer.ensures.play; written = c.write_answer.ensures.written }))
+
+pub returns-in-Ok-clause-refused_codec : goal.returns-in-Ok-clause-refused_codec
+returns-in-Ok-clause-refused_codec g c = refused_codec (g.S.Shelf.told c.args.shelf.now) (λ name. Rose (g.S.Shelf.faults c.args.shelf.now name) (g.S.Shelf.faults c.answer_words.new.shelf name))
+    (map string_bytes c.args.words.now) (g.K.Sink.taken c.args.out.now) (g.K.Sink.taken c.write_answer.new.out) (Rose (g.K.Sink.faults c.args.out.now) (g.K.Sink.faults c.write_answer.new.out))
+    c.write_answer.result.play c.write_answer.result.status
+    (inl (record { meant = answer_meant c.in-Ok.answer; is = c.in-Ok.ensures.meant; given = c.write_answer.ensures.play; written = c.write_answer.ensures.written }))
+
+pub returns-in-Ok-clause-refused_schedule : goal.returns-in-Ok-clause-refused_schedule
+returns-in-Ok-clause-refused_schedule g c = refused_schedule (g.S.Shelf.told c.args.shelf.now) (λ name. Rose (g.S.Shelf.faults c.args.shelf.now name) (g.S.Shelf.faults c.answer_words.new.shelf name))
+    (map string_bytes c.args.words.now) (g.K.Sink.taken c.args.out.now) (g.K.Sink.taken c.write_answer.new.out) (Rose (g.K.Sink.faults c.args.out.now) (g.K.Sink.faults c.write_answer.new.out))
+    c.write_answer.result.play c.write_answer.result.status
+    (inl (record { meant = answer_meant c.in-Ok.answer; is = c.in-Ok.ensures.meant; given = c.write_answer.ensures.play; written = c.write_answer.ensures.written }))
+
+pub returns-in-Ok-clause-routed : goal.returns-in-Ok-clause-routed
+returns-in-Ok-clause-routed g c = was_routed (g.S.Shelf.told c.args.shelf.now) (λ name. Rose (g.S.Shelf.faults c.args.shelf.now name) (g.S.Shelf.faults c.answer_words.new.shelf name))
+    (map string_bytes c.args.words.now) (g.K.Sink.taken c.args.out.now) (g.K.Sink.taken c.write_answer.new.out) (Rose (g.K.Sink.faults c.args.out.now) (g.K.Sink.faults c.write_answer.new.out))
+    c.write_answer.result.play c.write_answer.result.status
+    (inl (record { meant = answer_meant c.in-Ok.answer; is = c.in-Ok.ensures.meant; given = c.write_answer.ensures.play; written = c.write_answer.ensures.written }))
+
+pub returns-in-Ok-clause-nothing_routed : goal.returns-in-Ok-clause-nothing_routed
+returns-in-Ok-clause-nothing_routed g c = was_unrouted (g.S.Shelf.told c.args.shelf.now) (λ name. Rose (g.S.Shelf.faults c.args.shelf.now name) (g.S.Shelf.faults c.answer_words.new.shelf name))
+    (map string_bytes c.args.words.now) (g.K.Sink.taken c.args.out.now) (g.K.Sink.taken c.write_answer.new.out) (Rose (g.K.Sink.faults c.args.out.now) (g.K.Sink.faults c.write_answer.new.out))
+    c.write_answer.result.play c.write_answer.result.status
+    (inl (record { meant = answer_meant c.in-Ok.answer; is = c.in-Ok.ensures.meant; given = c.write_answer.ensures.play; written = c.write_answer.ensures.written }))
+
+pub returns-in-Ok-clause-refused_words : goal.returns-in-Ok-clause-refused_words
+returns-in-Ok-clause-refused_words g c = refused_words (g.S.Shelf.told c.args.shelf.now) (λ name. Rose (g.S.Shelf.faults c.args.shelf.now name) (g.S.Shelf.faults c.answer_words.new.shelf name))
+    (map string_bytes c.args.words.now) (g.K.Sink.taken c.args.out.now) (g.K.Sink.taken c.write_answer.new.out) (Rose (g.K.Sink.faults c.args.out.now) (g.K.Sink.faults c.write_answer.new.out))
+    c.write_answer.result.play c.write_answer.result.status
+    (inl (record { meant = answer_meant c.in-Ok.answer; is = c.in-Ok.ensures.meant; given = c.write_answer.ensures.play; written = c.write_answer.ensures.written }))
+
+pub returns-in-Ok-clause-unwritten : goal.returns-in-Ok-clause-unwritten
+returns-in-Ok-clause-unwritten g c = sink_faulted (g.S.Shelf.told c.args.shelf.now) (λ name. Rose (g.S.Shelf.faults c.args.shelf.now name) (g.S.Shelf.faults c.answer_words.new.shelf name))
+    (map string_bytes c.args.words.now) (g.K.Sink.taken c.args.out.now) (g.K.Sink.taken c.write_answer.new.out) (Rose (g.K.Sink.faults c.args.out.now) (g.K.Sink.faults c.write_answer.new.out))
+    c.write_answer.result.play c.write_answer.result.status
+    (inl (record { meant = answer_meant c.in-Ok.answer; is = c.in-Ok.ensures.meant; given = c.write_answer.ensures.play; written = c.write_answer.ensures.written }))

@@ -1,0 +1,93 @@
+-- What the program answers, and how it ends. This project's own.
+use Rattle.std.specs.Prelude.{◌≡◌, ◌⊎◌, ℕ, true, false, if◌then◌else◌, List, Option, None}
+use Rattle.stream_format.specs.declared.format.Format.{Format}
+use Rattle.route_planner.specs.declared.routes.Plan.{Plan}
+use Rattle.hda_words.specs.declared.request.Request.{Request}
+use Rattle.hda_words.specs.declared.request.Request.TheVariants as request
+use Rattle.hda_files.specs.declared.machine.Machine.{Machine}
+use Rattle.hda_files.specs.declared.machine.CodecFile.{CodecFile}
+use Rattle.hda_outside.specs.Shelf.{Files}
+use Rattle.hda_outside.specs.Sink.{taken_with, TookFront}
+use Rattle.hda_schedule.specs.declared.schedule.Schedule.{Schedule}
+use Rattle.sound_report.specs.declared.played.Played.{Played}
+use Rattle.sound_report.specs.declared.status.Status.TheVariants.{Done, WordsRefused, SinkFailed, OutOfMemory}
+use Rattle.sound_report.specs.PlanLines.{plans_lines}
+use Rattle.sound_report.specs.Statuses.{number_of}
+use Rattle.hda_program.specs.Asks.{IsNoCommand, IsRouteOf, IsWalkOf}
+use Rattle.scheduled_runs.specs.Walks.{walk_format, IsWalked}
+use Rattle.hda_program.specs.Files.{IsMachineOf, IsScheduleOf, CodecStops, ScheduleStops}
+use Rattle.hda_program.specs.Meanings.{Meant, telling, unrouted, of_run}
+use Rattle.machine_tasks.specs.Tasks.{HavePlans}
+use Rattle.hda_program.specs.Plans.{have_route}
+use Rattle.hda_program.specs.Text.{usage_line}
+
+-- ---- `route`
+
+-- what it answers for plans: their lines, and where no pin has a route a line that says so
+abbrev pub plans_meant : List CodecFile → List Plan → Meant
+plans_meant files plans = if have_route plans then telling Done (plans_lines files plans) else unrouted files plans
+
+abbrev pub MachineAnswers : Format → Machine → Meant → Type 0
+MachineAnswers format machine meant = (plans : List Plan) × HavePlans format machine.codecs plans × (meant ≡ plans_meant machine.codecs plans)
+
+-- it ends at the codec file, or answers for the machine that this reads as
+abbrev pub RouteAnswers : Option Files → (List ℕ → Type 0) → List ℕ → Format → Meant → Type 0
+RouteAnswers told failed name format meant =
+    CodecStops told failed name meant ⊎ ((machine : Machine) × IsMachineOf told name machine × MachineAnswers format machine meant)
+
+-- ---- `walk`
+
+-- what it answers for plans: nothing is run where no pin has a route, and else the machine is walked by the schedule
+abbrev pub PlansWalk : Machine → Schedule → List Plan → Meant → Type 0
+PlansWalk machine schedule plans meant =
+    ((have_route plans ≡ false) × (meant ≡ unrouted machine.codecs plans))
+    ⊎ ((played : Played) × (have_route plans ≡ true) × IsWalked machine plans schedule played × (meant ≡ of_run played))
+
+abbrev pub ScheduleAnswers : Machine → Schedule → Meant → Type 0
+ScheduleAnswers machine schedule meant = (plans : List Plan) × HavePlans walk_format machine.codecs plans × PlansWalk machine schedule plans meant
+
+-- it ends at the schedule, or answers for what this reads as
+abbrev pub MachineWalks : Option Files → (List ℕ → Type 0) → Machine → List ℕ → Meant → Type 0
+MachineWalks told failed machine name meant =
+    ScheduleStops told failed name meant ⊎ ((schedule : Schedule) × IsScheduleOf told name schedule × ScheduleAnswers machine schedule meant)
+
+-- it ends at the codec file, or goes on with the machine that this reads as
+abbrev pub WalkAnswers : Option Files → (List ℕ → Type 0) → List ℕ → List ℕ → Meant → Type 0
+WalkAnswers told failed codec name meant =
+    CodecStops told failed codec meant ⊎ ((machine : Machine) × IsMachineOf told codec machine × MachineWalks told failed machine name meant)
+
+-- ---- all commands
+
+-- what is answered to a request of the words
+abbrev pub RequestAnswers : Option Files → (List ℕ → Type 0) → Request → Meant → Type 0
+RequestAnswers told failed (request.Route codec format) meant = RouteAnswers told failed codec.now format meant
+RequestAnswers told failed (request.Walk codec schedule) meant = WalkAnswers told failed codec.now schedule.now meant
+
+-- what the program answers to its words, where the shelf told these files and failed under some names
+abbrev pub IsMeant : Option Files → (List ℕ → Type 0) → List (List ℕ) → Meant → Type 0
+IsMeant told failed words meant =
+    (IsNoCommand words × (meant ≡ telling WordsRefused usage_line))
+    ⊎ (((name : List ℕ) × (format : Format) × IsRouteOf words name format × RouteAnswers told failed name format meant)
+    ⊎ ((codec : List ℕ) × (name : List ℕ) × IsWalkOf words codec name × WalkAnswers told failed codec name meant))
+
+-- ---- the end
+
+-- the text was written whole and the status is its own; or the sink failed or memory was wanting, and the sink took the front
+abbrev pub HasWritten : Option (List ℕ) → Option (List ℕ) → Type 0 → Meant → ℕ → Type 0
+HasWritten before after sink_failed meant status =
+    ((status ≡ number_of meant.status) × (after ≡ taken_with before meant.text))
+    ⊎ (((status ≡ number_of SinkFailed) × sink_failed × TookFront before after meant.text)
+    ⊎ ((status ≡ number_of OutOfMemory) × TookFront before after meant.text))
+
+-- what was meant was written so, and its run is given, if it has one
+pub record HasAnswered (told : Option Files) (failed : List ℕ → Type 0) (words : List (List ℕ)) (before after : Option (List ℕ)) (sink_failed : Type 0) (play : Option Played) (status : ℕ) : Type 0 where
+  pub meant : Meant
+  pub is : IsMeant told failed words meant
+  pub given : play ≡ meant.play
+  pub written : HasWritten before after sink_failed meant status
+
+-- the program has answered, or memory was wanting before anything was meant, and nothing was written
+abbrev pub HasEnded : Option Files → (List ℕ → Type 0) → List (List ℕ) → Option (List ℕ) → Option (List ℕ) → Type 0 → Option Played → ℕ → Type 0
+HasEnded told failed words before after sink_failed play status =
+    HasAnswered told failed words before after sink_failed play status
+    ⊎ ((status ≡ number_of OutOfMemory) × (play ≡ None) × (after ≡ before))

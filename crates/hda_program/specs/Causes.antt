@@ -1,0 +1,82 @@
+-- The causes of single statuses, and what the run that is given is. This project's own.
+use Rattle.std.specs.Prelude.{◌≡◌, ◌⊎◌, ℕ, Bool, true, List, Option}
+use Rattle.stream_format.specs.declared.format.Format.{Format}
+use Rattle.route_planner.specs.declared.routes.Plan.{Plan}
+use Rattle.hda_files.specs.declared.machine.Machine.{Machine}
+use Rattle.hda_outside.specs.Shelf.{Files}
+use Rattle.hda_outside.specs.Sink.{taken_with, TookFront}
+use Rattle.hda_schedule.specs.declared.schedule.Schedule.{Schedule}
+use Rattle.sound_report.specs.declared.played.Played.{Played}
+use Rattle.sound_report.specs.declared.status.Status.TheVariants.{Done, WordsRefused, ShelfFailed, SinkFailed, CodecRefused, WavRefused, ScheduleRefused, NothingRouted, Unanswered, ScheduleEnded, OutOfMemory, GeometryRefused}
+use Rattle.sound_report.specs.Statuses.{number_of}
+use Rattle.sound_report.specs.Texts.{text_of}
+use Rattle.hda_program.specs.Asks.{Names, NamesCodecFile, IsWalkOf, WantsPlans}
+use Rattle.scheduled_runs.specs.Walks.{walk_format, IsWalked}
+use Rattle.hda_program.specs.Files.{IsMachineOf, IsScheduleOf, IsCodecRefused, IsScheduleRefused}
+use Rattle.hda_program.specs.Meanings.{status_of}
+use Rattle.machine_tasks.specs.Tasks.{HavePlans}
+use Rattle.hda_program.specs.Plans.{have_route}
+
+-- the shelf failed under a name of the words
+abbrev pub HasUnreadFile : (List ℕ → Type 0) → List (List ℕ) → Type 0
+HasUnreadFile failed words = (name : List ℕ) × Names words name × failed name
+
+-- the words name a codec file that is too long, or whose bytes read as a fault
+abbrev pub HasBadCodecFile : Option Files → List (List ℕ) → Type 0
+HasBadCodecFile told words = (name : List ℕ) × (text : List ℕ) × NamesCodecFile words name × IsCodecRefused told name text
+
+-- the words name a codec file that reads as a machine, and a schedule that is too long, or whose bytes read as a fault
+pub record HasBadSchedule (told : Option Files) (words : List (List ℕ)) : Type 0 where
+  pub codec : List ℕ
+  pub name : List ℕ
+  pub machine : Machine
+  pub text : List ℕ
+  pub asks : IsWalkOf words codec name
+  pub file : IsMachineOf told codec machine
+  pub refused : IsScheduleRefused told name text
+
+-- the words name a codec file that reads as a machine, of whose plans some has a route, or none
+pub record HasPlanned (told : Option Files) (words : List (List ℕ)) (some : Bool) : Type 0 where
+  pub name : List ℕ
+  pub format : Format
+  pub machine : Machine
+  pub plans : List Plan
+  pub wants : WantsPlans words name format
+  pub file : IsMachineOf told name machine
+  pub planned : HavePlans format machine.codecs plans
+  pub routed : have_route plans ≡ some
+
+-- the run is that for which the words ask: of the machine that their codec file reads as, with its plans, by their schedule
+pub record HasWalked (told : Option Files) (words : List (List ℕ)) (played : Played) : Type 0 where
+  pub codec : List ℕ
+  pub name : List ℕ
+  pub machine : Machine
+  pub plans : List Plan
+  pub schedule : Schedule
+  pub asks : IsWalkOf words codec name
+  pub file : IsMachineOf told codec machine
+  pub steps : IsScheduleOf told name schedule
+  pub planned : HavePlans walk_format machine.codecs plans
+  pub routed : have_route plans ≡ true
+  pub run : IsWalked machine plans schedule played
+
+-- the report of the run was written whole, and the status is that of its end; or its front was, and the sink failed or memory was
+-- wanting
+abbrev pub HasReported : Option (List ℕ) → Option (List ℕ) → Played → ℕ → Type 0
+HasReported before after played status =
+    ((status ≡ number_of (status_of played.fault)) × (after ≡ taken_with before (text_of played)))
+    ⊎ (((status ≡ number_of SinkFailed) ⊎ (status ≡ number_of OutOfMemory)) × TookFront before after (text_of played))
+
+-- a status at which no run was made
+abbrev pub IsRunless : ℕ → Type 0
+IsRunless status =
+    (status ≡ number_of WordsRefused)
+    ⊎ ((status ≡ number_of ShelfFailed)
+    ⊎ ((status ≡ number_of CodecRefused)
+    ⊎ ((status ≡ number_of WavRefused)
+    ⊎ ((status ≡ number_of ScheduleRefused)
+    ⊎ ((status ≡ number_of NothingRouted) ⊎ (status ≡ number_of GeometryRefused))))))
+
+-- a status at which a walk was run
+abbrev pub IsOfRun : ℕ → Type 0
+IsOfRun status = (status ≡ number_of Done) ⊎ ((status ≡ number_of Unanswered) ⊎ (status ≡ number_of ScheduleEnded))

@@ -1,0 +1,120 @@
+-- What the files that the words name come to. This project's own.
+use Rattle.std.specs.Prelude.{◌≡◌, ◌≢◌, ◌⊎◌, ◌<◌, ◌≤◌, ℕ, List, length, Option, Some, None, Result, Ok, Err, codes}
+use Rattle.hda_outside.specs.Shelf.{Files, file_of}
+use Rattle.hda_files.specs.declared.machine.Machine.{Machine}
+use Rattle.hda_files.specs.declared.fault.FileFault.{FileFault}
+use Rattle.hda_files.specs.declared.fault.FileFault.TheVariants.{OutOfMemory}
+use Rattle.hda_files.specs.Machines.{Reads, IsSound}
+use Rattle.hda_schedule.specs.declared.schedule.Schedule.{Schedule}
+use Rattle.hda_schedule.specs.declared.fault.SchedFault.{SchedFault}
+use Rattle.hda_schedule.specs.Schedules.{schedule_of, IsLimited}
+use Rattle.hda_schedule.specs.Ranges.{IsInRange}
+use Rattle.sound_report.specs.declared.status.Status.TheVariants.{ShelfFailed, CodecRefused, ScheduleRefused}
+use Rattle.hda_program.specs.declared.message.Message.{Message}
+use Rattle.hda_program.specs.Meanings.{Meant, telling, message_meant}
+use Rattle.hda_program.specs.Text.{fault_text, schedule_fault_text, unreadable_line, codec_refused_line, schedule_refused_line}
+
+-- how long a codec file and a schedule may be
+abbrev pub most_codec_bytes : ℕ
+most_codec_bytes = 262144
+
+abbrev pub most_schedule_bytes : ℕ
+most_schedule_bytes = 4194304
+
+-- where the files are told, these are the bytes under the name
+abbrev pub IsFile : Option Files → List ℕ → List ℕ → Type 0
+IsFile None name bytes = Unit {0}
+IsFile (Some files) name bytes = file_of files name ≡ Some bytes
+
+-- where the files are told, there are more than so many bytes under the name
+abbrev pub IsLonger : ℕ → Option Files → List ℕ → Type 0
+IsLonger most None name = Unit {0}
+IsLonger most (Some files) name = (bytes : List ℕ) × (file_of files name ≡ Some bytes) × (most < length bytes)
+
+-- the file is short enough, and has these bytes
+pub record IsShortFile (most : ℕ) (told : Option Files) (name bytes : List ℕ) : Type 0 where
+  pub file : IsFile told name bytes
+  pub short : length bytes ≤ most
+
+-- the shelf failed under the name, and the text says so
+abbrev pub IsUnread : (List ℕ → Type 0) → List ℕ → Meant → Type 0
+IsUnread failed name meant = failed name × (meant ≡ telling ShelfFailed (unreadable_line name))
+
+-- ---- the codec file
+
+-- the file of this name reads as this machine
+pub record IsMachineOf (told : Option Files) (name : List ℕ) (machine : Machine) : Type 0 where
+  pub bytes : List ℕ
+  pub file : IsShortFile most_codec_bytes told name bytes
+  pub reads : Reads bytes (Ok machine)
+
+-- the bytes read as a fault, which the text names
+pub record IsCodecFault (bytes text : List ℕ) : Type 0 where
+  pub fault : FileFault
+  pub known : fault ≢ OutOfMemory
+  pub reads : Reads bytes (Err fault)
+  pub says : text ≡ fault_text fault
+
+-- the file is too long, or its bytes read as a fault; the text says which
+abbrev pub IsCodecRefused : Option Files → List ℕ → List ℕ → Type 0
+IsCodecRefused told name text =
+    (IsLonger most_codec_bytes told name × (text ≡ codes "TooLong"))
+    ⊎ ((bytes : List ℕ) × IsShortFile most_codec_bytes told name bytes × IsCodecFault bytes text)
+
+-- a command ends at its codec file: the shelf failed, or the file is refused
+abbrev pub CodecStops : Option Files → (List ℕ → Type 0) → List ℕ → Meant → Type 0
+CodecStops told failed name meant =
+    IsUnread failed name meant
+    ⊎ ((text : List ℕ) × IsCodecRefused told name text × (meant ≡ telling CodecRefused (codec_refused_line text)))
+
+-- what reading the codec file gives: a sound machine, or the end of the command
+abbrev pub IsCodecRead : Option Files → (List ℕ → Type 0) → List ℕ → Result Machine Message → Type 0
+IsCodecRead told failed name (Ok machine) = IsMachineOf told name machine × IsSound machine
+IsCodecRead told failed name (Err message) = CodecStops told failed name (message_meant message)
+
+-- what its bytes give
+abbrev pub AreCodecBytesRead : List ℕ → Result Machine Message → Type 0
+AreCodecBytesRead bytes (Ok machine) = Reads bytes (Ok machine) × IsSound machine
+AreCodecBytesRead bytes (Err message) = (text : List ℕ) × IsCodecFault bytes text × (message_meant message ≡ telling CodecRefused (codec_refused_line text))
+
+-- ---- the schedule
+
+-- the file of this name reads as this schedule
+pub record IsScheduleOf (told : Option Files) (name : List ℕ) (schedule : Schedule) : Type 0 where
+  pub bytes : List ℕ
+  pub file : IsShortFile most_schedule_bytes told name bytes
+  pub reads : schedule_of bytes ≡ Ok schedule
+
+-- the bytes read as a fault, which the text names
+pub record IsScheduleFault (bytes text : List ℕ) : Type 0 where
+  pub fault : SchedFault
+  pub reads : schedule_of bytes ≡ Err fault
+  pub says : text ≡ schedule_fault_text fault
+
+-- the file is too long, or its bytes read as a fault; the text says which
+abbrev pub IsScheduleRefused : Option Files → List ℕ → List ℕ → Type 0
+IsScheduleRefused told name text =
+    (IsLonger most_schedule_bytes told name × (text ≡ codes "TooLong"))
+    ⊎ ((bytes : List ℕ) × IsShortFile most_schedule_bytes told name bytes × IsScheduleFault bytes text)
+
+-- a command ends at its schedule: the shelf failed, or the file is refused
+abbrev pub ScheduleStops : Option Files → (List ℕ → Type 0) → List ℕ → Meant → Type 0
+ScheduleStops told failed name meant =
+    IsUnread failed name meant
+    ⊎ ((text : List ℕ) × IsScheduleRefused told name text × (meant ≡ telling ScheduleRefused (schedule_refused_line text)))
+
+-- a schedule as it is read keeps its ranges and limits
+pub record IsGoodSchedule (schedule : Schedule) : Type 0 where
+  pub ranges : IsInRange schedule
+  pub limits : IsLimited schedule
+
+-- what reading the schedule gives: a schedule, or the end of the command
+abbrev pub IsScheduleRead : Option Files → (List ℕ → Type 0) → List ℕ → Result Schedule Message → Type 0
+IsScheduleRead told failed name (Ok schedule) = IsScheduleOf told name schedule × IsGoodSchedule schedule
+IsScheduleRead told failed name (Err message) = ScheduleStops told failed name (message_meant message)
+
+-- what its bytes give
+abbrev pub AreScheduleBytesRead : List ℕ → Result Schedule Message → Type 0
+AreScheduleBytesRead bytes (Ok schedule) = (schedule_of bytes ≡ Ok schedule) × IsGoodSchedule schedule
+AreScheduleBytesRead bytes (Err message) =
+    (text : List ℕ) × IsScheduleFault bytes text × (message_meant message ≡ telling ScheduleRefused (schedule_refused_line text))

@@ -1,0 +1,48 @@
+-- What a command comes to: a status and a text, and the run of the driver that it made, if it made one. This project's own.
+use Rattle.std.specs.Prelude.{ℕ, List, ◌++◌, string_bytes, Option, Some, None}
+use Rattle.route_planner.specs.declared.routes.Plan.{Plan}
+use Rattle.hda_files.specs.declared.machine.CodecFile.{CodecFile}
+use Rattle.sound_report.specs.declared.played.Played.{Played}
+use Rattle.sound_report.specs.declared.played.PlayFault.{PlayFault}
+use Rattle.sound_report.specs.declared.played.PlayFault.TheVariants as fault
+use Rattle.sound_report.specs.declared.status.Status.{Status}
+use Rattle.sound_report.specs.declared.status.Status.TheVariants.{Done, NothingRouted, Unanswered, Late, ScheduleEnded}
+use Rattle.sound_report.specs.PlanLines.{plans_lines}
+use Rattle.sound_report.specs.Texts.{text_of}
+use Rattle.hda_program.specs.declared.message.Message.{Message}
+use Rattle.hda_program.specs.declared.answer.Answer.{Answer}
+use Rattle.hda_program.specs.declared.answer.Answer.TheVariants as answer
+use Rattle.hda_program.specs.Text.{nothing_routed_line}
+
+pub record Meant : Type 0 where
+  pub status : Status
+  pub text : List ℕ
+  pub play : Option Played
+
+-- a status and a text, with no run
+abbrev pub telling : Status → List ℕ → Meant
+telling status text = record { status = status; text = text; play = None }
+
+-- how a run of the driver ended
+abbrev pub status_of : Option PlayFault → Status
+status_of None = Done
+status_of (Some (fault.Unanswered codec command issued noticed)) = Unanswered
+status_of (Some (fault.Late from to limit)) = Late
+status_of (Some (fault.CommandsLeft sent of)) = ScheduleEnded
+status_of (Some (fault.FramesLeft written heard of)) = ScheduleEnded
+
+-- a run, with its report for a text
+abbrev pub of_run : Played → Meant
+of_run played = record { status = status_of played.fault; text = text_of played; play = Some played }
+
+-- plans of which none has a route, and a line that says so
+abbrev pub unrouted : List CodecFile → List Plan → Meant
+unrouted files plans = telling NothingRouted (plans_lines files plans ++ nothing_routed_line)
+
+-- what the program's answers come to
+abbrev pub message_meant : Message → Meant
+message_meant message = telling message.status (string_bytes message.text)
+
+abbrev pub answer_meant : Answer → Meant
+answer_meant (answer.Message message) = message_meant message
+answer_meant (answer.Run played) = of_run played

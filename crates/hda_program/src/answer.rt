@@ -1,0 +1,70 @@
+//! What the program answers to its words, before anything is written.
+ghost use Rattle.std.specs.Prelude.{◌≡◌, ◌≤◌, ℕ, List, Contains, map, string_bytes, IfOk};
+ghost use Rattle.hda_outside.specs.Counts.{Rose};
+ghost use Rattle.hda_words.specs.Asked.{asked_by};
+ghost use Rattle.hda_program.specs.Answers.{IsMeant, RequestAnswers};
+ghost use Rattle.hda_program.specs.Asks.{AsksForItsFiles, files_of};
+ghost use Rattle.hda_program.specs.Meanings.{answer_meant};
+
+use crate::message::{Message, words_refused};
+use crate::route::answer_route;
+use crate::walk::answer_walk;
+use hda_outside::Shelf;
+use hda_words::{Request, WordsFault, read_words};
+use sound_report::Played;
+use std::alloc::{AllocError, Global};
+
+/// What a command comes to.
+#[derive(Drop)]
+pub enum Answer {
+    /// A text, and no run of the driver.
+    Message(Message),
+    /// A run of the driver, whose report is the text.
+    Run(Played),
+}
+
+/// What the program answers to its words.
+///
+/// # Errors
+/// Want of memory.
+pub fn answer_words<S: Shelf>(
+    alloc: Global,
+    words: &[String],
+    shelf: &mut S,
+) -> Result<Answer, AllocError>
+    ensures meant { IfOk result (λ answer. IsMeant (S.told shelf.old) (λ name. Rose (S.faults shelf.old name) (S.faults shelf.new name))
+        (map string_bytes words.now) (answer_meant answer)) }
+    ensures asked { AsksForItsFiles (map string_bytes words.now) (S.asked shelf.old) (S.asked shelf.new) }
+    ensures told { S.told shelf.new ≡ S.told shelf.old }
+    ensures later { (name : List ℕ) → S.faults shelf.old name ≤ S.faults shelf.new name }
+{
+    match read_words(alloc, words) {
+        Ok(request) => answer_request(alloc, shelf, request),
+        Err(WordsFault::NoCommand) => Ok(Answer::Message(words_refused(alloc)?)),
+        Err(WordsFault::OutOfMemory) => Err(AllocError),
+    }
+}
+
+/// What the program answers to a request.
+///
+/// # Errors
+/// Want of memory.
+fn answer_request<S: Shelf>(
+    alloc: Global,
+    shelf: &mut S,
+    request: Request<'_>,
+) -> Result<Answer, AllocError>
+    ensures answers { IfOk result (λ answer. RequestAnswers (S.told shelf.old) (λ name. Rose (S.faults shelf.old name) (S.faults shelf.new name))
+        request.entry (answer_meant answer)) }
+    ensures asked { (other : List ℕ) → (Contains (files_of (asked_by request.entry)) other → ⊥) → S.asked shelf.new other ≡ S.asked shelf.old other }
+    ensures told { S.told shelf.new ≡ S.told shelf.old }
+    ensures later { (other : List ℕ) → S.faults shelf.old other ≤ S.faults shelf.new other }
+{
+    match request {
+        Request::Route { codec, format } => {
+            let message = answer_route(alloc, shelf, codec, format)?;
+            Ok(Answer::Message(message))
+        }
+        Request::Walk { codec, schedule } => answer_walk(alloc, shelf, codec, schedule),
+    }
+}

@@ -1,0 +1,69 @@
+//! Texts with a status, and the lines of refusals.
+ghost use Rattle.std.specs.Prelude.{◌≡◌, IfOk, string_bytes};
+ghost use Rattle.hda_program.specs.Meanings.{telling, message_meant};
+ghost use Rattle.hda_program.specs.Text.{codec_refused_line, schedule_refused_line, unreadable_line, usage_line};
+
+use crate::text::USAGE;
+use sound_report::Status;
+use std::alloc::{AllocError, Global};
+
+/// A text, and the status with which the program ends that writes it.
+#[derive(Drop)]
+pub struct Message {
+    /// The status of the program's end, where the text is written whole.
+    pub status: Status,
+    /// All that is written.
+    pub text: String,
+}
+
+/// The words are those of no command.
+///
+/// # Errors
+/// Want of memory.
+pub fn words_refused(alloc: Global) -> Result<Message, AllocError>
+    ensures { IfOk result (λ message. message_meant message ≡ telling Status.WordsRefused usage_line) }
+{
+    Ok(Message {
+        status: Status::WordsRefused,
+        text: String::from_str(alloc, USAGE)?,
+    })
+}
+
+/// The file of this name cannot be read.
+///
+/// # Errors
+/// Want of memory.
+pub fn unreadable(alloc: Global, name: &str) -> Result<Message, AllocError>
+    ensures { IfOk result (λ message. message_meant message ≡ telling Status.ShelfFailed (unreadable_line name.now)) }
+{
+    Ok(Message {
+        status: Status::ShelfFailed,
+        text: format!(in alloc; "cannot read: {name}\n")?,
+    })
+}
+
+/// The codec file is refused for this fault.
+///
+/// # Errors
+/// Want of memory.
+pub fn codec_refused(alloc: Global, fault: &str) -> Result<Message, AllocError>
+    ensures { IfOk result (λ message. message_meant message ≡ telling Status.CodecRefused (codec_refused_line fault.now)) }
+{
+    Ok(Message {
+        status: Status::CodecRefused,
+        text: format!(in alloc; "codec refused: {fault}\n")?,
+    })
+}
+
+/// The schedule is refused for this fault.
+///
+/// # Errors
+/// Want of memory.
+pub fn schedule_refused(alloc: Global, fault: &str) -> Result<Message, AllocError>
+    ensures { IfOk result (λ message. message_meant message ≡ telling Status.ScheduleRefused (schedule_refused_line fault.now)) }
+{
+    Ok(Message {
+        status: Status::ScheduleRefused,
+        text: format!(in alloc; "schedule refused: {fault}\n")?,
+    })
+}

@@ -1,0 +1,128 @@
+//! The program over any shelf and sink.
+ghost use Rattle.std.specs.Prelude.{◌≡◌, ◌≤◌, ℕ, List, map, string_bytes, IfSome, IsNone, IsSome, true, false};
+ghost use Rattle.stream_format.specs.declared.format.Format.{Format};
+ghost use Rattle.hda_outside.specs.Counts.{Rose};
+ghost use Rattle.sound_report.specs.Statuses.{number_of};
+ghost use Rattle.hda_program.specs.Answers.{HasEnded, HasWritten};
+ghost use Rattle.hda_program.specs.Asks.{AsksForItsFiles, IsNoCommand, IsRouteOf, IsWalkOf};
+ghost use Rattle.hda_program.specs.Causes.{HasBadCodecFile, HasBadSchedule, HasPlanned, HasReported, HasUnreadFile, HasWalked, IsOfRun, IsRunless};
+ghost use Rattle.hda_program.specs.Meanings.{answer_meant, of_run, status_of, telling};
+
+use crate::answer::{Answer, answer_words};
+use hda_outside::{Fault, Shelf, Sink, write_all};
+use sound_report::{PlayFault, Played, Status, report};
+use std::alloc::Global;
+
+/// How the program ended. This project's own.
+#[derive(Drop)]
+pub struct Ended {
+    /// The exit status.
+    pub status: u8,
+    /// The run of the driver, for commands that make one.
+    pub play: Option<Played>,
+}
+
+/// Runs the command of these words, those after the program's name, and writes its text.
+///
+/// The statuses are those of [`Status`]. `route` ends with 0 where some pin has a route, `walk` where all codecs were set up.
+/// `walk` gives its run of the driver, also where its text could not be written.
+pub fn hda_main<S: Shelf, K: Sink>(
+    alloc: Global,
+    words: &[String],
+    shelf: &mut S,
+    out: &mut K,
+) -> Ended
+    // The meant text was written whole, or its front at a fault of the sink or at want of memory.
+    ensures ended { HasEnded (S.told shelf.old) (λ name. Rose (S.faults shelf.old name) (S.faults shelf.new name))
+        (map string_bytes words.now) (K.taken out.old) (K.taken out.new) (Rose (K.faults out.old) (K.faults out.new)) result.play result.status }
+
+    // The run that is given is the one that the words ask for, and its report was written.
+    ensures walked { IfSome result.play (HasWalked (S.told shelf.old) (map string_bytes words.now)) }
+    ensures reported { IfSome result.play (λ played. HasReported (K.taken out.old) (K.taken out.new) played result.status) }
+
+    // When a run is given.
+    ensures runless { IsRunless result.status → IsNone result.play }
+    ensures route_runless { (name : List ℕ) (format : Format) → IsRouteOf (map string_bytes words.now) name format → IsNone result.play }
+    ensures walk_runs { (codec schedule : List ℕ) → IsWalkOf (map string_bytes words.now) codec schedule → IsOfRun result.status → IsSome result.play }
+
+    // The causes of single statuses.
+    ensures refused_words { result.status ≡ number_of Status.WordsRefused → IsNoCommand (map string_bytes words.now) }
+    ensures unread { result.status ≡ number_of Status.ShelfFailed
+        → HasUnreadFile (λ name. Rose (S.faults shelf.old name) (S.faults shelf.new name)) (map string_bytes words.now) }
+    ensures refused_codec { result.status ≡ number_of Status.CodecRefused → HasBadCodecFile (S.told shelf.old) (map string_bytes words.now) }
+    ensures refused_schedule { result.status ≡ number_of Status.ScheduleRefused → HasBadSchedule (S.told shelf.old) (map string_bytes words.now) }
+    ensures routed { result.status ≡ number_of Status.Done → HasPlanned (S.told shelf.old) (map string_bytes words.now) true }
+    ensures nothing_routed { result.status ≡ number_of Status.NothingRouted → HasPlanned (S.told shelf.old) (map string_bytes words.now) false }
+    ensures unwritten { result.status ≡ number_of Status.SinkFailed → Rose (K.faults out.old) (K.faults out.new) }
+
+    // The shelf is asked under the names of the words alone.
+    ensures asked { AsksForItsFiles (map string_bytes words.now) (S.asked shelf.old) (S.asked shelf.new) }
+
+    // The shelf's files stay as they are, and no count of faults falls.
+    ensures told { S.told shelf.new ≡ S.told shelf.old }
+    ensures shelf_later { (name : List ℕ) → S.faults shelf.old name ≤ S.faults shelf.new name }
+    ensures sink_later { K.faults out.old ≤ K.faults out.new }
+{
+    match answer_words(alloc, words, shelf) {
+        Ok(answer) => write_answer(alloc, out, answer),
+        Err(_) => Ended {
+            status: Status::OutOfMemory.number(),
+            play: None,
+        },
+    }
+}
+
+/// Writes the text of an answer, and gives its status and its run.
+fn write_answer<K: Sink>(alloc: Global, out: &mut K, answer: Answer) -> Ended
+    ensures written { HasWritten (K.taken out.old) (K.taken out.new) (Rose (K.faults out.old) (K.faults out.new)) (answer_meant answer) result.status }
+    ensures play { result.play ≡ (answer_meant answer).play }
+    ensures later { K.faults out.old ≤ K.faults out.new }
+{
+    match answer {
+        Answer::Message(message) => Ended {
+            status: write_text(alloc, out, message.text.as_bytes(), message.status).number(),
+            play: None,
+        },
+        Answer::Run(played) => Ended {
+            status: write_report(alloc, out, &played).number(),
+            play: Some(played),
+        },
+    }
+}
+
+/// Writes a text, and gives its status, or that of the fault.
+fn write_text<K: Sink>(alloc: Global, out: &mut K, text: &[u8], status: Status) -> Status
+    ensures written { HasWritten (K.taken out.old) (K.taken out.new) (Rose (K.faults out.old) (K.faults out.new)) (telling status text.now) (number_of result) }
+    ensures later { K.faults out.old ≤ K.faults out.new }
+{
+    match write_all(alloc, out, text) {
+        Ok(()) => status,
+        Err(Fault::Failed) => Status::SinkFailed,
+        Err(Fault::OutOfMemory) => Status::OutOfMemory,
+    }
+}
+
+/// Writes the report of a run, and gives the status of its end, or that of the fault.
+fn write_report<K: Sink>(alloc: Global, out: &mut K, played: &Played) -> Status
+    ensures written { HasWritten (K.taken out.old) (K.taken out.new) (Rose (K.faults out.old) (K.faults out.new)) (of_run played.now) (number_of result) }
+    ensures later { K.faults out.old ≤ K.faults out.new }
+{
+    match report(alloc, played) {
+        Ok(text) => write_text(alloc, out, text.as_slice(), status_of(played.fault)),
+        Err(_) => Status::OutOfMemory,
+    }
+}
+
+/// The status of a run that ended so.
+fn status_of(fault: Option<PlayFault>) -> Status
+    ensures { result ≡ status_of fault }
+{
+    match fault {
+        None => Status::Done,
+        Some(PlayFault::Unanswered { .. }) => Status::Unanswered,
+        Some(PlayFault::Late { .. }) => Status::Late,
+        Some(PlayFault::CommandsLeft { .. } | PlayFault::FramesLeft { .. }) => {
+            Status::ScheduleEnded
+        }
+    }
+}

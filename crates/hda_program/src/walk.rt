@@ -1,0 +1,83 @@
+//! What `walk` answers.
+ghost use Rattle.std.specs.Prelude.{◌≡◌, ◌≢◌, ◌≤◌, ℕ, List, IfOk};
+ghost use Rattle.hda_files.specs.Machines.{IsSound};
+ghost use Rattle.hda_outside.specs.Counts.{Rose};
+ghost use Rattle.hda_program.specs.Answers.{MachineWalks, ScheduleAnswers, WalkAnswers};
+ghost use Rattle.machine_tasks.specs.Reading.{IsRead};
+ghost use Rattle.hda_program.specs.Files.{IsGoodSchedule};
+ghost use Rattle.hda_program.specs.Meanings.{answer_meant};
+
+use crate::answer::Answer;
+use crate::codec::read_codec;
+use crate::plans::{have_route, nothing_routed, plans_of};
+use crate::schedule::read_steps;
+use hda_files::Machine;
+use hda_outside::Shelf;
+use hda_schedule::Schedule;
+use scheduled_runs::{walk, walk_format};
+use std::alloc::{AllocError, Global};
+
+/// What `walk` answers for the codec file and the schedule of these names.
+///
+/// # Errors
+/// Want of memory.
+pub fn answer_walk<S: Shelf>(
+    alloc: Global,
+    shelf: &mut S,
+    codec: &str,
+    schedule: &str,
+) -> Result<Answer, AllocError>
+    ensures answers { IfOk result (λ answer. WalkAnswers (S.told shelf.old) (λ name. Rose (S.faults shelf.old name) (S.faults shelf.new name))
+        codec.now schedule.now (answer_meant answer)) }
+    ensures asked { (other : List ℕ) → other ≢ codec.now → other ≢ schedule.now → S.asked shelf.new other ≡ S.asked shelf.old other }
+    ensures told { S.told shelf.new ≡ S.told shelf.old }
+    ensures later { (other : List ℕ) → S.faults shelf.old other ≤ S.faults shelf.new other }
+{
+    match read_codec(alloc, shelf, codec)? {
+        Ok(machine) => walk_machine(alloc, shelf, machine, schedule),
+        Err(message) => Ok(Answer::Message(message)),
+    }
+}
+
+/// What `walk` answers for a machine and the schedule of this name.
+///
+/// # Errors
+/// Want of memory.
+fn walk_machine<S: Shelf>(
+    alloc: Global,
+    shelf: &mut S,
+    machine: Machine,
+    name: &str,
+) -> Result<Answer, AllocError>
+    requires sound { IsSound machine }
+    requires read { IsRead machine }
+    ensures answers { IfOk result (λ answer. MachineWalks (S.told shelf.old) (λ name. Rose (S.faults shelf.old name) (S.faults shelf.new name))
+        machine name.now (answer_meant answer)) }
+    ensures asked { (other : List ℕ) → other ≢ name.now → S.asked shelf.new other ≡ S.asked shelf.old other }
+    ensures told { S.told shelf.new ≡ S.told shelf.old }
+    ensures later { (other : List ℕ) → S.faults shelf.old other ≤ S.faults shelf.new other }
+{
+    match read_steps(alloc, shelf, name)? {
+        Ok(schedule) => walk_schedule(alloc, machine, &schedule),
+        Err(message) => Ok(Answer::Message(message)),
+    }
+}
+
+/// What `walk` answers for a machine and a schedule: it runs nothing where no pin has a route.
+///
+/// # Errors
+/// Want of memory.
+fn walk_schedule(alloc: Global, machine: Machine, schedule: &Schedule) -> Result<Answer, AllocError>
+    requires sound { IsSound machine }
+    requires read { IsRead machine }
+    requires good { IsGoodSchedule schedule.now }
+    ensures { IfOk result (λ answer. ScheduleAnswers machine schedule.now (answer_meant answer)) }
+{
+    let plans = plans_of(alloc, machine.codecs.as_slice(), walk_format())?;
+    if have_route(plans.as_slice()) {
+        Ok(Answer::Run(walk(alloc, machine, plans, schedule)?))
+    } else {
+        let message = nothing_routed(alloc, machine.codecs.as_slice(), plans.as_slice())?;
+        Ok(Answer::Message(message))
+    }
+}
