@@ -60,9 +60,8 @@ fn finish_all(
     record(platform, writer, played)
 }
 
-/// Plays the first run of a script over the small ring, and then the last one, whose reads are those of its turn.
-fn finish_over(alloc: Global, script: &Script) -> Result<Played, Fail> {
-    let geometry = small_ring()?;
+/// Plays the first run of a script over a ring, and then the last one, whose reads are those of its turn.
+fn finish_over(alloc: Global, geometry: Geometry, script: &Script) -> Result<Played, Fail> {
     let mut pool = Pool::new(alloc, 64)?;
     let mut supply = supply_of(alloc, script.frames)?;
     let answers = answers_of(alloc, script)?;
@@ -94,7 +93,7 @@ fn a_last_run_stops_a_stream_that_plays(rt: HostRuntime) -> Result<(), Fail> {
         turns: &[(12_500, 0, 12_500, 0)],
         otherwise: 0,
     };
-    let played = finish_over(rt.alloc(), &script)?;
+    let played = finish_over(rt.alloc(), small_ring()?, &script)?;
     let later = played.accesses.as_slice().get(STARTED..).unwrap_or(&[]);
     let wanted = [
         Read(0x30, Four),
