@@ -1,0 +1,15 @@
+use Rattle.stream_rest.proofs.Rows.{steps_rest, events_rest, row_rests}
+use Rattle.stream_rest.proofs.Requests.{stretch_rests}
+use Rattle.stream_rest.proofs.laws.streams_rest_before_sound.Goals as goal
+
+pub returns-clause-steps : goal.returns-clause-steps
+returns-clause-steps c = steps_rest
+
+pub returns-clause-events : goal.returns-clause-events
+returns-clause-events c = events_rest
+
+pub returns-clause-rows : goal.returns-clause-rows
+returns-clause-rows c = row_rests
+
+pub returns-clause-stretches : goal.returns-clause-stretches
+returns-clause-stretches c = stretch_rests
