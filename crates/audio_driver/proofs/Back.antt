@@ -217,3 +217,13 @@ as_before geometry before pool after corb rirb list periods opens gives =
     let granules : after.granules ≡ before.granules = gives.writer.granules ∙ gives.engine.granules ∙ opens.writer.granules ∙ opens.engine.granules in
     subst (λ (n : ℕ). after ≡ record { granules = n; taken = before.taken }) granules
     (subst (λ (runs' : List Run). after ≡ record { granules = after.granules; taken = runs' }) taken refl)
+
+-- the same blocks, by other names
+pub gives_at : (geometry geometry' : Geometry) (pool : PoolState) (corb corb' rirb rirb' list list' : ℕ) (periods periods' : List ℕ) (after : PoolState) → geometry' ≡ geometry → corb' ≡ corb → rirb' ≡ rirb → list' ≡ list → periods' ≡ periods
+    → GivesBack geometry' pool corb' rirb' list' periods' after → GivesBack geometry pool corb rirb list periods after
+gives_at geometry geometry' pool corb corb' rirb rirb' list list' periods periods' after same_geometry same_corb same_rirb same_list same_periods gives =
+    subst (λ (geometry : Geometry). GivesBack geometry pool corb rirb list periods after) same_geometry
+    (subst (λ (corb : ℕ). GivesBack geometry' pool corb rirb list periods after) same_corb
+    (subst (λ (rirb : ℕ). GivesBack geometry' pool corb' rirb list periods after) same_rirb
+    (subst (λ (list : ℕ). GivesBack geometry' pool corb' rirb' list periods after) same_list
+    (subst (λ (periods : List ℕ). GivesBack geometry' pool corb' rirb' list' periods after) same_periods gives))))

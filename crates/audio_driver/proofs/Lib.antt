@@ -1,2 +1,9 @@
 pub mod Taken
 pub mod Back
+mod Kept
+mod Seeing
+mod PlayedOn
+mod Stretches
+mod Whole
+mod Sounded
+mod Ended

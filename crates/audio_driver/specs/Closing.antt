@@ -1,5 +1,5 @@
 -- How a driver is closed: the blocks that it gives back, and what is left of it. This project's own.
-use Rattle.std.specs.Prelude.{◌≡◌, ℕ, List, All, Option}
+use Rattle.std.specs.Prelude.{◌≡◌, true, false, ℕ, Bool, List, All, Option}
 use Rattle.verb_codes.specs.declared.verbs.Command.{Command}
 use Rattle.codec_graph.specs.declared.raw.RawCodec.{RawCodec}
 use Rattle.route_planner.specs.declared.routes.Plan.{Plan}
@@ -14,6 +14,10 @@ use Rattle.jack_counts.specs.Counted.{IsCount}
 use Rattle.jack_counts.specs.Jacks.{IsOfPin, Counts}
 use Rattle.codec_bring_up.specs.declared.bringing.BringUp.{BringUp}
 use Rattle.codec_bring_up.specs.Calls.{Ends}
+use Rattle.period_writer.specs.Runs.{Tally}
+use Rattle.period_writer.specs.Writers.{tally_of, measures_of}
+use Rattle.audio_driver.specs.States.{plays_now, phase_with}
+use Rattle.audio_driver.specs.Sounding.{EndsSound}
 use Rattle.audio_driver.specs.declared.driver.closing.Closed.{Closed}
 
 -- CORB and RIRB were given back, and then the periods and the list of buffers
@@ -22,14 +26,18 @@ pub record GivesBack (geometry : Geometry) (pool : PoolState) (corb rirb list : 
   pub engine : of_engine.GivesBack pool corb rirb middle
   pub writer : of_writer.GivesBack geometry middle list periods pool'
 
--- what is left: the bring-up as its last call leaves it, and what the writer recorded
-pub record Closes (IsPlanBy : RawCodec → Plan → Type 0) (verbs_by : RawCodec → Plan → List Command) (bring_up : BringUp) (writer : Writer) (closed : Closed) (before after : Option Telling) : Type 0 where
+-- what is left: the bring-up as the last call leaves it, and what the writer recorded. Where calls play that is one for the sound, else it
+-- is the last call of the bring-up, and nothing more is recorded
+pub record Closes (IsPlanBy : RawCodec → Plan → Type 0) (verbs_by : RawCodec → Plan → List Command) (play : Bool) (bring_up : BringUp) (writer : Writer) (supply : List ℕ) (closed : Closed) (before after : Option Telling) : Type 0 where
   pub ended : BringUp
-  pub ends : Ends IsPlanBy verbs_by bring_up ended before after
-  pub phase : closed.phase ≡ ended.phase
+  pub tally : Tally
+  pub ends : plays_now play bring_up ≡ false → Ends IsPlanBy verbs_by bring_up ended before after
+  pub recorded : plays_now play bring_up ≡ false → tally ≡ tally_of writer
+  pub sounds : plays_now play bring_up ≡ true → EndsSound bring_up ended writer tally supply before after
+  pub phase : closed.phase ≡ phase_with ended tally (measures_of writer).limit
   pub sent : closed.sent ≡ ended.sent
   pub graphs : closed.graphs ≡ ended.agenda.graphs
   pub plans : closed.plans ≡ ended.agenda.plans
   pub jacks : (events : List told.Event) → IsCount events ended.jacks → All IsOfPin events → Counts events closed.jacks.items
-  pub runs : closed.runs ≡ writer.runs
-  pub silences : closed.silences ≡ writer.silences
+  pub runs : closed.runs.items ≡ tally.runs
+  pub silences : closed.silences.items ≡ tally.silences

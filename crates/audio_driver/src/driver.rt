@@ -1,14 +1,19 @@
 //! The driver.
-ghost use Rattle.std.specs.Prelude.{◌≡◌, ◌≤◌, ◌+◌, All, true};
+ghost use Rattle.std.specs.Prelude.{◌≡◌, ◌≤◌, ◌+◌, All, length, true, false};
 ghost use Rattle.std.proofs.Props.{props};
 ghost use Rattle.dma_pool.specs.Blocks.{run_at};
 ghost use Rattle.command_engine.specs.Blocks.{corb_bytes, rirb_bytes};
 ghost use Rattle.period_writer.specs.Rings.{period_bytes, list_bytes};
+ghost use Rattle.period_writer.specs.Runs.{tally_opened};
+ghost use Rattle.period_writer.specs.Writers.{tally_of};
 ghost use Rattle.audio_driver.specs.Owning.{is_taken};
+ghost use Rattle.audio_driver.specs.States.{plays_now};
 
 mod closing;
+mod ending;
 mod opening;
 mod running;
+mod sounding;
 
 pub use closing::Closed;
 use codec_bring_up::BringUp;
@@ -43,4 +48,7 @@ pub struct Driver<T: Setter> {
     pub ghost few_runs: { runs ≤ 1000000 },
     pub ghost few_calls: { calls ≤ runs },
     pub ghost few_looks: { bring_up.looks ≤ calls },
+    pub ghost few_recorded: { length writer.runs.items ≤ calls },
+    pub ghost fresh: { writer.course.started ≡ false → tally_of writer ≡ tally_opened },
+    pub ghost begun: { writer.course.started ≡ true → plays_now play bring_up ≡ true },
 }

@@ -54,7 +54,7 @@ still_led task state seen tally (Malformed codec fault) asking reset settling ea
 still_led task state seen tally Failed asking reset settling early silent = refl
 
 -- a stretch that reads no clock is no run
-none_read : (was : Ran) (m : Measures) (total : ℕ) (stretch : Stretch) (tally : Tally) → taken_up_if was [] m total stretch tally ≡ tally
+pub none_read : (was : Ran) (m : Measures) (total : ℕ) (stretch : Stretch) (tally : Tally) → taken_up_if was [] m total stretch tally ≡ tally
 none_read ran.Playing m total stretch tally = refl
 none_read ran.Drained m total stretch tally = refl
 none_read (ran.Late from to) m total stretch tally = refl

@@ -9,6 +9,7 @@ use Rattle.hda_world.specs.Events.{Event}
 use Rattle.hda_world.specs.Tellings.{Telling, Between, Makes}
 use Rattle.command_engine.specs.declared.answers.Event as told
 use Rattle.command_engine.specs.Starting.{codecs_in}
+use Rattle.command_engine.specs.Polling.{PollReads, AreNew, poll_accesses, rings_polled}
 use Rattle.codec_agenda.specs.declared.agenda.Agenda.{Agenda}
 use Rattle.codec_agenda.specs.Agendas.{BeginsWalk}
 use Rattle.jack_counts.specs.Counted.{IsCount}
@@ -123,3 +124,16 @@ pub record Ends (IsPlanBy : RawCodec → Plan → Type 0) (verbs_by : RawCodec �
   pub unread : is_asking old.phase ≡ false → AreUnread made
   pub reads : ReadsOn IsPlanBy verbs_by made old new
   pub looks : is_asking old.phase ≡ true → Between (EndLooks old new made) before after
+
+-- once all codecs are set up: what they told unasked since is read and counted, and all else stays
+pub record Listens (old new : BringUp) (before after : Option Telling) : Type 0 where
+  pub reads : PollReads
+  pub new_ones : AreNew old.engine.rings reads
+  pub made : Between (Makes (poll_accesses old.engine.rirb.address old.engine.rings reads)) before after
+  pub rings : new.engine.rings ≡ rings_polled old.engine.rings reads
+  -- of all that was told unasked until now
+  pub counted : (events : List told.Event) → IsCount events old.jacks → IsCount (with_told events reads.entries) new.jacks
+  pub phase : new.phase ≡ old.phase
+  pub kept : new.kept ≡ old.kept
+  pub sent : new.sent ≡ old.sent
+  pub agenda : new.agenda ≡ old.agenda

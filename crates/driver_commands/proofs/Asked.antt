@@ -27,7 +27,7 @@ pub none_submitted : (register corb : ℕ) (rings : RingPlaces) (order : Option 
 none_submitted register corb rings None = refl
 none_submitted register corb rings (Some order) = refl
 
-none_read : (register rirb size place : ℕ) (entries : List (List ℕ)) (rest : List Event)
+pub none_read : (register rirb size place : ℕ) (entries : List (List ℕ)) (rest : List Event)
     → values_of ((entry_reads rirb size place entries ++ Write RIRBSTS One 1 ∷ []) ++ rest) register ≡ values_of rest register
 none_read register rirb size place [] rest = refl
 none_read register rirb size place (entry ∷ entries) rest = none_read register rirb size (place + 1) entries rest
@@ -55,7 +55,7 @@ pub one_clock : (rirb clock : ℕ) (rings : RingPlaces) (reads : PollReads) (res
 one_clock rirb clock rings reads rest none =
     ap (λ (values : List ℕ). clock ∷ values) (batch_reads (has_bit reads.flag 0) WALCLK rirb rings reads rest none ∙ no_pointer (has_bit reads.flag 0) reads.pointer)
 
-pointer_by : (written : Bool) (rirb : ℕ) (rings : RingPlaces) (reads : PollReads) (rest : List Event) → written ≡ true
+pub pointer_by : (written : Bool) (rirb : ℕ) (rings : RingPlaces) (reads : PollReads) (rest : List Event) → written ≡ true
     → slice_index (values_of ((if written then batch_accesses rirb rings reads.pointer reads.entries else []) ++ rest) RIRBWP) 0 ≡ reads.pointer
 pointer_by true rirb rings reads rest is = refl
 pointer_by false rirb rings reads rest is = cc

@@ -12,3 +12,11 @@ pub use Rattle.driver_commands.proofs.Commands.{closing}
 pub use Rattle.driver_commands.proofs.Commands.{last_look}
 -- the entries that a look read of RIRB
 pub use Rattle.driver_commands.proofs.Entries.{asked_entries}
+-- a look tells of 256 events at most
+pub use Rattle.driver_commands.proofs.Events.{few_events}
+-- what was told until now, and by these entries
+pub use Rattle.driver_commands.proofs.Entries.{told_same}
+-- of an entry no register is read, and of RIRBWP just its value
+pub use Rattle.driver_commands.proofs.Asked.{none_read, pointer_by}
+-- where the engine stands after a poll
+pub use Rattle.driver_commands.proofs.Commands.{rings_same}

@@ -137,7 +137,7 @@ pub once : (task : Task) (state : State) (turn : Option DriverLine) (seen : Seen
 once task state turn seen clock is =
     ap (λ (clocks : List ℕ). tally_next task state turn (record seen { clocks = clocks })) is ∙ one_read state.tally.course.ran clock _ _ _ state.tally
 
-rings_same : (rings : RingPlaces) (reads : PollReads) (seen : Seen) (found : Bool) → seen.flag ≡ reads.flag → (has_bit reads.flag 0 ≡ true → seen.pointer ≡ reads.pointer) → seen.answered ≡ found
+pub rings_same : (rings : RingPlaces) (reads : PollReads) (seen : Seen) (found : Bool) → seen.flag ≡ reads.flag → (has_bit reads.flag 0 ≡ true → seen.pointer ≡ reads.pointer) → seen.answered ≡ found
     → still_outstanding rings.outstanding (found_by rings reads) ≡ outstanding_if found rings.outstanding → polled rings seen ≡ rings_polled rings reads
 rings_same rings reads seen found flag pointer answered outstanding =
     ap (λ (flag : ℕ). polled rings (record seen { flag = flag })) flag

@@ -1,5 +1,5 @@
 -- That the last call ends a run over a schedule.
-use Rattle.std.proofs.Common.{◌≡◌, ℕ, List, [], ◌++◌, length, refl, sym, ap, subst, ◌∙◌, Some, append-nil, append_assoc}
+use Rattle.std.proofs.Common.{◌≡◌, ℕ, Bool, false, List, [], ◌++◌, length, refl, sym, ap, subst, ◌∙◌, Some, append-nil, append_assoc}
 use Rattle.std.specs.Prelude.{All}
 use Rattle.stream_format.specs.declared.format.Format.{Format}
 use Rattle.hda_world.specs.Events.{Event, Begin, End}
@@ -12,6 +12,10 @@ use Rattle.driver_progress.specs.Tasks.{DriverLine}
 use Rattle.hda_world.proofs.Callers.{went_both}
 use Rattle.jack_counts.specs.Jacks.{IsOfPin, Counts}
 use Rattle.codec_bring_up.specs.declared.bringing.BringUp.{BringUp}
+use Rattle.codec_bring_up.specs.Calls.{Ends}
+use Rattle.period_writer.specs.Runs.{Tally}
+use Rattle.period_writer.specs.Writers.{tally_of, measures_of}
+use Rattle.audio_driver.specs.States.{plays_now, phase_if, phase_with}
 use Rattle.period_writer.specs.declared.writer.Writer.{Writer}
 use Rattle.audio_driver.specs.declared.driver.closing.Closed.{Closed}
 use Rattle.audio_driver.specs.Closing.{Closes}
@@ -38,28 +42,39 @@ AreOfPins = (entries : List (List ℕ)) → All IsOfPin (events_of (responses_in
 
 module _ (means : Means) (format : Format) where
   pub run_closes : Keeps means format → IsWithoutSteps → TakesAccesses → AreOfPins → (old : BringUp) (writer : Writer) (closed : Closed) (before begun made after : Telling) → Accessed before begun Begin
-      → Closes (plan_by means format) (verbs_for means format) old writer closed (Some begun) (Some made) → Accessed made after End
+      → (play : Bool) (supply : List ℕ) → play ≡ false → writer.course.started ≡ false → Closes (plan_by means format) (verbs_for means format) play old writer supply closed (Some begun) (Some made) → Accessed made after End
       → IsStretchFrom (length before.journal) [] after.journal → IsClosed means format old writer closed before after
-  run_closes keeps without accesses of_pins old writer closed before begun made after opened closes ended stretched = record {
+  run_closes keeps without accesses of_pins old writer closed before begun made after opened play supply none fresh closes ended stretched = record {
     accesses = accesses_of run.events;
     are = accesses run.events;
     went = subst (Went before after) laid run.went;
     ended = closes.ended;
     over = λ verbs graphs task all is under_way.
         (let law = keeps verbs graphs task is in
-        law.ends_over all [] closes.ended made after ended (law.ends all [] old closes.ended begun made (law.opens all [] old before begun opened under_way) closes.ends));
+        law.ends_over all [] closes.ended made after ended (law.ends all [] old closes.ended begun made (law.opens all [] old before begun opened under_way) last));
     counted = λ first count.
         (closes.jacks (told_in (first ++ stretch [] (accesses_of run.events)))
-        (counted_on old.jacks closes.ended.jacks closes.ends.made (stretch [] (accesses_of run.events)) (ap entries_in (sym laid) ∙ run.entries) first closes.ends.reads.counted count)
+        (counted_on old.jacks closes.ended.jacks last.made (stretch [] (accesses_of run.events)) (ap entries_in (sym laid) ∙ run.entries) first last.reads.counted count)
         (of_pins (entries_in (first ++ stretch [] (accesses_of run.events)))));
-    phase = closes.phase;
+    phase = closes.phase
+        ∙ ap (λ (tally : Tally). phase_with closes.ended tally (measures_of writer).limit) recorded
+        ∙ ap (λ (started : Bool). phase_if started closes.ended.phase writer.course.ran (measures_of writer).limit) fresh;
     sent = closes.sent;
     graphs = closes.graphs;
-    runs = closes.runs;
-    silences = closes.silences;
+    runs = closes.runs ∙ ap (λ (tally : Tally). tally.runs) recorded;
+    silences = closes.silences ∙ ap (λ (tally : Tally). tally.silences) recorded;
   } where
-    run : Run closes.ends.made before after
-    run = run_of closes.ends.made before begun made after opened closes.ends.by.is.by ended
+    silent : plays_now play old ≡ false
+    silent = ap (λ (play : Bool). plays_now play old) none
+
+    last : Ends (plan_by means format) (verbs_for means format) old closes.ended (Some begun) (Some made)
+    last = closes.ends silent
+
+    recorded : closes.tally ≡ tally_of writer
+    recorded = closes.recorded silent
+
+    run : Run last.made before after
+    run = run_of last.made before begun made after opened last.by.is.by ended
 
     laid : run.events ≡ stretch [] (accesses_of run.events)
     laid = without before.journal run.events (subst (λ (journal : List Event). IsStretchFrom (length before.journal) [] journal) run.went.journal stretched)

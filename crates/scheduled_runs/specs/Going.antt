@@ -85,8 +85,8 @@ pub record IsClosed (means : Means) (format : Format) (old : BringUp) (writer : 
   pub phase : closed.phase ≡ ended.phase
   pub sent : closed.sent ≡ ended.sent
   pub graphs : closed.graphs ≡ ended.agenda.graphs
-  pub runs : closed.runs ≡ writer.runs
-  pub silences : closed.silences ≡ writer.silences
+  pub runs : closed.runs.items ≡ writer.runs.items
+  pub silences : closed.silences.items ≡ writer.silences.items
 
 -- a whole schedule was run, and then the last call was made
 pub record IsDriven (means : Means) (format : Format) (schedule : Schedule) (old : BringUp) (writer : Writer) (closed : Closed) (before after : Telling) : Type 0 where
@@ -100,5 +100,5 @@ pub record IsDriven (means : Means) (format : Format) (schedule : Schedule) (old
   pub phase : closed.phase ≡ ended.phase
   pub sent : closed.sent ≡ ended.sent
   pub graphs : closed.graphs ≡ ended.agenda.graphs
-  pub runs : closed.runs ≡ writer.runs
-  pub silences : closed.silences ≡ writer.silences
+  pub runs : closed.runs.items ≡ writer.runs.items
+  pub silences : closed.silences.items ≡ writer.silences.items

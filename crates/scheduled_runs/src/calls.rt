@@ -29,6 +29,7 @@ fn call<T: Setter, P: Platform>(
     driver: &mut Driver<T>,
     line: &DriverLine,
 ) -> Result<Phase, AllocError>
+    requires silent { driver.old.play ≡ false }
     requires few { driver.old.calls < driver.old.runs }
     requires room { 400 ≤ P.spare_accesses platform.old }
     requires bytes_room { ring_bytes driver.old.writer.geometry.periods driver.old.writer.geometry.period + 8192 ≤ P.spare_bytes platform.old }
@@ -36,6 +37,7 @@ fn call<T: Setter, P: Platform>(
     ensures kept { IsKept driver.old.bring_up driver.new.bring_up }
     ensures writer { driver.new.writer ≡ driver.old.writer }
     ensures setter { driver.new.setter ≡ driver.old.setter }
+    ensures play { driver.new.play ≡ driver.old.play }
     ensures runs { driver.new.runs ≡ driver.old.runs }
     ensures calls { driver.new.calls ≡ driver.old.calls + 1 }
     ensures fixed { P.fixed platform.new ≡ P.fixed platform.old }
@@ -58,11 +60,13 @@ pub(crate) fn run_line<T: Setter>(
     bytes: u32,
 ) -> Result<(), AllocError>
     requires between { (setting_of rig.old).in_run ≡ false }
+    requires silent { driver.old.play ≡ false }
     requires few { driver.old.calls < driver.old.runs }
     requires room { ring_bytes driver.old.writer.geometry.periods driver.old.writer.geometry.period + 8192 ≤ bytes }
     ensures ran { OnOk result (spec.Ran (record { IsPlanBy = T.IsPlanBy driver.old.setter; verbs_by = T.verbs_by driver.old.setter; IsOpenBy = T.IsOpenBy driver.old.setter }) driver.old.bring_up.agenda.format (Drive line.now ∷ []) driver.old.bring_up driver.new.bring_up rig.old rig.new) }
     ensures writer { OnOk result (driver.new.writer ≡ driver.old.writer) }
     ensures setter { OnOk result (driver.new.setter ≡ driver.old.setter) }
+    ensures play { OnOk result (driver.new.play ≡ driver.old.play) }
     ensures runs { OnOk result (driver.new.runs ≡ driver.old.runs) }
     ensures calls { OnOk result (driver.new.calls ≡ driver.old.calls + 1) }
 {
@@ -84,6 +88,8 @@ pub(crate) fn run_last<T: Setter + Drop>(
     bytes: u32,
 ) -> Result<Closed, AllocError>
     requires between { (setting_of rig.old).in_run ≡ false }
+    requires silent { driver.play ≡ false }
+    requires fresh { driver.writer.course.started ≡ false }
     requires room { ring_bytes driver.writer.geometry.periods driver.writer.geometry.period + 8192 ≤ bytes }
     ensures closed { IfOk result (λ closed. spec.IsClosed (record { IsPlanBy = T.IsPlanBy driver.setter; verbs_by = T.verbs_by driver.setter; IsOpenBy = T.IsOpenBy driver.setter }) driver.bring_up.agenda.format driver.bring_up driver.writer closed (telling_of rig.old) (telling_of rig.new)) }
     ensures machine { OnOk result ((setting_of rig.new).machine ≡ (setting_of rig.old).machine) }

@@ -26,11 +26,13 @@ fn run_item<T: Setter>(
     bytes: u32,
 ) -> Result<(), AllocError>
     requires between { (setting_of rig.old).in_run ≡ false }
+    requires silent { driver.old.play ≡ false }
     requires few { driver.old.calls + length (lines_in (item.now ∷ [])) ≤ driver.old.runs }
     requires room { ring_bytes driver.old.writer.geometry.periods driver.old.writer.geometry.period + 8192 ≤ bytes }
     ensures ran { OnOk result (spec.Ran (record { IsPlanBy = T.IsPlanBy driver.old.setter; verbs_by = T.verbs_by driver.old.setter; IsOpenBy = T.IsOpenBy driver.old.setter }) driver.old.bring_up.agenda.format (item.now ∷ []) driver.old.bring_up driver.new.bring_up rig.old rig.new) }
     ensures writer { OnOk result (driver.new.writer ≡ driver.old.writer) }
     ensures setter { OnOk result (driver.new.setter ≡ driver.old.setter) }
+    ensures play { OnOk result (driver.new.play ≡ driver.old.play) }
     ensures runs { OnOk result (driver.new.runs ≡ driver.old.runs) }
     ensures calls { OnOk result (driver.new.calls ≡ driver.old.calls + length (lines_in (item.now ∷ []))) }
 {
@@ -53,11 +55,13 @@ fn run_items<T: Setter>(
     bytes: u32,
 ) -> Result<(), AllocError>
     requires between { (setting_of rig.old).in_run ≡ false }
+    requires silent { driver.old.play ≡ false }
     requires few { driver.old.calls + length (lines_in items.now) ≤ driver.old.runs }
     requires room { ring_bytes driver.old.writer.geometry.periods driver.old.writer.geometry.period + 8192 ≤ bytes }
     ensures ran { OnOk result (spec.Ran (record { IsPlanBy = T.IsPlanBy driver.old.setter; verbs_by = T.verbs_by driver.old.setter; IsOpenBy = T.IsOpenBy driver.old.setter }) driver.old.bring_up.agenda.format items.now driver.old.bring_up driver.new.bring_up rig.old rig.new) }
     ensures writer { OnOk result (driver.new.writer ≡ driver.old.writer) }
     ensures setter { OnOk result (driver.new.setter ≡ driver.old.setter) }
+    ensures play { OnOk result (driver.new.play ≡ driver.old.play) }
     ensures runs { OnOk result (driver.new.runs ≡ driver.old.runs) }
     ensures calls { OnOk result (driver.new.calls ≡ driver.old.calls + length (lines_in items.now)) }
 {
@@ -79,11 +83,13 @@ fn run_part<T: Setter>(
     bytes: u32,
 ) -> Result<(), AllocError>
     requires between { (setting_of rig.old).in_run ≡ false }
+    requires silent { driver.old.play ≡ false }
     requires few { driver.old.calls + length (lines_in (items_in part.now)) ≤ driver.old.runs }
     requires room { ring_bytes driver.old.writer.geometry.periods driver.old.writer.geometry.period + 8192 ≤ bytes }
     ensures ran { OnOk result (spec.Ran (record { IsPlanBy = T.IsPlanBy driver.old.setter; verbs_by = T.verbs_by driver.old.setter; IsOpenBy = T.IsOpenBy driver.old.setter }) driver.old.bring_up.agenda.format (items_in part.now) driver.old.bring_up driver.new.bring_up rig.old rig.new) }
     ensures writer { OnOk result (driver.new.writer ≡ driver.old.writer) }
     ensures setter { OnOk result (driver.new.setter ≡ driver.old.setter) }
+    ensures play { OnOk result (driver.new.play ≡ driver.old.play) }
     ensures runs { OnOk result (driver.new.runs ≡ driver.old.runs) }
     ensures calls { OnOk result (driver.new.calls ≡ driver.old.calls + length (lines_in (items_in part.now))) }
 {
@@ -105,11 +111,13 @@ pub(crate) fn run_schedule<T: Setter>(
     bytes: u32,
 ) -> Result<(), AllocError>
     requires between { (setting_of rig.old).in_run ≡ false }
+    requires silent { driver.old.play ≡ false }
     requires few { driver.old.calls + length (lines_of schedule.now) ≤ driver.old.runs }
     requires room { ring_bytes driver.old.writer.geometry.periods driver.old.writer.geometry.period + 8192 ≤ bytes }
     ensures ran { OnOk result (spec.Ran (record { IsPlanBy = T.IsPlanBy driver.old.setter; verbs_by = T.verbs_by driver.old.setter; IsOpenBy = T.IsOpenBy driver.old.setter }) driver.old.bring_up.agenda.format (items_of schedule.now) driver.old.bring_up driver.new.bring_up rig.old rig.new) }
     ensures writer { OnOk result (driver.new.writer ≡ driver.old.writer) }
     ensures setter { OnOk result (driver.new.setter ≡ driver.old.setter) }
+    ensures play { OnOk result (driver.new.play ≡ driver.old.play) }
     ensures runs { OnOk result (driver.new.runs ≡ driver.old.runs) }
 {
     pieces_follow();

@@ -1,5 +1,5 @@
 //! A walk: the reset, the walk over all codecs and their set-up, by a schedule.
-ghost use Rattle.std.specs.Prelude.{◌≡◌, ◌≤◌, ◌+◌, true, IfOk};
+ghost use Rattle.std.specs.Prelude.{◌≡◌, ◌≤◌, ◌+◌, true, false, IfOk};
 ghost use Rattle.std.specs.List.{list_any};
 ghost use Rattle.codec_agenda.specs.Planned.{has_route};
 ghost use Rattle.hda_files.specs.Machines.{IsSound};
@@ -70,6 +70,7 @@ fn silent_driver(alloc: Global, fifo: u16, calls: u32) -> Result<Driver<Analog>,
     requires small { fifo ≤ 4096 }
     requires few { calls ≤ 1000000 }
     ensures fresh { IfOk result (λ driver. IsFresh fifo calls driver.bring_up driver.writer) }
+    ensures play { IfOk result (λ driver. driver.play ≡ false) }
     ensures calls { IfOk result (λ driver. driver.calls ≡ 0) }
     ensures runs { IfOk result (λ driver. driver.runs ≡ calls) }
 {

@@ -11,14 +11,14 @@ use Rattle.hda_world.specs.Events.{Event, Stepped, Begin, End, Read, Write, DmaR
 use Rattle.hda_world.specs.Tellings.{Telling, world_of, Accessed, MakesBy}
 use Rattle.driver_progress.specs.declared.phase.Phase.{Phase}
 use Rattle.driver_progress.specs.declared.phase.Phase.TheVariants.{Reset, Settling, Walking, SettingUp, Ready, Playing, Drained, NothingRouted, Unanswered, Late, Malformed, Failed}
-use Rattle.driver_progress.specs.Phases.{is_asking}
+use Rattle.driver_progress.specs.Phases.{is_asking, is_early}
 use Rattle.driver_progress.specs.Requests.{requests_in, requests_of}
 use Rattle.driver_progress.specs.Noting.{IsPlain, ArePlain}
 use Rattle.driver_progress.specs.States.{State}
 use Rattle.driver_progress.specs.Tasks.{Task, DriverLine}
 use Rattle.driver_progress.specs.Progress.{Course, course_of, is_answered, noted}
 use Rattle.driver_stretches.specs.Unread.{IsUnread, AreUnread}
-use Rattle.told_bring_up.specs.SettingUp.{is_ready, are_answered, AreSetUpForGood, SetUpAt, StaysSetUp}
+use Rattle.told_bring_up.specs.SettingUp.{are_set_up, are_answered, AreSetUpForGood, SetUpAt, StaysSetUp}
 use Rattle.told_bring_up.proofs.Calm.{AreCalm, IsLast, calm_front, calm_back}
 use Rattle.told_bring_up.proofs.Same.{steps_for_good, write_for_good}
 use Rattle.told_bring_up.proofs.Always.{access_always, at_access, course_there}
@@ -28,19 +28,37 @@ use Rattle.told_bring_up.proofs.Always.{access_always, at_access, course_there}
 not_true : false ≡ true → ⊥
 not_true is = cc
 
-pub ready_phase : (phase : Phase) → is_ready phase ≡ true → phase ≡ Ready
-ready_phase Reset is = absurd (not_true is)
-ready_phase Settling is = absurd (not_true is)
-ready_phase Walking is = absurd (not_true is)
-ready_phase SettingUp is = absurd (not_true is)
-ready_phase Ready is = refl
-ready_phase Playing is = absurd (not_true is)
-ready_phase Drained is = absurd (not_true is)
-ready_phase NothingRouted is = absurd (not_true is)
-ready_phase (Unanswered codec command issued noticed) is = absurd (not_true is)
-ready_phase (Late from to limit) is = absurd (not_true is)
-ready_phase (Malformed codec fault) is = absurd (not_true is)
-ready_phase Failed is = absurd (not_true is)
+pub ready_phase : (phase : Phase) → is_early phase ≡ true → are_set_up phase ≡ true → phase ≡ Ready
+ready_phase Reset early is = absurd (not_true is)
+ready_phase Settling early is = absurd (not_true is)
+ready_phase Walking early is = absurd (not_true is)
+ready_phase SettingUp early is = absurd (not_true is)
+ready_phase Ready early is = refl
+ready_phase Playing early is = absurd (not_true early)
+ready_phase Drained early is = absurd (not_true early)
+ready_phase NothingRouted early is = absurd (not_true is)
+ready_phase (Unanswered codec command issued noticed) early is = absurd (not_true is)
+ready_phase (Late from to limit) early is = absurd (not_true early)
+ready_phase (Malformed codec fault) early is = absurd (not_true is)
+ready_phase Failed early is = absurd (not_true is)
+
+asking_early : (phase : Phase) → is_asking phase ≡ true → is_early phase ≡ true
+asking_early Reset is = refl
+asking_early Settling is = refl
+asking_early Walking is = refl
+asking_early SettingUp is = refl
+asking_early Ready is = refl
+asking_early Playing is = absurd (not_true is)
+asking_early Drained is = absurd (not_true is)
+asking_early NothingRouted is = refl
+asking_early (Unanswered codec command issued noticed) is = refl
+asking_early (Late from to limit) is = absurd (not_true is)
+asking_early (Malformed codec fault) is = refl
+asking_early Failed is = refl
+
+-- of a state that is another
+pub early_as : (state other : State) → state ≡ other → is_early other.phase ≡ true → is_early state.phase ≡ true
+early_as state other same early = subst (λ (state : State). is_early state.phase ≡ true) (sym same) early
 
 -- the look of an open stretch found the last answer
 pub record FoundLast (asks within sent answered : Bool) : Type 0 where
@@ -57,17 +75,17 @@ parts false true true false answered is = absurd (not_true is)
 parts false true false sent answered is = absurd (not_true is)
 parts false false within sent answered is = absurd (not_true is)
 
-pub answered_parts : (task : Task) (course : Course) → are_answered task course ≡ true
+pub answered_parts : (task : Task) (course : Course) → is_early course.state.phase ≡ true → are_answered task course ≡ true
     → (course.state.phase ≡ Ready) ⊎ FoundLast (is_asking course.state.phase) course.within (course.state.sent == length task.orders) course.answered
-answered_parts task course is = by (parts (is_ready course.state.phase) (is_asking course.state.phase) course.within (course.state.sent == length task.orders) course.answered is)
+answered_parts task course early is = by (parts (are_set_up course.state.phase) (is_asking course.state.phase) course.within (course.state.sent == length task.orders) course.answered is)
   where
-    by : (is_ready course.state.phase ≡ true) ⊎ FoundLast (is_asking course.state.phase) course.within (course.state.sent == length task.orders) course.answered
+    by : (are_set_up course.state.phase ≡ true) ⊎ FoundLast (is_asking course.state.phase) course.within (course.state.sent == length task.orders) course.answered
         → (course.state.phase ≡ Ready) ⊎ FoundLast (is_asking course.state.phase) course.within (course.state.sent == length task.orders) course.answered
-    by (inl ready) = inl (ready_phase course.state.phase ready)
+    by (inl ready) = inl (ready_phase course.state.phase early ready)
     by (inr found) = inr found
 
 pub ready_answered : (task : Task) (course : Course) → course.state.phase ≡ Ready → are_answered task course ≡ true
-ready_answered task course is = ap (λ (phase : Phase). is_ready phase || (is_asking phase && (course.within && ((course.state.sent == length task.orders) && course.answered)))) is
+ready_answered task course is = ap (λ (phase : Phase). are_set_up phase || (is_asking phase && (course.within && ((course.state.sent == length task.orders) && course.answered)))) is
 
 all_true : (ready asks within sent answered : Bool) → FoundLast asks within sent answered → (ready || (asks && (within && (sent && answered)))) ≡ true
 all_true true asks within sent answered found = refl
@@ -78,7 +96,7 @@ all_true false true false sent answered found = found.within_is
 all_true false false within sent answered found = found.asks_is
 
 pub found_answered : (task : Task) (course : Course) → FoundLast (is_asking course.state.phase) course.within (course.state.sent == length task.orders) course.answered → are_answered task course ≡ true
-found_answered task course found = all_true (is_ready course.state.phase) (is_asking course.state.phase) course.within (course.state.sent == length task.orders) course.answered found
+found_answered task course found = all_true (are_set_up course.state.phase) (is_asking course.state.phase) course.within (course.state.sent == length task.orders) course.answered found
 
 pub are_same : (a b : ℕ) → (a == b) ≡ true → a ≡ b
 are_same a b is = search (rules, tests)
@@ -86,8 +104,8 @@ are_same a b is = search (rules, tests)
 pub same_are : (a b : ℕ) → a ≡ b → (a == b) ≡ true
 same_are a b is = search (rules, tests)
 
-pub last_of : (task : Task) (course : Course) (state : State) → course.state ≡ state → are_answered task course ≡ true → IsLast task state
-last_of task course state same is = subst (IsLast task) same (by (answered_parts task course is))
+pub last_of : (task : Task) (course : Course) (state : State) → course.state ≡ state → is_early state.phase ≡ true → are_answered task course ≡ true → IsLast task state
+last_of task course state same early is = subst (IsLast task) same (by (answered_parts task course (early_as course.state state same early) is))
   where
     by : (course.state.phase ≡ Ready) ⊎ FoundLast (is_asking course.state.phase) course.within (course.state.sent == length task.orders) course.answered → IsLast task course.state
     by (inl ready) = inl ready
@@ -100,15 +118,15 @@ not_found asks within sent answered none found = not_true (sym none ∙ found.an
 not_ready : (phase : Phase) → is_asking phase ≡ true → phase ≡ Ready → ⊥
 not_ready phase asking ready = not_true (sym (ap is_asking ready) ∙ asking)
 
-pub unlooked : (task : Task) (course : Course) → course.answered ≡ false → are_answered task course ≡ true → course.state.phase ≡ Ready
-unlooked task course none is = by (answered_parts task course is)
+pub unlooked : (task : Task) (course : Course) → is_early course.state.phase ≡ true → course.answered ≡ false → are_answered task course ≡ true → course.state.phase ≡ Ready
+unlooked task course early none is = by (answered_parts task course early is)
   where
     by : (course.state.phase ≡ Ready) ⊎ FoundLast (is_asking course.state.phase) course.within (course.state.sent == length task.orders) course.answered → course.state.phase ≡ Ready
     by (inl ready) = ready
     by (inr found) = absurd (not_found (is_asking course.state.phase) course.within (course.state.sent == length task.orders) course.answered none found)
 
 pub unanswered : (task : Task) (course : Course) → is_asking course.state.phase ≡ true → course.answered ≡ false → are_answered task course ≡ true → ⊥
-unanswered task course asking none is = not_ready course.state.phase asking (unlooked task course none is)
+unanswered task course asking none is = not_ready course.state.phase asking (unlooked task course (asking_early course.state.phase asking) none is)
 
 -- ---- accesses that look for no answer
 
@@ -156,7 +174,7 @@ same_answered task course world (Stepped step) none = absurd none
 same_answered task course world Begin none = absurd none
 same_answered task course world End none = absurd none
 same_answered task course world (Read at width value) none =
-    ap (λ (is : Bool). is_ready course.state.phase || (is_asking course.state.phase && (course.within && ((course.state.sent == length task.orders) && (if is then is_answered course world else course.answered))))) none
+    ap (λ (is : Bool). are_set_up course.state.phase || (is_asking course.state.phase && (course.within && ((course.state.sent == length task.orders) && (if is then is_answered course world else course.answered))))) none
 same_answered task course world (Write at width value) none = refl
 same_answered task course world (DmaRead at bytes) none = refl
 same_answered task course world (DmaWrite at bytes) none = refl

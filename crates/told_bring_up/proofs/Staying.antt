@@ -23,7 +23,7 @@ use Rattle.command_engine.proofs.Callers.{responses_apart, keeps_standing}
 use Rattle.codec_histories.proofs.Callers.{steps_remember}
 use Rattle.driver_progress.specs.declared.phase.Phase.{Phase}
 use Rattle.driver_progress.specs.declared.phase.Phase.TheVariants.{Reset, Settling, Walking, SettingUp, Ready, Playing, Drained, NothingRouted, Unanswered, Late, Malformed, Failed}
-use Rattle.driver_progress.specs.Phases.{is_asking}
+use Rattle.driver_progress.specs.Phases.{is_asking, is_early}
 use Rattle.driver_progress.specs.Requests.{requests_in, requests_of}
 use Rattle.driver_progress.specs.States.{State}
 use Rattle.driver_progress.specs.Tasks.{Task, Order, DriverLine}
@@ -41,7 +41,7 @@ use Rattle.codec_bring_up.specs.Calls.{state_of, Leads, Ends}
 use Rattle.codec_bring_up.specs.Told.{Looked, LooksOn, IsStill}
 use Rattle.told_bring_up.specs.Stretches.{IsOpen, IsDone}
 use Rattle.told_bring_up.specs.Standing.{IsTaskOfCodecs, IsLastSent, IsAsking, StandsIn, IsBroughtUp}
-use Rattle.told_bring_up.specs.SettingUp.{is_ready, are_answered, StaysSetUp, AreSetUpForGood}
+use Rattle.told_bring_up.specs.SettingUp.{are_set_up, are_answered, StaysSetUp, AreSetUpForGood}
 use Rattle.told_bring_up.proofs.Accesses.{IsAccess, AreAccesses, shut_are, looked_accesses}
 use Rattle.told_bring_up.proofs.Rows.{accesses_row}
 use Rattle.told_bring_up.proofs.Grows.{row_on, both_on, steps_on, world_after}
@@ -49,7 +49,7 @@ use Rattle.told_bring_up.proofs.Noting.{Laws}
 use Rattle.told_bring_up.proofs.Following.{AgendaLaws, Later, row_remembers}
 use Rattle.told_bring_up.proofs.Ready.{SetterLaws, ready_for_good}
 use Rattle.told_bring_up.proofs.Calm.{AreCalm, IsLast, IsSilent, expected_calm, calm_back}
-use Rattle.told_bring_up.proofs.Moments.{IsNoLook, AreNoLooks, IsFine, unread_no_looks, plain_no_looks, access_fine, calm_row, last_of, unlooked, unanswered, answered_parts, are_same, same_are, FoundLast, ready_phase, ready_answered, found_answered}
+use Rattle.told_bring_up.proofs.Moments.{IsNoLook, AreNoLooks, IsFine, unread_no_looks, plain_no_looks, access_fine, calm_row, last_of, unlooked, unanswered, answered_parts, are_same, same_are, FoundLast, ready_phase, ready_answered, found_answered, early_as}
 use Rattle.told_bring_up.proofs.Answered.{answered_for_good}
 
 not_true : false ≡ true → ⊥
@@ -125,10 +125,10 @@ module _ (IsPlanBy : RawCodec → Plan → Type 0) (verbs_by : RawCodec → Plan
 
   -- one that looks for no answer
   unlooked_fine : (left : List DriverLine) (turn : Option DriverLine) (state state' : State) (made : List Event) (before after : Telling) → IsOpen task lines left turn state before → Makes made before after → AreNoLooks made
-      → IsDone task lines left state' after → IsSilent task state turn → Fine state before → Fine state after
-  unlooked_fine left turn state state' made before after opened makes none done silent fine =
+      → is_early state.phase ≡ true → IsDone task lines left state' after → IsSilent task state turn → Fine state before → Fine state after
+  unlooked_fine left turn state state' made before after opened makes none early done silent fine =
       calm_row IsPlanBy IsOpenBy graphs task lines state made before after makes.by none
-      (λ answered. calm_made task lines left turn state state' made before after opened makes.by (no_looks_accesses made none) done silent (last_of task (course_of task lines before) state opened.state_is answered)) fine
+      (λ answered. calm_made task lines left turn state state' made before after opened makes.by (no_looks_accesses made none) done silent (last_of task (course_of task lines before) state opened.state_is early answered)) fine
 
   -- where the device leads by itself
   later_steps : (steps : List Step) (begun world : World) → Later begun world → Later begun (after_steps steps world)
@@ -141,7 +141,7 @@ module _ (IsPlanBy : RawCodec → Plan → Type 0) (verbs_by : RawCodec → Plan
   found_there : (old : BringUp) (written : ℕ) (begun there : World) (course : Course) (flag : ℕ) → is_asking old.phase ≡ true → graphs_in begun.codecs ≡ graphs → (a : IsAsking IsPlanBy verbs graphs task written old begun) → Later begun there
       → Stands a.from a.read old.engine.corb.address old.engine.rirb.address old.engine.rings there → course.state ≡ state_of old → course.written ≡ written → are_answered task (noted task course there (Read RIRBSTS One flag)) ≡ true
       → AreSetUpForGood IsPlanBy IsOpenBy graphs there
-  found_there old written begun there course flag asking graphs_are a later stood state_is written_is answered = by (answered_parts task (noted task course there (Read RIRBSTS One flag)) answered)
+  found_there old written begun there course flag asking graphs_are a later stood state_is written_is answered = by (answered_parts task (noted task course there (Read RIRBSTS One flag)) (early_as course.state (state_of old) state_is old.early) answered)
     where
       by : (course.state.phase ≡ Ready) ⊎ FoundLast (is_asking course.state.phase) course.within (course.state.sent == length task.orders) (is_answered course there) → AreSetUpForGood IsPlanBy IsOpenBy graphs there
       by (inl ready) = absurd (not_true (sym (ap is_asking (sym (ap (λ (state : State). state.phase) state_is) ∙ ready)) ∙ asking))
@@ -198,7 +198,7 @@ module _ (IsPlanBy : RawCodec → Plan → Type 0) (verbs_by : RawCodec → Plan
       let calm : IsLast task state → AreCalm (requests_of rest) = λ last.
       calm_after (ask_accesses rirb clock rings reads) rest (calm_after first (ask_accesses rirb clock rings reads ++ rest)
       (subst (λ (made : List Event). AreCalm (requests_of made)) looked.made_is (calm_made task lines left turn state state' made before after opened makes.by are done silent last))) in
-      calm_row IsPlanBy IsOpenBy graphs task lines state rest looked.ends after looked.rest_made.by none (λ answered. calm (last_of task (course_of task lines looked.ends) state polled.state_is answered)) polled
+      calm_row IsPlanBy IsOpenBy graphs task lines state rest looked.ends after looked.rest_made.by none (λ answered. calm (last_of task (course_of task lines looked.ends) state polled.state_is old.early answered)) polled
 
   -- ---- by phase
 
@@ -222,7 +222,7 @@ module _ (IsPlanBy : RawCodec → Plan → Type 0) (verbs_by : RawCodec → Plan
   called_fine left turn old before opened stands set_up = record {
     set_up = set_up;
     good = λ answered. ready_for_good IsPlanBy verbs_by verbs IsOpenBy graphs task laws of setter (course_of task lines before).written old (world_of before)
-        (sym (ap (λ (state : State). state.phase) opened.state_is) ∙ unlooked task (course_of task lines before) opened.unanswered answered) stands;
+        (sym (ap (λ (state : State). state.phase) opened.state_is) ∙ unlooked task (course_of task lines before) (early_as (course_of task lines before).state (state_of old) opened.state_is old.early) opened.unanswered answered) stands;
     state_is = opened.state_is;
   }
 
@@ -234,7 +234,7 @@ module _ (IsPlanBy : RawCodec → Plan → Type 0) (verbs_by : RawCodec → Plan
       let rings = rings_polled old.engine.rings on.reads in
       looked_fine left (Some (record { irq = irq; budget = budget })) old (state_of new) leads.made on.first on.clock on.reads (submit_made corb rings on.order) before after opened leads.by.is asking silent graphs_are a on.looked (submit_no_looks corb rings on.order) done fine
   asking_fine left budget irq old new before after opened graphs_are a leads silent asking done fine (inr still) =
-      unlooked_fine left (Some (record { irq = irq; budget = budget })) (state_of old) (state_of new) leads.made before after opened leads.by.is (unread_no_looks leads.made still.unread) done silent fine
+      unlooked_fine left (Some (record { irq = irq; budget = budget })) (state_of old) (state_of new) leads.made before after opened leads.by.is (unread_no_looks leads.made still.unread) old.early done silent fine
 
   pub call_fine : (left : List DriverLine) (budget : ℕ) (irq : Bool) (old new : BringUp) (before after : Telling) → IsOpen task lines left (Some (record { irq = irq; budget = budget })) (state_of old) before
       → IsBroughtUp IsPlanBy verbs graphs task (course_of task lines before).written old (world_of before) → Leads IsPlanBy verbs_by irq old new (Some before) (Some after) → (old.phase ≡ Ready → task.plays ≡ false)
@@ -242,7 +242,7 @@ module _ (IsPlanBy : RawCodec → Plan → Type 0) (verbs_by : RawCodec → Plan
   call_fine left budget irq old new before after opened stands leads silent done fine = by (is_asking old.phase) refl
     where
       by : (asks : Bool) → is_asking old.phase ≡ asks → Fine (state_of old) after
-      by false not = unlooked_fine left (Some (record { irq = irq; budget = budget })) (state_of old) (state_of new) leads.made before after opened leads.by.is (unread_no_looks leads.made (leads.unread not)) done silent fine
+      by false not = unlooked_fine left (Some (record { irq = irq; budget = budget })) (state_of old) (state_of new) leads.made before after opened leads.by.is (unread_no_looks leads.made (leads.unread not)) old.early done silent fine
       by true asking =
           let a = asking_in old.phase (course_of task lines before).written old (world_of before) asking stands.stage in
           asking_fine left budget irq old new before after opened stands.graphs_are a leads silent asking done fine ((leads.stays (asking_goes old.phase asking)).is a.from a.read a.stands)
@@ -252,7 +252,7 @@ module _ (IsPlanBy : RawCodec → Plan → Type 0) (verbs_by : RawCodec → Plan
   -- it leaves all set up where it leads to Ready
   pub record LeavesFine (old new : BringUp) (after : Telling) : Type 0 where
     pub fine : Fine (state_of old) after
-    pub ready : is_ready new.phase ≡ true → AreSetUpForGood IsPlanBy IsOpenBy graphs (world_of after)
+    pub ready : are_set_up new.phase ≡ true → AreSetUpForGood IsPlanBy IsOpenBy graphs (world_of after)
 
   -- where the last access leads by what was read
   closed_to : (left : List DriverLine) (old new : BringUp) (made : List Event) (before after : Telling) → IsOpen task lines left None (state_of old) before → Makes made before after → AreAccesses made → IsDone task lines left (state_of new) after
@@ -268,12 +268,12 @@ module _ (IsPlanBy : RawCodec → Plan → Type 0) (verbs_by : RawCodec → Plan
       → IsDone task lines left (state_of new) after → Fine (state_of old) before → LeavesFine old new after
   quiet_fine left old new before after opened ends not done fine =
       let none = unread_no_looks ends.made (ends.unread not) in
-      let leaves = unlooked_fine left None (state_of old) (state_of new) ends.made before after opened ends.by.is none done (tt {0}) fine in
+      let leaves = unlooked_fine left None (state_of old) (state_of new) ends.made before after opened ends.by.is none old.early done (tt {0}) fine in
       let seen = seen_in (course_of task lines after) in
       let still = closed_still task (state_of old) seen (tally_next task (state_of old) None seen) old.phase not old.early in
       let same : old.phase ≡ new.phase = sym (ap (λ (state : State). state.phase) still) ∙ closed_to left old new ends.made before after opened ends.by.is (no_looks_accesses ends.made none) done in record {
         fine = leaves;
-        ready = λ ready. leaves.good (ready_answered task (course_of task lines after) (ap (λ (state : State). state.phase) leaves.state_is ∙ same ∙ ready_phase new.phase ready));
+        ready = λ ready. leaves.good (ready_answered task (course_of task lines after) (ap (λ (state : State). state.phase) leaves.state_is ∙ same ∙ ready_phase new.phase new.early ready));
       }
 
   -- the outstanding command is the last, and was answered
@@ -310,7 +310,7 @@ module _ (IsPlanBy : RawCodec → Plan → Type 0) (verbs_by : RawCodec → Plan
       let closes = closed_to left old new ends.made before after opened ends.by.is are done in record {
         fine = leaves;
         ready = λ ready.
-            let by = closed_ready task (state_of old) seen (tally_next task (state_of old) None seen) old.phase asking asking (closes ∙ ready_phase new.phase ready) in
+            let by = closed_ready task (state_of old) seen (tally_next task (state_of old) None seen) old.phase asking asking (closes ∙ ready_phase new.phase new.early ready) in
             let last = last_answered old.sent old.engine.rings.outstanding course.answered a.last (some_outstanding (course_of task lines before).written old (world_of before) asking a by.all) by.none by.all in
             leaves.good (found_answered task course (record {
               asks_is = ap (λ (state : State). is_asking state.phase) leaves.state_is ∙ asking;

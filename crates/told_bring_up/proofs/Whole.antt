@@ -6,18 +6,18 @@ use Rattle.hda_world.specs.Events.{Event, Stepped}
 use Rattle.hda_world.specs.Tellings.{Went, Accessed}
 use Rattle.hda_world.proofs.Callers.{world_of-went}
 use Rattle.driver_progress.specs.declared.phase.Phase.TheVariants.{Ready}
-use Rattle.driver_progress.specs.Phases.{is_asking}
+use Rattle.driver_progress.specs.Phases.{is_asking, is_early}
 use Rattle.driver_progress.specs.States.{State, state_opened}
 use Rattle.driver_progress.specs.Progress.{course_after, course_opened, begun, ended}
 use Rattle.driver_progress.proofs.Callers.{course_went, steps_leave_course}
 use Rattle.codec_bring_up.specs.Calls.{state_of, IsKept, Leads, Ends}
 use Rattle.told_bring_up.specs.Stretches.{IsAtRest, IsDone}
-use Rattle.told_bring_up.specs.SettingUp.{is_ready, are_answered, Always, SetUpAt, StaysSetUp, RemainSetUp}
+use Rattle.told_bring_up.specs.SettingUp.{are_set_up, are_answered, Always, SetUpAt, StaysSetUp, RemainSetUp}
 use Rattle.told_bring_up.proofs.Looking.{steps_are}
 use Rattle.told_bring_up.proofs.Ready.{SetterLaws, ready_for_good}
 use Rattle.told_bring_up.proofs.Same.{steps_for_good}
 use Rattle.told_bring_up.proofs.Always.{steps_always, access_always}
-use Rattle.told_bring_up.proofs.Moments.{FoundLast, answered_parts, ready_phase, unlooked}
+use Rattle.told_bring_up.proofs.Moments.{FoundLast, answered_parts, ready_phase, unlooked, early_as}
 use Rattle.told_bring_up.proofs.Staying.{called_fine, call_fine, end_fine}
 use Rattle.verb_codes.specs.declared.verbs.Command.{Command}
 use Rattle.codec_graph.specs.declared.raw.RawCodec.{RawCodec}
@@ -67,8 +67,8 @@ module _ (IsPlanBy : RawCodec → Plan → Type 0) (verbs_by : RawCodec → Plan
   }
 
   -- at rest codecs are set up in the phase `Ready` alone
-  rest_phase : (course : Course) → course.within ≡ false → are_answered task course ≡ true → course.state.phase ≡ Ready
-  rest_phase course outside answered = by (answered_parts task course answered)
+  rest_phase : (course : Course) → is_early course.state.phase ≡ true → course.within ≡ false → are_answered task course ≡ true → course.state.phase ≡ Ready
+  rest_phase course early outside answered = by (answered_parts task course early answered)
     where
       by : (course.state.phase ≡ Ready) ⊎ FoundLast (is_asking course.state.phase) course.within (course.state.sent == length task.orders) course.answered → course.state.phase ≡ Ready
       by (inl ready) = ready
@@ -76,7 +76,7 @@ module _ (IsPlanBy : RawCodec → Plan → Type 0) (verbs_by : RawCodec → Plan
 
   rest_set_up : (written : ℕ) (bring_up : BringUp) (world : World) (course : Course) → IsBroughtUp IsPlanBy verbs graphs task written bring_up world → course.within ≡ false → course.state ≡ state_of bring_up → SetUpAt IsPlanBy IsOpenBy graphs task world course
   rest_set_up written bring_up world course stands outside state_is answered =
-      (ready_for_good IsPlanBy verbs_by verbs IsOpenBy graphs task laws of setter written bring_up world (sym (ap (λ (state : State). state.phase) state_is) ∙ rest_phase course outside answered) stands).set_up
+      (ready_for_good IsPlanBy verbs_by verbs IsOpenBy graphs task laws of setter written bring_up world (sym (ap (λ (state : State). state.phase) state_is) ∙ rest_phase course (early_as course.state (state_of bring_up) state_is bring_up.early) outside answered) stands).set_up
 
   under_way_stays : (lines left : List DriverLine) (bring_up : BringUp) (telling : Telling) → IsUnderWay IsPlanBy verbs IsOpenBy graphs task lines left bring_up telling → (done : List Step)
       → SetUpAt IsPlanBy IsOpenBy graphs task (after_steps done (world_of telling)) (course_of task lines telling)
@@ -109,7 +109,7 @@ module _ (IsPlanBy : RawCodec → Plan → Type 0) (verbs_by : RawCodec → Plan
       let course = course_of task lines old in
       let stood = stays course.written bring_up accessed.steps (world_of old) way.stands in
       let begins = λ (answered : are_answered task (begun course) ≡ true). (ready_for_good IsPlanBy verbs_by verbs IsOpenBy graphs task laws of setter course.written bring_up there
-      (sym (ap (λ (state : State). state.phase) way.rest.state_is) ∙ unlooked task (begun course) refl answered) stood).set_up in record {
+      (sym (ap (λ (state : State). state.phase) way.rest.state_is) ∙ unlooked task (begun course) (early_as course.state (state_of bring_up) way.rest.state_is bring_up.early) refl answered) stood).set_up in record {
         opened = opens task lines left (state_of bring_up) old new accessed way.rest;
         stands = marked IsPlanBy verbs graphs task lines bring_up old new accessed.steps (λ written steps world is. stays written bring_up steps world is) (world_after Begin old new accessed)
             (ap (λ (course : Course). course.written) (course_access task lines Begin old new accessed)) way.stands;
@@ -128,8 +128,8 @@ module _ (IsPlanBy : RawCodec → Plan → Type 0) (verbs_by : RawCodec → Plan
       → SetUpAt IsPlanBy IsOpenBy graphs task (after_steps accessed.steps (world_of old)) (ended task (course_of task lines old))
   ends_set_up lines left bring_up old new accessed done remains answered =
       let course = course_of task lines old in
-      let ready = sym (ap (λ (state : State). state.phase) done.leads) ∙ rest_phase (ended task course) refl answered in
-      (steps_for_good IsPlanBy IsOpenBy graphs accessed.steps (world_of old) (remains.after (ap is_ready ready))).set_up
+      let ready = sym (ap (λ (state : State). state.phase) done.leads) ∙ rest_phase (ended task course) (early_as (ended task course).state (state_of bring_up) done.leads bring_up.early) refl answered in
+      (steps_for_good IsPlanBy IsOpenBy graphs accessed.steps (world_of old) (remains.after (ap are_set_up ready))).set_up
 
   stretch_set_up : (lines left : List DriverLine) (bring_up : BringUp) (old new : Telling) → Accessed old new End → IsDone task lines left (state_of bring_up) old → RemainSetUp IsPlanBy IsOpenBy graphs task lines bring_up old
       → StaysSetUp IsPlanBy IsOpenBy graphs task lines old → StaysSetUp IsPlanBy IsOpenBy graphs task lines new
@@ -174,7 +174,7 @@ module _ (IsPlanBy : RawCodec → Plan → Type 0) (verbs_by : RawCodec → Plan
         set_up = fine.set_up;
         remains = record {
           before = fine.good;
-          after = λ ready. ready_for_good IsPlanBy verbs_by verbs IsOpenBy graphs task laws of setter (course_of task lines after).written new (world_of after) (ready_phase new.phase ready) stands;
+          after = λ ready. ready_for_good IsPlanBy verbs_by verbs IsOpenBy graphs task laws of setter (course_of task lines after).written new (world_of after) (ready_phase new.phase new.early ready) stands;
         };
       }
 

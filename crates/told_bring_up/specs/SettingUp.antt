@@ -16,20 +16,20 @@ use Rattle.codec_bring_up.specs.declared.bringing.BringUp.{BringUp}
 
 -- ---- the moments
 
--- whether all codecs are set up and no sound was played yet
-abbrev pub is_ready : Phase → Bool
-is_ready Reset = false
-is_ready Settling = false
-is_ready Walking = false
-is_ready SettingUp = false
-is_ready Ready = true
-is_ready Playing = false
-is_ready Drained = false
-is_ready NothingRouted = false
-is_ready (Unanswered codec command issued noticed) = false
-is_ready (Late from to limit) = false
-is_ready (Malformed codec fault) = false
-is_ready Failed = false
+-- whether all codecs are set up in a phase: sound is played from then on
+abbrev pub are_set_up : Phase → Bool
+are_set_up Reset = false
+are_set_up Settling = false
+are_set_up Walking = false
+are_set_up SettingUp = false
+are_set_up Ready = true
+are_set_up Playing = true
+are_set_up Drained = true
+are_set_up NothingRouted = false
+are_set_up (Unanswered codec command issued noticed) = false
+are_set_up (Late from to limit) = true
+are_set_up (Malformed codec fault) = false
+are_set_up Failed = false
 
 -- whether all commands were sent, and the look of a stretch that is open found the answer to the last of them
 abbrev pub found_last : Task → Course → Bool
@@ -37,7 +37,7 @@ found_last task course = course.within && ((course.state.sent == length task.ord
 
 -- whether all commands are answered: the state says so, or the look of the open stretch
 abbrev pub are_answered : Task → Course → Bool
-are_answered task course = is_ready course.state.phase || (is_asking course.state.phase && found_last task course)
+are_answered task course = are_set_up course.state.phase || (is_asking course.state.phase && found_last task course)
 
 -- something holds of world and course before the first of these events and after each of them
 abbrev pub Always : (World → Course → Type 0) → Task → List Event → World → Course → Type 0
@@ -79,4 +79,4 @@ pub record AreSetUpForGood (IsPlanBy : RawCodec → Plan → Type 0) (IsOpenBy :
 -- so it is in an open stretch whose accesses were made, where all commands are answered then or by where it leads
 pub record RemainSetUp (IsPlanBy : RawCodec → Plan → Type 0) (IsOpenBy : RawCodec → Entries → Plan → Type 0) (graphs : List RawCodec) (task : Task) (lines : List DriverLine) (bring_up : BringUp) (telling : Telling) : Type 0 where
   pub before : are_answered task (course_of task lines telling) ≡ true → AreSetUpForGood IsPlanBy IsOpenBy graphs (world_of telling)
-  pub after : is_ready bring_up.phase ≡ true → AreSetUpForGood IsPlanBy IsOpenBy graphs (world_of telling)
+  pub after : are_set_up bring_up.phase ≡ true → AreSetUpForGood IsPlanBy IsOpenBy graphs (world_of telling)

@@ -11,6 +11,8 @@ ghost use Rattle.audio_driver.specs.Opening.{Opens};
 ghost use Rattle.audio_driver.specs.Closing as spec;
 
 use super::Driver;
+use super::ending::end_call;
+use super::sounding::phase_of;
 use codec_bring_up::BroughtUp;
 use codec_graph::Graph;
 use command_engine::Engine;
@@ -59,35 +61,43 @@ pub(super) fn give_back(pool: &mut Pool, engine: Engine, writer: Writer) -> Reco
 }
 
 impl<T: Setter + Drop> Driver<T> {
-    /// The last call: while commands are sent it looks once more for an answer. Where the controller was reset before, it stops both rings
-    /// and leaves the controller in reset. All blocks go back to the pool.
+    /// The last call: while commands are sent it looks once more for an answer; while the stream plays it makes one more run, which writes no
+    /// sound, and stops the stream. Where the controller was reset before, it stops both rings and leaves the controller in reset. All blocks
+    /// go back to the pool.
     ///
     /// # Errors
     /// Want of memory, while commands are sent. The controller is left in reset also then, and the pool is let go.
     pub fn close<P: Platform>(self, platform: &mut P) -> Result<Closed, AllocError>
         requires room { 400 ≤ P.spare_accesses platform.old }
         requires bytes_room { ring_bytes self.writer.geometry.periods self.writer.geometry.period + 8192 ≤ P.spare_bytes platform.old }
-        ensures closes { IfOk result (λ closed. spec.Closes (λ graph. T.IsPlanBy self.setter graph self.bring_up.agenda.format) (λ graph plan. T.verbs_by self.setter graph plan self.bring_up.agenda.format TAG) self.bring_up self.writer closed (P.told platform.old) (P.told platform.new)) }
+        ensures closes { IfOk result (λ closed. spec.Closes (λ graph. T.IsPlanBy self.setter graph self.bring_up.agenda.format) (λ graph plan. T.verbs_by self.setter graph plan self.bring_up.agenda.format TAG) self.play self.bring_up self.writer self.supply closed (P.told platform.old) (P.told platform.new)) }
         ensures gives { IfOk result (λ closed. spec.GivesBack self.writer.geometry self.pool self.bring_up.engine.corb.address self.bring_up.engine.rirb.address self.writer.list.address (addresses_of self.writer.periods.items) closed.pool) }
         ensures pool { IfOk result (λ closed. (before : PoolState) → Opens self.writer.geometry before self.bring_up.engine.corb.address self.bring_up.engine.rirb.address self.writer.list.address (addresses_of self.writer.periods.items) self.pool → closed.pool ≡ before) }
         ensures cause { OnErr result (is_asking self.bring_up.phase ≡ true) }
         ensures shut { OnErr result (IsShut (P.told platform.new)) }
         ensures fixed { P.fixed platform.new ≡ P.fixed platform.old }
-        ensures accesses { P.spare_accesses platform.old ≤ P.spare_accesses platform.new + 262 }
-        ensures bytes { P.spare_bytes platform.old ≤ P.spare_bytes platform.new + 2040 }
+        ensures accesses { P.spare_accesses platform.old ≤ P.spare_accesses platform.new + 298 }
+        ensures bytes { P.spare_bytes platform.old ≤ P.spare_bytes platform.new + (ring_bytes self.writer.geometry.periods self.writer.geometry.period + 2040) }
     {
         let Driver {
             mut bring_up,
-            writer,
-            supply: _,
+            mut writer,
+            mut supply,
             mut pool,
             setter,
-            play: _,
+            play,
             runs: _,
             calls: _,
         } = self;
-        let ended = bring_up.end(platform, &setter);
-        let phase = bring_up.phase();
+        let ended = end_call(
+            platform,
+            &mut bring_up,
+            &mut writer,
+            &mut supply,
+            &setter,
+            play,
+        );
+        let phase = phase_of(&bring_up, &writer);
         let sent = bring_up.sent();
         let BroughtUp {
             engine,

@@ -55,15 +55,14 @@ impl<T: Setter + Drop> Driver<T> {
     /// `NoRun`: one of these takes, in this order, meets no run.
     pub fn open_with(
         alloc: Global,
+        setter: T,
         mut pool: Pool,
         geometry: Geometry,
         supply: Supply,
         runs: u32,
         play: bool,
-        setter: T,
     ) -> Result<Driver<T>, OpenFault>
         requires few { runs ≤ 1000000 }
-        requires silent { play ≡ false }
         ensures takes { IfOk result (λ driver. spec.Opens geometry pool driver.bring_up.engine.corb.address driver.bring_up.engine.rirb.address driver.writer.list.address (addresses_of driver.writer.periods.items) driver.pool) }
         ensures opened { IfOk result (λ driver. spec.IsOpened geometry runs driver.bring_up driver.writer) }
         ensures supply { IfOk result (λ driver. driver.supply ≡ supply) }
@@ -120,7 +119,6 @@ impl Driver<Analog> {
         play: bool,
     ) -> Result<Driver<Analog>, OpenFault>
         requires few { runs ≤ 1000000 }
-        requires silent { play ≡ false }
         ensures takes { IfOk result (λ driver. spec.Opens geometry pool driver.bring_up.engine.corb.address driver.bring_up.engine.rirb.address driver.writer.list.address (addresses_of driver.writer.periods.items) driver.pool) }
         ensures opened { IfOk result (λ driver. spec.IsOpened geometry runs driver.bring_up driver.writer) }
         ensures supply { IfOk result (λ driver. driver.supply ≡ supply) }
@@ -129,6 +127,6 @@ impl Driver<Analog> {
         ensures calls { IfOk result (λ driver. driver.calls ≡ 0) }
         ensures no_run { result ≡ Err OpenFault.NoRun → spec.HasNoRuns geometry pool }
     {
-        Driver::open_with(alloc, pool, geometry, supply, runs, play, Analog)
+        Driver::open_with(alloc, Analog, pool, geometry, supply, runs, play)
     }
 }

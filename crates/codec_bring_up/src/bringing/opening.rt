@@ -75,20 +75,6 @@ impl BringUp {
         self.sent
     }
 
-    /// How many of its calls looked for an answer.
-    pub fn looks(&self) -> u32
-        ensures { result ≡ self.now.looks }
-    {
-        self.looks
-    }
-
-    /// The graphs of the codecs that were walked.
-    pub fn graphs(&self) -> &[Graph]
-        ensures { result.now ≡ self.now.agenda.graphs.items }
-    {
-        self.agenda.graphs()
-    }
-
     /// What is left of it.
     pub fn parts(self) -> BroughtUp
         ensures engine { result.engine ≡ self.engine }

@@ -11,6 +11,7 @@ use driver_commands::TAG;
 use driver_progress::Phase;
 use driver_stretches::{has_interrupt, shut};
 use hda_platform::Platform;
+use jack_counts::events_are_of_pins;
 use route_setup::Setter;
 use std::alloc::AllocError;
 
@@ -79,6 +80,24 @@ impl BringUp {
         } else {
             Ok(())
         }
+    }
+
+    /// Reads what codecs told unasked since the last look, once all codecs are set up, and counts it (HDA 1.0a, 4.4.2).
+    pub fn listen<P: Platform>(&mut self, platform: &mut P)
+        requires ready { self.old.phase ≡ phases.Ready }
+        requires few { self.old.looks ≤ 1000000 }
+        requires room { 258 ≤ P.spare_accesses platform.old }
+        requires bytes_room { 2040 ≤ P.spare_bytes platform.old }
+        ensures listens { spec.Listens self.old self.new (P.told platform.old) (P.told platform.new) }
+        ensures kept { spec.IsKept self.old self.new }
+        ensures fixed { P.fixed platform.new ≡ P.fixed platform.old }
+        ensures accesses { P.spare_accesses platform.old ≤ P.spare_accesses platform.new + 258 }
+        ensures bytes { P.spare_bytes platform.old ≤ P.spare_bytes platform.new + 2040 }
+    {
+        self.looks += 1;
+        let _nothing_asked = self.engine.poll(platform, self.kept);
+        events_are_of_pins();
+        self.jacks.take_events(&mut self.engine);
     }
 
     /// The last call: while commands are sent it looks once more for an answer. It submits nothing. Where the controller was reset before, it

@@ -19,4 +19,4 @@ returns-clause-closed g c =
     let stretched : IsStretchFrom (length before.journal) [] after.journal =
     subst (λ (setting : Setting). IsStretchFrom setting.begun setting.groups after.journal) begun c.end.ensures.stretch in
     run_closes means format keeps c.runs_follow.ensures.closing c.runs_follow.ensures.accesses c.events_are_of_pins.ensures driver.bring_up driver.writer c.in_ok-closed.closed
-    before (telling_of c.begin.new.self) (telling_of c.close.new.platform) after c.in-Ok.ensures.told.is c.in_ok-closed.ensures.closes c.end.ensures.told.is stretched
+    before (telling_of c.begin.new.self) (telling_of c.close.new.platform) after c.in-Ok.ensures.told.is driver.play driver.supply c.requires.silent c.requires.fresh c.in_ok-closed.ensures.closes c.end.ensures.told.is stretched

@@ -1,4 +1,5 @@
-use Rattle.std.proofs.Common.{◌≡◌, ap, refl}
+use Rattle.std.proofs.Common.{◌≡◌, ap, refl, ◌∙◌}
+use Rattle.period_writer.specs.declared.writer.Writer.{Writer}
 use Rattle.scheduled_runs.specs.Going.{Means}
 use Rattle.scheduled_runs.proofs.Ran.{if_ok}
 use Rattle.scheduled_runs.proofs.Closes.{driven_by}
@@ -15,3 +16,9 @@ returns-in-Ok-clause-driven g c =
     (λ closed is. driven_by means means' driver.bring_up.agenda.format c.args.schedule.now driver.bring_up now.bring_up driver.writer now.writer closed c.args.rig.now c.run_schedule.new.rig c.run_last.new.rig
     same refl c.in-Ok.ensures.writer c.in-Ok.ensures.ran is)
     c.run_last.ensures.closed
+
+pub run_last-requires-clause-silent : goal.run_last-requires-clause-silent
+run_last-requires-clause-silent g c = c.in-Ok.ensures.play ∙ c.requires.silent
+
+pub run_last-requires-clause-fresh : goal.run_last-requires-clause-fresh
+run_last-requires-clause-fresh g c = ap (λ (writer : Writer). writer.course.started) c.in-Ok.ensures.writer ∙ c.requires.fresh

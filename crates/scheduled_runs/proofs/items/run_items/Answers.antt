@@ -13,6 +13,7 @@ loop-item-init g c =
       ran = ran_none _ driver.bring_up.agenda.format c.pieces_follow.ensures.none driver.bring_up c.args.rig.now c.requires.between;
       writer = refl;
       setter = refl;
+      play = refl;
       runs = refl;
       calls = omega arith;
     }
@@ -44,6 +45,7 @@ loop-item-preserved g c =
           (ran_both means means' format c.pieces_follow.ensures.both (take i items) (c.item-item.result ∷ []) driver.bring_up now.bring_up c.run_item.new.driver.bring_up c.args.rig.now c.loop-item.rig c.run_item.new.rig
           same refl c.loop-item.invariant.ran step.ran);
       writer = step.writer ∙ c.loop-item.invariant.writer;
+      play = step.play ∙ c.loop-item.invariant.play;
       setter = step.setter ∙ c.loop-item.invariant.setter;
       runs = step.runs ∙ c.loop-item.invariant.runs;
       calls = omega (arith, step.calls, more, here, c.loop-item.invariant.calls);

@@ -10,6 +10,7 @@ invariant-loop-item g l = record {
       (take l.item-index l.items) l.fn.driver.bring_up l.driver.bring_up l.fn.rig l.rig;
   writer : l.driver.writer ≡ l.fn.driver.writer;
   setter : l.driver.setter ≡ l.fn.driver.setter;
+  play : l.driver.play ≡ l.fn.driver.play;
   runs : l.driver.runs ≡ l.fn.driver.runs;
   calls : l.driver.calls ≡ l.fn.driver.calls + length (lines_in (take l.item-index l.items));
 }

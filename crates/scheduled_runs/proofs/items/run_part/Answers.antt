@@ -34,6 +34,7 @@ loop-preserved g c =
           (ran_both means means' format c.pieces_follow.ensures.both (items_times items c.loop.counter) c.as_slice.result.now driver.bring_up now.bring_up c.run_items.new.driver.bring_up c.args.rig.now c.loop.rig c.run_items.new.rig
           same refl c.loop.invariant.ran step.ran);
       writer = step.writer ∙ c.loop.invariant.writer;
+      play = step.play ∙ c.loop.invariant.play;
       setter = step.setter ∙ c.loop.invariant.setter;
       runs = step.runs ∙ c.loop.invariant.runs;
       calls = omega (arith, step.calls, more, c.loop.invariant.calls);

@@ -11,6 +11,7 @@ invariant-loop g l = record {
       (items_times l.part.items l.counter) l.fn.driver.bring_up l.driver.bring_up l.fn.rig l.rig;
   writer : l.driver.writer ≡ l.fn.driver.writer;
   setter : l.driver.setter ≡ l.fn.driver.setter;
+  play : l.driver.play ≡ l.fn.driver.play;
   runs : l.driver.runs ≡ l.fn.driver.runs;
   calls : l.driver.calls ≡ l.fn.driver.calls + length (lines_in (items_times l.part.items l.counter));
 }

@@ -45,6 +45,7 @@ loop-part-preserved g c =
           (ran_both means means' format c.pieces_follow.ensures.both front (items_in part) driver.bring_up now.bring_up c.run_part.new.driver.bring_up c.args.rig.now c.loop-part.rig c.run_part.new.rig
           same refl c.loop-part.invariant.ran step.ran);
       writer = step.writer ∙ c.loop-part.invariant.writer;
+      play = step.play ∙ c.loop-part.invariant.play;
       setter = step.setter ∙ c.loop-part.invariant.setter;
       runs = step.runs ∙ c.loop-part.invariant.runs;
       calls = omega (arith, step.calls, more, c.loop-part.invariant.calls);

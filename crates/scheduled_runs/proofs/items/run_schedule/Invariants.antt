@@ -12,6 +12,7 @@ invariant-loop-part g l = record {
       (flat_map items_in (take l.part-index l.part-items)) l.fn.driver.bring_up l.driver.bring_up l.fn.rig l.rig;
   writer : l.driver.writer ≡ l.fn.driver.writer;
   setter : l.driver.setter ≡ l.fn.driver.setter;
+  play : l.driver.play ≡ l.fn.driver.play;
   runs : l.driver.runs ≡ l.fn.driver.runs;
   calls : l.driver.calls ≡ l.fn.driver.calls + length (lines_in (flat_map items_in (take l.part-index l.part-items)));
 }

@@ -23,6 +23,7 @@ use Rattle.scheduled_runs.proofs.Goes.{Keeps}
 use Rattle.scheduled_runs.proofs.Counting.{few_lines}
 use Rattle.scheduled_runs.proofs.Walked.{analog, Gone, gone, gone_ends, walked_by, journal_is, honest_from}
 use Rattle.period_writer.specs.declared.geometry.Geometry.{Geometry}
+use Rattle.period_writer.specs.declared.course.Course.{Course}
 use Rattle.period_writer.specs.declared.writer.Writer.{Writer}
 use Rattle.codec_bring_up.specs.declared.bringing.BringUp.{BringUp}
 use Rattle.scheduled_runs.proofs.walking.walk.Goals as goal
@@ -92,8 +93,8 @@ returns c =
           ∙ ap (λ (plans : List Plan). length (commands_of c.walk_format.result machine.codecs plans)) c.as_slice-2.ensures.value
           ∙ ap (λ (f : Format). length (commands_of f machine.codecs c.args.plans.items)) c.walk_format.ensures;
       total = refl;
-      runs = c.from_vec-3.ensures ∙ ap (λ runs. runs.items) driven.runs ∙ fresh.opened.runs;
-      silences = c.from_vec-4.ensures ∙ ap (λ silences. silences.items) driven.silences ∙ fresh.opened.silences;
+      runs = c.from_vec-3.ensures ∙ driven.runs ∙ fresh.opened.runs;
+      silences = c.from_vec-4.ensures ∙ driven.silences ∙ fresh.opened.silences;
       heard = c.new-2.ensures;
       replays = subst (λ (events : List Event). AreHonest events (start_of REGION_BYTES machine)) whole (honest_from machine before after driven.events at driven.went);
       follows = subst (Follows c.args.schedule.now) whole driven.follows;
@@ -105,3 +106,6 @@ returns c =
       jacks = subst (λ jacks. Counts (told_in journal) jacks) (sym c.from_vec-5.ensures)
           (subst (λ (events : List Event). Counts (told_in events) c.in_ok-closed.closed.jacks.items) whole (driven.counted [] fresh.opened.jacks));
     }
+
+pub drive-requires-clause-fresh : goal.drive-requires-clause-fresh
+drive-requires-clause-fresh c = ap (λ (course : Course). course.started) c.in_ok-driver.ensures.fresh.opened.course

@@ -1,4 +1,4 @@
-use Rattle.std.proofs.Common.{◌≡◌, true, sym, subst}
+use Rattle.std.proofs.Common.{◌≡◌, List, length, true, sym, subst, ap, arith}
 use Rattle.std.specs.Prelude.{All, Contains}
 use Rattle.dma_pool.specs.declared.blocks.Lent.{Lent}
 use Rattle.dma_pool.specs.Blocks.{run_at}
@@ -8,6 +8,8 @@ use Rattle.period_writer.specs.declared.geometry.Geometry.{Geometry}
 use Rattle.period_writer.specs.Rings.{period_bytes, list_bytes}
 use Rattle.period_writer.specs.Blocks.{addresses_of}
 use Rattle.audio_driver.specs.Owning.{is_taken}
+use Rattle.period_writer.specs.declared.course.Run.{Run}
+use Rattle.audio_driver.proofs.Kept.{opened_tally, not_begun}
 use Rattle.audio_driver.proofs.Taken.{opens_keep, taken_of, all_taken}
 use Rattle.audio_driver.proofs.driver.Driver.open_with.Goals as goal
 
@@ -54,3 +56,13 @@ give_back-requires-clause-rirb g c =
 pub give_back-requires-clause-periods : goal.give_back-requires-clause-periods
 give_back-requires-clause-periods g c =
     subst (λ (one : Geometry). All (λ (lent : Lent). Contains c.open-2.new.pool.taken (run_at lent.address (period_bytes one.period))) c.in-Ok-open.writer.periods.items) (sym c.in-Ok-open.ensures.geometry) c.in-Ok-open.ensures.owns_periods
+
+pub invariant_of-result-clause-fresh : goal.invariant_of-result-clause-fresh
+invariant_of-result-clause-fresh g c = λ fresh.
+    opened_tally c.in-Ok-open.writer c.in-Ok-open.ensures.runs c.in-Ok-open.ensures.silences c.in-Ok-open.ensures.course
+
+pub invariant_of-result-clause-begun : goal.invariant_of-result-clause-begun
+invariant_of-result-clause-begun g c = λ started. absurd (not_begun c.in-Ok-open.writer c.in-Ok-open.ensures.course started)
+
+pub invariant_of-result-clause-few_recorded : goal.invariant_of-result-clause-few_recorded
+invariant_of-result-clause-few_recorded g c = let none = ap (λ (runs : List Run). length runs) c.in-Ok-open.ensures.runs in omega arith

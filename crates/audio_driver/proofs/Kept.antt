@@ -1,0 +1,71 @@
+-- What a driver keeps from call to call.
+use Rattle.std.proofs.Common.{◌≡◌, ◌≤◌, ◌<◌, ◌+◌, ℕ, List, [], ◌∷◌, ◌++◌, length, length-append, Bool, true, false, refl, sym, ap, ◌∙◌, arith}
+use Rattle.std.specs.Prelude.{◌&&◌}
+use Rattle.period_writer.specs.declared.course.Course.{Course}
+use Rattle.period_writer.specs.declared.course.Run.{Run}
+use Rattle.period_writer.specs.declared.course.Span.{Span}
+use Rattle.period_writer.specs.declared.writer.Writer.{Writer}
+use Rattle.period_writer.specs.Runs.{Measures, RunFacts, Tally, run_of, is_late, tally_if, tally_after, course_opened, tally_opened}
+use Rattle.period_writer.specs.Writers.{tally_of}
+use Rattle.driver_progress.specs.declared.phase.Phase.{Phase}
+use Rattle.driver_progress.specs.declared.phase.Phase.TheVariants.{Reset, Settling, Walking, SettingUp, Ready, Playing, Drained, NothingRouted, Unanswered, Late, Malformed, Failed}
+use Rattle.driver_progress.specs.Phases.{is_ready}
+use Rattle.codec_bring_up.specs.declared.bringing.BringUp.{BringUp}
+use Rattle.audio_driver.specs.States.{plays_now}
+
+-- ---- the phase
+
+pub ready_is : (phase : Phase) → is_ready phase ≡ true → phase ≡ Ready
+ready_is Reset is = cc
+ready_is Settling is = cc
+ready_is Walking is = cc
+ready_is SettingUp is = cc
+ready_is Ready is = refl
+ready_is Playing is = cc
+ready_is Drained is = cc
+ready_is NothingRouted is = cc
+ready_is (Unanswered codec command issued noticed) is = cc
+ready_is (Late from to limit) is = cc
+ready_is (Malformed codec fault) is = cc
+ready_is Failed is = cc
+
+both_hold : (a b : Bool) → (a && b) ≡ true → b ≡ true
+both_hold true b is = is
+both_hold false b is = cc
+
+-- where calls play, all codecs are set up
+pub plays_ready : (play : Bool) (bring_up : BringUp) → plays_now play bring_up ≡ true → is_ready bring_up.phase ≡ true
+plays_ready play bring_up plays = both_hold play (is_ready bring_up.phase) plays
+
+pub plays_same : (play : Bool) (old new : BringUp) → new.phase ≡ old.phase → plays_now play old ≡ true → plays_now play new ≡ true
+plays_same play old new same plays = ap (λ (phase : Phase). play && is_ready phase) same ∙ plays
+
+-- ---- the runs
+
+more_by : (late : Bool) (m : Measures) (tally : Tally) (facts : RunFacts) → length (tally_if late m tally facts).runs ≤ length tally.runs + 1
+more_by true m tally facts = omega arith
+more_by false m tally facts = let long = length-append tally.runs (run_of m tally.course facts ∷ []) in omega arith
+
+-- a run records one at most
+pub one_more : (m : Measures) (tally tally' : Tally) (facts : RunFacts) → tally' ≡ tally_after m tally facts → length tally'.runs ≤ length tally.runs + 1
+one_more m tally tally' facts is =
+    let more = more_by (is_late m tally.course facts) m tally facts in
+    let same = ap (λ (tally : Tally). length tally.runs) is in
+    omega arith
+
+-- ---- a driver that was just opened
+
+pub opened_tally : (writer : Writer) → writer.runs.items ≡ [] → writer.silences.items ≡ [] → writer.course ≡ course_opened → tally_of writer ≡ tally_opened
+opened_tally writer runs silences course =
+    ap (λ (runs : List Run). record (tally_of writer) { runs = runs }) runs
+    ∙ ap (λ (silences : List Span). record (tally_of writer) { runs = []; silences = silences }) silences
+    ∙ ap (λ (course : Course). record tally_opened { course = course }) course
+
+never : false ≡ true → ⊥
+never is = cc
+
+pub not_begun : (writer : Writer) → writer.course ≡ course_opened → writer.course.started ≡ true → ⊥
+not_begun writer opened started = never (sym (ap (λ (course : Course). course.started) opened) ∙ started)
+
+pub not_both : (b : Bool) → b ≡ false → b ≡ true → ⊥
+not_both b off on = never (sym off ∙ on)

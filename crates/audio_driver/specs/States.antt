@@ -1,0 +1,72 @@
+-- How far a driver has come, its sound with it. This project's own.
+use Rattle.std.specs.Prelude.{◌≡◌, ◌&&◌, ℕ, Bool, true, false, List, drop}
+use Rattle.period_writer.specs.declared.course.Ran.{Ran}
+use Rattle.period_writer.specs.declared.course.Ran.TheVariants as ran
+use Rattle.period_writer.specs.declared.course.Course.{Course}
+use Rattle.period_writer.specs.declared.writer.Writer.{Writer}
+use Rattle.period_writer.specs.Runs.{Measures, Tally}
+use Rattle.period_writer.specs.Writers.{tally_of, measures_of, periods_of}
+use Rattle.driver_progress.specs.declared.phase.Phase.{Phase}
+use Rattle.driver_progress.specs.declared.phase.Phase.TheVariants.{Playing, Drained, Late}
+use Rattle.driver_progress.specs.Phases.{is_ready}
+use Rattle.driver_progress.specs.Tasks.{Task}
+use Rattle.driver_progress.specs.States.{State}
+use Rattle.codec_bring_up.specs.declared.bringing.BringUp.{BringUp}
+use Rattle.codec_bring_up.specs.Calls as bringing
+
+-- the phase: that of the bring-up until the first run, and from then on by how the last run ended
+abbrev pub played_as : Ran → (limit : ℕ) → Phase
+played_as ran.Playing limit = Playing
+played_as ran.Drained limit = Drained
+played_as (ran.Late from to) limit = Late from to limit
+
+abbrev pub phase_if : (started : Bool) → Phase → Ran → (limit : ℕ) → Phase
+phase_if false phase ran limit = phase
+phase_if true phase ran limit = played_as ran limit
+
+-- with a tally of runs whose geometry has this limit
+abbrev pub phase_with : BringUp → Tally → (limit : ℕ) → Phase
+phase_with bring_up tally limit = phase_if tally.course.started bring_up.phase tally.course.ran limit
+
+abbrev pub state_with : BringUp → Tally → (limit : ℕ) → State
+state_with bring_up tally limit = record (bringing.state_of bring_up) { phase = phase_with bring_up tally limit; tally = tally }
+
+-- with a writer
+abbrev pub phase_of : BringUp → Writer → Phase
+phase_of bring_up writer = phase_with bring_up (tally_of writer) (measures_of writer).limit
+
+abbrev pub state_of : BringUp → Writer → State
+state_of bring_up writer = state_with bring_up (tally_of writer) (measures_of writer).limit
+
+-- whether a driver that plays has come so far that its calls play
+abbrev pub plays_now : (play : Bool) → BringUp → Bool
+plays_now play bring_up = play && is_ready bring_up.phase
+
+-- whether a run of the writer comes next: none was late, and the sound was not all played
+abbrev pub is_open : Ran → Bool
+is_open ran.Playing = true
+is_open ran.Drained = false
+is_open (ran.Late from to) = false
+
+-- whether the stream plays
+abbrev pub is_playing : Course → Bool
+is_playing course = course.started && is_open course.ran
+
+-- whether a run was late
+abbrev pub was_late : Ran → Bool
+was_late ran.Playing = false
+was_late ran.Drained = false
+was_late (ran.Late from to) = true
+
+-- of this sound what was not written yet is left. After a late run, which is not recorded and after which none comes, nothing is said of it
+abbrev pub IsLeft : (pcm : List ℕ) → Course → (supply : List ℕ) → Type 0
+IsLeft pcm course supply = was_late course.ran ≡ false → supply ≡ drop course.used pcm
+
+-- a task of a driver with these blocks and this sound: its ring and its blocks, and of the sound what it did not write yet is left
+pub record IsTaskOf (bring_up : BringUp) (writer : Writer) (supply : List ℕ) (task : Task) : Type 0 where
+  pub rings : bringing.IsTaskOf bring_up task
+  pub geometry : task.geometry ≡ writer.geometry
+  pub list : task.blocks.list ≡ writer.list.address
+  pub periods : task.blocks.periods ≡ periods_of writer
+  pub sound : IsLeft task.pcm writer.course supply
+  pub plays : task.plays ≡ true
