@@ -1,12 +1,12 @@
 -- The last call of a driver whose calls play does what is said of it.
-use Rattle.std.proofs.Common.{◌≡◌, ◌+◌, ℕ, List, [], ◌∷◌, ◌++◌, length, append_assoc, Bool, true, false, Option, Some, None, refl, sym, ap, subst, inl, inr, ◌∙◌}
+use Rattle.std.proofs.Common.{◌≡◌, ℕ, List, [], ◌∷◌, ◌++◌, length, append_assoc, Bool, true, false, Option, refl, sym, ap, subst, inl, inr, ◌∙◌}
 use Rattle.std.specs.Prelude.{◌&&◌, drop}
 use Rattle.hda_registers.specs.declared.shapes.Width.TheVariants.{One, Four}
 use Rattle.hda_registers.specs.declared.places.TheConstants.{WALCLK}
-use Rattle.hda_world.specs.Events.{Event, Read, Write}
+use Rattle.hda_world.specs.Events.{Read, Write}
 use Rattle.hda_world.specs.Tellings.{Telling, Between, Makes}
 use Rattle.hda_world.proofs.Callers.{row_both, told_both, told_map, told_pair}
-use Rattle.command_engine.specs.Polling.{PollReads, AreNew, poll_accesses, found_by}
+use Rattle.command_engine.specs.Polling.{poll_accesses, found_by}
 use Rattle.period_writer.specs.declared.course.Ran.{Ran}
 use Rattle.period_writer.specs.declared.registers.TheConstants.{CONTROL}
 use Rattle.period_writer.specs.declared.writer.Writer.{Writer}
@@ -19,12 +19,12 @@ use Rattle.period_writer.specs.Writers.{tally_of, measures_of, periods_of, ring_
 use Rattle.driver_progress.specs.declared.phase.Phase.{Phase}
 use Rattle.driver_progress.specs.declared.phase.Phase.TheVariants.{Ready}
 use Rattle.driver_stretches.specs.Shutting.{shut_accesses}
-use Rattle.driver_commands.specs.Commanding.{entries_in, answer_in, with_told}
+use Rattle.driver_commands.specs.Commanding.{entries_in, answer_in}
 use Rattle.codec_bring_up.specs.declared.bringing.BringUp.{BringUp}
 use Rattle.codec_bring_up.specs.Calls.{Listens}
 use Rattle.codec_bring_up.proofs.Callers.{answer_none, same_found}
-use Rattle.audio_driver.specs.States.{phase_if, state_of, is_open, is_playing, IsTaskOf}
-use Rattle.audio_driver.specs.Sounding.{ShutsAlone, StopsSound, EndTells, EndsSound}
+use Rattle.audio_driver.specs.States.{phase_if, state_of, is_open, is_playing}
+use Rattle.audio_driver.specs.Sounding.{EndsSound}
 use Rattle.audio_driver.proofs.Seeing.{poll_entries}
 use Rattle.audio_driver.proofs.Stretches.{silent_stretch}
 use Rattle.audio_driver.proofs.Whole.{GoesTo, finish_is}
@@ -79,15 +79,15 @@ ends_playing old new writer tally' supply answer before listened stopped after s
       sent = listens.sent;
       agenda = listens.agenda;
       tells = told_map (λ before after both. inr (record {
-            plays = playing;
-            reads = listens.reads;
-            run = run;
-            made_is = refl;
-            begins = both.0;
-            ends = both.2.0;
-            listened = both.1;
-            run_made = both.2.1.0;
-            tells = λ pcm left. both.2.1.1 (record { pcm = pcm; is = left });
-            shut = both.2.2;
-          })) (told_both listens.made (told_both (told_pair finishes.made (told_each finishes.made run_told)) shut));
+        plays = playing;
+        reads = listens.reads;
+        run = run;
+        made_is = refl;
+        begins = both.0;
+        ends = both.2.0;
+        listened = both.1;
+        run_made = both.2.1.0;
+        tells = λ pcm left. both.2.1.1 (record { pcm = pcm; is = left });
+        shut = both.2.2;
+      })) (told_both listens.made (told_both (told_pair finishes.made (told_each finishes.made run_told)) shut));
     }

@@ -1,6 +1,6 @@
 -- What a driver keeps from call to call.
-use Rattle.std.proofs.Common.{◌≡◌, ◌≤◌, ◌<◌, ◌+◌, ℕ, List, [], ◌∷◌, ◌++◌, length, length-append, Bool, true, false, refl, sym, ap, ◌∙◌, arith}
-use Rattle.std.specs.Prelude.{◌&&◌}
+use Rattle.std.proofs.Common.{◌≡◌, ◌≤◌, ◌+◌, List, [], ◌∷◌, length, length-append, Bool, true, false, refl, sym, ap, ◌∙◌, arith}
+use Rattle.std.specs.Prelude.{◌&&◌, not}
 use Rattle.period_writer.specs.declared.course.Course.{Course}
 use Rattle.period_writer.specs.declared.course.Run.{Run}
 use Rattle.period_writer.specs.declared.course.Span.{Span}
@@ -11,7 +11,7 @@ use Rattle.driver_progress.specs.declared.phase.Phase.{Phase}
 use Rattle.driver_progress.specs.declared.phase.Phase.TheVariants.{Reset, Settling, Walking, SettingUp, Ready, Playing, Drained, NothingRouted, Unanswered, Late, Malformed, Failed}
 use Rattle.driver_progress.specs.Phases.{is_ready}
 use Rattle.codec_bring_up.specs.declared.bringing.BringUp.{BringUp}
-use Rattle.audio_driver.specs.States.{plays_now}
+use Rattle.audio_driver.specs.States.{plays_now, is_open}
 
 -- ---- the phase
 
@@ -69,3 +69,20 @@ not_begun writer opened started = never (sym (ap (λ (course : Course). course.s
 
 pub not_both : (b : Bool) → b ≡ false → b ≡ true → ⊥
 not_both b off on = never (sym off ∙ on)
+
+pub was_not : (b : Bool) → not b ≡ true → b ≡ false
+was_not true is = cc
+was_not false is = refl
+
+pub was_so : (b : Bool) → not b ≡ false → b ≡ true
+was_so true is = refl
+was_so false is = cc
+
+must_be : (b : Bool) → (b ≡ false → ⊥) → b ≡ true
+must_be true not_off = refl
+must_be false not_off = absurd (not_off refl)
+
+-- where no run comes next, there was one
+pub over_started : (writer : Writer) → (writer.course.started ≡ false → tally_of writer ≡ tally_opened) → is_open writer.course.ran ≡ false → writer.course.started ≡ true
+over_started writer fresh over =
+    must_be writer.course.started (λ off. never (sym over ∙ ap (λ (tally : Tally). is_open tally.course.ran) (fresh off)))

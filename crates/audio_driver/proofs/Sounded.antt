@@ -1,6 +1,6 @@
 -- A call of a driver that plays does what is said of it.
-use Rattle.std.proofs.Common.{◌≡◌, ◌+◌, ◌/◌, ℕ, List, [], ◌∷◌, ◌++◌, length, map, append-nil, Bool, true, false, Option, Some, None, refl, sym, ap, subst, inl, inr, ◌∙◌}
-use Rattle.std.specs.Prelude.{◌⊎◌, ◌&&◌, not, drop}
+use Rattle.std.proofs.Common.{◌≡◌, ◌+◌, ◌/◌, ℕ, List, [], ◌∷◌, ◌++◌, length, append-nil, Bool, true, false, Option, Some, None, refl, sym, ap, subst, inl, inr, ◌∙◌}
+use Rattle.std.specs.Prelude.{◌⊎◌, not, drop}
 use Rattle.std.specs.List.{range_with_len}
 use Rattle.std.specs.Option.{is_some}
 use Rattle.std.proofs.lemmas.List.{drop-drop}
@@ -12,10 +12,9 @@ use Rattle.hda_world.specs.Tellings.{Telling, Between, BetweenBy, Makes}
 use Rattle.hda_world.proofs.Callers.{makes_both, row_both, told_both, told_map, told_pair}
 use Rattle.command_engine.specs.declared.answers.Event as told
 use Rattle.command_engine.specs.declared.ring_places.RingPlaces.{RingPlaces}
-use Rattle.command_engine.specs.Polling.{PollReads, AreNew, asked_of, poll_accesses, found_by}
+use Rattle.command_engine.specs.Polling.{asked_of, poll_accesses, found_by}
 use Rattle.command_engine.specs.Entries.{responses_in, answer_among}
 use Rattle.command_engine.proofs.Callers.{made_none}
-use Rattle.period_writer.specs.declared.course.Course.{Course}
 use Rattle.period_writer.specs.declared.course.Ran.{Ran}
 use Rattle.period_writer.specs.declared.course.Ran.TheVariants as ran
 use Rattle.period_writer.specs.declared.writer.Writer.{Writer}
@@ -24,22 +23,21 @@ use Rattle.period_writer.specs.Places.{line_writes, piece_write, touched}
 use Rattle.period_writer.specs.Starting.{entry_write, run_accesses, start_accesses}
 use Rattle.period_writer.specs.Playing.{Starts, Plays, run_bytes, stop_accesses, play_accesses}
 use Rattle.period_writer.specs.Outcomes.{StartTellsOf, RunTellsOf}
-use Rattle.period_writer.specs.Runs.{Measures, RunFacts, Tally, measures, facts_of, run_reach, run_sound, is_late, tally_if, tally_after, tally_opened}
+use Rattle.period_writer.specs.Runs.{Measures, RunFacts, Tally, facts_of, run_reach, run_sound, is_late, tally_if, tally_after, tally_opened}
 use Rattle.period_writer.specs.Writers.{tally_of, measures_of, periods_of, ring_of}
 use Rattle.driver_progress.specs.declared.phase.Phase.{Phase}
 use Rattle.driver_progress.specs.declared.phase.Phase.TheVariants.{Ready}
 use Rattle.driver_progress.specs.Phases.{is_active}
-use Rattle.driver_progress.specs.Tasks.{Task}
 use Rattle.driver_stretches.specs.Interrupts.{interrupt_accesses}
 use Rattle.driver_stretches.proofs.Callers.{interrupt_unread}
-use Rattle.driver_commands.specs.Commanding.{entry_in, entries_in, answer_in, with_told}
+use Rattle.driver_commands.specs.Commanding.{entries_in, answer_in, with_told}
 use Rattle.jack_counts.specs.Counted.{IsCount}
 use Rattle.codec_bring_up.specs.declared.bringing.BringUp.{BringUp}
 use Rattle.codec_bring_up.specs.Calls.{IsKept, Listens}
-use Rattle.codec_bring_up.specs.Told.{IsBefore, found_none}
+use Rattle.codec_bring_up.specs.Told.{found_none}
 use Rattle.codec_bring_up.proofs.Callers.{unread_none, answer_none, same_answer, same_found, interrupt_entries, inactive_stretch, none_stretch_of, interrupted_stretch}
-use Rattle.audio_driver.specs.States.{phase_if, played_as, state_of, is_open, was_late, IsLeft, IsTaskOf}
-use Rattle.audio_driver.specs.Sounding.{IsStill, Begins, GoesOn, SoundTells, StaysSet, Sounds}
+use Rattle.audio_driver.specs.States.{phase_if, played_as, state_of, is_open, was_late, IsLeft}
+use Rattle.audio_driver.specs.Sounding.{SoundTells, Sounds}
 use Rattle.audio_driver.proofs.Seeing.{writes_entries, poll_entries}
 use Rattle.audio_driver.proofs.Stretches.{over_stretch, over_inactive, open_active}
 use Rattle.audio_driver.proofs.Whole.{open_on_time, GoesTo, start_is, play_is}
@@ -146,17 +144,17 @@ start_sounds old writer writer' supply supply' budget before after ready fresh o
       counted = counts_same made [] old old none (λ events counts. counts);
       stays = record { corb = refl; rirb = refl; phase = refl; kept = refl; sent = refl; agenda = refl; geometry = same.geometry; list = same.list; periods = same.periods; records = same.records };
       tells = told_map (λ before after both. inr (inl (record {
-            fresh = fresh;
-            first = [];
-            is_before = refl;
-            run = made;
-            made_is = refl;
-            begins = before;
-            first_made = record { by = refl };
-            run_made = both.0;
-            tells = both.1;
-            bring_up = refl;
-          }))) (told_pair starts.made tells);
+        fresh = fresh;
+        first = [];
+        is_before = refl;
+        run = made;
+        made_is = refl;
+        begins = before;
+        first_made = record { by = refl };
+        run_made = both.0;
+        tells = both.1;
+        bring_up = refl;
+      }))) (told_pair starts.made tells);
     }
 
 -- ---- a later run
@@ -197,19 +195,19 @@ play_sounds old new writer writer' supply supply' budget answer before middle af
       counted = counts_same (poll ++ run) listens.reads.entries old new entries listens.counted;
       stays = record { corb = kept.corb; rirb = kept.rirb; phase = listens.phase; kept = listens.kept; sent = listens.sent; agenda = listens.agenda; geometry = same.geometry; list = same.list; periods = same.periods; records = same.records };
       tells = told_map (λ before after both. inr (inr (record {
-            started = started;
-            more = more;
-            first = [];
-            is_before = refl;
-            reads = listens.reads;
-            run = run;
-            made_is = refl;
-            begins = both.0;
-            first_made = both.1;
-            run_made = both.2.0;
-            tells = λ pcm left. both.2.1 (record { pcm = pcm; is = left });
-            rings = listens.rings;
-          }))) (told_both listens.made (told_pair run_made (told_each run_made run_told)));
+        started = started;
+        more = more;
+        first = [];
+        is_before = refl;
+        reads = listens.reads;
+        run = run;
+        made_is = refl;
+        begins = both.0;
+        first_made = both.1;
+        run_made = both.2.0;
+        tells = λ pcm left. both.2.1 (record { pcm = pcm; is = left });
+        rings = listens.rings;
+      }))) (told_both listens.made (told_pair run_made (told_each run_made run_told)));
     }
 
 -- ---- calls for an interrupt

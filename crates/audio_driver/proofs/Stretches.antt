@@ -24,7 +24,7 @@ use Rattle.driver_progress.specs.Requests.{Request, Gets, Puts, requests_of, req
 use Rattle.driver_progress.specs.Tasks.{Task}
 use Rattle.driver_progress.specs.Seen.{Seen, seen_by, values_of}
 use Rattle.driver_progress.specs.States.{State}
-use Rattle.driver_progress.specs.Expected.{starts, appends, plays_on, stops, runs, closes, shuts}
+use Rattle.driver_progress.specs.Expected.{starts, plays_on, stops, runs, closes, shuts}
 use Rattle.driver_progress.specs.Next.{phase_played, after_run, led, closed, tally_next}
 use Rattle.driver_stretches.specs.Shutting.{shut_accesses}
 use Rattle.driver_commands.specs.Commanding.{IsStretch, run_of}

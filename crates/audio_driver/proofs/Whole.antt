@@ -1,5 +1,5 @@
 -- Where the runs of a writer lead a driver, by the driver's own ring and sound.
-use Rattle.std.proofs.Common.{◌≡◌, ◌+◌, ◌-◌, ℕ, List, [], ◌∷◌, ◌++◌, length, append_assoc, Bool, true, false, Option, Some, None, refl, sym, ap, subst, ◌∙◌}
+use Rattle.std.proofs.Common.{◌≡◌, ◌-◌, ℕ, List, [], ◌∷◌, ◌++◌, length, append_assoc, Bool, true, false, Option, Some, None, refl, sym, ap, subst, ◌∙◌}
 use Rattle.std.specs.Prelude.{drop}
 use Rattle.std.specs.Option.{is_some}
 use Rattle.std.proofs.lemmas.List.{length-drop}
@@ -29,7 +29,7 @@ use Rattle.driver_commands.specs.Commanding.{IsStretch, run_of}
 use Rattle.codec_bring_up.specs.declared.bringing.BringUp.{BringUp}
 use Rattle.audio_driver.specs.States.{played_as, phase_if, phase_with, state_with, state_of, is_open, was_late, IsTaskOf}
 use Rattle.audio_driver.proofs.PlayedOn.{facts_in, tally_in}
-use Rattle.audio_driver.proofs.Stretches.{state_after, plays_stretch, closes_stretch, starts_stretch, stopped_last}
+use Rattle.audio_driver.proofs.Stretches.{plays_stretch, closes_stretch, starts_stretch, stopped_last}
 
 -- ---- what a run leaves
 

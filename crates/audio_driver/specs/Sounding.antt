@@ -4,12 +4,12 @@ use Rattle.std.specs.Option.{is_some}
 use Rattle.hda_world.specs.Events.{Event}
 use Rattle.hda_world.specs.Tellings.{Telling, Between, Makes}
 use Rattle.command_engine.specs.declared.answers.Event as told
-use Rattle.command_engine.specs.Polling.{PollReads, AreNew, poll_accesses, rings_polled}
+use Rattle.command_engine.specs.Polling.{PollReads, poll_accesses, rings_polled}
 use Rattle.period_writer.specs.declared.writer.Writer.{Writer}
 use Rattle.period_writer.specs.Runs.{Tally}
 use Rattle.period_writer.specs.Writers.{tally_of, measures_of, ring_of}
 use Rattle.period_writer.specs.Outcomes.{StartTellsOf, RunTellsOf, FinishTellsOf}
-use Rattle.driver_progress.specs.Tasks.{Task, DriverLine}
+use Rattle.driver_progress.specs.Tasks.{Task}
 use Rattle.driver_stretches.specs.Shutting.{shut_accesses}
 use Rattle.driver_commands.specs.Commanding.{IsStretch, answer_in, entries_in, with_told}
 use Rattle.jack_counts.specs.Counted.{IsCount}

@@ -4,7 +4,7 @@ use Rattle.period_writer.specs.declared.course.Ran.{Ran}
 use Rattle.period_writer.specs.declared.course.Ran.TheVariants as ran
 use Rattle.period_writer.specs.declared.course.Course.{Course}
 use Rattle.period_writer.specs.declared.writer.Writer.{Writer}
-use Rattle.period_writer.specs.Runs.{Measures, Tally}
+use Rattle.period_writer.specs.Runs.{Tally}
 use Rattle.period_writer.specs.Writers.{tally_of, measures_of, periods_of}
 use Rattle.driver_progress.specs.declared.phase.Phase.{Phase}
 use Rattle.driver_progress.specs.declared.phase.Phase.TheVariants.{Playing, Drained, Late}

@@ -9,7 +9,7 @@ use Rattle.period_writer.specs.Rings.{period_bytes, list_bytes}
 use Rattle.period_writer.specs.Runs.{Tally, facts_of, is_late}
 use Rattle.period_writer.specs.Writers.{tally_of, measures_of}
 use Rattle.audio_driver.specs.Owning.{is_taken}
-use Rattle.audio_driver.proofs.Kept.{ready_is, plays_ready, plays_same, one_more, not_both}
+use Rattle.audio_driver.proofs.Kept.{ready_is, plays_ready, plays_same, one_more, not_both, was_not, was_so}
 use Rattle.audio_driver.proofs.Whole.{started_by}
 use Rattle.audio_driver.proofs.Sounded.{over_sounds, start_sounds, play_sounds}
 use Rattle.audio_driver.proofs.driver.Driver.play_on.Goals as goal
@@ -17,7 +17,7 @@ use Rattle.audio_driver.proofs.driver.Driver.play_on.Goals as goal
 pub returns-then-not-course-clause-sounds : goal.returns-then-not-course-clause-sounds
 returns-then-not-course-clause-sounds g c =
     let old = c.args.self.now in
-    let fresh : old.writer.course.started ≡ false = sym (ap (λ (course : Course). course.started) c.course.ensures) ∙ c.if-not-course.true in
+    let fresh : old.writer.course.started ≡ false = sym (ap (λ (course : Course). course.started) c.course.ensures) ∙ was_not c.course.result.started c.if-not-course.true in
     start_sounds old.bring_up old.writer c.start.new.self old.supply c.start.new.supply c.args.budget (g.P.Platform.told c.args.platform.now) (g.P.Platform.told c.start.new.platform)
     (ready_is old.bring_up.phase (plays_ready old.play old.bring_up c.requires.plays)) fresh (old.fresh fresh) c.start.ensures.starts c.start.ensures.tells
     (record { geometry = c.start.ensures.geometry; list = c.start.ensures.list; periods = c.start.ensures.periods; records = c.start.ensures.records })
@@ -25,7 +25,7 @@ returns-then-not-course-clause-sounds g c =
 pub returns-then-is_open-clause-sounds : goal.returns-then-is_open-clause-sounds
 returns-then-is_open-clause-sounds g c =
     let old = c.args.self.now in
-    let started : old.writer.course.started ≡ true = sym (ap (λ (course : Course). course.started) c.course.ensures) ∙ c.if-not-course.false in
+    let started : old.writer.course.started ≡ true = sym (ap (λ (course : Course). course.started) c.course.ensures) ∙ was_so c.course.result.started c.if-not-course.false in
     play_sounds old.bring_up c.listen.new.self old.writer c.run-ran.new.self old.supply c.run-ran.new.supply c.args.budget c.run-ran.result
     (g.P.Platform.told c.args.platform.now) (g.P.Platform.told c.listen.new.platform) (g.P.Platform.told c.run-ran.new.platform) started (sym c.is_open.ensures ∙ c.if-is_open.true)
     c.listen.ensures.listens c.listen.ensures.kept c.run-ran.ensures.plays c.run-ran.ensures.tells
@@ -34,7 +34,7 @@ returns-then-is_open-clause-sounds g c =
 pub returns-else-is_open-clause-sounds : goal.returns-else-is_open-clause-sounds
 returns-else-is_open-clause-sounds g c =
     let old = c.args.self.now in
-    let started : old.writer.course.started ≡ true = sym (ap (λ (course : Course). course.started) c.course.ensures) ∙ c.if-not-course.false in
+    let started : old.writer.course.started ≡ true = sym (ap (λ (course : Course). course.started) c.course.ensures) ∙ was_so c.course.result.started c.if-not-course.false in
     over_sounds old.bring_up old.writer old.supply c.args.budget (g.P.Platform.told c.args.platform.now) started (sym c.is_open.ensures ∙ c.if-is_open.false)
 
 -- ---- what the driver keeps, after a later run
@@ -80,7 +80,7 @@ invariant_of-self-then-is_open-clause-fresh g c = λ fresh.
     let old = c.args.self.now in
     let plays = c.run-ran.ensures.plays in
     let facts = facts_of c.args.budget (length old.supply) plays.from plays.lpib plays.to in
-    let started : old.writer.course.started ≡ true = sym (ap (λ (course : Course). course.started) c.course.ensures) ∙ c.if-not-course.false in
+    let started : old.writer.course.started ≡ true = sym (ap (λ (course : Course). course.started) c.course.ensures) ∙ was_so c.course.result.started c.if-not-course.false in
     let stays : c.run-ran.new.self.course.started ≡ true =
     ap (λ (tally : Tally). tally.course.started) plays.tally_is ∙ started_by (is_late (measures_of old.writer) old.writer.course facts) (measures_of old.writer) (tally_of old.writer) facts started in
     absurd (not_both c.run-ran.new.self.course.started fresh stays)
