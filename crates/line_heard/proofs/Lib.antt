@@ -1,6 +1,7 @@
 pub mod Steadying
 pub mod StartedSteady
 pub mod SteadyEvents
+pub mod IdleCodecs
 pub mod Blocks
 pub mod Hearing
 pub mod Playing

@@ -2,15 +2,17 @@
 use Rattle.std.proofs.Common.{◌≡◌, ◌≤◌, ◌<◌, ◌+◌, ◌-◌, ◌*◌, ◌/◌, ◌⊎◌, inl, inr, ℕ, true, false, List, [], ◌∷◌, ◌++◌, map, take, drop, replicate, slice_index, Some, refl, sym, ap, subst, ◌∙◌, arith, rules, append-nil}
 use Rattle.std.specs.Prelude.{All}
 use Rattle.std.proofs.lemmas.List.{length-take-le, get_or_append_left, get_or-append_right, get_or-replicate}
-use Rattle.std.proofs.lemmas.List.Elements.{All-append, All-head, All-tail}
+use Rattle.std.proofs.lemmas.List.Elements.{All-append, All-cons, All-head, All-nil, All-tail}
 use Rattle.codec_graph.specs.CodecStates.{CodecState}
 use Rattle.stream_format.specs.Layouts.{Layout, layout_of}
 use Rattle.stream_moves.specs.Output.{Carriage, Sent, Missed}
 use Rattle.stream_moves.proofs.Callers.{some_block}
 use Rattle.hda_world.specs.Worlds.{World, CarriedFrame, codec_at}
 use Rattle.hda_world.specs.Streaming.{HasSent}
-use Rattle.codec_sound.specs.declared.signals.Signal.TheVariants.{Pair, Silence}
+use Rattle.codec_sound.specs.declared.signals.Signal.{Signal}
+use Rattle.codec_sound.specs.declared.signals.Signal.TheVariants.{Pair}
 use Rattle.codec_sound.specs.declared.heard.Heard.{Heard}
+use Rattle.codec_sound.specs.declared.heard.Heard.TheVariants.{Hole}
 use Rattle.codec_sound.specs.HeardLists.{block_size, blocks, item_of, items_of, signal_with, frame_items, heard}
 use Rattle.period_writer.specs.Runs.{Tally}
 use Rattle.period_writer.specs.Lines.{line_of}
@@ -18,7 +20,7 @@ use Rattle.period_writer.specs.Standing.{Ring, limit_in}
 use Rattle.period_writer.specs.Owning.{IsPlaying}
 use Rattle.period_writer.specs.Outcomes.{HasDrained, WasStopped}
 use Rattle.period_writer.proofs.Callers.{playing_owns, playing_within}
-use Rattle.line_heard.specs.Plays.{without_holes, sounds, Plays, PlaysBelow, IsSilent}
+use Rattle.line_heard.specs.Plays.{without_holes, sounds, Plays, PlaysBelow}
 use Rattle.line_heard.specs.Steady.{IsSteadyFrame, Steady}
 use Rattle.line_heard.proofs.Hearing.{pair_heard, frame_is}
 use Rattle.line_heard.proofs.Playing.{plays, plays_below, sounds_of}
@@ -85,28 +87,26 @@ module _ (codecs : List CodecState) (tag word : ℕ) (layout : Layout) (known : 
         plays_below layout pair world.output.entered world.output.left sent.behind list heard_is (line_of tally pcm) tally.course.reach (omega (arith, long))
         (λ at below under. stopped.fetched at (omega (arith, below, behind)) under)
 
--- ---- a pin that hears nothing
+-- ---- every item of a list
 
-module _ (codecs : List CodecState) (tag word : ℕ) (layout : Layout) (known : layout_of word ≡ Some layout) (from : ℕ) (world : World) (steady : Steady codecs tag word (block_size layout) from world) (address pin : ℕ) where
-  quiet_items : (bs : List (List ℕ)) → All IsSilent (map (item_of layout Silence) bs)
-  quiet_items [] = λ k d lt. absurd (omega (arith, lt))
-  quiet_items (b ∷ bs) = All-append IsSilent (item_of layout Silence b ∷ []) (map (item_of layout Silence) bs) one (quiet_items bs) where
-    one : All IsSilent (item_of layout Silence b ∷ [])
-    one k d lt = search (rules, lt)
+-- what holds of a hole and of what is heard of any block
+module _ (codecs : List CodecState) (tag word : ℕ) (layout : Layout) (known : layout_of word ≡ Some layout) (from : ℕ) (world : World) (steady : Steady codecs tag word (block_size layout) from world) (address pin : ℕ)
+    (signal : Signal) (is : signal_with (codec_at address codecs) tag word (Some layout) pin ≡ signal) (Holds : Heard → Type 0) (hole : Holds Hole) (blocks_hold : (block : List ℕ) → Holds (item_of layout signal block)) where
+  each_item : (bs : List (List ℕ)) → All Holds (map (item_of layout signal) bs)
+  each_item [] = All-nil Holds
+  each_item (b ∷ bs) = All-cons Holds (item_of layout signal b) (map (item_of layout signal) bs) (blocks_hold b) (each_item bs)
 
-  quiet_carriage : (carriage : Carriage) → All IsSilent (items_of (Some layout) Silence carriage)
-  quiet_carriage Missed = hole where
-    hole : All IsSilent (items_of (Some layout) Silence Missed)
-    hole k d lt = search (rules, lt)
-  quiet_carriage (Sent bytes) = quiet_items (blocks (block_size layout) bytes)
+  each_carried : (carriage : Carriage) → All Holds (items_of (Some layout) signal carriage)
+  each_carried Missed = All-cons Holds Hole [] hole (All-nil Holds)
+  each_carried (Sent bytes) = each_item (blocks (block_size layout) bytes)
 
-  quiet_frames : signal_with (codec_at address codecs) tag word (Some layout) pin ≡ Silence → (frames : List CarriedFrame) → All (IsSteadyFrame codecs tag word (block_size layout)) frames → All IsSilent (heard address pin frames)
-  quiet_frames is [] all = λ k d lt. absurd (omega (arith, lt))
-  quiet_frames is (frame ∷ frames) all =
+  each_frame : (frames : List CarriedFrame) → All (IsSteadyFrame codecs tag word (block_size layout)) frames → All Holds (heard address pin frames)
+  each_frame [] all = All-nil Holds
+  each_frame (frame ∷ frames) all =
       let here = All-head (IsSteadyFrame codecs tag word (block_size layout)) frame frames all in
-      All-append IsSilent (frame_items address pin frame) (heard address pin frames)
-      (subst (All IsSilent) (sym (frame_is codecs tag word layout known address pin Silence frame here is)) (quiet_carriage frame.carriage))
-      (quiet_frames is frames (All-tail (IsSteadyFrame codecs tag word (block_size layout)) frame frames all))
+      All-append Holds (frame_items address pin frame) (heard address pin frames)
+      (subst (All Holds) (sym (frame_is codecs tag word layout known address pin signal frame here is)) (each_carried frame.carriage))
+      (each_frame frames (All-tail (IsSteadyFrame codecs tag word (block_size layout)) frame frames all))
 
-  pub silence_heard : signal_with (codec_at address codecs) tag word (Some layout) pin ≡ Silence → All IsSilent (heard address pin (drop from world.carried))
-  silence_heard is = quiet_frames is (drop from world.carried) steady.frames
+  pub each_heard : All Holds (heard address pin (drop from world.carried))
+  each_heard = each_frame (drop from world.carried) steady.frames

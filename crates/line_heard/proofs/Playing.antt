@@ -2,7 +2,7 @@
 use Rattle.std.proofs.Common.{◌≡◌, ◌≤◌, ◌<◌, ◌+◌, ◌*◌, ◌/◌, ℕ, zero, suc, Bool, false, List, [], ◌∷◌, ◌++◌, length, map, take, drop, replicate, get_or, slice_index, refl, sym, ap, ◌∙◌, arith, length-append, length-drop}
 use Rattle.std.specs.List.{range_with_len}
 use Rattle.std.proofs.Math.Nat.{div-mul-le_self, mul-le-mul_right}
-use Rattle.std.proofs.lemmas.List.{length-take-le, length-replicate, get_or-take, get_or-drop}
+use Rattle.std.proofs.lemmas.List.{length-take-le, length-replicate, get_or-take, get_or-drop, get_or_append_left}
 use Rattle.std.proofs.lemmas.Grind.{same_number_lists}
 use Rattle.std.proofs.lemmas.List.FromFn.{length-map-range_with_len, get_or-map-range_with_len}
 use Rattle.stream_format.specs.Layouts.{Layout}
@@ -95,3 +95,26 @@ module _ (layout : Layout) (pair : ℕ) (entered : List ℕ) (left : ℕ) (behin
       ∙ get_or-map-range_with_len (sound_at layout pair (take left entered)) 0 n place place Hole inside (omega arith)
       ∙ ap (item_of layout (Pair pair)) (block_same (block_size layout) place (take left entered) line (omega (arith, few, most, sent)) (omega (arith, below, long))
       (λ k under. get_or-take left entered k 0 (omega (arith, under, few, most)) ∙ same k (omega (arith, under, few, most)) (omega (arith, under, below))))
+
+-- ---- a longer line
+
+slice_front : (xs ys : List ℕ) (k : ℕ) → k < length xs → slice_index xs k ≡ slice_index (xs ++ ys) k
+slice_front xs ys k below = sym (get_or_append_left xs ys 0 k below)
+
+-- what plays of a line plays of one that begins with it
+pub plays_longer : (layout : Layout) (pair : ℕ) (line more : List ℕ) (list : List Heard) → Plays layout pair line false list → Plays layout pair (line ++ more) false list
+plays_longer layout pair line more list plays =
+    let none = plays.none refl in
+    let few = plays.within in
+    let long = length-append line more in
+    let short = length-append line (replicate {A = ℕ} plays.zeros 0) in
+    let zeros = length-replicate {A = ℕ} plays.zeros 0 in
+    let whole = length-append (line ++ more) (replicate {A = ℕ} 0 0) in record {
+      count = plays.count;
+      zeros = 0;
+      none = λ e. refl;
+      within = omega (arith, few, none, long);
+      are = plays.are ∙ sounds_agree layout pair plays.count (line ++ replicate plays.zeros 0) ((line ++ more) ++ replicate 0 0) (omega (arith, few, short, zeros)) (omega (arith, few, none, long, whole))
+          (λ k below. let under : k < length line = omega (arith, below, few, none) in
+          sym (slice_front line (replicate plays.zeros 0) k under) ∙ slice_front line more k under ∙ slice_front (line ++ more) (replicate 0 0) k (omega (arith, under, long)));
+    }

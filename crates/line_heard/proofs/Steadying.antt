@@ -33,7 +33,7 @@ abbrev pair_of : CodecState → RawCodec × Entries
 pair_of codec = (codec.graph, codec.settings)
 
 -- a change of one codec that keeps its graph and settings keeps those of all
-settings_with : (address : ℕ) (change : CodecState → CodecState) → ((codec : CodecState) → (change codec).graph ≡ codec.graph) → ((codec : CodecState) → (change codec).settings ≡ codec.settings)
+pub settings_with : (address : ℕ) (change : CodecState → CodecState) → ((codec : CodecState) → (change codec).graph ≡ codec.graph) → ((codec : CodecState) → (change codec).settings ≡ codec.settings)
     → (codecs : List CodecState) → settings_of (with_codec address change codecs) ≡ settings_of codecs
 settings_with address change graph settings [] = refl
 settings_with address change graph settings (codec ∷ codecs) =
@@ -46,7 +46,7 @@ pin_same : (codec : CodecState) (nid : ℕ) (present : Bool) (node : RawNode) (p
 pin_same codec nid present node true = (refl, refl)
 pin_same codec nid present node false = (refl, refl)
 
-plugged_same : (codec : CodecState) (nid : ℕ) (present : Bool) (node : Option RawNode) → ((node_plugged codec nid present node).graph ≡ codec.graph) × ((node_plugged codec nid present node).settings ≡ codec.settings)
+pub plugged_same : (codec : CodecState) (nid : ℕ) (present : Bool) (node : Option RawNode) → ((node_plugged codec nid present node).graph ≡ codec.graph) × ((node_plugged codec nid present node).settings ≡ codec.settings)
 plugged_same codec nid present None = (refl, refl)
 plugged_same codec nid present (Some node) = pin_same codec nid present node (is_pin node)
 
@@ -57,12 +57,12 @@ responses_registers : (responses : List Response) (fields : Fields) → after_re
 responses_registers [] fields = refl
 responses_registers (response ∷ responses) fields = responses_registers responses (after_response fields)
 
-batch_registers : (response : Response) (rest : List Response) (fields : Fields) → after_batch fields (response ∷ rest)
+pub batch_registers : (response : Response) (rest : List Response) (fields : Fields) → after_batch fields (response ∷ rest)
     ≡ record fields { global = record fields.global { rirb_write_pointer = (after_responses fields (response ∷ rest)).global.rirb_write_pointer; response_flag = 1 } }
 batch_registers response rest fields = ap (λ (fields : Fields). raised fields event.Response) (responses_registers (response ∷ rest) fields)
 
 -- an idle CORB has nothing to fetch
-no_fetch : {A : Type 0} (out run reset : Bool) (read write : ℕ) → read ≡ write → (out && run && reset && not (read == write)) ≡ true → A
+pub no_fetch : {A : Type 0} (out run reset : Bool) (read write : ℕ) → read ≡ write → (out && run && reset && not (read == write)) ≡ true → A
 no_fetch out run reset read write same can = by out run reset (read == write) (search (rules, same)) can where
   by : {A : Type 0} (a b c d : Bool) → d ≡ true → (a && b && c && not d) ≡ true → A
   by true true true true is can = cc

@@ -49,3 +49,13 @@ is_silent (Sound left right) = false
 
 abbrev pub IsSilent : Heard → Type 0
 IsSilent item = is_silent item ≡ true
+
+-- an item is a block as it was sent, or a hole
+abbrev pub is_unaltered : Heard → Bool
+is_unaltered (Sound left right) = true
+is_unaltered Quiet = true
+is_unaltered Hole = true
+is_unaltered Altered = false
+
+abbrev pub IsUnaltered : Heard → Type 0
+IsUnaltered item = is_unaltered item ≡ true

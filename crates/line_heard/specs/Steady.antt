@@ -56,3 +56,23 @@ LeavesSteady End = Unit {0}
 LeavesSteady (Read at width value) = Unit {0}
 LeavesSteady (DmaRead at bytes) = Unit {0}
 LeavesSteady (DmaWrite at bytes) = Unit {0}
+
+-- ---- before a stream is set going
+
+-- CORB has no command that was not fetched, and codecs have the graphs and settings of these
+pub record AreIdleBy (codecs : List CodecState) (now : List CodecState) (read write : ℕ) : Type 0 where
+  pub settings : settings_of now ≡ settings_of codecs
+  pub idle : read ≡ write
+
+abbrev pub AreIdle : (codecs : List CodecState) → World → Type 0
+AreIdle codecs world = AreIdleBy codecs world.codecs world.registers.global.corb_read_pointer world.registers.global.corb_write_pointer
+
+-- an event writes neither GCTL nor a register of CORB
+abbrev pub LeavesCommands : Event → Type 0
+LeavesCommands (Write at width value) = IsBesideCommands at
+LeavesCommands (Stepped step) = Unit {0}
+LeavesCommands Begin = Unit {0}
+LeavesCommands End = Unit {0}
+LeavesCommands (Read at width value) = Unit {0}
+LeavesCommands (DmaRead at bytes) = Unit {0}
+LeavesCommands (DmaWrite at bytes) = Unit {0}

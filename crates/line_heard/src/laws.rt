@@ -1,5 +1,5 @@
 //! Laws of what is heard, each the contract of a function that does nothing.
-ghost use Rattle.std.specs.Prelude.{◌≡◌, ◌≤◌, ◌+◌, ◌*◌, ℕ, true, false, List, Some, All, length, drop};
+ghost use Rattle.std.specs.Prelude.{◌≡◌, ◌≤◌, ◌+◌, ◌*◌, ◌++◌, ℕ, true, false, List, Some, All, length, drop};
 ghost use Rattle.codec_graph.specs.CodecStates.{CodecState};
 ghost use Rattle.device_steps.specs.declared.Step.{Step};
 ghost use Rattle.hda_world.specs.Worlds.{World, codec_at};
@@ -10,14 +10,15 @@ ghost use Rattle.stream_format.specs.Layouts.{Layout, layout, layout_of};
 ghost use Rattle.stream_format.specs.Words.{format_word};
 ghost use Rattle.stream_moves.specs.Streams.{begun};
 ghost use Rattle.codec_sound.specs.declared.signals.Signal.TheVariants.{Pair, Silence};
+ghost use Rattle.codec_sound.specs.declared.heard.Heard.{Heard};
 ghost use Rattle.codec_sound.specs.HeardLists.{block_size, signal_with, heard};
 ghost use Rattle.period_writer.specs.Runs.{Tally};
 ghost use Rattle.period_writer.specs.Lines.{line_of};
 ghost use Rattle.period_writer.specs.Standing.{Ring, limit_in};
 ghost use Rattle.period_writer.specs.Owning.{IsPlaying};
 ghost use Rattle.period_writer.specs.Outcomes.{HasDrained, WasStopped};
-ghost use Rattle.line_heard.specs.Plays.{Plays, PlaysBelow, IsSilent};
-ghost use Rattle.line_heard.specs.Steady.{Steady, LeavesSteady};
+ghost use Rattle.line_heard.specs.Plays.{Plays, PlaysBelow, IsUnaltered, IsSilent};
+ghost use Rattle.line_heard.specs.Steady.{Steady, LeavesSteady, AreIdle, LeavesCommands};
 
 /// While CORB has no command that was not fetched, no step of the device changes a setting.
 pub fn steps_keep_it_steady()
@@ -27,11 +28,18 @@ pub fn steps_keep_it_steady()
 {}
 
 /// Nor does a read, a mark, a write of memory, or a write beside GCTL, the registers of CORB and the descriptors; a write of a descriptor's
-/// status and the one that stops the stream leave its tag and its format too.
+/// status and the one that stops the stream leave its tag and its format too. What link frames carry stays what is fetched.
 pub fn accesses_beside_keep_it_steady()
-    ensures { (codecs : List CodecState) (tag word : ℕ) (layout : Layout) (from : ℕ) (events : List Event) (world : World)
+    ensures steady { (codecs : List CodecState) (tag word : ℕ) (layout : Layout) (from : ℕ) (events : List Event) (world : World)
         → layout_of word ≡ Some layout → All LeavesSteady events → Steady codecs tag word (block_size layout) from world
         → Steady codecs tag word (block_size layout) from (after events world) }
+    ensures sent { (from : ℕ) (events : List Event) (world : World) → All LeavesSteady events → HasSent from world → HasSent from (after events world) }
+{}
+
+/// While CORB has no command that was not fetched, codecs keep their graphs and settings, whether a stream runs or not: over steps of the
+/// device, and over accesses that write neither GCTL nor a register of CORB.
+pub fn idle_codecs_keep_their_settings()
+    ensures { (codecs : List CodecState) (events : List Event) (world : World) → All LeavesCommands events → AreIdle codecs world → AreIdle codecs (after events world) }
 {}
 
 /// A stream is steady where a first run has just set it going and CORB has no command that was not fetched, and what link frames carry of
@@ -68,4 +76,17 @@ pub fn silent_pins_hear_nothing()
         → layout_of word ≡ Some layout → Steady codecs tag word (block_size layout) from world
         → signal_with (codec_at address codecs) tag word (Some layout) pin ≡ Silence
         → All IsSilent (heard address pin (drop from world.carried)) }
+{}
+
+/// A pin that hears a pair of a steady stream heard nothing but blocks as they were sent and holes.
+pub fn routed_pins_hear_what_was_sent()
+    ensures { (codecs : List CodecState) (tag word : ℕ) (layout : Layout) (from : ℕ) (world : World) (address pin pair : ℕ)
+        → layout_of word ≡ Some layout → Steady codecs tag word (block_size layout) from world
+        → signal_with (codec_at address codecs) tag word (Some layout) pin ≡ Pair pair
+        → All IsUnaltered (heard address pin (drop from world.carried)) }
+{}
+
+/// What plays of a line plays of a longer one that begins with it.
+pub fn longer_lines_are_heard()
+    ensures { (layout : Layout) (pair : ℕ) (line more : List ℕ) (list : List Heard) → Plays layout pair line false list → Plays layout pair (line ++ more) false list }
 {}

@@ -1,0 +1,318 @@
+-- The last run stops the stream, and pins heard the line.
+use Rattle.std.proofs.Common.{◌≡◌, inl, inr, ◌≤◌, ◌+◌, ◌-◌, ◌*◌, ◌/◌, ◌&&◌, ℕ, Bool, true, false, List, [], ◌∷◌, ◌++◌, map, drop, Some, refl, sym, ap, subst, ◌∙◌, arith, rules}
+use Rattle.std.specs.Prelude.{All, nat_lt}
+use Rattle.std.specs.List.{range_with_len}
+use Rattle.std.specs.Vec.{vec_len}
+use Rattle.std.proofs.Math.Nat.{mod-eq_of_lt}
+use Rattle.std.proofs.lemmas.List.Elements.{All-from_recursion}
+use Rattle.codec_graph.specs.CodecStates.{CodecState}
+use Rattle.hda_registers.specs.declared.shapes.Width.TheVariants.{One, Four}
+use Rattle.hda_registers.specs.declared.places.TheConstants.{WALCLK}
+use Rattle.hda_registers.specs.Access.{value_at}
+use Rattle.hda_registers.proofs.Callers.{read-wall_clock}
+use Rattle.stream_format.specs.Layouts.{Layout, layout, layout_of}
+use Rattle.stream_format.specs.Words.{format_word}
+use Rattle.stream_format.proofs.Callers.{read_back}
+use Rattle.codec_sound.specs.declared.signals.Signal.TheVariants.{Pair, Silence}
+use Rattle.codec_sound.specs.declared.heard.Heard.{Heard}
+use Rattle.codec_sound.specs.HeardLists.{block_size, signal_with, heard}
+use Rattle.hda_world.specs.Worlds.{World, CarriedFrame, codec_at}
+use Rattle.hda_world.specs.Events.{Event, Read, Write, happens, AreHonest, IsNoStep}
+use Rattle.hda_world.specs.Streaming.{HasSent}
+use Rattle.hda_world.specs.Tellings.{Telling, world_of, Went, Makes}
+use Rattle.hda_world.proofs.Callers.{world_of-went, went_both, Weaving, woven}
+use Rattle.command_engine.specs.Polling.{poll_accesses}
+use Rattle.period_writer.specs.declared.course.Ran.{Ran}
+use Rattle.period_writer.specs.declared.course.Ran.TheVariants as ran
+use Rattle.period_writer.specs.declared.writer.Writer.{Writer}
+use Rattle.period_writer.specs.declared.registers.TheConstants.{CONTROL}
+use Rattle.period_writer.specs.Rings.{period_bytes}
+use Rattle.period_writer.specs.Courses.{IsCourse}
+use Rattle.period_writer.specs.Runs.{RunFacts, Tally, Measures, measures, run_at, run_reach, is_late, tally_if, tally_after}
+use Rattle.period_writer.specs.Lines.{IsLine, line_of}
+use Rattle.period_writer.specs.Places.{piece_write, touched}
+use Rattle.period_writer.specs.Playing.{run_bytes, turn_accesses, finish_accesses}
+use Rattle.period_writer.specs.Standing.{Ring, size_of, limit_in}
+use Rattle.period_writer.specs.Owning.{IsPlaying}
+use Rattle.period_writer.specs.Beside.{LeavesStopped}
+use Rattle.period_writer.specs.Writers.{tally_of, ring_of}
+use Rattle.period_writer.specs.Outcomes.{HasNotWrapped, HasDrained, WasStopped, EndsLast, FinishTells}
+use Rattle.driver_stretches.specs.Shutting.{shut_accesses}
+use Rattle.codec_bring_up.specs.declared.bringing.BringUp.{BringUp}
+use Rattle.line_heard.specs.Plays.{Plays, PlaysBelow, IsUnaltered, IsSilent}
+use Rattle.line_heard.specs.Steady.{Steady}
+use Rattle.audio_driver.specs.States.{is_open, was_late, IsLeft}
+use Rattle.audio_driver.specs.Sounding.{ShutsAlone, StopsSound, EndTells}
+use Rattle.heard_runs.specs.Lives.{Along, IsStopped, IsGoing, HasStopped, Lives}
+use Rattle.heard_runs.specs.Sounding.{StreamIs, IsHeardBy, Sounds}
+use Rattle.heard_runs.specs.Ending.{HeardAs, HearTheLine}
+use Rattle.heard_runs.proofs.Rows.{woven_all, woven_alone, carried_alone, all_front, all_back, went_same}
+use Rattle.heard_runs.proofs.Lives.{Along-end, Along-front, stays_stopped}
+use Rattle.heard_runs.proofs.Beside.{Laws, heard_row, drained_stopped, stopped_along}
+use Rattle.heard_runs.proofs.Runs.{finish_steady, finish_is, late_records, stopped_by}
+use Rattle.heard_runs.proofs.Calls.{row_sounds, poll_beside, open_plays}
+
+not_true : false ≡ true → ⊥
+not_true is = cc
+
+-- ---- the laws of what is heard
+
+pub record HearLaws : Type 0 where
+  pub playing : (codecs : List CodecState) (tag word : ℕ) (layout : Layout) (from : ℕ) (world : World) (address pin pair : ℕ) (ring : Ring) (pcm : List ℕ) (tally : Tally) → layout_of word ≡ Some layout
+      → Steady codecs tag word (block_size layout) from world → HasSent from world → signal_with (codec_at address codecs) tag word (Some layout) pin ≡ Pair pair → IsPlaying ring pcm tally world
+      → 500 * world.frames ≤ tally.course.from + 500 * limit_in ring → Plays layout pair (line_of tally pcm) false (heard address pin (drop from world.carried))
+  pub drained : (codecs : List CodecState) (tag word : ℕ) (layout : Layout) (from : ℕ) (world : World) (address pin pair : ℕ) (ring : Ring) (pcm : List ℕ) (tally : Tally) → layout_of word ≡ Some layout
+      → Steady codecs tag word (block_size layout) from world → HasSent from world → signal_with (codec_at address codecs) tag word (Some layout) pin ≡ Pair pair → HasDrained ring pcm tally world
+      → Plays layout pair (line_of tally pcm) true (heard address pin (drop from world.carried))
+  pub stopped : (codecs : List CodecState) (tag word : ℕ) (layout : Layout) (from : ℕ) (world : World) (address pin pair : ℕ) (ring : Ring) (pcm : List ℕ) (tally : Tally) → layout_of word ≡ Some layout
+      → Steady codecs tag word (block_size layout) from world → HasSent from world → signal_with (codec_at address codecs) tag word (Some layout) pin ≡ Pair pair → WasStopped ring pcm tally world
+      → PlaysBelow layout pair (line_of tally pcm) tally.course.reach (heard address pin (drop from world.carried))
+  pub longer : (layout : Layout) (pair : ℕ) (line more : List ℕ) (list : List Heard) → Plays layout pair line false list → Plays layout pair (line ++ more) false list
+  pub unaltered : (codecs : List CodecState) (tag word : ℕ) (layout : Layout) (from : ℕ) (world : World) (address pin pair : ℕ) → layout_of word ≡ Some layout → Steady codecs tag word (block_size layout) from world
+      → signal_with (codec_at address codecs) tag word (Some layout) pin ≡ Pair pair → All IsUnaltered (heard address pin (drop from world.carried))
+  pub silent : (codecs : List CodecState) (tag word : ℕ) (layout : Layout) (from : ℕ) (world : World) (address pin : ℕ) → layout_of word ≡ Some layout → Steady codecs tag word (block_size layout) from world
+      → signal_with (codec_at address codecs) tag word (Some layout) pin ≡ Silence → All IsSilent (heard address pin (drop from world.carried))
+  pub grows : (m : Measures) (runs : ℕ) (tally : Tally) (facts : RunFacts) (pcm : List ℕ) → IsCourse m.ring runs tally.course → IsLine tally
+      → line_of (tally_if false m tally facts) pcm ≡ line_of tally pcm ++ run_bytes m tally.course facts (drop tally.course.used pcm)
+
+-- ---- the end of a stream that was stopped
+
+shut_leaves : All LeavesStopped shut_accesses
+shut_leaves = All-from_recursion LeavesStopped shut_accesses (inl (inl (omega arith)), (inl (inl (omega arith)), (inl (inl (omega arith)), tt)))
+
+shut_stopped : (ring : Ring) (pcm : List ℕ) (tally : Tally) (old new : Telling) → Makes shut_accesses old new → WasStopped ring pcm tally (world_of old) → HasStopped old → HasStopped new
+shut_stopped ring pcm tally old new makes was lives =
+    let weaving = woven makes in
+    stays_stopped old new weaving.events weaving.went lives
+    (stopped_along ring pcm tally weaving.events (world_of old) (woven_all LeavesStopped (λ step. tt {0}) shut_accesses weaving.events weaving.woven shut_leaves) was)
+
+over_stopped : (was : Ran) (ring : Ring) (pcm : List ℕ) (tally : Tally) (world : World) → is_open was ≡ false → StreamIs was ring pcm tally world → WasStopped ring pcm tally world
+over_stopped ran.Playing ring pcm tally world over stream = absurd (not_true (sym over))
+over_stopped ran.Drained ring pcm tally world over stream = drained_stopped ring pcm tally world stream
+over_stopped (ran.Late from to) ring pcm tally world over stream = stream
+
+-- ---- what pins heard
+
+module _ (laws : HearLaws) (codecs : List CodecState) (ring : Ring) (pcm : List ℕ) (tally : Tally) (world : World) (hears : IsHeardBy codecs ring world) where
+  -- of a stream that was over
+  over_heard : (was : Ran) → is_open was ≡ false → StreamIs was ring pcm tally world → (address pin pair : ℕ)
+      → signal_with (codec_at address codecs) 1 (format_word ring.geometry.format) (Some (layout ring.geometry.format)) pin ≡ Pair pair
+      → HeardAs was (layout ring.geometry.format) pair (line_of tally pcm) tally.course.reach (heard address pin world.carried)
+  over_heard ran.Playing over stream address pin pair is = absurd (not_true (sym over))
+  over_heard ran.Drained over stream address pin pair is =
+      laws.drained codecs 1 (format_word ring.geometry.format) (layout ring.geometry.format) 0 world address pin pair ring pcm tally (read_back ring.geometry.format) hears.steady hears.sent is stream
+  over_heard (ran.Late from to) over stream address pin pair is =
+      laws.stopped codecs 1 (format_word ring.geometry.format) (layout ring.geometry.format) 0 world address pin pair ring pcm tally (read_back ring.geometry.format) hears.steady hears.sent is stream
+
+  hear : (carried : List CarriedFrame) → carried ≡ world.carried
+      → ((address pin pair : ℕ) → signal_with (codec_at address codecs) 1 (format_word ring.geometry.format) (Some (layout ring.geometry.format)) pin ≡ Pair pair
+      → HeardAs tally.course.ran (layout ring.geometry.format) pair (line_of tally pcm) tally.course.reach (heard address pin world.carried))
+      → HearTheLine codecs ring.geometry.format pcm tally carried
+  hear carried same plays = subst (HearTheLine codecs ring.geometry.format pcm tally) (sym same) (record {
+    plays = plays;
+    unaltered = λ address pin pair is. laws.unaltered codecs 1 (format_word ring.geometry.format) (layout ring.geometry.format) 0 world address pin pair (read_back ring.geometry.format) hears.steady is;
+    silent = λ address pin is. laws.silent codecs 1 (format_word ring.geometry.format) (layout ring.geometry.format) 0 world address pin (read_back ring.geometry.format) hears.steady is;
+  })
+
+-- ---- the last run
+
+ends_stopped : (answer : Ran) (ring : Ring) (pcm : List ℕ) (tally tally' : Tally) (facts : RunFacts) (world : World) → tally' ≡ tally_after (measures ring.geometry) tally facts → answer ≡ tally'.course.ran
+    → EndsLast answer ring pcm tally tally' world → WasStopped ring pcm tally' world
+ends_stopped ran.Playing ring pcm tally tally' facts world recorded is ends = ends
+ends_stopped ran.Drained ring pcm tally tally' facts world recorded is ends = drained_stopped ring pcm tally' world ends
+ends_stopped (ran.Late from to) ring pcm tally tally' facts world recorded is ends = late_records ring pcm tally tally' facts from to world recorded is ends
+
+-- the clock that it reads last, where the device makes no step
+clock_read : (bytes : ℕ) (periods : List ℕ) (from to : ℕ) (written : List ℕ) (xs : List ℕ) (clock : ℕ) (later : List Event) (world : World)
+    → AreHonest (map (piece_write bytes periods from to written) xs ++ (Read WALCLK Four clock ∷ later)) world → clock ≡ value_at world.registers WALCLK Four
+clock_read bytes periods from to written [] clock later world honest = honest.0
+clock_read bytes periods from to written (x ∷ xs) clock later world honest = clock_read bytes periods from to written xs clock later (happens world (piece_write bytes periods from to written x)) honest.1
+
+playing_late : (late : Bool) (m : Measures) (tally : Tally) (facts : RunFacts) → is_late m tally.course facts ≡ late → ran.Playing ≡ (tally_if late m tally facts).course.ran → is_late m tally.course facts ≡ false
+playing_late true m tally facts is plays = cc
+playing_late false m tally facts is plays = is
+
+not_more : (a b : ℕ) → nat_lt a b ≡ false → b ≤ a
+not_more a b e = search (rules, e)
+
+few_frames : (frames clock from limit : ℕ) → clock ≡ 500 * frames → clock - from ≤ 500 * limit → 500 * frames ≤ from + 500 * limit
+few_frames frames clock from limit is few = omega (arith, is, few)
+
+module _ (laws : HearLaws) (codecs : List CodecState) (ring : Ring) (pcm : List ℕ) (tally tally' : Tally) (runs : ℕ) (course : IsCourse (size_of ring) runs tally.course) (begins ends : Telling)
+    (playing : IsPlaying ring pcm tally (world_of begins)) (hears : IsHeardBy codecs ring (world_of begins)) (small : HasNotWrapped (world_of begins))
+    (run : FinishTells ring pcm tally ran.Playing tally' begins ends) (plays : ran.Playing ≡ tally'.course.ran) where
+  abbrev m : Measures
+  m = measures ring.geometry
+
+  in_time : is_late m tally.course run.facts ≡ false
+  in_time = playing_late (is_late m tally.course run.facts) m tally run.facts refl (plays ∙ ap (λ (tally : Tally). tally.course.ran) run.recorded)
+
+  line_is : line_of tally' pcm ≡ line_of tally pcm ++ run_bytes m tally.course run.facts (drop tally.course.used pcm)
+  line_is =
+      ap (λ (tally : Tally). line_of tally pcm) (run.recorded ∙ ap (λ (late : Bool). tally_if late m tally run.facts) in_time)
+      ∙ laws.grows m runs tally run.facts pcm course playing.written.line
+
+  -- where the device makes no step
+  module _ (events : List Event) (went : Went begins ends events) (alone : All IsNoStep events) where
+    clock_is : run.facts.to ≡ 500 * (world_of begins).frames
+    clock_is =
+        let weaving = woven run.made in
+        let same : weaving.events ≡ events = went_same begins ends weaving.events events weaving.went went in
+        let made : weaving.events ≡ finish_accesses ring.geometry ring.periods tally.course run.facts (drop tally.course.used pcm) =
+        woven_alone (finish_accesses ring.geometry ring.periods tally.course run.facts (drop tally.course.used pcm)) weaving.events weaving.woven (subst (All IsNoStep) (sym same) alone) in
+        let honest = subst (λ (events : List Event). AreHonest events (world_of begins)) made weaving.went.honest in
+        clock_read (period_bytes ring.geometry.period) ring.periods tally.course.reach (run_reach m tally.course run.facts) (run_bytes m tally.course run.facts (drop tally.course.used pcm))
+        (range_with_len (tally.course.reach / period_bytes ring.geometry.period) (touched (period_bytes ring.geometry.period) tally.course.reach (run_reach m tally.course run.facts))) run.facts.to (Write CONTROL One 0 ∷ []) (world_of begins) honest.1.1
+        ∙ read-wall_clock (world_of begins).registers ∙ playing.stands.clock_is ∙ mod-eq_of_lt small
+
+    few : 500 * (world_of begins).frames ≤ tally.course.from + 500 * limit_in ring
+    few =
+        let late : nat_lt (500 * m.limit) (run.facts.to - tally.course.from) ≡ false =
+        sym (ap (λ (started : Bool). started && nat_lt (500 * m.limit) (run.facts.to - tally.course.from)) playing.started) ∙ in_time in
+        few_frames (world_of begins).frames run.facts.to tally.course.from (limit_in ring) clock_is (not_more (500 * limit_in ring) (run.facts.to - tally.course.from) late)
+
+    playing_heard : (address pin pair : ℕ) → signal_with (codec_at address codecs) 1 (format_word ring.geometry.format) (Some (layout ring.geometry.format)) pin ≡ Pair pair
+        → HeardAs tally'.course.ran (layout ring.geometry.format) pair (line_of tally' pcm) tally'.course.reach (heard address pin (world_of begins).carried)
+    playing_heard address pin pair is =
+        subst (λ (was : Ran). HeardAs was (layout ring.geometry.format) pair (line_of tally' pcm) tally'.course.reach (heard address pin (world_of begins).carried)) plays
+        (subst (λ (line : List ℕ). Plays (layout ring.geometry.format) pair line false (heard address pin (world_of begins).carried)) (sym line_is)
+        (laws.longer (layout ring.geometry.format) pair (line_of tally pcm) (run_bytes m tally.course run.facts (drop tally.course.used pcm)) (heard address pin (world_of begins).carried)
+        (laws.playing codecs 1 (format_word ring.geometry.format) (layout ring.geometry.format) 0 (world_of begins) address pin pair ring pcm tally (read_back ring.geometry.format) hears.steady hears.sent is playing few)))
+
+-- ---- the last call
+
+module _ (on : Laws) (laws : HearLaws) (codecs : List CodecState) (pcm : List ℕ) (old ended : BringUp) (writer : Writer) (tally' : Tally) (supply : List ℕ) (made last : List Event) (before after : Telling)
+    (went : Went before after last) (small : Along HasNotWrapped last (world_of before)) (left : IsLeft pcm writer.course supply) (sounds : Sounds codecs (ring_of writer) pcm (tally_of writer) before) where
+  abbrev ring : Ring
+  ring = ring_of writer
+
+  abbrev tally : Tally
+  tally = tally_of writer
+
+  abbrev Ends : Type 0
+  Ends = HasStopped after × (All IsNoStep last → HearTheLine codecs writer.geometry.format pcm tally' (world_of after).carried)
+
+  -- no link frame passes where the device makes no step
+  same_carried : All IsNoStep last → (world_of after).carried ≡ (world_of before).carried
+  same_carried alone = ap (λ (world : World). world.carried) (world_of-went before after last went) ∙ carried_alone last (world_of before) alone
+
+  -- the stream was over
+  shuts_end : ShutsAlone old ended writer tally' made → Makes made before after → Ends
+  shuts_end shuts makes =
+      let over : is_open writer.course.ran ≡ false = sym (ap (λ (started : Bool). started && is_open writer.course.ran) sounds.started) ∙ shuts.still in (
+        shut_stopped ring pcm tally before after (subst (λ (made : List Event). Makes made before after) shuts.made_is makes) (over_stopped writer.course.ran ring pcm tally (world_of before) over sounds.stream)
+            (subst (λ (open' : Bool). Lives open' before) over sounds.lives),
+        λ alone. subst (λ (tally : Tally). HearTheLine codecs writer.geometry.format pcm tally (world_of after).carried) (sym shuts.tally_is)
+            (hear laws codecs ring pcm tally (world_of before) sounds.heard (world_of after).carried (same_carried alone) (over_heard laws codecs ring pcm tally (world_of before) sounds.heard writer.course.ran over sounds.stream)),
+      )
+
+  -- or it played
+  module _ (stops_sound : StopsSound old ended writer tally' supply made before after) where
+    abbrev begins : Telling
+    begins = stops_sound.begins
+
+    abbrev ends : Telling
+    ends = stops_sound.ends
+
+    abbrev poll : List Event
+    poll = poll_accesses old.engine.rirb.address old.engine.rings stops_sound.reads
+
+    polled : Weaving poll before begins
+    polled = woven stops_sound.listened
+
+    ran_on : Weaving stops_sound.run begins ends
+    ran_on = woven stops_sound.run_made
+
+    shut : Weaving shut_accesses ends after
+    shut = woven stops_sound.shut
+
+    went_ends : Went before ends (polled.events ++ ran_on.events)
+    went_ends = went_both before begins ends polled.events ran_on.events polled.went ran_on.went
+
+    last_is : last ≡ (polled.events ++ ran_on.events) ++ shut.events
+    last_is = went_same before after last ((polled.events ++ ran_on.events) ++ shut.events) went (went_both before ends after (polled.events ++ ran_on.events) shut.events went_ends shut.went)
+
+    small_along : Along HasNotWrapped (polled.events ++ ran_on.events) (world_of before)
+    small_along = Along-front HasNotWrapped (polled.events ++ ran_on.events) shut.events (world_of before) (subst (λ (events : List Event). Along HasNotWrapped events (world_of before)) last_is small)
+
+    small_ends : HasNotWrapped (world_of ends)
+    small_ends = subst HasNotWrapped (sym (world_of-went before ends (polled.events ++ ran_on.events) went_ends)) (Along-end HasNotWrapped (polled.events ++ ran_on.events) (world_of before) small_along)
+
+    small_begins : HasNotWrapped (world_of begins)
+    small_begins =
+        subst HasNotWrapped (sym (world_of-went before begins polled.events polled.went))
+        (Along-end HasNotWrapped polled.events (world_of before) (Along-front HasNotWrapped polled.events ran_on.events (world_of before) small_along))
+
+    here : Sounds codecs ring pcm tally begins
+    here = row_sounds on codecs ring pcm tally poll before begins stops_sound.listened (poll_beside old.engine.rirb.address old.engine.rings stops_sound.reads) sounds
+
+    open_is : is_open writer.course.ran ≡ true
+    open_is = sym (ap (λ (started : Bool). started && is_open writer.course.ran) sounds.started) ∙ stops_sound.plays
+
+    plays : writer.course.ran ≡ ran.Playing
+    plays = open_plays writer.course.ran open_is
+
+    playing : IsPlaying ring pcm tally (world_of begins)
+    playing = subst (λ (was : Ran). StreamIs was ring pcm tally (world_of begins)) plays here.stream
+
+    going : IsGoing begins
+    going = subst (λ (was : Ran). Lives (is_open was) begins) plays here.lives
+
+    module _ (answer : Ran) (is : answer ≡ tally'.course.ran) (run : FinishTells ring pcm tally answer tally' begins ends) where
+      stopped : WasStopped ring pcm tally' (world_of ends)
+      stopped = ends_stopped answer ring pcm tally tally' run.facts (world_of ends) run.recorded is run.ends
+
+      has_stopped : HasStopped after
+      has_stopped =
+          let stop : IsStopped (world_of ends) = record { stopped = stopped.stopped; no_error = stopped.no_error } in
+          shut_stopped ring pcm tally' ends after stops_sound.shut stopped
+          (stopped_by ring (line_of tally pcm) tally.course.reach tally.course.at (run_at (measures ring.geometry) tally.course run.facts) tally.course.from
+          (finish_accesses ring.geometry ring.periods tally.course run.facts (drop tally.course.used pcm)) (turn_accesses ring.geometry ring.periods tally.course run.facts (drop tally.course.used pcm))
+          run.events begins ends run.made (finish_is ring tally run.facts (drop tally.course.used pcm)) run.went run.moments going stop)
+
+      hears_ends : IsHeardBy codecs ring (world_of ends)
+      hears_ends =
+          heard_row on codecs ring (finish_accesses ring.geometry ring.periods tally.course run.facts (drop tally.course.used pcm)) begins ends run.made
+          (finish_steady ring tally run.facts (drop tally.course.used pcm)) here.heard
+
+    alone_ends : All IsNoStep last → All IsNoStep (polled.events ++ ran_on.events)
+    alone_ends alone = all_front IsNoStep (polled.events ++ ran_on.events) shut.events (subst (All IsNoStep) last_is alone)
+
+    carried_ends : All IsNoStep last → (world_of after).carried ≡ (world_of ends).carried
+    carried_ends alone =
+        ap (λ (world : World). world.carried) (world_of-went ends after shut.events shut.went)
+        ∙ carried_alone shut.events (world_of ends) (all_back IsNoStep (polled.events ++ ran_on.events) shut.events (subst (All IsNoStep) last_is alone))
+
+    carried_begins : All IsNoStep last → (world_of after).carried ≡ (world_of begins).carried
+    carried_begins alone =
+        carried_ends alone ∙ ap (λ (world : World). world.carried) (world_of-went begins ends ran_on.events ran_on.went)
+        ∙ carried_alone ran_on.events (world_of begins) (all_back IsNoStep polled.events ran_on.events (alone_ends alone))
+
+    abbrev HeardAt : Ran → Type 0
+    HeardAt was =
+        (address pin pair : ℕ) → signal_with (codec_at address codecs) 1 (format_word writer.geometry.format) (Some (layout writer.geometry.format)) pin ≡ Pair pair
+        → HeardAs was (layout writer.geometry.format) pair (line_of tally' pcm) tally'.course.reach (heard address pin (world_of ends).carried)
+
+    ends_by : (answer : Ran) → answer ≡ tally'.course.ran → FinishTells ring pcm tally answer tally' begins ends → Ends
+    ends_by ran.Playing is run = (
+      has_stopped ran.Playing is run,
+      λ alone. hear laws codecs ring pcm tally' (world_of begins) here.heard (world_of after).carried (carried_begins alone)
+          (playing_heard laws codecs ring pcm tally tally' (vec_len writer.runs) writer.course_is begins ends playing here.heard small_begins run is ran_on.events ran_on.went (all_back IsNoStep polled.events ran_on.events (alone_ends alone))),
+    )
+    ends_by ran.Drained is run = (
+      has_stopped ran.Drained is run,
+      λ alone. hear laws codecs ring pcm tally' (world_of ends) (hears_ends ran.Drained is run) (world_of after).carried (carried_ends alone)
+          (subst HeardAt is (over_heard laws codecs ring pcm tally' (world_of ends) (hears_ends ran.Drained is run) ran.Drained refl run.ends)),
+    )
+    ends_by (ran.Late from to) is run = (
+      has_stopped (ran.Late from to) is run,
+      λ alone. hear laws codecs ring pcm tally' (world_of ends) (hears_ends (ran.Late from to) is run) (world_of after).carried (carried_ends alone)
+          (subst HeardAt is (over_heard laws codecs ring pcm tally' (world_of ends) (hears_ends (ran.Late from to) is run) (ran.Late from to) refl (stopped (ran.Late from to) is run))),
+    )
+
+    sound_ends : Ends
+    sound_ends = ends_by tally'.course.ran refl (stops_sound.tells pcm (left (ap was_late plays)) playing small_ends)
+
+  pub call_ends : EndTells old ended writer tally' supply made before after → Makes made before after → Ends
+  call_ends (inl shuts) makes = shuts_end shuts makes
+  call_ends (inr stops_sound) makes = sound_ends stops_sound

@@ -1,0 +1,31 @@
+-- What is heard of a driver that was closed. This project's own.
+use Rattle.std.specs.Prelude.{◌≡◌, true, false, ℕ, List, All, Some}
+use Rattle.codec_graph.specs.CodecStates.{CodecState}
+use Rattle.stream_format.specs.declared.format.Format.{Format}
+use Rattle.stream_format.specs.Words.{format_word}
+use Rattle.stream_format.specs.Layouts.{Layout, layout}
+use Rattle.codec_sound.specs.declared.signals.Signal.TheVariants.{Pair, Silence}
+use Rattle.codec_sound.specs.declared.heard.Heard.{Heard}
+use Rattle.codec_sound.specs.HeardLists.{heard, signal_with}
+use Rattle.hda_world.specs.Worlds.{CarriedFrame, codec_at}
+use Rattle.period_writer.specs.declared.course.Ran.{Ran}
+use Rattle.period_writer.specs.declared.course.Ran.TheVariants as ran
+use Rattle.period_writer.specs.Runs.{Tally}
+use Rattle.period_writer.specs.Lines.{line_of}
+use Rattle.line_heard.specs.Plays.{Plays, PlaysBelow, IsUnaltered, IsSilent}
+
+-- a list of what a pin heard, by how the last run ended: the pair's samples of the line, of which after a late run those below its reach
+abbrev pub HeardAs : Ran → Layout → (pair : ℕ) → (line : List ℕ) → (reach : ℕ) → List Heard → Type 0
+HeardAs ran.Playing sample_layout pair line reach list = Plays sample_layout pair line false list
+HeardAs ran.Drained sample_layout pair line reach list = Plays sample_layout pair line true list
+HeardAs (ran.Late from to) sample_layout pair line reach list = PlaysBelow sample_layout pair line reach list
+
+-- what pins of these codecs heard of what link frames carried: one to which a pair comes heard the line, one to which nothing comes heard
+-- nothing
+pub record HearTheLine (codecs : List CodecState) (format : Format) (pcm : List ℕ) (tally : Tally) (carried : List CarriedFrame) : Type 0 where
+  pub plays : (address pin pair : ℕ) → signal_with (codec_at address codecs) 1 (format_word format) (Some (layout format)) pin ≡ Pair pair
+      → HeardAs tally.course.ran (layout format) pair (line_of tally pcm) tally.course.reach (heard address pin carried)
+  pub unaltered : (address pin pair : ℕ) → signal_with (codec_at address codecs) 1 (format_word format) (Some (layout format)) pin ≡ Pair pair
+      → All IsUnaltered (heard address pin carried)
+  pub silent : (address pin : ℕ) → signal_with (codec_at address codecs) 1 (format_word format) (Some (layout format)) pin ≡ Silence
+      → All IsSilent (heard address pin carried)
