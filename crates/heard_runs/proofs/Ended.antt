@@ -39,7 +39,7 @@ use Rattle.period_writer.specs.Writers.{tally_of, ring_of}
 use Rattle.period_writer.specs.Outcomes.{HasNotWrapped, HasDrained, WasStopped, EndsLast, FinishTells}
 use Rattle.driver_stretches.specs.Shutting.{shut_accesses}
 use Rattle.codec_bring_up.specs.declared.bringing.BringUp.{BringUp}
-use Rattle.line_heard.specs.Plays.{Plays, PlaysBelow, IsUnaltered, IsSilent}
+use Rattle.line_heard.specs.Plays.{Plays, PlaysBelow, WasSent, IsSilent}
 use Rattle.line_heard.specs.Steady.{Steady}
 use Rattle.audio_driver.specs.States.{is_open, was_late, IsLeft}
 use Rattle.audio_driver.specs.Sounding.{ShutsAlone, StopsSound, EndTells}
@@ -68,8 +68,8 @@ pub record HearLaws : Type 0 where
       → Steady codecs tag word (block_size layout) from world → HasSent from world → signal_with (codec_at address codecs) tag word (Some layout) pin ≡ Pair pair → WasStopped ring pcm tally world
       → PlaysBelow layout pair (line_of tally pcm) tally.course.reach (heard address pin (drop from world.carried))
   pub longer : (layout : Layout) (pair : ℕ) (line more : List ℕ) (list : List Heard) → Plays layout pair line false list → Plays layout pair (line ++ more) false list
-  pub unaltered : (codecs : List CodecState) (tag word : ℕ) (layout : Layout) (from : ℕ) (world : World) (address pin pair : ℕ) → layout_of word ≡ Some layout → Steady codecs tag word (block_size layout) from world
-      → signal_with (codec_at address codecs) tag word (Some layout) pin ≡ Pair pair → All IsUnaltered (heard address pin (drop from world.carried))
+  pub sent_alone : (codecs : List CodecState) (tag word : ℕ) (layout : Layout) (from : ℕ) (world : World) (address pin pair : ℕ) → layout_of word ≡ Some layout → Steady codecs tag word (block_size layout) from world
+      → signal_with (codec_at address codecs) tag word (Some layout) pin ≡ Pair pair → All WasSent (heard address pin (drop from world.carried))
   pub silent : (codecs : List CodecState) (tag word : ℕ) (layout : Layout) (from : ℕ) (world : World) (address pin : ℕ) → layout_of word ≡ Some layout → Steady codecs tag word (block_size layout) from world
       → signal_with (codec_at address codecs) tag word (Some layout) pin ≡ Silence → All IsSilent (heard address pin (drop from world.carried))
   pub grows : (m : Measures) (runs : ℕ) (tally : Tally) (facts : RunFacts) (pcm : List ℕ) → IsCourse m.ring runs tally.course → IsLine tally
@@ -110,7 +110,7 @@ module _ (laws : HearLaws) (codecs : List CodecState) (ring : Ring) (pcm : List 
       → HearTheLine codecs ring.geometry.format pcm tally carried
   hear carried same plays = subst (HearTheLine codecs ring.geometry.format pcm tally) (sym same) (record {
     plays = plays;
-    unaltered = λ address pin pair is. laws.unaltered codecs 1 (format_word ring.geometry.format) (layout ring.geometry.format) 0 world address pin pair (read_back ring.geometry.format) hears.steady is;
+    sent_alone = λ address pin pair is. laws.sent_alone codecs 1 (format_word ring.geometry.format) (layout ring.geometry.format) 0 world address pin pair (read_back ring.geometry.format) hears.steady is;
     silent = λ address pin is. laws.silent codecs 1 (format_word ring.geometry.format) (layout ring.geometry.format) 0 world address pin (read_back ring.geometry.format) hears.steady is;
   })
 

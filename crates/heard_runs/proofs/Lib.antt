@@ -6,3 +6,4 @@ pub mod Calls
 pub mod Silent
 pub mod Begun
 pub mod Ended
+pub mod Over

@@ -24,6 +24,12 @@ after-split : (before : List Event) (event : Event) (during : List Event) (world
 after-split [] event during world = refl
 after-split (first ∷ before) event during world = after-split before event during (happens world first)
 
+pub stopped_there : (telling : Telling) (was : HasStopped telling) → world_of telling ≡ after was.later (after (was.before ++ sets_going ∷ (was.during ++ stops ∷ [])) telling.start)
+stopped_there telling was =
+    ap (λ (journal : List Event). after journal telling.start) (was.journal ∙ sym (append_assoc was.before (sets_going ∷ was.during) (stops ∷ was.later)))
+    ∙ after-split (was.before ++ sets_going ∷ was.during) stops was.later telling.start
+    ∙ ap (λ (journal : List Event). after was.later (after journal telling.start)) (append_assoc was.before (sets_going ∷ was.during) (stops ∷ []))
+
 -- ---- it goes on
 
 module _ (old new : Telling) (events : List Event) where
@@ -63,10 +69,7 @@ module _ (old new : Telling) (events : List Event) where
   -- and stays so
   pub stays_stopped : Went old new events → HasStopped old → Along IsStopped events (world_of old) → HasStopped new
   stays_stopped went was along =
-      let there : world_of old ≡ after was.later (after (was.before ++ sets_going ∷ (was.during ++ stops ∷ [])) old.start) =
-      ap (λ (journal : List Event). after journal old.start) (was.journal ∙ sym (append_assoc was.before (sets_going ∷ was.during) (stops ∷ was.later)))
-      ∙ after-split (was.before ++ sets_going ∷ was.during) stops was.later old.start
-      ∙ ap (λ (journal : List Event). after was.later (after journal old.start)) (append_assoc was.before (sets_going ∷ was.during) (stops ∷ [])) in record {
+      let there = stopped_there old was in record {
         before = was.before;
         during = was.during;
         later = was.later ++ events;

@@ -12,7 +12,7 @@ use Rattle.period_writer.specs.declared.course.Ran.{Ran}
 use Rattle.period_writer.specs.declared.course.Ran.TheVariants as ran
 use Rattle.period_writer.specs.Runs.{Tally}
 use Rattle.period_writer.specs.Lines.{line_of}
-use Rattle.line_heard.specs.Plays.{Plays, PlaysBelow, IsUnaltered, IsSilent}
+use Rattle.line_heard.specs.Plays.{Plays, PlaysBelow, WasSent, IsSilent}
 
 -- a list of what a pin heard, by how the last run ended: the pair's samples of the line, of which after a late run those below its reach
 abbrev pub HeardAs : Ran → Layout → (pair : ℕ) → (line : List ℕ) → (reach : ℕ) → List Heard → Type 0
@@ -25,7 +25,7 @@ HeardAs (ran.Late from to) sample_layout pair line reach list = PlaysBelow sampl
 pub record HearTheLine (codecs : List CodecState) (format : Format) (pcm : List ℕ) (tally : Tally) (carried : List CarriedFrame) : Type 0 where
   pub plays : (address pin pair : ℕ) → signal_with (codec_at address codecs) 1 (format_word format) (Some (layout format)) pin ≡ Pair pair
       → HeardAs tally.course.ran (layout format) pair (line_of tally pcm) tally.course.reach (heard address pin carried)
-  pub unaltered : (address pin pair : ℕ) → signal_with (codec_at address codecs) 1 (format_word format) (Some (layout format)) pin ≡ Pair pair
-      → All IsUnaltered (heard address pin carried)
+  pub sent_alone : (address pin pair : ℕ) → signal_with (codec_at address codecs) 1 (format_word format) (Some (layout format)) pin ≡ Pair pair
+      → All WasSent (heard address pin carried)
   pub silent : (address pin : ℕ) → signal_with (codec_at address codecs) 1 (format_word format) (Some (layout format)) pin ≡ Silence
       → All IsSilent (heard address pin carried)

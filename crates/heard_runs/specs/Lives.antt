@@ -8,11 +8,12 @@ use Rattle.hda_world.specs.Events.{Event, Write, happens, after}
 use Rattle.hda_world.specs.Tellings.{Telling}
 use Rattle.period_writer.specs.declared.registers.TheConstants.{CONTROL}
 
--- the stream runs without an error, or does not run and has none
+-- the stream runs without an error
 pub record Runs (world : World) : Type 0 where
   pub running : is_running world.registers.output ≡ true
   pub no_error : world.registers.output.descriptor_error ≡ 0
 
+-- it does not run, and has none
 pub record IsStopped (world : World) : Type 0 where
   pub stopped : is_running world.registers.output ≡ false
   pub no_error : world.registers.output.descriptor_error ≡ 0

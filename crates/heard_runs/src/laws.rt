@@ -31,8 +31,8 @@ use period_writer::{
 };
 use stream_rest::{a_first_run_can_begin, streams_rest_before_sound};
 
-/// A stream that plays or has played goes on as it is over steps of the device and over marks, and a call that plays leads it to how its run left
-/// it, while WALCLK has not wrapped. The call makes the accesses that are to be made.
+/// A stream that plays or has played goes on as it is over steps of the device and over marks. A call that plays, and makes the accesses that
+/// progress expects of it, leads it to how its run left it, while WALCLK has not wrapped.
 pub fn the_stream_goes_on()
     ensures steps { (codecs : List CodecState) (ring : Ring) (pcm : List ℕ) (tally : Tally) (steps : List Step) (old new : Telling) → Went old new (map Stepped steps)
         → Sounds codecs ring pcm tally old → Sounds codecs ring pcm tally new }
@@ -49,8 +49,8 @@ pub fn the_stream_goes_on()
     accesses_beside_keep_it_steady();
 }
 
-/// A first run sets the stream going: where streams rested, nothing is outstanding, CORB has no command that was not fetched, and RIRB lies outside the
-/// ring's blocks. The codecs that hear it have the graphs and settings that they had before.
+/// A first run sets the stream going: where streams rested, the engine of commands stands to the world, CORB has no command that was not
+/// fetched, and RIRB lies outside the ring's blocks. The codecs that hear it have the graphs and settings that they had before the call.
 pub fn a_first_run_is_heard()
     ensures { (pcm : List ℕ) (irq : Bool) (budget : ℕ) (old new : BringUp) (writer writer' : Writer) (supply : List ℕ) (made : List Event) (before after : Telling) (from read corb rirb : ℕ)
         → Begins irq budget old new writer writer' supply made before after → StaysSet old new writer writer' → supply ≡ pcm
@@ -67,8 +67,8 @@ pub fn a_first_run_is_heard()
     accesses_beside_keep_it_steady();
 }
 
-/// After the last call the stream is stopped, and where the device made no step while it was made each pin heard the line, while WALCLK has not
-/// wrapped.
+/// After the last call the stream is stopped. Where the device made no step in that call, each pin heard the line by how the last run ended.
+/// WALCLK has not wrapped at any moment of the call.
 pub fn the_last_run_is_heard()
     ensures { (codecs : List CodecState) (pcm : List ℕ) (old ended : BringUp) (writer : Writer) (tally : Tally) (supply : List ℕ) (made last : List Event) (before after : Telling)
         → EndTells old ended writer tally supply made before after → Makes made before after → Went before after last → Along HasNotWrapped last (world_of before) → IsLeft pcm writer.course supply
@@ -84,3 +84,9 @@ pub fn the_last_run_is_heard()
     silent_pins_hear_nothing();
     runs_append_to_the_line();
 }
+
+/// Then it stays stopped, over steps of the device and the mark at the end of the last call, and no link frame carries anything more.
+pub fn a_stopped_stream_is_over()
+    ensures steps { (steps : List Step) (old new : Telling) → Went old new (map Stepped steps) → HasStopped old → HasStopped new × ((world_of new).carried ≡ (world_of old).carried) }
+    ensures end { (old new : Telling) → Accessed old new End → HasStopped old → HasStopped new × ((world_of new).carried ≡ (world_of old).carried) }
+{}

@@ -4,4 +4,6 @@
 
 mod laws;
 
-pub use laws::{a_first_run_is_heard, the_last_run_is_heard, the_stream_goes_on};
+pub use laws::{
+    a_first_run_is_heard, a_stopped_stream_is_over, the_last_run_is_heard, the_stream_goes_on,
+};

@@ -51,11 +51,11 @@ abbrev pub IsSilent : Heard → Type 0
 IsSilent item = is_silent item ≡ true
 
 -- an item is a block as it was sent, or a hole
-abbrev pub is_unaltered : Heard → Bool
-is_unaltered (Sound left right) = true
-is_unaltered Quiet = true
-is_unaltered Hole = true
-is_unaltered Altered = false
+abbrev pub was_sent : Heard → Bool
+was_sent (Sound left right) = true
+was_sent Quiet = false
+was_sent Hole = true
+was_sent Altered = false
 
-abbrev pub IsUnaltered : Heard → Type 0
-IsUnaltered item = is_unaltered item ≡ true
+abbrev pub WasSent : Heard → Type 0
+WasSent item = was_sent item ≡ true

@@ -17,7 +17,7 @@ ghost use Rattle.period_writer.specs.Lines.{line_of};
 ghost use Rattle.period_writer.specs.Standing.{Ring, limit_in};
 ghost use Rattle.period_writer.specs.Owning.{IsPlaying};
 ghost use Rattle.period_writer.specs.Outcomes.{HasDrained, WasStopped};
-ghost use Rattle.line_heard.specs.Plays.{Plays, PlaysBelow, IsUnaltered, IsSilent};
+ghost use Rattle.line_heard.specs.Plays.{Plays, PlaysBelow, WasSent, IsSilent};
 ghost use Rattle.line_heard.specs.Steady.{Steady, LeavesSteady, AreIdle, LeavesCommands};
 
 /// While CORB has no command that was not fetched, no step of the device changes a setting.
@@ -83,7 +83,7 @@ pub fn routed_pins_hear_what_was_sent()
     ensures { (codecs : List CodecState) (tag word : ℕ) (layout : Layout) (from : ℕ) (world : World) (address pin pair : ℕ)
         → layout_of word ≡ Some layout → Steady codecs tag word (block_size layout) from world
         → signal_with (codec_at address codecs) tag word (Some layout) pin ≡ Pair pair
-        → All IsUnaltered (heard address pin (drop from world.carried)) }
+        → All WasSent (heard address pin (drop from world.carried)) }
 {}
 
 /// What plays of a line plays of a longer one that begins with it.

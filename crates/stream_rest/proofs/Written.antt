@@ -1,5 +1,5 @@
 -- Writes beside the descriptors leave streams at rest.
-use Rattle.std.proofs.Common.{◌≡◌, ◌≢◌, ◌⊎◌, inl, inr, ◌==◌, ◌&&◌, ◌/◌, not, ℕ, Bool, true, false, refl, sym, ap, subst, ◌∙◌, arith}
+use Rattle.std.proofs.Common.{◌≡◌, ◌≢◌, ◌⊎◌, inl, inr, ◌==◌, ◌&&◌, ◌/◌, not, ℕ, Bool, true, false, [], refl, sym, ap, subst, ◌∙◌, arith}
 use Rattle.hda_registers.specs.declared.shapes.Width.{Width}
 use Rattle.hda_registers.specs.declared.shapes.Width.TheVariants.{One, Four}
 use Rattle.hda_registers.specs.Fields.{Fields, Global, Descriptor, is_running, is_out_of_reset}
@@ -99,18 +99,21 @@ status_rests fifo world at value width (inr output, one) rests =
 
 -- ---- CRST
 
-falls_rests : (fifo : ℕ) (world : World) → Rests fifo world → Rests fifo (after_write 0x08 Four 0 world)
-falls_rests fifo world rests =
+pub reset_brings : (world : World) → world.carried ≡ [] → Rests world.registers.shape.fifo (after_write 0x08 Four 0 world)
+reset_brings world none =
     let is = reset_registers world.registers 0 refl in
-    subst (Rests fifo) (sym (reset_write world 0x08 0 Four (resets world.registers 0 refl))) (record {
-      fifo_is = ap (λ (f : Fields). f.shape.fifo) is ∙ rests.fifo_is;
+    subst (Rests world.registers.shape.fifo) (sym (reset_write world 0x08 0 Four (resets world.registers 0 refl))) (record {
+      fifo_is = ap (λ (f : Fields). f.shape.fifo) is;
       input_stopped = ap (λ (f : Fields). is_running f.input) is;
       output_stopped = ap (λ (f : Fields). is_running f.output) is;
       no_error = ap (λ (f : Fields). f.output.descriptor_error) is;
       clock_is = ap (λ (f : Fields). f.global.wall_clock) is;
       held = λ held. (ap (λ (f : Fields). f.global.wall_clock) is, refl);
-      none_carried = rests.none_carried;
+      none_carried = none;
     })
+
+falls_rests : (fifo : ℕ) (world : World) → Rests fifo world → Rests fifo (after_write 0x08 Four 0 world)
+falls_rests fifo world rests = subst (λ (n : ℕ). Rests n (after_write 0x08 Four 0 world)) rests.fifo_is (reset_brings world rests.none_carried)
 
 out_left : (f : Fields) → is_out_of_reset f.global ≡ true → (effects_of f 0x08 Four 0x101).left_reset ≡ false
 unfolding effects_of

@@ -1,9 +1,11 @@
 //! Laws of streams that do not run, each the contract of a function that does nothing.
-ghost use Rattle.std.specs.Prelude.{◌≡◌, false, ℕ, Bool, List, All, Option};
+ghost use Rattle.std.specs.Prelude.{◌≡◌, false, ℕ, List, [], All, Option};
 ghost use Rattle.device_steps.specs.declared.Step.{Step};
 ghost use Rattle.hda_world.specs.Worlds.{World};
 ghost use Rattle.hda_world.specs.Steps.{after_steps};
-ghost use Rattle.hda_world.specs.Events.{Event, after};
+ghost use Rattle.hda_registers.specs.declared.shapes.Width.TheVariants.{Four};
+ghost use Rattle.hda_registers.specs.declared.places.TheConstants.{GCTL};
+ghost use Rattle.hda_world.specs.Events.{Event, after, after_write};
 ghost use Rattle.hda_world.specs.Tellings.{Telling, world_of, Makes};
 ghost use Rattle.command_engine.specs.declared.ring_places.RingPlaces.{RingPlaces};
 ghost use Rattle.command_engine.specs.Courses.{Stands};
@@ -17,9 +19,10 @@ ghost use Rattle.driver_progress.specs.Next.{expected};
 ghost use Rattle.stream_rest.specs.Resting.{Rests, LeavesRest, AreApartFrom};
 ghost use Rattle.stream_rest.specs.Silent.{plays_in};
 
-/// Streams that rest go on resting over steps of the device, and over events that write nothing of the descriptors but a status. The
+/// Where no link frame carried anything, a reset of the controller brings streams to rest. Those that rest go on resting over steps of the device, and over events that write nothing of the descriptors but a status. The
 /// accesses that progress expects of a stretch in which no sound is played are such events.
 pub fn streams_rest_before_sound()
+    ensures reset { (world : World) → world.carried ≡ [] → Rests world.registers.shape.fifo (after_write GCTL Four 0 world) }
     ensures steps { (fifo : ℕ) (steps : List Step) (world : World) → Rests fifo world → Rests fifo (after_steps steps world) }
     ensures events { (fifo : ℕ) (events : List Event) (world : World) → All LeavesRest events → Rests fifo world → Rests fifo (after events world) }
     ensures rows { (fifo : ℕ) (made : List Event) (old new : Telling) → Makes made old new → All LeavesRest made → Rests fifo (world_of old) → Rests fifo (world_of new) }

@@ -1,4 +1,5 @@
-//! That no stream runs while codecs are brought up, and that a first run of sound may begin then: laws of the world.
+//! Streams that rest: a reset brings them to rest, they go on resting while codecs are brought up, and a first run of sound may begin then.
+//! Laws of the world.
 #![tactic(auto)]
 
 mod laws;

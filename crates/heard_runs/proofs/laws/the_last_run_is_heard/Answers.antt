@@ -15,7 +15,7 @@ returns c = λ codecs pcm old ended writer tally supply made last before after t
       drained = c.the_line_is_heard.ensures.drained;
       stopped = c.the_line_is_heard.ensures.stopped;
       longer = c.longer_lines_are_heard.ensures;
-      unaltered = c.routed_pins_hear_what_was_sent.ensures;
+      sent_alone = c.routed_pins_hear_what_was_sent.ensures;
       silent = c.silent_pins_hear_nothing.ensures;
       grows = c.runs_append_to_the_line.ensures.grows;
     } in

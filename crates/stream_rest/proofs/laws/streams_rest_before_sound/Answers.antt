@@ -1,6 +1,10 @@
+use Rattle.stream_rest.proofs.Written.{reset_brings}
 use Rattle.stream_rest.proofs.Rows.{steps_rest, events_rest, row_rests}
 use Rattle.stream_rest.proofs.Requests.{stretch_rests}
 use Rattle.stream_rest.proofs.laws.streams_rest_before_sound.Goals as goal
+
+pub returns-clause-reset : goal.returns-clause-reset
+returns-clause-reset c = reset_brings
 
 pub returns-clause-steps : goal.returns-clause-steps
 returns-clause-steps c = steps_rest
