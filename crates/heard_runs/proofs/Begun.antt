@@ -39,7 +39,8 @@ use Rattle.heard_runs.proofs.Rows.{woven_all, woven_before}
 use Rattle.heard_runs.proofs.Beside.{Laws, heard_row}
 use Rattle.heard_runs.proofs.Runs.{runs_each}
 use Rattle.heard_runs.proofs.Calls.{before_all, ring_same}
-use Rattle.heard_runs.proofs.Silent.{LeavesSilent, events_silent, front, rise_is, front_silent, rise_idle}
+use Rattle.heard_runs.proofs.Lives.{Along-append, Along-end}
+use Rattle.heard_runs.proofs.Silent.{LeavesSilent, clears_silent, events_silent, front, rise_is, front_silent, rise_idle}
 
 -- ---- the laws that this goes by beside those of a stream that plays
 
@@ -72,6 +73,17 @@ stands_row from read corb rirb rings made old new makes all stands =
     subst (engine.Stands from read corb rirb rings) (sym (world_of-went old new weaving.events weaving.went))
     (stands_on from read corb rirb rings weaving.events (world_of old) (woven_all (engine.IsBeside corb rirb) (λ step. tt {0}) made weaving.events weaving.woven all) stands)
 
+before_silent : (irq : Bool) (first : List Event) → IsBefore irq first → All LeavesSilent first
+before_silent = before_all LeavesSilent (λ at value width. tt {0}) clears_silent
+
+-- it has not begun at any moment up to there
+silent_row : (irq : Bool) (first : List Event) (old new : Telling) → Makes first old new → IsBefore irq first → Along HasNotBegun old.journal old.start → Along HasNotBegun new.journal new.start
+silent_row irq first old new makes is_before along =
+    let weaving = woven makes in
+    let more = events_silent weaving.events (world_of old) (woven_all LeavesSilent (λ step. tt {0}) first weaving.events weaving.woven (before_silent irq first is_before)) (Along-end HasNotBegun old.journal old.start along) in
+    subst (λ (journal : List Event). Along HasNotBegun journal new.start) (sym weaving.went.journal)
+    (subst (Along HasNotBegun (old.journal ++ weaving.events)) (sym weaving.went.start) (Along-append HasNotBegun old.journal weaving.events old.start along more))
+
 idle_row : (laws : FirstLaws) (codecs : List CodecState) (made : List Event) (old new : Telling) → Makes made old new → All LeavesCommands made → AreIdle codecs (world_of old) → AreIdle codecs (world_of new)
 idle_row laws codecs made old new makes all idle =
     let weaving = woven makes in
@@ -85,14 +97,17 @@ record HasRisen (codecs : List CodecState) (old risen : Telling) : Type 0 where
   idle : AreIdle codecs (world_of risen)
   none : (world_of risen).carried ≡ []
   during : List Event
-  still : HasNotBegun (after during (world_of old))
+  still : Along HasNotBegun during (world_of old)
   went : Went old risen (during ++ sets_going ∷ [])
 
 no_frames : (P : CarriedFrame → Type 0) (carried : List CarriedFrame) → carried ≡ [] → All P (drop 0 carried)
 no_frames P carried none = subst (λ (carried : List CarriedFrame). All P (drop 0 carried)) (sym none) (All-nil P)
 
 module _ (laws : FirstLaws) (on : Laws) (codecs : List CodecState) (ring : Ring) (pcm : List ℕ) (budget : ℕ) (tally tally' : Tally) (old new : Telling) (tells : StartTells ring pcm budget tally tally' old new)
-    (idle : AreIdle codecs (world_of old)) (silent : HasNotBegun (world_of old)) where
+    (idle : AreIdle codecs (world_of old)) (along : Along HasNotBegun old.journal old.start) where
+  silent : HasNotBegun (world_of old)
+  silent = Along-end HasNotBegun old.journal old.start along
+
   abbrev line : List ℕ
   line = run_bytes (measures ring.geometry) tally.course (facts_of budget (length pcm) tells.from 0 tells.to) pcm
 
@@ -111,7 +126,7 @@ module _ (laws : FirstLaws) (on : Laws) (codecs : List CodecState) (ring : Ring)
       let went = subst (Went old tells.risen) is weaving.went in
       let there = world_of-went old tells.risen (during ++ sets_going ∷ []) went ∙ after-append during (sets_going ∷ []) (world_of old) in record {
         idle = idle_row laws codecs rise old tells.risen tells.before (rise_idle ring.geometry ring.list ring.periods tells.from tells.in_reset tells.ready line) idle;
-        none = ap (λ (world : World). world.carried) there ∙ (access_leaves (after during (world_of old)) 0xA0 0x1E One).carried ∙ (events_silent during (world_of old) before silent).none;
+        none = ap (λ (world : World). world.carried) there ∙ (access_leaves (after during (world_of old)) 0xA0 0x1E One).carried ∙ (Along-end HasNotBegun during (world_of old) (events_silent during (world_of old) before silent)).none;
         during = during;
         still = events_silent during (world_of old) before silent;
         went = went;
@@ -143,7 +158,7 @@ module _ (laws : FirstLaws) (on : Laws) (codecs : List CodecState) (ring : Ring)
         before = old.journal ++ here.during;
         during = tells.events;
         journal = tells.went.journal ∙ ap (λ (journal : List Event). journal ++ tells.events) journal ∙ append_assoc (old.journal ++ here.during) (sets_going ∷ []) tells.events;
-        begins = subst HasNotBegun (sym (ap (after (old.journal ++ here.during)) (tells.went.start ∙ here.went.start) ∙ after-append old.journal here.during old.start)) here.still;
+        silent = subst (Along HasNotBegun (old.journal ++ here.during)) (sym (tells.went.start ∙ here.went.start)) (Along-append HasNotBegun old.journal here.during old.start along here.still);
         runs = subst (Along Runs tells.events) (ap (λ (journal : List Event). after journal tells.risen.start) journal ∙ ap (after ((old.journal ++ here.during) ++ sets_going ∷ [])) (sym tells.went.start))
             (runs_each ring (line_of tally' pcm) tally'.course.reach 0 0 tally'.course.from tells.events (world_of tells.risen) tells.moments
             (subst Runs (world_of-went tells.risen new tells.events tells.went) (record { running = tells.plays.stands.set.runs; no_error = tells.plays.stands.set.no_error })));
@@ -160,10 +175,10 @@ module _ (laws : FirstLaws) (on : Laws) (codecs : List CodecState) (ring : Ring)
 -- ---- the call
 
 pub first_sounds : (laws : FirstLaws) (on : Laws) (pcm : List ℕ) (irq : Bool) (budget : ℕ) (old new : BringUp) (writer writer' : Writer) (supply : List ℕ) (made : List Event) (before after : Telling) (from read corb rirb : ℕ)
-    → Begins irq budget old new writer writer' supply made before after → StaysSet old new writer writer' → supply ≡ pcm → Rests writer.geometry.fifo (world_of before)
+    → Begins irq budget old new writer writer' supply made before after → StaysSet old new writer writer' → supply ≡ pcm → Along HasNotBegun before.journal before.start → Rests writer.geometry.fifo (world_of before)
     → engine.Stands from read corb rirb old.engine.rings (world_of before) → (world_of before).registers.global.corb_read_pointer ≡ (world_of before).registers.global.corb_write_pointer → AreApartFrom (ring_of writer) rirb
     → HasNotWrapped (world_of after) → Sounds (world_of before).codecs (ring_of writer') pcm (tally_of writer') after
-first_sounds laws on pcm irq budget old new writer writer' supply made before after from read corb rirb begins stays is_all rests stands idle apart small =
+first_sounds laws on pcm irq budget old new writer writer' supply made before after from read corb rirb begins stays is_all silent rests stands idle apart small =
     let codecs = (world_of before).codecs in
     let resting = laws.rests writer.geometry.fifo begins.first before begins.begins begins.first_made (before_rests irq begins.first begins.is_before) rests in
     let standing = stands_row from read corb rirb old.engine.rings begins.first before begins.begins begins.first_made (before_apart corb rirb irq begins.first begins.is_before) stands in
@@ -172,4 +187,4 @@ first_sounds laws on pcm irq budget old new writer writer' supply made before af
     subst (λ (ring : Ring). Sounds (world_of before).codecs ring pcm (tally_of writer') after) (sym (ring_same old new writer writer' stays))
     (subst (λ (pcm : List ℕ). Sounds (world_of before).codecs (ring_of writer) pcm (tally_of writer') after) is_all
     (begun_sounds laws on (world_of before).codecs (ring_of writer) supply budget (tally_of writer) (tally_of writer') begins.begins after tells idling
-    (record { stopped = resting.output_stopped; none = resting.none_carried })))
+    (silent_row irq begins.first before begins.begins begins.first_made begins.is_before silent)))

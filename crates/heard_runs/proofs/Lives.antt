@@ -46,7 +46,7 @@ module _ (old new : Telling) (events : List Event) where
     before = going.before;
     during = going.during ++ events;
     journal = went.journal ∙ ap (λ (journal : List Event). journal ++ events) going.journal ∙ append_assoc going.before (sets_going ∷ going.during) events;
-    begins = subst (λ (start : World). HasNotBegun (after going.before start)) (sym went.start) going.begins;
+    silent = subst (λ (start : World). Along HasNotBegun going.before start) (sym went.start) going.silent;
     runs = along_on going went.start along;
   }
 
@@ -61,7 +61,7 @@ module _ (old new : Telling) (events : List Event) where
         during = going.during ++ events;
         later = [];
         journal = journal;
-        begins = subst (λ (start : World). HasNotBegun (after going.before start)) (sym went.start) going.begins;
+        silent = subst (λ (start : World). Along HasNotBegun going.before start) (sym went.start) going.silent;
         runs = along_on going went.start along;
         stays = subst IsStopped (ap (λ (journal : List Event). after journal new.start) journal) stopped;
       }
@@ -75,7 +75,7 @@ module _ (old new : Telling) (events : List Event) where
         later = was.later ++ events;
         journal = went.journal ∙ ap (λ (journal : List Event). journal ++ events) was.journal ∙ append_assoc was.before (sets_going ∷ (was.during ++ stops ∷ was.later)) events
             ∙ ap (λ (rest : List Event). was.before ++ sets_going ∷ rest) (append_assoc was.during (stops ∷ was.later) events);
-        begins = subst (λ (start : World). HasNotBegun (after was.before start)) (sym went.start) was.begins;
+        silent = subst (λ (start : World). Along HasNotBegun was.before start) (sym went.start) was.silent;
         runs = subst (λ (start : World). Along Runs was.during (after (was.before ++ sets_going ∷ []) start)) (sym went.start) was.runs;
         stays = subst (λ (start : World). Along IsStopped (was.later ++ events) (after (was.before ++ sets_going ∷ (was.during ++ stops ∷ [])) start)) (sym went.start)
             (Along-append IsStopped was.later events (after (was.before ++ sets_going ∷ (was.during ++ stops ∷ [])) old.start) was.stays (subst (Along IsStopped events) there along));

@@ -18,9 +18,10 @@ pub record IsStopped (world : World) : Type 0 where
   pub stopped : is_running world.registers.output ≡ false
   pub no_error : world.registers.output.descriptor_error ≡ 0
 
--- it does not run, and no link frame carried anything
+-- it does not run and has none, and no link frame carried anything
 pub record HasNotBegun (world : World) : Type 0 where
   pub stopped : is_running world.registers.output ≡ false
+  pub no_error : world.registers.output.descriptor_error ≡ 0
   pub none : world.carried ≡ []
 
 -- something holds before each of these events and after the last
@@ -35,21 +36,21 @@ sets_going = Write CONTROL One 0x1E
 abbrev pub stops : Event
 stops = Write CONTROL One 0
 
--- it was set going, where it had not begun, and runs without an error since
+-- it was set going, which it was at no moment before, and runs without an error since
 pub record IsGoing (telling : Telling) : Type 0 where
   pub before : List Event
   pub during : List Event
   pub journal : telling.journal ≡ before ++ sets_going ∷ during
-  pub begins : HasNotBegun (after before telling.start)
+  pub silent : Along HasNotBegun before telling.start
   pub runs : Along Runs during (after (before ++ sets_going ∷ []) telling.start)
 
--- it was set going, where it had not begun, ran without an error until it was stopped, and has not run since
+-- it was set going, which it was at no moment before, ran without an error until it was stopped, and has not run since
 pub record HasStopped (telling : Telling) : Type 0 where
   pub before : List Event
   pub during : List Event
   pub later : List Event
   pub journal : telling.journal ≡ before ++ sets_going ∷ (during ++ stops ∷ later)
-  pub begins : HasNotBegun (after before telling.start)
+  pub silent : Along HasNotBegun before telling.start
   pub runs : Along Runs during (after (before ++ sets_going ∷ []) telling.start)
   pub stays : Along IsStopped later (after (before ++ sets_going ∷ (during ++ stops ∷ [])) telling.start)
 

@@ -17,7 +17,7 @@ ghost use Rattle.codec_bring_up.specs.declared.bringing.BringUp.{BringUp};
 ghost use Rattle.audio_driver.specs.States.{IsLeft, state_of};
 ghost use Rattle.audio_driver.specs.Sounding.{Begins, SoundTells, EndTells, StaysSet};
 ghost use Rattle.stream_rest.specs.Resting.{Rests, AreApartFrom};
-ghost use Rattle.heard_runs.specs.Lives.{Along, HasStopped};
+ghost use Rattle.heard_runs.specs.Lives.{Along, HasNotBegun, HasStopped};
 ghost use Rattle.heard_runs.specs.Sounding.{Sounds};
 ghost use Rattle.heard_runs.specs.Ending.{HearTheLine};
 
@@ -49,11 +49,11 @@ pub fn the_stream_goes_on()
     accesses_beside_keep_it_steady();
 }
 
-/// A first run sets the stream going: where streams rested, the engine of commands stands to the world, CORB has no command that was not
+/// A first run sets the stream going: where it had not begun at any moment, streams rest, the engine of commands stands to the world, CORB has no command that was not
 /// fetched, and RIRB lies outside the ring's blocks. The codecs that hear it have the graphs and settings that they had before the call.
 pub fn a_first_run_is_heard()
     ensures { (pcm : List ℕ) (irq : Bool) (budget : ℕ) (old new : BringUp) (writer writer' : Writer) (supply : List ℕ) (made : List Event) (before after : Telling) (from read corb rirb : ℕ)
-        → Begins irq budget old new writer writer' supply made before after → StaysSet old new writer writer' → supply ≡ pcm
+        → Begins irq budget old new writer writer' supply made before after → StaysSet old new writer writer' → supply ≡ pcm → Along HasNotBegun before.journal before.start
         → Rests writer.geometry.fifo (world_of before) → Stands from read corb rirb old.engine.rings (world_of before)
         → (world_of before).registers.global.corb_read_pointer ≡ (world_of before).registers.global.corb_write_pointer → AreApartFrom (ring_of writer) rirb
         → HasNotWrapped (world_of after) → Sounds (world_of before).codecs (ring_of writer') pcm (tally_of writer') after }
