@@ -187,10 +187,10 @@ const SETTINGS: [(&str, u32); 9] = [
 fn expect_setting(
     rt: &impl Abort,
     alloc: Global,
-    setting: (&str, &str),
+    key: &str,
+    value: &str,
     want: &str,
 ) -> Result<(), AllocError> {
-    let (key, value) = setting;
     let nodes = format!(in alloc; "{{nid = 2, caps = 1, {key} = {value}}}")?;
     let file = codec(alloc, nodes.as_str())?;
     expect_route(rt, alloc, file.as_str(), want)
@@ -200,14 +200,14 @@ fn expect_setting(
 fn refuses_settings_by_their_key(rt: HostRuntime) -> Result<(), AllocError> {
     let alloc = rt.alloc();
     for (key, beyond) in SETTINGS {
-        let fault = format!(in alloc; "codec refused: WrongType {key} at codec 0 node 0\n")?;
-        expect_setting(&rt, alloc, (key, "'1'"), fault.as_str())?;
-        let fault = format!(in alloc; "codec refused: OutOfRange {key} at codec 0 node 0\n")?;
-        let value = format!(in alloc; "{beyond}")?;
-        expect_setting(&rt, alloc, (key, value.as_str()), fault.as_str())?;
-        let most = beyond.saturating_sub(1);
-        let value = format!(in alloc; "{most}")?;
-        expect_setting(&rt, alloc, (key, value.as_str()), "nothing routed\n")?;
+        let wrong = format!(in alloc; "codec refused: WrongType {key} at codec 0 node 0\n")?;
+        expect_setting(&rt, alloc, key, "'1'", wrong.as_str())?;
+        let outside = format!(in alloc; "codec refused: OutOfRange {key} at codec 0 node 0\n")?;
+        let least = format!(in alloc; "{beyond}")?;
+        expect_setting(&rt, alloc, key, least.as_str(), outside.as_str())?;
+        let within = beyond.saturating_sub(1);
+        let most = format!(in alloc; "{within}")?;
+        expect_setting(&rt, alloc, key, most.as_str(), "nothing routed\n")?;
     }
     Ok(())
 }
