@@ -25,6 +25,7 @@ use Rattle.codec_bring_up.specs.Calls.{Listens}
 use Rattle.codec_bring_up.proofs.Callers.{answer_none, same_found}
 use Rattle.audio_driver.specs.States.{phase_if, state_of, is_open, is_playing}
 use Rattle.audio_driver.specs.Sounding.{EndsSound}
+use Rattle.audio_driver.proofs.Accesses.{are_both, poll_are, finish_are, shut_are}
 use Rattle.audio_driver.proofs.Seeing.{poll_entries}
 use Rattle.audio_driver.proofs.Stretches.{silent_stretch}
 use Rattle.audio_driver.proofs.Whole.{GoesTo, finish_is}
@@ -37,6 +38,7 @@ pub ends_alone : (old : BringUp) (writer : Writer) (supply : List ℕ) (before a
 ends_alone old writer supply before after ready silent shut =
     let limit = (measures_of writer).limit in record {
       made = shut_accesses;
+      are = shut_are;
       by = shut;
       is = λ task of. same_found (sym (answer_none old.engine.rings shut_accesses refl))
           (silent_stretch task (state_of old writer) limit writer.course.started writer.course.ran (ap (λ (phase : Phase). phase_if writer.course.started phase writer.course.ran limit) ready) silent);
@@ -72,6 +74,7 @@ ends_playing old new writer tally' supply answer before listened stopped after s
     let goes : GoesTo old new writer tally' supply 0 finishes.from finishes.lpib finishes.to listens.reads =
     record { started = started; more = more; new_ones = listens.new_ones; kept = listens.kept; sent = listens.sent; rings = listens.rings; tally_is = finishes.tally_is } in record {
       made = poll ++ (run ++ shut_accesses);
+      are = are_both poll (run ++ shut_accesses) (poll_are old.engine.rirb.address old.engine.rings listens.reads) (are_both run shut_accesses (finish_are writer.geometry (periods_of writer) writer.course facts supply) shut_are);
       by = row_both listens.made (row_both finishes.made shut);
       is = λ task of. same_found found (finish_is task old new writer tally' supply finishes.from finishes.lpib finishes.to listens.reads of goes);
       counted = counts_same (poll ++ (run ++ shut_accesses)) listens.reads.entries old new entries listens.counted;

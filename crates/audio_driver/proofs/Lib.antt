@@ -7,3 +7,4 @@ mod Stretches
 mod Whole
 mod Sounded
 mod Ended
+pub mod Accesses

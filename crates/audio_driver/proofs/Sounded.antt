@@ -38,6 +38,7 @@ use Rattle.codec_bring_up.specs.Told.{found_none}
 use Rattle.codec_bring_up.proofs.Callers.{unread_none, answer_none, same_answer, same_found, interrupt_entries, inactive_stretch, none_stretch_of, interrupted_stretch}
 use Rattle.audio_driver.specs.States.{phase_if, played_as, state_of, is_open, was_late, IsLeft}
 use Rattle.audio_driver.specs.Sounding.{SoundTells, Sounds}
+use Rattle.audio_driver.proofs.Accesses.{are_both, interrupt_are, poll_are, start_are, play_are}
 use Rattle.audio_driver.proofs.Seeing.{writes_entries, poll_entries}
 use Rattle.audio_driver.proofs.Stretches.{over_stretch, over_inactive, open_active}
 use Rattle.audio_driver.proofs.Whole.{open_on_time, GoesTo, start_is, play_is}
@@ -96,25 +97,27 @@ over_phase old writer started = ap (λ (started : Bool). phase_if started old.ph
 pub over_sounds : (old : BringUp) (writer : Writer) (supply : List ℕ) (budget : ℕ) (told : Option Telling) → writer.course.started ≡ true → is_open writer.course.ran ≡ false → Sounds false budget old old writer writer supply supply told told
 over_sounds old writer supply budget told started over = record {
   made = [];
+  are = tt {0};
   by = made_none told;
   is = λ task of. same_found (sym (answer_none old.engine.rings [] refl)) (over_stretch task (state_of old writer) budget (measures_of writer).limit writer.course.ran (over_phase old writer started) over);
   sound = λ pcm left. left;
   counted = λ events counts. counts;
   stays = record { corb = refl; rirb = refl; phase = refl; kept = refl; sent = refl; agenda = refl; geometry = refl; list = refl; periods = refl; records = refl };
-  tells = told_map (λ before after makes. inl (record { cause = inr over; bring_up = refl; writer_is = refl })) (made_none told);
+  tells = told_map (λ before after makes. inl (record { cause = inr over; looks = inl refl; bring_up = refl; writer_is = refl })) (made_none told);
 }
 
 -- a call for an interrupt does not look for one then
 pub over_sounds_irq : (old : BringUp) (writer : Writer) (supply : List ℕ) (budget : ℕ) (told : Option Telling) → writer.course.started ≡ true → is_open writer.course.ran ≡ false → Sounds true budget old old writer writer supply supply told told
 over_sounds_irq old writer supply budget told started over = record {
   made = [];
+  are = tt {0};
   by = made_none told;
   is = λ task of. same_found (sym (answer_none old.engine.rings [] refl))
       (inactive_stretch task (state_of old writer) budget (ap is_active (over_phase old writer started) ∙ over_inactive (measures_of writer).limit writer.course.ran over));
   sound = λ pcm left. left;
   counted = λ events counts. counts;
   stays = record { corb = refl; rirb = refl; phase = refl; kept = refl; sent = refl; agenda = refl; geometry = refl; list = refl; periods = refl; records = refl };
-  tells = told_map (λ before after makes. inl (record { cause = inr over; bring_up = refl; writer_is = refl })) (made_none told);
+  tells = told_map (λ before after makes. inl (record { cause = inr over; looks = inl refl; bring_up = refl; writer_is = refl })) (made_none told);
 }
 
 -- ---- the first run
@@ -138,6 +141,7 @@ start_sounds old writer writer' supply supply' budget before after ready fresh o
     let none = start_entries writer starts.from starts.in_reset starts.ready starts.to written in
     let on_time : was_late writer.course.ran ≡ false = ap (λ (tally : Tally). was_late tally.course.ran) opened in record {
       made = made;
+      are = start_are writer.geometry writer.list.address (periods_of writer) starts.from starts.in_reset starts.ready starts.to written;
       by = starts.made;
       is = λ task of. same_found (sym (answer_none old.engine.rings made none)) (start_is task old writer writer' supply budget starts.from starts.in_reset starts.ready starts.to of ready opened starts.tally_is);
       sound = λ pcm left. left_after pcm supply supply' (measures_of writer) (tally_of writer) (tally_of writer') facts on_time starts.tally_is starts.pcm_is left;
@@ -189,6 +193,7 @@ play_sounds old new writer writer' supply supply' budget answer before middle af
     let goes : GoesTo old new writer (tally_of writer') supply budget plays.from plays.lpib plays.to listens.reads =
     record { started = started; more = more; new_ones = listens.new_ones; kept = listens.kept; sent = listens.sent; rings = listens.rings; tally_is = plays.tally_is } in record {
       made = poll ++ run;
+      are = are_both poll run (poll_are old.engine.rirb.address old.engine.rings listens.reads) (play_are writer.geometry (periods_of writer) writer.course facts supply was);
       by = row_both listens.made run_made;
       is = λ task of. same_found found (play_is task old new writer writer' supply budget plays.from plays.lpib plays.to listens.reads of goes same.geometry);
       sound = λ pcm left. left_after pcm supply supply' (measures_of writer) (tally_of writer) (tally_of writer') facts (open_on_time writer.course.ran more) plays.tally_is plays.pcm_is left;
@@ -225,12 +230,13 @@ quiet_sounds old writer supply budget interrupts stream before after ready more 
     let none = unread_none made (interrupt_unread interrupts stream) in
     let active : is_active (state_of old writer).phase ≡ true = active_phase old writer ready more in record {
       made = made;
+      are = interrupt_are interrupts stream;
       by = looked;
       is = λ task of. same_found (sym (answer_none old.engine.rings made none)) (none_stretch_of task (state_of old writer) budget interrupts stream off active);
       sound = λ pcm left. left;
       counted = counts_same made [] old old none (λ events counts. counts);
       stays = record { corb = refl; rirb = refl; phase = refl; kept = refl; sent = refl; agenda = refl; geometry = refl; list = refl; periods = refl; records = refl };
-      tells = told_map (λ before after makes. inl (record { cause = inl (ap not off); bring_up = refl; writer_is = refl })) looked;
+      tells = told_map (λ before after makes. inl (record { cause = inl (ap not off); looks = inr (record { interrupts = interrupts; stream = stream; is = refl }); bring_up = refl; writer_is = refl })) looked;
     }
 
 -- there is one
@@ -285,6 +291,7 @@ irq_sounds old new writer writer' supply supply' budget interrupts stream before
     let entries = interrupt_entries interrupts stream sounds.made in
     let active : is_active (state_of old writer).phase ≡ true = active_phase old writer ready more in record {
       made = made;
+      are = are_both (interrupt_accesses interrupts stream) sounds.made (interrupt_are interrupts stream) sounds.are;
       by = row_both looked sounds.by;
       is = λ task of. same_found (sym (same_answer old.engine.rings sounds.made made entries))
           (interrupted_stretch task (state_of old writer) budget sounds.made (is_some (answer_in old.engine.rings sounds.made)) (state_of new writer') interrupts stream on active (sounds.is task of));

@@ -1,5 +1,5 @@
 -- What a call of a driver does that plays. This project's own, over High Definition Audio 1.0a, 4.4 and 4.5.
-use Rattle.std.specs.Prelude.{◌≡◌, ◌++◌, ◌⊎◌, true, false, ℕ, Bool, List, drop, Option, Some, None}
+use Rattle.std.specs.Prelude.{◌≡◌, ◌++◌, ◌⊎◌, true, false, ℕ, Bool, List, [], drop, Option, Some, None}
 use Rattle.std.specs.Option.{is_some}
 use Rattle.hda_world.specs.Events.{Event}
 use Rattle.hda_world.specs.Tellings.{Telling, Between, Makes}
@@ -10,7 +10,9 @@ use Rattle.period_writer.specs.Runs.{Tally}
 use Rattle.period_writer.specs.Writers.{tally_of, measures_of, ring_of}
 use Rattle.period_writer.specs.Outcomes.{StartTellsOf, RunTellsOf, FinishTellsOf}
 use Rattle.driver_progress.specs.Tasks.{Task}
+use Rattle.driver_stretches.specs.Interrupts.{interrupt_accesses}
 use Rattle.driver_stretches.specs.Shutting.{shut_accesses}
+use Rattle.driver_stretches.specs.Unread.{AreAccesses}
 use Rattle.driver_commands.specs.Commanding.{IsStretch, answer_in, entries_in, with_told}
 use Rattle.jack_counts.specs.Counted.{IsCount}
 use Rattle.codec_bring_up.specs.declared.bringing.BringUp.{BringUp}
@@ -19,9 +21,16 @@ use Rattle.audio_driver.specs.States.{state_of, state_with, is_open, is_playing,
 
 -- ---- as it is told
 
+-- a look for an interrupt
+pub record IsLook (made : List Event) : Type 0 where
+  pub interrupts : ℕ
+  pub stream : ℕ
+  pub is : made ≡ interrupt_accesses interrupts stream
+
 -- no run came: the call was for an interrupt that it did not find, or the sound is over. Nothing changed
 pub record IsStill (irq : Bool) (old new : BringUp) (writer writer' : Writer) (made : List Event) : Type 0 where
   pub cause : (found_none irq made ≡ true) ⊎ (is_open writer.course.ran ≡ false)
+  pub looks : (made ≡ []) ⊎ IsLook made
   pub bring_up : new ≡ old
   pub writer_is : writer' ≡ writer
 
@@ -76,6 +85,7 @@ pub record StaysSet (old new : BringUp) (writer writer' : Writer) : Type 0 where
 -- every task of the driver. Of the sound what it did not write is left
 pub record Sounds (irq : Bool) (budget : ℕ) (old new : BringUp) (writer writer' : Writer) (supply supply' : List ℕ) (before after : Option Telling) : Type 0 where
   pub made : List Event
+  pub are : AreAccesses made
   pub by : Between (Makes made) before after
   pub is : (task : Task) → IsTaskOf old writer supply task
       → IsStretch task (state_of old writer) (Some (record { irq = irq; budget = budget })) made (is_some (answer_in old.engine.rings made)) (state_of new writer')
@@ -113,6 +123,7 @@ EndTells old ended writer tally' supply made before after =
 -- the last call makes just the accesses that are to be made, and leads where it is to lead, for every task of the driver
 pub record EndsSound (old ended : BringUp) (writer : Writer) (tally' : Tally) (supply : List ℕ) (before after : Option Telling) : Type 0 where
   pub made : List Event
+  pub are : AreAccesses made
   pub by : Between (Makes made) before after
   pub is : (task : Task) → IsTaskOf old writer supply task
       → IsStretch task (state_of old writer) None made (is_some (answer_in old.engine.rings made)) (state_with ended tally' (measures_of writer).limit)

@@ -12,23 +12,10 @@ use Rattle.driver_progress.specs.Noting.{IsPlain, ArePlain}
 use Rattle.driver_progress.specs.Tasks.{Order}
 use Rattle.driver_stretches.specs.Commands.{ask_accesses}
 use Rattle.driver_stretches.specs.Shutting.{shut_accesses}
-use Rattle.driver_stretches.specs.Unread.{IsUnread, AreUnread}
+use Rattle.driver_stretches.specs.Unread.{IsAccess, AreAccesses, IsUnread, AreUnread}
 use Rattle.driver_commands.specs.Commanding.{submit_made}
 use Rattle.codec_bring_up.specs.declared.bringing.BringUp.{BringUp}
 use Rattle.codec_bring_up.specs.Told.{Looked}
-
-abbrev pub IsAccess : Event → Type 0
-IsAccess (Stepped step) = ⊥
-IsAccess Begin = ⊥
-IsAccess End = ⊥
-IsAccess (Read at width value) = Unit {0}
-IsAccess (Write at width value) = Unit {0}
-IsAccess (DmaRead at bytes) = Unit {0}
-IsAccess (DmaWrite at bytes) = Unit {0}
-
-abbrev pub AreAccesses : List Event → Type 0
-AreAccesses [] = Unit {0}
-AreAccesses (event ∷ events) = IsAccess event × AreAccesses events
 
 pub accesses_both : (front back : List Event) → AreAccesses front → AreAccesses back → AreAccesses (front ++ back)
 accesses_both [] back first second = second

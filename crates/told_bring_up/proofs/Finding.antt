@@ -16,8 +16,8 @@ use Rattle.driver_progress.specs.Seen.{Seen, clock_of}
 use Rattle.driver_progress.specs.Expected.{has_settled, rings_seen}
 use Rattle.driver_progress.specs.Next.{next, led, tally_next, finds_none, reset_if, settled_if}
 use Rattle.driver_progress.specs.Progress.{Course, course_of, course_after, course_opened, noted}
+use Rattle.driver_stretches.specs.Unread.{IsAccess, AreAccesses}
 use Rattle.told_bring_up.specs.Stretches.{FindsIn, FindsBy, FindsAt, FindsAll, HasFound}
-use Rattle.told_bring_up.proofs.Accesses.{IsAccess, AreAccesses}
 
 -- ---- over events in a row
 

@@ -22,3 +22,4 @@ pub mod Moments
 pub mod Answered
 pub mod Staying
 pub mod Whole
+pub mod Callers

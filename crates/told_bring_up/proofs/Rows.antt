@@ -14,11 +14,11 @@ use Rattle.driver_progress.specs.Next.{next}
 use Rattle.driver_progress.specs.Progress.{Conforms, IsProgress, FitsIf, ended_if, state_of, Course, course_of, course_after, course_opened, is_answered, noted, seen_in, Fits, FitsAt}
 use Rattle.driver_progress.specs.Noting.{with_accesses}
 use Rattle.driver_progress.proofs.Callers.{ConformsTo, steps_leave_course, steps_conform, course_went, conforms_went, course_stepped, conforms_stepped}
-use Rattle.driver_stretches.specs.Unread.{IsUnread, AreUnread}
+use Rattle.driver_stretches.specs.Unread.{IsAccess, AreAccesses, IsUnread, AreUnread}
 use Rattle.driver_commands.specs.Commanding.{IsStretch}
 use Rattle.told_bring_up.proofs.Grows.{event_on}
 use Rattle.told_bring_up.specs.Stretches.{FindsBy, Finds, FindsAll, HasFound, IsAtRest, IsOpen, IsDone}
-use Rattle.told_bring_up.proofs.Accesses.{IsAccess, AreAccesses, unread_accesses}
+use Rattle.told_bring_up.proofs.Accesses.{unread_accesses}
 use Rattle.told_bring_up.proofs.Finding.{steps_find, finds_went, finds_access, row_finds}
 
 -- ---- an event after some steps of the device

@@ -32,6 +32,7 @@ use Rattle.driver_progress.specs.Progress.{Course, course_of, is_answered, seen_
 use Rattle.driver_progress.proofs.Callers.{course_row}
 use Rattle.driver_stretches.specs.Commands.{ask_accesses}
 use Rattle.driver_stretches.specs.Shutting.{shut_accesses}
+use Rattle.driver_stretches.specs.Unread.{IsAccess, AreAccesses}
 use Rattle.driver_commands.specs.Standing.{answers_of}
 use Rattle.driver_commands.specs.Commanding.{submit_made}
 use Rattle.codec_agenda.specs.Following.{Follows}
@@ -42,7 +43,7 @@ use Rattle.codec_bring_up.specs.Told.{Looked, LooksOn, IsStill}
 use Rattle.told_bring_up.specs.Stretches.{IsOpen, IsDone}
 use Rattle.told_bring_up.specs.Standing.{IsTaskOfCodecs, IsLastSent, IsAsking, StandsIn, IsBroughtUp}
 use Rattle.told_bring_up.specs.SettingUp.{are_set_up, are_answered, StaysSetUp, AreSetUpForGood}
-use Rattle.told_bring_up.proofs.Accesses.{IsAccess, AreAccesses, shut_are, looked_accesses}
+use Rattle.told_bring_up.proofs.Accesses.{shut_are, looked_accesses}
 use Rattle.told_bring_up.proofs.Rows.{accesses_row}
 use Rattle.told_bring_up.proofs.Grows.{row_on, both_on, steps_on, world_after}
 use Rattle.told_bring_up.proofs.Noting.{Laws}

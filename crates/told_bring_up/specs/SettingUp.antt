@@ -16,7 +16,7 @@ use Rattle.codec_bring_up.specs.declared.bringing.BringUp.{BringUp}
 
 -- ---- the moments
 
--- whether all codecs are set up in a phase: sound is played from then on
+-- whether all codecs are set up in a phase: sound may be played from then on
 abbrev pub are_set_up : Phase → Bool
 are_set_up Reset = false
 are_set_up Settling = false

@@ -17,9 +17,9 @@ use std::alloc::AllocError;
 
 impl<T: Setter> Driver<T> {
     /// One call: what is to be done next, by a few accesses. It answers how far the driver has come. Once all codecs are set up it plays,
-    /// where it is to play: the first call sets the stream going, each later one makes the line longer, and may write so many bytes of sound
-    /// as the budget says, until a run is late or all sound was played. Once it is over no access is made, nor where nothing is to be played
-    /// once all codecs are set up.
+    /// where it is to play: the first call sets the stream going and each later one makes the line longer, until a run is late or all sound
+    /// was played. Each of them may write as many bytes of sound as the budget says. Once it is over no access is made, nor where nothing is
+    /// to be played once all codecs are set up.
     ///
     /// # Errors
     /// Want of memory, in the phases where codecs are found and answers come. Then it is over, in the phase `Failed`.
