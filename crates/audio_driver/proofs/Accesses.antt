@@ -46,9 +46,11 @@ entries_are rirb size place (entry ∷ entries) = (tt {0}, entries_are rirb size
 
 pub poll_are : (rirb : ℕ) (rings : RingPlaces) (reads : PollReads) → AreAccesses (poll_accesses rirb rings reads)
 poll_are rirb rings reads =
-    let entries = entry_reads rirb (entries_of rings.rirb) (rings.read + 1) reads.entries in
-    (tt {0}, clear_are (has_bit reads.flag 0) 0 (batch_accesses rirb rings reads.pointer reads.entries)
-    (tt {0}, are_both entries (Write RIRBSTS One 1 ∷ []) (entries_are rirb (entries_of rings.rirb) (rings.read + 1) reads.entries) (tt {0}, tt {0})))
+    let entries = entry_reads rirb (entries_of rings.rirb) (rings.read + 1) reads.entries in (
+      tt {0},
+      clear_are (has_bit reads.flag 0) 0 (batch_accesses rirb rings reads.pointer reads.entries)
+          (tt {0}, are_both entries (Write RIRBSTS One 1 ∷ []) (entries_are rirb (entries_of rings.rirb) (rings.read + 1) reads.entries) (tt {0}, tt {0})),
+    )
 
 -- ---- runs
 
@@ -60,10 +62,24 @@ start_are geometry list periods from in_reset ready to written =
     let bytes = period_bytes geometry.period in
     let entries = entry_writes list periods bytes in
     let line = line_writes bytes periods 0 (ring_bytes geometry.periods geometry.period) written in
-    let rest = run_accesses list geometry ++ Read WALCLK Four to ∷ [] in
-    (tt {0}, (tt {0}, (tt {0}, (tt {0}, (tt {0}, are_both entries (line ++ rest) (map_are (entry_write list periods bytes) (λ number. tt {0}) (range_with_len 0 (length periods)))
-    (are_both line rest (lines_are bytes periods 0 (ring_bytes geometry.periods geometry.period) written)
-    (tt {0}, (tt {0}, (tt {0}, (tt {0}, (tt {0}, (tt {0}, (tt {0}, (tt {0}, tt {0})))))))))))))))
+    let rest = run_accesses list geometry ++ Read WALCLK Four to ∷ [] in (
+      tt {0},
+      (
+        tt {0},
+        (
+          tt {0},
+          (
+            tt {0},
+            (
+              tt {0},
+              are_both entries (line ++ rest) (map_are (entry_write list periods bytes) (λ number. tt {0}) (range_with_len 0 (length periods)))
+                  (are_both line rest (lines_are bytes periods 0 (ring_bytes geometry.periods geometry.period) written)
+                  (tt {0}, (tt {0}, (tt {0}, (tt {0}, (tt {0}, (tt {0}, (tt {0}, (tt {0}, tt {0}))))))))),
+            ),
+          ),
+        ),
+      ),
+    )
 
 -- up to the second clock, and after it
 turn_are : (geometry : Geometry) (periods : List ℕ) (course : Course) (facts : RunFacts) (pcm : List ℕ) (later : List Event) → AreAccesses later
