@@ -67,7 +67,7 @@ stands_on from read corb rirb rings (event ∷ events) world all stands =
     stands_on from read corb rirb rings events (happens world event) (All-tail (engine.IsBeside corb rirb) event events all)
     (event_keeps from read corb rirb rings responses_apart event world (All-head (engine.IsBeside corb rirb) event events all) stands)
 
-stands_row : (from read corb rirb : ℕ) (rings : RingPlaces) (made : List Event) (old new : Telling) → Makes made old new → All (engine.IsBeside corb rirb) made → engine.Stands from read corb rirb rings (world_of old) → engine.Stands from read corb rirb rings (world_of new)
+pub stands_row : (from read corb rirb : ℕ) (rings : RingPlaces) (made : List Event) (old new : Telling) → Makes made old new → All (engine.IsBeside corb rirb) made → engine.Stands from read corb rirb rings (world_of old) → engine.Stands from read corb rirb rings (world_of new)
 stands_row from read corb rirb rings made old new makes all stands =
     let weaving = woven makes in
     subst (engine.Stands from read corb rirb rings) (sym (world_of-went old new weaving.events weaving.went))

@@ -67,7 +67,7 @@ module _ (P : Event → Type 0) (reads : (at value : ℕ) (width : Width) → P 
       (All-cons P (Write STREAM_STATUS One (4 * bits_of stream 2 3)) [] (clears_status (4 * bits_of stream 2 3)) (All-nil P))
   clears_all stream false = All-nil P
 
-  looks_all : (interrupts stream : ℕ) (on : Bool) → All P (if on then clear_accesses interrupts stream else [])
+  pub looks_all : (interrupts stream : ℕ) (on : Bool) → All P (if on then clear_accesses interrupts stream else [])
   looks_all interrupts stream true = clears_all stream (has_bit interrupts stream_interrupts_at)
   looks_all interrupts stream false = All-nil P
 

@@ -7,3 +7,4 @@ pub mod Silent
 pub mod Begun
 pub mod Ended
 pub mod Over
+pub mod Callers

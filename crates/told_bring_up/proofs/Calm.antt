@@ -48,7 +48,7 @@ fetches_calm : (rirb size count place : ℕ) → AreCalm (fetches rirb size coun
 fetches_calm rirb size zero place = tt {0}
 fetches_calm rirb size (suc count) place = (tt {0}, fetches_calm rirb size count (place + 1))
 
-polls_calm : (rirb : ℕ) (rings : RingPlaces) (seen : Seen) → AreCalm (polls rirb rings seen)
+pub polls_calm : (rirb : ℕ) (rings : RingPlaces) (seen : Seen) → AreCalm (polls rirb rings seen)
 polls_calm rirb rings seen = (tt {0}, by (has_bit seen.flag 0))
   where
     by : (some : Bool) → AreCalm (if some then Gets RIRBWP Two ∷ (fetches rirb (entries_of rings.rirb) (new_entries rings seen.pointer) (rings.read + 1) ++ Puts RIRBSTS One 1 ∷ []) else [])
@@ -71,7 +71,7 @@ submits_calm blocks rings orders sent free None all is = tt {0}
 submits_calm blocks rings orders sent true (Some order) all is = absurd (none_next orders sent order all (sym is))
 submits_calm blocks rings orders sent false (Some order) all is = cc
 
-shuts_calm : AreCalm shuts
+pub shuts_calm : AreCalm shuts
 shuts_calm = (inl (record { control = refl; pointers = refl }), (inl (record { control = refl; pointers = refl }), (inr (record { at_is = refl; width_is = refl; value_is = refl }), tt {0})))
 
 clears_calm : (seen : Seen) → AreCalm (clears seen)
@@ -81,7 +81,7 @@ clears_calm seen = by (has_bit seen.interrupts stream_interrupts_at)
     by true = (tt {0}, (inl (record { control = refl; pointers = refl }), tt {0}))
     by false = tt {0}
 
-interrupted_calm : (irq : Bool) (seen : Seen) (called : List Request) → AreCalm called → AreCalm (interrupted_if irq seen called)
+pub interrupted_calm : (irq : Bool) (seen : Seen) (called : List Request) → AreCalm called → AreCalm (interrupted_if irq seen called)
 interrupted_calm false seen called calm = calm
 interrupted_calm true seen called calm = (tt {0}, by (has_bit seen.interrupts interrupts_at))
   where

@@ -268,7 +268,7 @@ module _ (IsPlanBy : RawCodec → Plan → Type 0) (verbs_by : RawCodec → Plan
 
   -- ---- in the phase `Ready`
 
-  all_taken : (written : ℕ) (bring_up : BringUp) (world : World) → bring_up.phase ≡ Ready → graphs_in world.codecs ≡ graphs → IsAsking IsPlanBy verbs graphs task written bring_up world
+  pub all_taken : (written : ℕ) (bring_up : BringUp) (world : World) → bring_up.phase ≡ Ready → graphs_in world.codecs ≡ graphs → IsAsking IsPlanBy verbs graphs task written bring_up world
       → (bring_up.engine.rings.outstanding ≡ None) × AllTaken world
   all_taken written bring_up world was graphs_are a =
       let outstanding = bring_up.engine.rings.outstanding in

@@ -203,7 +203,7 @@ module _ (IsPlanBy : RawCodec → Plan → Type 0) (verbs_by : RawCodec → Plan
 
   -- ---- by phase
 
-  asking_in : (phase : Phase) (written : ℕ) (bring_up : BringUp) (world : World) → is_asking phase ≡ true → StandsIn phase IsPlanBy verbs graphs task written bring_up world → IsAsking IsPlanBy verbs graphs task written bring_up world
+  pub asking_in : (phase : Phase) (written : ℕ) (bring_up : BringUp) (world : World) → is_asking phase ≡ true → StandsIn phase IsPlanBy verbs graphs task written bring_up world → IsAsking IsPlanBy verbs graphs task written bring_up world
   asking_in Reset written bring_up world is stage = absurd (not_true is)
   asking_in Settling written bring_up world is stage = absurd (not_true is)
   asking_in Walking written bring_up world is stage = stage
