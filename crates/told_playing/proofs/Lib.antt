@@ -1,0 +1,15 @@
+pub mod Calm
+pub mod Course
+pub mod Good
+pub mod Rest
+pub mod States
+pub mod Ready
+pub mod Still
+pub mod Bringing
+pub mod Given
+pub mod Playing
+pub mod Silent
+pub mod First
+pub mod Heard
+pub mod Ends
+pub mod Whole

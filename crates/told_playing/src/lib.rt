@@ -1,0 +1,6 @@
+//! How a whole driver, as it is told, keeps to progress, sets its codecs up and is heard: laws over the calls of `audio_driver`.
+#![tactic(auto)]
+
+mod laws;
+
+pub use laws::drivers_keep_to_progress;
