@@ -1,9 +1,10 @@
 -- The last run stops the stream, and pins heard the line.
-use Rattle.std.proofs.Common.{◌≡◌, inl, inr, ◌≤◌, ◌+◌, ◌-◌, ◌*◌, ◌/◌, ◌&&◌, ℕ, Bool, true, false, List, [], ◌∷◌, ◌++◌, map, drop, Some, refl, sym, ap, subst, ◌∙◌, arith, rules}
+use Rattle.std.proofs.Common.{◌≡◌, inl, inr, ◌≤◌, ◌+◌, ◌-◌, ◌*◌, ◌/◌, ◌&&◌, ℕ, Bool, true, false, List, [], ◌∷◌, ◌++◌, length, map, drop, Some, refl, sym, ap, subst, ◌∙◌, arith, rules}
 use Rattle.std.specs.Prelude.{All, nat_lt}
 use Rattle.std.specs.List.{range_with_len}
 use Rattle.std.specs.Vec.{vec_len}
-use Rattle.std.proofs.Math.Nat.{mod-eq_of_lt}
+use Rattle.std.proofs.Math.Nat.{mod-eq_of_lt, div-mul-le_self}
+use Rattle.std.proofs.lemmas.Nat.{le-div}
 use Rattle.std.proofs.lemmas.List.Elements.{All-from_recursion}
 use Rattle.codec_graph.specs.CodecStates.{CodecState}
 use Rattle.hda_registers.specs.declared.shapes.Width.TheVariants.{One, Four}
@@ -13,6 +14,7 @@ use Rattle.hda_registers.proofs.Callers.{read-wall_clock}
 use Rattle.stream_format.specs.Layouts.{Layout, layout, layout_of}
 use Rattle.stream_format.specs.Words.{format_word}
 use Rattle.stream_format.proofs.Callers.{read_back}
+use Rattle.stream_moves.proofs.Callers.{some_block}
 use Rattle.codec_sound.specs.declared.signals.Signal.TheVariants.{Pair, Silence}
 use Rattle.codec_sound.specs.declared.heard.Heard.{Heard}
 use Rattle.codec_sound.specs.HeardLists.{block_size, signal_with, heard}
@@ -39,7 +41,7 @@ use Rattle.period_writer.specs.Writers.{tally_of, ring_of}
 use Rattle.period_writer.specs.Outcomes.{HasNotWrapped, HasDrained, WasStopped, EndsLast, FinishTells}
 use Rattle.driver_stretches.specs.Shutting.{shut_accesses}
 use Rattle.codec_bring_up.specs.declared.bringing.BringUp.{BringUp}
-use Rattle.line_heard.specs.Plays.{Plays, PlaysBelow, WasSent, IsSilent}
+use Rattle.line_heard.specs.Plays.{Plays, PlaysBelow, WasSent, IsSilent, without_holes}
 use Rattle.line_heard.specs.Steady.{Steady}
 use Rattle.audio_driver.specs.States.{is_open, was_late, IsLeft}
 use Rattle.audio_driver.specs.Sounding.{ShutsAlone, StopsSound, EndTells}
@@ -67,6 +69,8 @@ pub record HearLaws : Type 0 where
   pub stopped : (codecs : List CodecState) (tag word : ℕ) (layout : Layout) (from : ℕ) (world : World) (address pin pair : ℕ) (ring : Ring) (pcm : List ℕ) (tally : Tally) → layout_of word ≡ Some layout
       → Steady codecs tag word (block_size layout) from world → HasSent from world → signal_with (codec_at address codecs) tag word (Some layout) pin ≡ Pair pair → WasStopped ring pcm tally world
       → PlaysBelow layout pair (line_of tally pcm) tally.course.reach (heard address pin (drop from world.carried))
+  pub count : (codecs : List CodecState) (tag word : ℕ) (layout : Layout) (from : ℕ) (world : World) (address pin pair : ℕ) → layout_of word ≡ Some layout → Steady codecs tag word (block_size layout) from world
+      → HasSent from world → signal_with (codec_at address codecs) tag word (Some layout) pin ≡ Pair pair → length (without_holes (heard address pin (drop from world.carried))) ≡ world.output.left / block_size layout
   pub longer : (layout : Layout) (pair : ℕ) (line more : List ℕ) (list : List Heard) → Plays layout pair line false list → Plays layout pair (line ++ more) false list
   pub sent_alone : (codecs : List CodecState) (tag word : ℕ) (layout : Layout) (from : ℕ) (world : World) (address pin pair : ℕ) → layout_of word ≡ Some layout → Steady codecs tag word (block_size layout) from world
       → signal_with (codec_at address codecs) tag word (Some layout) pin ≡ Pair pair → All WasSent (heard address pin (drop from world.carried))
@@ -93,6 +97,23 @@ over_stopped (ran.Late from to) ring pcm tally world over stream = stream
 
 -- ---- what pins heard
 
+abbrev is_drained : Ran → Bool
+is_drained ran.Playing = false
+is_drained ran.Drained = true
+is_drained (ran.Late from to) = false
+
+never_drained : (was : Ran) → is_drained was ≡ false → was ≡ ran.Drained → ⊥
+never_drained was not same = not_true (sym not ∙ ap is_drained same)
+
+more_blocks : (some many block : ℕ) → 1 ≤ block → some ≤ many → some / block ≤ many / block
+more_blocks some many block whole more = let fewer = div-mul-le_self some block in le-div (some / block) many block whole (omega (arith, fewer, more))
+
+-- where the line has drained the link stood at what was sent at most
+over_past : (was : Ran) (ring : Ring) (pcm : List ℕ) (tally : Tally) (world : World) → StreamIs was ring pcm tally world → was ≡ ran.Drained → tally.course.at ≤ world.output.left
+over_past ran.Playing ring pcm tally world stream drained = absurd (never_drained ran.Playing refl drained)
+over_past ran.Drained ring pcm tally world stream drained = stream.sent
+over_past (ran.Late from to) ring pcm tally world stream drained = absurd (never_drained (ran.Late from to) refl drained)
+
 module _ (laws : HearLaws) (codecs : List CodecState) (ring : Ring) (pcm : List ℕ) (tally : Tally) (world : World) (hears : IsHeardBy codecs ring world) where
   -- of a stream that was over
   over_heard : (was : Ran) → is_open was ≡ false → StreamIs was ring pcm tally world → (address pin pair : ℕ)
@@ -107,9 +128,13 @@ module _ (laws : HearLaws) (codecs : List CodecState) (ring : Ring) (pcm : List 
   hear : (carried : List CarriedFrame) → carried ≡ world.carried
       → ((address pin pair : ℕ) → signal_with (codec_at address codecs) 1 (format_word ring.geometry.format) (Some (layout ring.geometry.format)) pin ≡ Pair pair
       → HeardAs tally.course.ran (layout ring.geometry.format) pair (line_of tally pcm) tally.course.reach (heard address pin world.carried))
-      → HearTheLine codecs ring.geometry.format pcm tally carried
-  hear carried same plays = subst (HearTheLine codecs ring.geometry.format pcm tally) (sym same) (record {
+      → (tally.course.ran ≡ ran.Drained → tally.course.at ≤ world.output.left) → HearTheLine codecs ring.geometry.format pcm tally carried
+  hear carried same plays past = subst (HearTheLine codecs ring.geometry.format pcm tally) (sym same) (record {
     plays = plays;
+    all_sent = λ drained address pin pair is.
+        subst (λ (count : ℕ). tally.course.at / block_size (layout ring.geometry.format) ≤ count)
+        (sym (laws.count codecs 1 (format_word ring.geometry.format) (layout ring.geometry.format) 0 world address pin pair (read_back ring.geometry.format) hears.steady hears.sent is))
+        (more_blocks tally.course.at world.output.left (block_size (layout ring.geometry.format)) (some_block (format_word ring.geometry.format) (layout ring.geometry.format) (read_back ring.geometry.format)) (past drained));
     sent_alone = λ address pin pair is. laws.sent_alone codecs 1 (format_word ring.geometry.format) (layout ring.geometry.format) 0 world address pin pair (read_back ring.geometry.format) hears.steady is;
     silent = λ address pin is. laws.silent codecs 1 (format_word ring.geometry.format) (layout ring.geometry.format) 0 world address pin (read_back ring.geometry.format) hears.steady is;
   })
@@ -203,7 +228,8 @@ module _ (on : Laws) (laws : HearLaws) (codecs : List CodecState) (pcm : List �
         shut_stopped ring pcm tally before after (subst (λ (made : List Event). Makes made before after) shuts.made_is makes) (over_stopped writer.course.ran ring pcm tally (world_of before) over sounds.stream)
             (subst (λ (open' : Bool). Lives open' before) over sounds.lives),
         λ alone. subst (λ (tally : Tally). HearTheLine codecs writer.geometry.format pcm tally (world_of after).carried) (sym shuts.tally_is)
-            (hear laws codecs ring pcm tally (world_of before) sounds.heard (world_of after).carried (same_carried alone) (over_heard laws codecs ring pcm tally (world_of before) sounds.heard writer.course.ran over sounds.stream)),
+            (hear laws codecs ring pcm tally (world_of before) sounds.heard (world_of after).carried (same_carried alone) (over_heard laws codecs ring pcm tally (world_of before) sounds.heard writer.course.ran over sounds.stream)
+            (over_past writer.course.ran ring pcm tally (world_of before) sounds.stream)),
       )
 
   -- or it played
@@ -297,17 +323,20 @@ module _ (on : Laws) (laws : HearLaws) (codecs : List CodecState) (pcm : List �
     ends_by ran.Playing is run = (
       has_stopped ran.Playing is run,
       λ alone. hear laws codecs ring pcm tally' (world_of begins) here.heard (world_of after).carried (carried_begins alone)
-          (playing_heard laws codecs ring pcm tally tally' (vec_len writer.runs) writer.course_is begins ends playing here.heard small_begins run is ran_on.events ran_on.went (all_back IsNoStep polled.events ran_on.events (alone_ends alone))),
+          (playing_heard laws codecs ring pcm tally tally' (vec_len writer.runs) writer.course_is begins ends playing here.heard small_begins run is ran_on.events ran_on.went (all_back IsNoStep polled.events ran_on.events (alone_ends alone)))
+          (λ drained. absurd (never_drained ran.Playing refl (is ∙ drained))),
     )
     ends_by ran.Drained is run = (
       has_stopped ran.Drained is run,
       λ alone. hear laws codecs ring pcm tally' (world_of ends) (hears_ends ran.Drained is run) (world_of after).carried (carried_ends alone)
-          (subst HeardAt is (over_heard laws codecs ring pcm tally' (world_of ends) (hears_ends ran.Drained is run) ran.Drained refl run.ends)),
+          (subst HeardAt is (over_heard laws codecs ring pcm tally' (world_of ends) (hears_ends ran.Drained is run) ran.Drained refl run.ends))
+          (λ drained. run.ends.sent),
     )
     ends_by (ran.Late from to) is run = (
       has_stopped (ran.Late from to) is run,
       λ alone. hear laws codecs ring pcm tally' (world_of ends) (hears_ends (ran.Late from to) is run) (world_of after).carried (carried_ends alone)
-          (subst HeardAt is (over_heard laws codecs ring pcm tally' (world_of ends) (hears_ends (ran.Late from to) is run) (ran.Late from to) refl (stopped (ran.Late from to) is run))),
+          (subst HeardAt is (over_heard laws codecs ring pcm tally' (world_of ends) (hears_ends (ran.Late from to) is run) (ran.Late from to) refl (stopped (ran.Late from to) is run)))
+          (λ drained. absurd (never_drained (ran.Late from to) refl (is ∙ drained))),
     )
 
     sound_ends : Ends

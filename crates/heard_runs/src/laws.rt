@@ -22,9 +22,9 @@ ghost use Rattle.heard_runs.specs.Sounding.{Sounds};
 ghost use Rattle.heard_runs.specs.Ending.{HearTheLine};
 
 use line_heard::{
-    a_started_stream_is_steady, accesses_beside_keep_it_steady, idle_codecs_keep_their_settings,
-    longer_lines_are_heard, routed_pins_hear_what_was_sent, silent_pins_hear_nothing,
-    the_line_is_heard,
+    a_started_stream_is_steady, accesses_beside_keep_it_steady, all_that_was_sent_is_heard,
+    idle_codecs_keep_their_settings, longer_lines_are_heard, routed_pins_hear_what_was_sent,
+    silent_pins_hear_nothing, the_line_is_heard,
 };
 use period_writer::{
     events_between_runs_keep_the_ring, runs_append_to_the_line, steps_keep_the_ring,
@@ -79,6 +79,7 @@ pub fn the_last_run_is_heard()
     events_between_runs_keep_the_ring();
     accesses_beside_keep_it_steady();
     the_line_is_heard();
+    all_that_was_sent_is_heard();
     longer_lines_are_heard();
     routed_pins_hear_what_was_sent();
     silent_pins_hear_nothing();

@@ -1,7 +1,9 @@
 -- What pins hear of a line that a writer plays.
-use Rattle.std.proofs.Common.{◌≡◌, ◌≤◌, ◌<◌, ◌+◌, ◌-◌, ◌*◌, ◌/◌, ◌⊎◌, inl, inr, ℕ, true, false, List, [], ◌∷◌, ◌++◌, map, take, drop, replicate, slice_index, Some, refl, sym, ap, subst, ◌∙◌, arith, rules, append-nil}
+use Rattle.std.proofs.Common.{◌≡◌, ◌≤◌, ◌<◌, ◌+◌, ◌-◌, ◌*◌, ◌/◌, ◌⊎◌, inl, inr, ℕ, true, false, List, [], ◌∷◌, ◌++◌, length, map, take, drop, replicate, slice_index, Some, refl, sym, ap, subst, ◌∙◌, arith, rules, append-nil}
 use Rattle.std.specs.Prelude.{All}
-use Rattle.std.proofs.lemmas.List.{length-take-le, get_or_append_left, get_or-append_right, get_or-replicate}
+use Rattle.std.specs.List.{range_with_len}
+use Rattle.std.proofs.lemmas.List.FromFn.{length-range_with_len}
+use Rattle.std.proofs.lemmas.List.{length-map, length-take-le, get_or_append_left, get_or-append_right, get_or-replicate}
 use Rattle.std.proofs.lemmas.List.Elements.{All-append, All-cons, All-head, All-nil, All-tail}
 use Rattle.codec_graph.specs.CodecStates.{CodecState}
 use Rattle.stream_format.specs.Layouts.{Layout, layout_of}
@@ -20,7 +22,7 @@ use Rattle.period_writer.specs.Standing.{Ring, limit_in}
 use Rattle.period_writer.specs.Owning.{IsPlaying}
 use Rattle.period_writer.specs.Outcomes.{HasDrained, WasStopped}
 use Rattle.period_writer.proofs.Callers.{playing_owns, playing_within}
-use Rattle.line_heard.specs.Plays.{without_holes, sounds, Plays, PlaysBelow}
+use Rattle.line_heard.specs.Plays.{without_holes, sound_at, sounds, Plays, PlaysBelow}
 use Rattle.line_heard.specs.Steady.{IsSteadyFrame, Steady}
 use Rattle.line_heard.proofs.Hearing.{pair_heard, frame_is}
 use Rattle.line_heard.proofs.Playing.{plays, plays_below, sounds_of}
@@ -44,6 +46,13 @@ module _ (codecs : List CodecState) (tag word : ℕ) (layout : Layout) (known : 
         ∙ ap (λ bytes. map (item_of layout (Pair pair)) (blocks (block_size layout) bytes)) sent.bytes
         ∙ sounds_of layout pair (take world.output.left world.output.entered)
         ∙ ap (λ n. sounds layout pair (take world.output.left world.output.entered) (n / block_size layout)) (length-take-le world.output.left world.output.entered sent.behind)
+
+    -- as many blocks as were sent
+    pub count_heard : length (without_holes list) ≡ world.output.left / block_size layout
+    count_heard =
+        ap length heard_is
+        ∙ length-map (range_with_len 0 (world.output.left / block_size layout)) (sound_at layout pair (take world.output.left world.output.entered))
+        ∙ length-range_with_len 0 (world.output.left / block_size layout)
 
     -- the line that the writer plays
     pub playing_heard : (ring : Ring) (pcm : List ℕ) (tally : Tally) → IsPlaying ring pcm tally world → 500 * world.frames ≤ tally.course.from + 500 * limit_in ring → Plays layout pair (line_of tally pcm) false list

@@ -1,5 +1,5 @@
 //! Laws of what is heard, each the contract of a function that does nothing.
-ghost use Rattle.std.specs.Prelude.{◌≡◌, ◌≤◌, ◌+◌, ◌*◌, ◌++◌, ℕ, true, false, List, Some, All, length, drop};
+ghost use Rattle.std.specs.Prelude.{◌≡◌, ◌≤◌, ◌+◌, ◌*◌, ◌/◌, ◌++◌, ℕ, true, false, List, Some, All, length, drop};
 ghost use Rattle.codec_graph.specs.CodecStates.{CodecState};
 ghost use Rattle.device_steps.specs.declared.Step.{Step};
 ghost use Rattle.hda_world.specs.Worlds.{World, codec_at};
@@ -17,7 +17,7 @@ ghost use Rattle.period_writer.specs.Lines.{line_of};
 ghost use Rattle.period_writer.specs.Standing.{Ring, limit_in};
 ghost use Rattle.period_writer.specs.Owning.{IsPlaying};
 ghost use Rattle.period_writer.specs.Outcomes.{HasDrained, WasStopped};
-ghost use Rattle.line_heard.specs.Plays.{Plays, PlaysBelow, WasSent, IsSilent};
+ghost use Rattle.line_heard.specs.Plays.{Plays, PlaysBelow, WasSent, IsSilent, without_holes};
 ghost use Rattle.line_heard.specs.Steady.{Steady, LeavesSteady, AreIdle, LeavesCommands};
 
 /// While CORB has no command that was not fetched, no step of the device changes a setting.
@@ -68,6 +68,14 @@ pub fn the_line_is_heard()
         (ring : Ring) (pcm : List ℕ) (tally : Tally) → layout_of word ≡ Some layout → Steady codecs tag word (block_size layout) from world
         → HasSent from world → signal_with (codec_at address codecs) tag word (Some layout) pin ≡ Pair pair → WasStopped ring pcm tally world
         → PlaysBelow layout pair (line_of tally pcm) tally.course.reach (heard address pin (drop from world.carried)) }
+{}
+
+/// A pin that hears a pair of a steady stream heard as many blocks as were sent.
+pub fn all_that_was_sent_is_heard()
+    ensures { (codecs : List CodecState) (tag word : ℕ) (layout : Layout) (from : ℕ) (world : World) (address pin pair : ℕ)
+        → layout_of word ≡ Some layout → Steady codecs tag word (block_size layout) from world → HasSent from world
+        → signal_with (codec_at address codecs) tag word (Some layout) pin ≡ Pair pair
+        → length (without_holes (heard address pin (drop from world.carried))) ≡ world.output.left / block_size layout }
 {}
 
 /// A pin that hears silence of a steady stream heard nothing but quiet blocks and holes.

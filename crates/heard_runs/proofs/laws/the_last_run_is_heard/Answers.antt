@@ -14,6 +14,7 @@ returns c = λ codecs pcm old ended writer tally supply made last before after t
       playing = c.the_line_is_heard.ensures.playing;
       drained = c.the_line_is_heard.ensures.drained;
       stopped = c.the_line_is_heard.ensures.stopped;
+      count = c.all_that_was_sent_is_heard.ensures;
       longer = c.longer_lines_are_heard.ensures;
       sent_alone = c.routed_pins_hear_what_was_sent.ensures;
       silent = c.silent_pins_hear_nothing.ensures;
