@@ -76,6 +76,7 @@ module _ (IsPlanBy : RawCodec → Plan → Type 0) (verbs_by : RawCodec → Plan
         finds = gone.finds;
         state_is = gone.state_is ∙ sym (silent_with ended tally (measures task.geometry).limit fresh);
         ended_is = gone.ended;
+        ready = λ started. absurd (not_true (sym (ap (λ (tally : Tally). tally.course.started) fresh) ∙ started));
         set_up = gone.set_up;
         heard = inl (fresh, never_heard fifo after rests);
       }
@@ -93,14 +94,15 @@ module _ (IsPlanBy : RawCodec → Plan → Type 0) (verbs_by : RawCodec → Plan
         → Played IsPlanBy IsOpenBy graphs task lines [] None state_then made
     played opened good none up = plays IsPlanBy IsOpenBy graphs task lines [] None (state_in old) state_then call.made begun made opened good none up call.by.is call.are (call.is task task_is)
 
-    gone_by : Played IsPlanBy IsOpenBy graphs task lines [] None state_then made → IsEnded graphs task ended → ((tally ≡ tally_opened) × WasNeverHeard after) ⊎ WasHeard IsPlanBy IsOpenBy graphs task tally last after → Gone
-    gone_by was ended_is heard =
+    gone_by : Played IsPlanBy IsOpenBy graphs task lines [] None state_then made → IsEnded graphs task ended → ended.phase ≡ Ready → ((tally ≡ tally_opened) × WasNeverHeard after) ⊎ WasHeard IsPlanBy IsOpenBy graphs task tally last after → Gone
+    gone_by was ended_is ready heard =
         let rest = closes task lines [] state_then made after ends was.done in
         let progress = rest_progress task lines [] state_then after rest in record {
           progress = progress.0;
           finds = progress.2;
           state_is = progress.1 ∙ ap (λ (geometry : Geometry). state_with ended tally (measures geometry).limit) (sym task_is.geometry);
           ended_is = ended_is;
+          ready = λ started. ready;
           set_up = (end_good IsPlanBy IsOpenBy graphs task lines made after ends was.good).set_up;
           heard = heard;
         }
@@ -139,6 +141,7 @@ module _ (IsPlanBy : RawCodec → Plan → Type 0) (verbs_by : RawCodec → Plan
           let rests = end_rest laws.events fifo made after ends (row_rest laws.events fifo call.made begun made call.by.is still (begin_rest laws.events fifo before begun begins is.silent.rests)) in
           gone_by was_played
           (ended_ready graphs task ended (call.phase ∙ was_ready) (ap (λ (agenda : Agenda). agenda.graphs.items) call.agenda ∙ ready.walked))
+          (call.phase ∙ was_ready)
           (inl (recorded call.tells.is, never_heard fifo after rests))
 
     -- or it was
@@ -181,6 +184,7 @@ module _ (IsPlanBy : RawCodec → Plan → Type 0) (verbs_by : RawCodec → Plan
           let over = laws.heard.over made after ends stops.0 in
           gone_by ended_played
           (ended_ready graphs task ended (call.phase ∙ was.ready) (ap (λ (agenda : Agenda). agenda.graphs.items) call.agenda ∙ was.walked))
+          (call.phase ∙ was.ready)
           (inr (record {
             lived = over.0;
             codecs = was.codecs;

@@ -133,7 +133,6 @@ module _ (IsPlanBy : RawCodec → Plan → Type 0) (verbs_by : RawCodec → Plan
           ready = call.stays.phase ∙ was_ready;
           walked = ap (λ (agenda : Agenda). agenda.graphs.items) call.stays.agenda ∙ ready.walked;
           answered = ap (λ (bring_up : BringUp). bring_up.engine.rings.outstanding) first.bring_up ∙ ready.answered;
-          all_sent = call.stays.sent ∙ ready.all_sent;
           codecs = (world_of begun).codecs;
           set_up = ready.good.set_up;
           by = laws.heard.end (world_of begun).codecs (ring_in new) task.pcm (tally_in new) made after ends by;

@@ -61,7 +61,6 @@ module _ (IsPlanBy : RawCodec → Plan → Type 0) (verbs_by : RawCodec → Plan
           ready = sounds.ready;
           walked = sounds.walked;
           answered = sounds.answered;
-          all_sent = sounds.all_sent;
           codecs = sounds.codecs;
           set_up = sounds.set_up;
           by = laws.heard.steps sounds.codecs (ring_in parts) task.pcm (tally_in parts) steps old new went sounds.by;
@@ -87,7 +86,6 @@ module _ (IsPlanBy : RawCodec → Plan → Type 0) (verbs_by : RawCodec → Plan
           ready = stays.phase ∙ was.ready;
           walked = ap (λ (agenda : Agenda). agenda.graphs.items) stays.agenda ∙ was.walked;
           answered = none_after line.irq line.budget old.bring_up new.bring_up old.writer new.writer old.supply call.made begun made call.tells.is was.answered;
-          all_sent = stays.sent ∙ was.all_sent;
           codecs = was.codecs;
           set_up = was.set_up;
           by = laws.heard.end was.codecs (ring_in new) task.pcm (tally_in new) made after ends by;

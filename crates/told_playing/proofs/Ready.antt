@@ -1,36 +1,20 @@
--- Once all commands are answered: where the engine of commands stands, and what was sent and walked.
-use Rattle.std.proofs.Common.{◌≡◌, ◌≤◌, ℕ, List, [], length, nat_le, Option, None, sym, ap, subst, ◌∙◌, arith, append-nil}
-use Rattle.std.specs.Prelude.{take, drop}
-use Rattle.std.proofs.lemmas.List.{length-map, length-drop, length-take}
+-- Once all commands are answered: where the engine of commands stands, and what was walked.
+use Rattle.std.proofs.Common.{◌≡◌, ℕ, List, [], None, sym, ap, subst, ◌∙◌, append-nil}
 use Rattle.verb_codes.specs.declared.verbs.Command.{Command}
 use Rattle.codec_graph.specs.declared.raw.RawCodec.{RawCodec}
 use Rattle.codec_graph.specs.Settings.{Entries}
 use Rattle.route_planner.specs.declared.routes.Plan.{Plan}
-use Rattle.hda_world.specs.Worlds.{World, TakenCommand}
-use Rattle.command_engine.specs.declared.answers.Outstanding.{Outstanding}
+use Rattle.hda_world.specs.Worlds.{World}
 use Rattle.command_engine.specs.Courses.{Stands}
 use Rattle.driver_progress.specs.declared.phase.Phase.{Phase}
 use Rattle.driver_progress.specs.declared.phase.Phase.TheVariants.{Ready}
 use Rattle.driver_progress.specs.Phases.{goes_on}
-use Rattle.driver_progress.specs.Tasks.{Task, Order}
+use Rattle.driver_progress.specs.Tasks.{Task}
 use Rattle.driver_commands.specs.Standing.{answers_of}
 use Rattle.codec_bring_up.specs.declared.bringing.BringUp.{BringUp}
-use Rattle.told_bring_up.specs.Standing.{IsTaskOfCodecs, HaveTaken, IsAsking, StandsIn, IsBroughtUp, WalkedIn, IsEnded}
+use Rattle.told_bring_up.specs.Standing.{IsTaskOfCodecs, IsAsking, StandsIn, IsBroughtUp, WalkedIn, IsEnded}
 use Rattle.told_bring_up.specs.SettingUp.{AreSetUpForGood}
-use Rattle.told_bring_up.proofs.Callers.{AgendaLaws, SetterLaws, all_taken, ready_for_good, walked_in, all_answered, at_most}
-
--- as many commands were taken as are to be sent at most
-few_taken : (orders : List Order) (answers from : ℕ) (world : World) → from ≤ length world.commands → HaveTaken orders answers from world → answers ≤ length orders
-few_taken orders answers from world within taken =
-    let commands = drop taken.begun world.commands in
-    let from_is = taken.from_is in
-    let left = length-drop taken.begun world.commands in
-    let gone = length-take answers commands in
-    let first = length-map (take answers commands) (λ (one : TakenCommand). one.word) in
-    let second = length-map (take answers orders) (λ (order : Order). order.word) in
-    let asked = length-take answers orders in
-    let same = ap (λ (words : List ℕ). length words) taken.words in
-    omega (arith, within, from_is, left, gone, first, second, asked, same)
+use Rattle.told_bring_up.proofs.Callers.{AgendaLaws, SetterLaws, all_taken, ready_for_good, walked_in}
 
 module _ (IsPlanBy : RawCodec → Plan → Type 0) (verbs_by : RawCodec → Plan → List Command) (verbs : RawCodec → List Command) (IsOpenBy : RawCodec → Entries → Plan → Type 0) (graphs : List RawCodec) (task : Task)
     (laws : AgendaLaws IsPlanBy verbs_by verbs graphs) (of : IsTaskOfCodecs IsPlanBy verbs_by verbs graphs task) (setter : SetterLaws IsPlanBy verbs_by IsOpenBy) where
@@ -40,7 +24,6 @@ module _ (IsPlanBy : RawCodec → Plan → Type 0) (verbs_by : RawCodec → Plan
     pub stands : Stands from read bring_up.engine.corb.address bring_up.engine.rirb.address bring_up.engine.rings world
     pub answered : bring_up.engine.rings.outstanding ≡ None
     pub walked : bring_up.agenda.graphs.items ≡ graphs
-    pub all_sent : bring_up.sent ≡ length task.orders
     pub good : AreSetUpForGood IsPlanBy IsOpenBy graphs world
 
   pub ready_stands : (written : ℕ) (bring_up : BringUp) (world : World) → bring_up.phase ≡ Ready → IsBroughtUp IsPlanBy verbs graphs task written bring_up world → IsReady bring_up world
@@ -49,16 +32,12 @@ module _ (IsPlanBy : RawCodec → Plan → Type 0) (verbs_by : RawCodec → Plan
       let none = (all_taken IsPlanBy verbs_by verbs IsOpenBy graphs task laws of setter written bring_up world was stands.graphs_are a).0 in
       let answers = answers_of bring_up.sent bring_up.engine.rings.outstanding in
       let agrees = laws.agrees answers bring_up.agenda task a.follows of.is_for in
-      let phase = bring_up.led (ap goes_on was) ∙ agrees.phase in
-      let all = at_most (length task.orders) answers (all_answered (nat_le (length task.orders) answers) (nat_le task.walks answers) (sym phase ∙ was)) in
-      let few = few_taken task.orders answers a.from world a.stands.from_within a.taken in
-      let sent : answers ≡ bring_up.sent = ap (λ (outstanding : Option Outstanding). answers_of bring_up.sent outstanding) none in record {
+      let phase = bring_up.led (ap goes_on was) ∙ agrees.phase in record {
         from = a.from;
         read = a.read;
         stands = a.stands;
         answered = none;
         walked = subst (λ (phase : Phase). WalkedIn phase (bring_up.agenda.graphs.items ≡ graphs)) was (walked_in IsPlanBy verbs_by verbs graphs task of answers bring_up.agenda bring_up.phase a.follows phase (ap goes_on was));
-        all_sent = omega (arith, sent, all, few);
         good = ready_for_good IsPlanBy verbs_by verbs IsOpenBy graphs task laws of setter written bring_up world was stands;
       }
 

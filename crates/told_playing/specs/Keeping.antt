@@ -10,6 +10,7 @@ use Rattle.hda_world.specs.Events.{Event, Stepped, Begin, End, IsNoStep}
 use Rattle.hda_world.specs.Tellings.{Telling, world_of, Went, Accessed}
 use Rattle.period_writer.specs.Runs.{Tally, measures, tally_opened}
 use Rattle.period_writer.specs.Outcomes.{HasNotWrapped}
+use Rattle.driver_progress.specs.declared.phase.Phase.TheVariants.{Ready}
 use Rattle.driver_progress.specs.Tasks.{Task, DriverLine}
 use Rattle.driver_progress.specs.States.{State, state_opened}
 use Rattle.driver_progress.specs.Progress as course
@@ -86,6 +87,8 @@ pub record HasGone (IsPlanBy : RawCodec → Plan → Type 0) (IsOpenBy : RawCode
   pub finds : HasFound task lines telling
   pub state_is : course.state_of task lines telling ≡ state_left task ended tally
   pub ended_is : IsEnded graphs task ended
+  -- where sound was played the bring-up was over
+  pub ready : tally.course.started ≡ true → ended.phase ≡ Ready
   pub set_up : StaysSetUp IsPlanBy IsOpenBy graphs task lines telling
   pub heard : ((tally ≡ tally_opened) × WasNeverHeard telling) ⊎ WasHeard IsPlanBy IsOpenBy graphs task tally last telling
 

@@ -1,5 +1,5 @@
 -- How a driver that plays stands to the world that is told. This project's own.
-use Rattle.std.specs.Prelude.{◌≡◌, true, ℕ, List, length, Contains, None}
+use Rattle.std.specs.Prelude.{◌≡◌, true, ℕ, List, Contains, None}
 use Rattle.codec_graph.specs.declared.raw.RawCodec.{RawCodec}
 use Rattle.codec_graph.specs.CodecStates.{CodecState}
 use Rattle.codec_graph.specs.Settings.{Entries}
@@ -55,7 +55,6 @@ pub record Sounds (IsPlanBy : RawCodec → Plan → Type 0) (IsOpenBy : RawCodec
   pub ready : parts.bring_up.phase ≡ Ready
   pub walked : parts.bring_up.agenda.graphs.items ≡ graphs
   pub answered : parts.bring_up.engine.rings.outstanding ≡ None
-  pub all_sent : parts.bring_up.sent ≡ length task.orders
   pub codecs : List CodecState
   pub set_up : AreSetUpIn IsPlanBy IsOpenBy graphs codecs
   pub by : heard.Sounds codecs (ring_in parts) task.pcm (tally_in parts) telling
