@@ -1,5 +1,5 @@
 -- A driver that was just opened stands to the start of a machine.
-use Rattle.std.proofs.Common.{◌≡◌, ℕ, List, [], ◌∷◌, length, refl, sym, ap, subst, ◌∙◌, arith}
+use Rattle.std.proofs.Common.{◌≡◌, ℕ, Bool, List, [], ◌∷◌, length, refl, sym, ap, subst, ◌∙◌, arith}
 use Rattle.std.proofs.lemmas.List.{length-replicate}
 use Rattle.std.proofs.lemmas.Nat.Bits.{bit_at-zero}
 use Rattle.codec_graph.specs.declared.raw.RawCodec.{RawCodec}
@@ -84,10 +84,10 @@ opened_state bring_up geometry most writer opened =
     ∙ ap (λ (sent : ℕ). state_with Reset 0 sent bring_up.engine.rings) opened.sent
     ∙ ap (λ (rings : RingPlaces). state_with Reset 0 0 rings) opened.rings
 
-pub begins : (format : Format) (machine : Machine) (plans : List Plan) (geometry : Geometry) (most : ℕ) (bring_up : BringUp) (writer : Writer) → IsSound machine → IsWhole machine → IsOpened geometry most bring_up writer
-    → BeginsAt format machine plans (task_of format machine plans geometry (blocks_of bring_up writer)) bring_up
-begins format machine plans geometry most bring_up writer sound whole opened =
-    let task = task_of format machine plans geometry (blocks_of bring_up writer) in
+pub begins : (format : Format) (machine : Machine) (plans : List Plan) (geometry : Geometry) (plays : Bool) (pcm : List ℕ) (most : ℕ) (bring_up : BringUp) (writer : Writer) → IsSound machine → IsWhole machine → IsOpened geometry most bring_up writer
+    → BeginsAt format machine plans (task_of format machine plans geometry plays pcm (blocks_of bring_up writer)) bring_up
+begins format machine plans geometry plays pcm most bring_up writer sound whole opened =
+    let task = task_of format machine plans geometry plays pcm (blocks_of bring_up writer) in
     record {
       stands = record {
         blocks = record { corb = refl; rirb = refl };

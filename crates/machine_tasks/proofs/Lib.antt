@@ -8,3 +8,4 @@ pub mod Room
 pub mod Given
 pub mod Lengths
 pub mod Pushed
+pub mod Apart

@@ -116,10 +116,10 @@ some_graph format (file ∷ files) plans have routed none = cc
 
 -- ---- the task
 
-pub tasked : (format : Format) (machine : Machine) (plans : List Plan) (geometry : Geometry) (blocks : Blocks) → IsSound machine → IsWhole machine → HavePlans format machine.codecs plans
+pub tasked : (format : Format) (machine : Machine) (plans : List Plan) (geometry : Geometry) (plays : Bool) (pcm : List ℕ) (blocks : Blocks) → IsSound machine → IsWhole machine → HavePlans format machine.codecs plans
     → list_any has_route plans ≡ true
-    → IsTaskOfCodecs (λ (graph : RawCodec). IsPlan graph format) (verbs_by format) (verbs_in format machine.codecs plans) (graphs_of machine.codecs) (task_of format machine plans geometry blocks)
-tasked format machine plans geometry blocks sound whole have routed =
+    → IsTaskOfCodecs (λ (graph : RawCodec). IsPlan graph format) (verbs_by format) (verbs_in format machine.codecs plans) (graphs_of machine.codecs) (task_of format machine plans geometry plays pcm blocks)
+tasked format machine plans geometry plays pcm blocks sound whole have routed =
     let ascend = stand_by_address 0 machine.codecs sound.ascending sound.each (λ some. omega arith) in
     let own = all_have_verbs format 0 machine.codecs plans have ascend in
     let joined = verbs_joined format (verbs_in format machine.codecs plans) machine.codecs plans have own in

@@ -1,5 +1,5 @@
 -- What a driver has to do for a machine that a codec file describes. This project's own.
-use Rattle.std.specs.Prelude.{ℕ, ◌==◌, false, List, [], ◌∷◌, ◌++◌, length, map, if◌then◌else◌}
+use Rattle.std.specs.Prelude.{ℕ, Bool, ◌==◌, List, [], ◌∷◌, ◌++◌, length, map, if◌then◌else◌}
 use Rattle.std.specs.List.{AllZip}
 use Rattle.verb_codes.specs.declared.verbs.Command.{Command}
 use Rattle.codec_graph.specs.declared.raw.RawCodec.{RawCodec}
@@ -43,14 +43,14 @@ verbs_in format (file ∷ files) (plan ∷ plans) graph =
 abbrev pub commands_of : Format → List CodecFile → List Plan → List Command
 commands_of format files plans = walks_over (graphs_of files) ++ verbs_for (verbs_by format) (graphs_of files) plans
 
--- what is to be done with these blocks: these commands, and nothing to play
-abbrev pub task_of : Format → Machine → List Plan → Geometry → Blocks → Task
-task_of format machine plans geometry blocks = record {
+-- what is to be done with these blocks: these commands, and this sound to play where it plays
+abbrev pub task_of : Format → Machine → List Plan → Geometry → (plays : Bool) → (pcm : List ℕ) → Blocks → Task
+task_of format machine plans geometry plays pcm blocks = record {
   orders = map order_of (commands_of format machine.codecs plans);
   walks = length (walks_over (graphs_of machine.codecs));
   geometry = geometry;
-  pcm = [];
-  plays = false;
+  pcm = pcm;
+  plays = plays;
   blocks = blocks;
 }
 

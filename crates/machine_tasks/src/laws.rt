@@ -1,5 +1,5 @@
 //! Laws of what is to be done for machines, each the contract of a function that does nothing.
-ghost use Rattle.std.specs.Prelude.{◌≡◌, ℕ, List, All, length, true};
+ghost use Rattle.std.specs.Prelude.{◌≡◌, ℕ, Bool, List, All, length, true};
 ghost use Rattle.verb_codes.specs.declared.verbs.Command.{Command};
 ghost use Rattle.hda_world.specs.declared.world.TheConstants.{REGION_BYTES};
 ghost use Rattle.hda_world.specs.Worlds.{World};
@@ -21,7 +21,10 @@ ghost use Rattle.period_writer.specs.declared.geometry.Geometry.{Geometry};
 ghost use Rattle.period_writer.specs.declared.writer.Writer.{Writer};
 ghost use Rattle.driver_progress.specs.Tasks.{Blocks, Task};
 ghost use Rattle.codec_bring_up.specs.declared.bringing.BringUp.{BringUp};
-ghost use Rattle.audio_driver.specs.Opening.{IsOpened, HasNoRuns};
+ghost use Rattle.audio_driver.specs.Opening.{Opens, IsOpened, HasNoRuns};
+ghost use Rattle.period_writer.specs.Writers.{periods_of, ring_of};
+ghost use Rattle.rig.specs.Replays.{start_of};
+ghost use Rattle.stream_rest.specs.Resting.{Rests, AreApartFrom};
 ghost use Rattle.told_bring_up.specs.Standing.{IsTaskOfCodecs, IsBroughtUp};
 ghost use Rattle.machine_tasks.specs.Tasks.{HavePlans, graphs_of, verbs_by, verbs_in, task_of, blocks_of};
 ghost use Rattle.machine_tasks.specs.Reading.{IsRead, IsWhole};
@@ -35,19 +38,19 @@ pub fn read_machines_are_whole()
     ensures { (machine : Machine) → IsSound machine → IsRead machine → IsWhole machine }
 {}
 
-/// What is to be done for a machine of which some pin has a route, with any ring of periods and blocks, is the task of its codecs: the walks
-/// over them, and then the set-up verbs of each by its plan.
+/// What is to be done for a machine of which some pin has a route, with any ring of periods, sound and blocks, is the task of its codecs: the
+/// walks over them, and then the set-up verbs of each by its plan.
 pub fn machines_have_tasks()
-    ensures { (format : Format) (machine : Machine) (plans : List Plan) (geometry : Geometry) (blocks : Blocks)
+    ensures { (format : Format) (machine : Machine) (plans : List Plan) (geometry : Geometry) (plays : Bool) (pcm : List ℕ) (blocks : Blocks)
         → IsSound machine → IsRead machine → HavePlans format machine.codecs plans → list_any has_route plans ≡ true
-        → IsTaskOfCodecs (λ (graph : RawCodec). IsPlan graph format) (verbs_by format) (verbs_in format machine.codecs plans) (graphs_of machine.codecs) (task_of format machine plans geometry blocks) }
+        → IsTaskOfCodecs (λ (graph : RawCodec). IsPlan graph format) (verbs_by format) (verbs_in format machine.codecs plans) (graphs_of machine.codecs) (task_of format machine plans geometry plays pcm blocks) }
 {}
 
 /// A driver that was just opened, for any number of calls, stands to the start of a machine as its task asks, and nothing was done yet.
 pub fn opened_drivers_can_begin()
-    ensures { (format : Format) (machine : Machine) (plans : List Plan) (geometry : Geometry) (most : ℕ) (bring_up : BringUp) (writer : Writer)
+    ensures { (format : Format) (machine : Machine) (plans : List Plan) (geometry : Geometry) (plays : Bool) (pcm : List ℕ) (most : ℕ) (bring_up : BringUp) (writer : Writer)
         → IsSound machine → IsRead machine → IsOpened geometry most bring_up writer
-        → BeginsAt format machine plans (task_of format machine plans geometry (blocks_of bring_up writer)) bring_up }
+        → BeginsAt format machine plans (task_of format machine plans geometry plays pcm (blocks_of bring_up writer)) bring_up }
 {}
 
 /// A driver that was just opened stands to every world of which nothing was asked yet, for each task with its blocks: codecs stand by
@@ -63,4 +66,16 @@ pub fn opened_drivers_stand<T: Setter>()
 /// In a pool that fills the region and of which nothing is taken there are runs for the blocks of a driver with any ring of periods.
 pub fn a_full_pool_has_room()
     ensures { (geometry : Geometry) (pool : PoolState) → IsAllFree pool → HasNoRuns geometry pool → ⊥ }
+{}
+
+/// At the start of a machine no stream runs.
+pub fn machines_rest()
+    ensures { (machine : Machine) → Rests machine.fifo (start_of REGION_BYTES machine) }
+{}
+
+/// The blocks that a driver took when it was opened lie apart: those of its ring have no byte of RIRB.
+pub fn opened_blocks_lie_apart()
+    ensures { (geometry : Geometry) (pool pool' : PoolState) (bring_up : BringUp) (writer : Writer) → writer.geometry ≡ geometry
+        → Opens geometry pool bring_up.engine.corb.address bring_up.engine.rirb.address writer.list.address (periods_of writer) pool'
+        → AreApartFrom (ring_of writer) bring_up.engine.rirb.address }
 {}

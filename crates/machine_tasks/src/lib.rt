@@ -7,6 +7,6 @@ mod laws;
 
 pub use counting::command_count;
 pub use laws::{
-    a_full_pool_has_room, machines_have_tasks, opened_drivers_can_begin, opened_drivers_stand,
-    read_machines_are_whole,
+    a_full_pool_has_room, machines_have_tasks, machines_rest, opened_blocks_lie_apart,
+    opened_drivers_can_begin, opened_drivers_stand, read_machines_are_whole,
 };

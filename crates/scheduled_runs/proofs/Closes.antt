@@ -1,32 +1,42 @@
 -- That the last call ends a run over a schedule.
-use Rattle.std.proofs.Common.{◌≡◌, ℕ, Bool, false, List, [], ◌++◌, length, refl, sym, ap, subst, ◌∙◌, Some, append-nil, append_assoc}
-use Rattle.std.specs.Prelude.{All}
+use Rattle.std.proofs.Common.{◌≡◌, ℕ, Bool, true, false, List, [], ◌∷◌, ◌++◌, length, refl, sym, ap, subst, ◌∙◌, Some, append-nil, append_assoc}
+use Rattle.std.specs.Prelude.{All, drop}
+use Rattle.std.proofs.Math.Seq.{drop-nil}
+use Rattle.std.proofs.lemmas.List.Elements.{All-nil, All-cons, All-head, All-tail, All-append}
 use Rattle.stream_format.specs.declared.format.Format.{Format}
-use Rattle.hda_world.specs.Events.{Event, Begin, End}
-use Rattle.hda_world.specs.Tellings.{Telling, Went, Accessed}
+use Rattle.hda_world.specs.Events.{Event, Stepped, Begin, End, Read, Write, DmaRead, DmaWrite, IsNoStep}
+use Rattle.hda_world.specs.Tellings.{Telling, Went, Accessed, MakesBy}
+use Rattle.command_engine.specs.declared.answers.Event as told
 use Rattle.command_engine.specs.Entries.{responses_in, events_of}
-use Rattle.driver_commands.specs.Commanding.{entries_in}
+use Rattle.driver_commands.specs.Commanding.{entries_in, with_told}
 use Rattle.hda_schedule.specs.declared.schedule.Schedule.{Schedule}
 use Rattle.hda_schedule.specs.Counts.{items_of}
+use Rattle.hda_schedule.specs.declared.schedule.Group.{Group}
+use Rattle.driver_progress.specs.declared.phase.Phase.TheVariants.{Ready}
 use Rattle.driver_progress.specs.Tasks.{DriverLine}
 use Rattle.hda_world.proofs.Callers.{went_both}
+use Rattle.jack_counts.specs.Counted.{IsCount}
 use Rattle.jack_counts.specs.Jacks.{IsOfPin, Counts}
 use Rattle.codec_bring_up.specs.declared.bringing.BringUp.{BringUp}
-use Rattle.codec_bring_up.specs.Calls.{Ends}
-use Rattle.period_writer.specs.Runs.{Tally}
-use Rattle.period_writer.specs.Writers.{tally_of, measures_of}
-use Rattle.audio_driver.specs.States.{plays_now, phase_if, phase_with}
+use Rattle.period_writer.specs.declared.geometry.Geometry.{Geometry}
 use Rattle.period_writer.specs.declared.writer.Writer.{Writer}
+use Rattle.period_writer.specs.Runs.{Tally, measures}
+use Rattle.period_writer.specs.Writers.{tally_of}
+use Rattle.audio_driver.specs.States.{plays_now, phase_with}
 use Rattle.audio_driver.specs.declared.driver.closing.Closed.{Closed}
-use Rattle.audio_driver.specs.Closing.{Closes}
+use Rattle.audio_driver.specs.Closing as of_driver
 use Rattle.rig.specs.Follows.{AreAccesses}
-use Rattle.rig.specs.Stretches.{IsStretchFrom, accesses_of, stretch}
+use Rattle.rig.specs.Stretches.{IsStretchFrom, is_access, accesses_of, all_steps_in, woven, stretch}
+use Rattle.told_playing.specs.Sounding.{Parts}
+use Rattle.told_playing.specs.Keeping.{Closes}
+use Rattle.told_playing.proofs.States.{plays_then}
 use Rattle.scheduled_runs.specs.Events.{told_in}
 use Rattle.scheduled_runs.specs.Lines.{lines_of}
 use Rattle.rig.specs.declared.rig.Rig.{Rig}
 use Rattle.rig.specs.Rigs.{telling_of}
 use Rattle.scheduled_runs.specs.Going.{Means, UnderWay, Goes, Ran, IsClosed, IsDriven, plan_by, verbs_for}
 use Rattle.scheduled_runs.proofs.Events.{Run, run_of, counted_on}
+use Rattle.scheduled_runs.proofs.LinkFrames.{short_before, never_wrapped}
 use Rattle.scheduled_runs.proofs.Goes.{Keeps}
 
 -- what the rig's law says of a run without steps
@@ -40,74 +50,129 @@ TakesAccesses = (events : List Event) → AreAccesses (accesses_of events)
 abbrev pub AreOfPins : Type 0
 AreOfPins = (entries : List (List ℕ)) → All IsOfPin (events_of (responses_in entries))
 
-module _ (means : Means) (format : Format) where
-  pub run_closes : Keeps means format → IsWithoutSteps → TakesAccesses → AreOfPins → (old : BringUp) (writer : Writer) (closed : Closed) (before begun made after : Telling) → Accessed before begun Begin
-      → (play : Bool) (supply : List ℕ) → play ≡ false → writer.course.started ≡ false → Closes (plan_by means format) (verbs_for means format) play old writer supply closed (Some begun) (Some made) → Accessed made after End
-      → IsStretchFrom (length before.journal) [] after.journal → IsClosed means format old writer closed before after
-  run_closes keeps without accesses of_pins old writer closed before begun made after opened play supply none fresh closes ended stretched = record {
+-- ---- in a run without steps the device makes none
+
+access_no_step : (event : Event) → is_access event ≡ true → IsNoStep event
+access_no_step (Stepped step) is = cc
+access_no_step Begin is = tt
+access_no_step End is = tt
+access_no_step (Read at width value) is = tt
+access_no_step (Write at width value) is = tt
+access_no_step (DmaRead at bytes) is = tt
+access_no_step (DmaWrite at bytes) is = tt
+
+woven_no_steps : (accesses : List Event) → AreAccesses accesses → All IsNoStep (woven [] accesses)
+woven_no_steps [] are = All-nil IsNoStep
+woven_no_steps (access ∷ accesses) are =
+    All-cons IsNoStep access (woven [] accesses) (access_no_step access (All-head (λ (event : Event). is_access event ≡ true) access accesses are))
+    (woven_no_steps accesses (All-tail (λ (event : Event). is_access event ≡ true) access accesses are))
+
+pub stretch_no_steps : (accesses : List Event) → AreAccesses accesses → All IsNoStep (stretch [] accesses)
+stretch_no_steps accesses are =
+    All-cons IsNoStep Begin (woven [] accesses ++ (all_steps_in (drop (length accesses) []) ++ End ∷ [])) tt
+    (All-append IsNoStep (woven [] accesses) (all_steps_in (drop (length accesses) []) ++ End ∷ []) (woven_no_steps accesses are)
+    (subst (λ (left : List Group). All IsNoStep (all_steps_in left ++ End ∷ [])) (sym (drop-nil (length accesses))) (All-cons IsNoStep End [] tt (All-nil IsNoStep))))
+
+-- ---- the last call
+
+-- its accesses, and what it counted of what it read
+record Made (old ended : BringUp) (before after : Telling) : Type 0 where
+  pub made : List Event
+  pub by : MakesBy made before after
+  pub counted : (told : List told.Event) → IsCount told old.jacks → IsCount (with_told told (entries_in made)) ended.jacks
+
+module _ (means : Means) (format : Format) (play : Bool) where
+  made_by : (old : Parts) (closed : Closed) (before after : Telling) → (closes : of_driver.Closes (plan_by means format) (verbs_for means format) play old.bring_up old.writer old.supply closed (Some before) (Some after))
+      → Made old.bring_up closes.ended before after
+  made_by old closed before after closes = by (plays_now play old.bring_up) refl where
+    by : (now : Bool) → plays_now play old.bring_up ≡ now → Made old.bring_up closes.ended before after
+    by false is = (let ends = closes.ends is in record { made = ends.made; by = ends.by.is.by; counted = ends.reads.counted })
+    by true is = (let sounds = closes.sounds is in record { made = sounds.made; by = sounds.by.is.by; counted = sounds.counted })
+
+  pub run_closes : Keeps means format → IsWithoutSteps → TakesAccesses → AreOfPins → (old : Parts) (closed : Closed) (before begun made after : Telling)
+      → (old.writer.course.started ≡ true → plays_now play old.bring_up ≡ true) → Accessed before begun Begin
+      → of_driver.Closes (plan_by means format) (verbs_for means format) play old.bring_up old.writer old.supply closed (Some begun) (Some made) → Accessed made after End
+      → IsStretchFrom (length before.journal) [] after.journal → IsClosed means format play old closed before after
+  run_closes keeps without accesses of_pins old closed before begun made after plays opened closes ended stretched = record {
     accesses = accesses_of run.events;
     are = accesses run.events;
-    went = subst (Went before after) laid run.went;
+    went = went;
     ended = closes.ended;
-    over = λ verbs graphs task all is under_way.
-        (let law = keeps verbs graphs task is in
-        law.ends_over all [] closes.ended made after ended (law.ends all [] old closes.ended begun made (law.opens all [] old before begun opened under_way) last));
+    tally = closes.tally;
+    over = λ verbs graphs task all is short under_way.
+        ((keeps verbs graphs task is.of_codecs).ends all old closes.ended closes.tally (stretch [] (accesses_of run.events)) before begun made after opened
+        (subst (λ (plays : Bool). Closes (plan_by means format) (verbs_for means format) plays old closes.ended closes.tally (Some begun) (Some made)) (sym is.plays_is) last) ended went
+        (never_wrapped before after (stretch [] (accesses_of run.events)) went short) under_way);
     counted = λ first count.
         (closes.jacks (told_in (first ++ stretch [] (accesses_of run.events)))
-        (counted_on old.jacks closes.ended.jacks last.made (stretch [] (accesses_of run.events)) (ap entries_in (sym laid) ∙ run.entries) first last.reads.counted count)
+        (counted_on old.bring_up.jacks closes.ended.jacks call.made (stretch [] (accesses_of run.events)) (ap entries_in (sym laid) ∙ run.entries) first call.counted count)
         (of_pins (entries_in (first ++ stretch [] (accesses_of run.events)))));
-    phase = closes.phase
-        ∙ ap (λ (tally : Tally). phase_with closes.ended tally (measures_of writer).limit) recorded
-        ∙ ap (λ (started : Bool). phase_if started closes.ended.phase writer.course.ran (measures_of writer).limit) fresh;
-    sent = closes.sent;
-    graphs = closes.graphs;
-    runs = closes.runs ∙ ap (λ (tally : Tally). tally.runs) recorded;
-    silences = closes.silences ∙ ap (λ (tally : Tally). tally.silences) recorded;
+    leaves = record {
+      phase = closes.phase;
+      sent = closes.sent;
+      graphs = closes.graphs;
+      runs = closes.runs;
+      silences = closes.silences;
+      silent = λ none. closes.recorded (ap (λ (plays : Bool). plays_now plays old.bring_up) none);
+      ready = ready (plays_now play old.bring_up) refl;
+    };
   } where
-    silent : plays_now play old ≡ false
-    silent = ap (λ (play : Bool). plays_now play old) none
+    ready : (now : Bool) → plays_now play old.bring_up ≡ now → closes.tally.course.started ≡ true → closes.ended.phase ≡ Ready
+    ready true is some = (closes.sounds is).phase ∙ (plays_then play old.bring_up is).1
+    ready false is some =
+        (let was : plays_now play old.bring_up ≡ true = plays (ap (λ (tally : Tally). tally.course.started) (sym (closes.recorded is)) ∙ some) in let never : false ≡ true = sym is ∙ was in cc)
 
-    last : Ends (plan_by means format) (verbs_for means format) old closes.ended (Some begun) (Some made)
-    last = closes.ends silent
+    call : Made old.bring_up closes.ended begun made
+    call = made_by old closed begun made closes
 
-    recorded : closes.tally ≡ tally_of writer
-    recorded = closes.recorded silent
+    last : Closes (plan_by means format) (verbs_for means format) play old closes.ended closes.tally (Some begun) (Some made)
+    last = record { ends = closes.ends; recorded = closes.recorded; sounds = closes.sounds }
 
-    run : Run last.made before after
-    run = run_of last.made before begun made after opened last.by.is.by ended
+    run : Run call.made before after
+    run = run_of call.made before begun made after opened call.by ended
 
     laid : run.events ≡ stretch [] (accesses_of run.events)
     laid = without before.journal run.events (subst (λ (journal : List Event). IsStretchFrom (length before.journal) [] journal) run.went.journal stretched)
 
-  -- a schedule's items and then the last call
-  pub both_drive : (schedule : Schedule) (old middle : BringUp) (writer : Writer) (closed : Closed) (before between after : Telling) → Goes means format (items_of schedule) old middle before between
-      → IsClosed means format middle writer closed between after → IsDriven means format schedule old writer closed before after
-  both_drive schedule old middle writer closed before between after goes closes = record {
+    went : Went before after (stretch [] (accesses_of run.events))
+    went = subst (Went before after) laid run.went
+
+  -- a schedule's items and then the last call, where the ring stayed
+  pub both_drive : (schedule : Schedule) (old middle : Parts) (closed : Closed) (before between after : Telling) → middle.writer.geometry ≡ old.writer.geometry → Goes means format play (items_of schedule) old middle before between
+      → IsClosed means format play middle closed between after → IsDriven means format play schedule old closed before after
+  both_drive schedule old middle closed before between after ring goes closes = record {
     events = goes.events ++ stretch [] closes.accesses;
     went = went_both before between after goes.events (stretch [] closes.accesses) goes.went closes.went;
     follows = record { followed = goes.events; closing = closes.accesses; items = goes.follow; accesses = closes.are; laid = refl };
+    last = stretch [] closes.accesses;
+    no_steps = stretch_no_steps closes.accesses closes.are;
     ended = closes.ended;
-    over = λ verbs graphs task all is under_way.
-        (closes.over verbs graphs task all is (goes.leads verbs graphs task all [] is
+    tally = closes.tally;
+    over = λ verbs graphs task all is short under_way.
+        (closes.over verbs graphs task all is short (goes.leads verbs graphs task all [] is (short_before between after (stretch [] closes.accesses) closes.went short)
         (subst (λ (lines : List DriverLine). UnderWay means format verbs graphs task all lines old before) (sym (append-nil (lines_of schedule))) under_way)));
     counted = λ first count.
         (subst (λ (events : List Event). Counts (told_in events) closed.jacks.items) (append_assoc first goes.events (stretch [] closes.accesses))
         (closes.counted (first ++ goes.events) (goes.counted first count)));
-    phase = closes.phase;
-    sent = closes.sent;
-    graphs = closes.graphs;
-    runs = closes.runs;
-    silences = closes.silences;
+    leaves = record {
+      phase = closes.leaves.phase ∙ ap (λ (geometry : Geometry). phase_with closes.ended closes.tally (measures geometry).limit) ring;
+      sent = closes.leaves.sent;
+      graphs = closes.leaves.graphs;
+      runs = closes.leaves.runs;
+      silences = closes.leaves.silences;
+      silent = λ none. (closes.leaves.silent none ∙ ap (λ (writer : Writer). tally_of writer) (goes.silent none));
+      ready = closes.leaves.ready;
+    };
   }
 
--- so for a rig, where what the setter means, the format and the writer stayed
-pub driven_by : (means means' : Means) (format : Format) (schedule : Schedule) (old middle : BringUp) (writer writer' : Writer) (closed : Closed) (rig rig' rig'' : Rig)
-    → means' ≡ means → format ≡ old.agenda.format → writer' ≡ writer → Ran means format (items_of schedule) old middle rig rig'
-    → IsClosed means' middle.agenda.format middle writer' closed (telling_of rig') (telling_of rig'') → IsDriven means format schedule old writer closed (telling_of rig) (telling_of rig'')
-driven_by means means' format schedule old middle writer writer' closed rig rig' rig'' same is stays ran closes =
+-- so for a rig, where what the setter means, the format, whether it plays and the ring stayed
+pub driven_by : (means means' : Means) (format : Format) (play play' : Bool) (schedule : Schedule) (old middle : Parts) (closed : Closed) (rig rig' rig'' : Rig)
+    → means' ≡ means → format ≡ old.bring_up.agenda.format → play' ≡ play → middle.writer.geometry ≡ old.writer.geometry → Ran means format play (items_of schedule) old middle rig rig'
+    → IsClosed means' middle.bring_up.agenda.format play' middle closed (telling_of rig') (telling_of rig'') → IsDriven means format play schedule old closed (telling_of rig) (telling_of rig'')
+driven_by means means' format play play' schedule old middle closed rig rig' rig'' same is plays ring ran closes =
     let before = telling_of rig' in
     let after = telling_of rig'' in
-    both_drive means format schedule old middle writer closed (telling_of rig) before after ran.goes
-    (subst (λ (m : Means). IsClosed m format middle writer closed before after) same
-    (subst (λ (f : Format). IsClosed means' f middle writer closed before after) (ran.goes.format_is ∙ sym is)
-    (subst (λ (w : Writer). IsClosed means' middle.agenda.format middle w closed before after) stays closes)))
+    both_drive means format play schedule old middle closed (telling_of rig) before after ring ran.goes
+    (subst (λ (m : Means). IsClosed m format play middle closed before after) same
+    (subst (λ (f : Format). IsClosed means' f play middle closed before after) (ran.goes.format_is ∙ sym is)
+    (subst (λ (p : Bool). IsClosed means' middle.bring_up.agenda.format p middle closed before after) plays closes)))

@@ -1,7 +1,10 @@
 pub mod Events
+pub mod LinkFrames
+pub mod Called
 pub mod Goes
 pub mod Closes
 pub mod Ran
 pub mod Counting
 pub mod Phases
+pub mod Gone
 pub mod Walked

@@ -2,8 +2,10 @@
 use Rattle.std.specs.Prelude.{◌≡◌, ℕ}
 use Rattle.period_writer.specs.declared.geometry.Geometry.{Geometry}
 use Rattle.period_writer.specs.declared.writer.Writer.{Writer}
+use Rattle.period_writer.specs.Writers.{ring_of}
 use Rattle.codec_bring_up.specs.declared.bringing.BringUp.{BringUp}
 use Rattle.audio_driver.specs.Opening.{IsOpened}
+use Rattle.stream_rest.specs.Resting.{AreApartFrom}
 use Rattle.scheduled_runs.specs.Walks.{walk_format}
 
 -- it was just opened, for a FIFO of so many bytes and so many calls
@@ -14,3 +16,5 @@ pub record IsFresh (fifo calls : ℕ) (bring_up : BringUp) (writer : Writer) : T
   pub periods : geometry.periods ≡ 4
   pub period : geometry.period ≡ 8
   pub fifo_is : geometry.fifo ≡ fifo
+  -- its ring lies apart from RIRB
+  pub apart : AreApartFrom (ring_of writer) bring_up.engine.rirb.address

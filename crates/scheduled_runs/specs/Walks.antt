@@ -110,6 +110,6 @@ pub record IsWalked (machine : Machine) (plans : List Plan) (schedule : Schedule
   pub ring : IsWalkRing machine geometry
   pub blocks : Blocks
   pub state : State
-  pub driven : IsWalkedBy machine schedule (task_of walk_format machine plans geometry blocks) state (telling_from REGION_BYTES machine (journal_of played)) played
+  pub driven : IsWalkedBy machine schedule (task_of walk_format machine plans geometry false [] blocks) state (telling_from REGION_BYTES machine (journal_of played)) played
   -- jacks count what was read of RIRB that came unasked
   pub jacks : Counts (told_in (journal_of played)) played.jacks

@@ -2,7 +2,7 @@
 ghost use Rattle.std.specs.Prelude.{◌≡◌, ◌≤◌, ◌<◌, ◌+◌, [], ◌∷◌, false, IfOk, OnOk};
 ghost use Rattle.hda_schedule.specs.declared.schedule.Item.TheVariants.{Drive};
 ghost use Rattle.period_writer.specs.Rings.{ring_bytes};
-ghost use Rattle.codec_bring_up.specs.Calls.{Leads, IsKept};
+ghost use Rattle.told_playing.specs.Keeping.{Calls};
 ghost use Rattle.rig.specs.Rigs.{telling_of, setting_of};
 ghost use Rattle.scheduled_runs.specs.Going as spec;
 
@@ -15,7 +15,7 @@ use jack_counts::events_are_of_pins;
 use rig::{Rig, runs_follow};
 use route_setup::Setter;
 use std::alloc::AllocError;
-use told_bring_up::bring_ups_keep_to_progress;
+use told_playing::drivers_keep_to_progress;
 
 /// The accesses for which a call asks room.
 const CALL_ACCESSES: u32 = 400;
@@ -29,13 +29,11 @@ fn call<T: Setter, P: Platform>(
     driver: &mut Driver<T>,
     line: &DriverLine,
 ) -> Result<Phase, AllocError>
-    requires silent { driver.old.play ≡ false }
     requires few { driver.old.calls < driver.old.runs }
     requires room { 400 ≤ P.spare_accesses platform.old }
     requires bytes_room { ring_bytes driver.old.writer.geometry.periods driver.old.writer.geometry.period + 8192 ≤ P.spare_bytes platform.old }
-    ensures leads { OnOk result (Leads (λ graph. T.IsPlanBy driver.old.setter graph driver.old.bring_up.agenda.format) (λ graph plan. T.verbs_by driver.old.setter graph plan driver.old.bring_up.agenda.format TAG) line.now.irq driver.old.bring_up driver.new.bring_up (P.told platform.old) (P.told platform.new)) }
-    ensures kept { IsKept driver.old.bring_up driver.new.bring_up }
-    ensures writer { driver.new.writer ≡ driver.old.writer }
+    ensures leads { OnOk result (Calls (λ graph. T.IsPlanBy driver.old.setter graph driver.old.bring_up.agenda.format) (λ graph plan. T.verbs_by driver.old.setter graph plan driver.old.bring_up.agenda.format TAG) driver.old.play line.now.irq line.now.budget (spec.parts_of driver.old.bring_up driver.old.writer driver.old.supply) (spec.parts_of driver.new.bring_up driver.new.writer driver.new.supply) (P.told platform.old) (P.told platform.new)) }
+    ensures geometry { driver.new.writer.geometry ≡ driver.old.writer.geometry }
     ensures setter { driver.new.setter ≡ driver.old.setter }
     ensures play { driver.new.play ≡ driver.old.play }
     ensures runs { driver.new.runs ≡ driver.old.runs }
@@ -60,17 +58,16 @@ pub(crate) fn run_line<T: Setter>(
     bytes: u32,
 ) -> Result<(), AllocError>
     requires between { (setting_of rig.old).in_run ≡ false }
-    requires silent { driver.old.play ≡ false }
     requires few { driver.old.calls < driver.old.runs }
     requires room { ring_bytes driver.old.writer.geometry.periods driver.old.writer.geometry.period + 8192 ≤ bytes }
-    ensures ran { OnOk result (spec.Ran (record { IsPlanBy = T.IsPlanBy driver.old.setter; verbs_by = T.verbs_by driver.old.setter; IsOpenBy = T.IsOpenBy driver.old.setter }) driver.old.bring_up.agenda.format (Drive line.now ∷ []) driver.old.bring_up driver.new.bring_up rig.old rig.new) }
-    ensures writer { OnOk result (driver.new.writer ≡ driver.old.writer) }
+    ensures ran { OnOk result (spec.Ran (record { IsPlanBy = T.IsPlanBy driver.old.setter; verbs_by = T.verbs_by driver.old.setter; IsOpenBy = T.IsOpenBy driver.old.setter }) driver.old.bring_up.agenda.format driver.old.play (Drive line.now ∷ []) (spec.parts_of driver.old.bring_up driver.old.writer driver.old.supply) (spec.parts_of driver.new.bring_up driver.new.writer driver.new.supply) rig.old rig.new) }
+    ensures geometry { OnOk result (driver.new.writer.geometry ≡ driver.old.writer.geometry) }
     ensures setter { OnOk result (driver.new.setter ≡ driver.old.setter) }
     ensures play { OnOk result (driver.new.play ≡ driver.old.play) }
     ensures runs { OnOk result (driver.new.runs ≡ driver.old.runs) }
     ensures calls { OnOk result (driver.new.calls ≡ driver.old.calls + 1) }
 {
-    bring_ups_keep_to_progress::<T>();
+    drivers_keep_to_progress::<T>();
     runs_follow();
     rig.begin(line.groups.as_slice(), CALL_ACCESSES, bytes)?;
     call(rig, driver, line)?;
@@ -88,13 +85,11 @@ pub(crate) fn run_last<T: Setter + Drop>(
     bytes: u32,
 ) -> Result<Closed, AllocError>
     requires between { (setting_of rig.old).in_run ≡ false }
-    requires silent { driver.play ≡ false }
-    requires fresh { driver.writer.course.started ≡ false }
     requires room { ring_bytes driver.writer.geometry.periods driver.writer.geometry.period + 8192 ≤ bytes }
-    ensures closed { IfOk result (λ closed. spec.IsClosed (record { IsPlanBy = T.IsPlanBy driver.setter; verbs_by = T.verbs_by driver.setter; IsOpenBy = T.IsOpenBy driver.setter }) driver.bring_up.agenda.format driver.bring_up driver.writer closed (telling_of rig.old) (telling_of rig.new)) }
+    ensures closed { IfOk result (λ closed. spec.IsClosed (record { IsPlanBy = T.IsPlanBy driver.setter; verbs_by = T.verbs_by driver.setter; IsOpenBy = T.IsOpenBy driver.setter }) driver.bring_up.agenda.format driver.play (spec.parts_of driver.bring_up driver.writer driver.supply) closed (telling_of rig.old) (telling_of rig.new)) }
     ensures machine { OnOk result ((setting_of rig.new).machine ≡ (setting_of rig.old).machine) }
 {
-    bring_ups_keep_to_progress::<T>();
+    drivers_keep_to_progress::<T>();
     runs_follow();
     events_are_of_pins();
     match rig.begin(&[], CALL_ACCESSES, bytes) {

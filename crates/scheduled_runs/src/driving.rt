@@ -24,11 +24,9 @@ pub(crate) fn drive<T: Setter + Drop>(
     bytes: u32,
 ) -> Result<Closed, AllocError>
     requires between { (setting_of rig.old).in_run ≡ false }
-    requires silent { driver.play ≡ false }
-    requires fresh { driver.writer.course.started ≡ false }
     requires few { driver.calls + length (lines_of schedule.now) ≤ driver.runs }
     requires room { ring_bytes driver.writer.geometry.periods driver.writer.geometry.period + 8192 ≤ bytes }
-    ensures driven { IfOk result (λ closed. spec.IsDriven (record { IsPlanBy = T.IsPlanBy driver.setter; verbs_by = T.verbs_by driver.setter; IsOpenBy = T.IsOpenBy driver.setter }) driver.bring_up.agenda.format schedule.now driver.bring_up driver.writer closed (telling_of rig.old) (telling_of rig.new)) }
+    ensures driven { IfOk result (λ closed. spec.IsDriven (record { IsPlanBy = T.IsPlanBy driver.setter; verbs_by = T.verbs_by driver.setter; IsOpenBy = T.IsOpenBy driver.setter }) driver.bring_up.agenda.format driver.play schedule.now (spec.parts_of driver.bring_up driver.writer driver.supply) closed (telling_of rig.old) (telling_of rig.new)) }
     ensures machine { OnOk result ((setting_of rig.new).machine ≡ (setting_of rig.old).machine) }
 {
     match run_schedule(rig, &mut driver, schedule, bytes) {

@@ -13,7 +13,7 @@ use hda_schedule::{Item, Part, Schedule};
 use rig::{Rig, pieces_follow};
 use route_setup::Setter;
 use std::alloc::AllocError;
-use told_bring_up::bring_ups_keep_to_progress;
+use told_playing::drivers_keep_to_progress;
 
 /// Runs an item: a step of the device, or a call of the driver.
 ///
@@ -26,17 +26,16 @@ fn run_item<T: Setter>(
     bytes: u32,
 ) -> Result<(), AllocError>
     requires between { (setting_of rig.old).in_run ≡ false }
-    requires silent { driver.old.play ≡ false }
     requires few { driver.old.calls + length (lines_in (item.now ∷ [])) ≤ driver.old.runs }
     requires room { ring_bytes driver.old.writer.geometry.periods driver.old.writer.geometry.period + 8192 ≤ bytes }
-    ensures ran { OnOk result (spec.Ran (record { IsPlanBy = T.IsPlanBy driver.old.setter; verbs_by = T.verbs_by driver.old.setter; IsOpenBy = T.IsOpenBy driver.old.setter }) driver.old.bring_up.agenda.format (item.now ∷ []) driver.old.bring_up driver.new.bring_up rig.old rig.new) }
-    ensures writer { OnOk result (driver.new.writer ≡ driver.old.writer) }
+    ensures ran { OnOk result (spec.Ran (record { IsPlanBy = T.IsPlanBy driver.old.setter; verbs_by = T.verbs_by driver.old.setter; IsOpenBy = T.IsOpenBy driver.old.setter }) driver.old.bring_up.agenda.format driver.old.play (item.now ∷ []) (spec.parts_of driver.old.bring_up driver.old.writer driver.old.supply) (spec.parts_of driver.new.bring_up driver.new.writer driver.new.supply) rig.old rig.new) }
+    ensures geometry { OnOk result (driver.new.writer.geometry ≡ driver.old.writer.geometry) }
     ensures setter { OnOk result (driver.new.setter ≡ driver.old.setter) }
     ensures play { OnOk result (driver.new.play ≡ driver.old.play) }
     ensures runs { OnOk result (driver.new.runs ≡ driver.old.runs) }
     ensures calls { OnOk result (driver.new.calls ≡ driver.old.calls + length (lines_in (item.now ∷ []))) }
 {
-    bring_ups_keep_to_progress::<T>();
+    drivers_keep_to_progress::<T>();
     pieces_follow();
     match item {
         Item::Device(step) => rig.step(step),
@@ -55,11 +54,10 @@ fn run_items<T: Setter>(
     bytes: u32,
 ) -> Result<(), AllocError>
     requires between { (setting_of rig.old).in_run ≡ false }
-    requires silent { driver.old.play ≡ false }
     requires few { driver.old.calls + length (lines_in items.now) ≤ driver.old.runs }
     requires room { ring_bytes driver.old.writer.geometry.periods driver.old.writer.geometry.period + 8192 ≤ bytes }
-    ensures ran { OnOk result (spec.Ran (record { IsPlanBy = T.IsPlanBy driver.old.setter; verbs_by = T.verbs_by driver.old.setter; IsOpenBy = T.IsOpenBy driver.old.setter }) driver.old.bring_up.agenda.format items.now driver.old.bring_up driver.new.bring_up rig.old rig.new) }
-    ensures writer { OnOk result (driver.new.writer ≡ driver.old.writer) }
+    ensures ran { OnOk result (spec.Ran (record { IsPlanBy = T.IsPlanBy driver.old.setter; verbs_by = T.verbs_by driver.old.setter; IsOpenBy = T.IsOpenBy driver.old.setter }) driver.old.bring_up.agenda.format driver.old.play items.now (spec.parts_of driver.old.bring_up driver.old.writer driver.old.supply) (spec.parts_of driver.new.bring_up driver.new.writer driver.new.supply) rig.old rig.new) }
+    ensures geometry { OnOk result (driver.new.writer.geometry ≡ driver.old.writer.geometry) }
     ensures setter { OnOk result (driver.new.setter ≡ driver.old.setter) }
     ensures play { OnOk result (driver.new.play ≡ driver.old.play) }
     ensures runs { OnOk result (driver.new.runs ≡ driver.old.runs) }
@@ -83,11 +81,10 @@ fn run_part<T: Setter>(
     bytes: u32,
 ) -> Result<(), AllocError>
     requires between { (setting_of rig.old).in_run ≡ false }
-    requires silent { driver.old.play ≡ false }
     requires few { driver.old.calls + length (lines_in (items_in part.now)) ≤ driver.old.runs }
     requires room { ring_bytes driver.old.writer.geometry.periods driver.old.writer.geometry.period + 8192 ≤ bytes }
-    ensures ran { OnOk result (spec.Ran (record { IsPlanBy = T.IsPlanBy driver.old.setter; verbs_by = T.verbs_by driver.old.setter; IsOpenBy = T.IsOpenBy driver.old.setter }) driver.old.bring_up.agenda.format (items_in part.now) driver.old.bring_up driver.new.bring_up rig.old rig.new) }
-    ensures writer { OnOk result (driver.new.writer ≡ driver.old.writer) }
+    ensures ran { OnOk result (spec.Ran (record { IsPlanBy = T.IsPlanBy driver.old.setter; verbs_by = T.verbs_by driver.old.setter; IsOpenBy = T.IsOpenBy driver.old.setter }) driver.old.bring_up.agenda.format driver.old.play (items_in part.now) (spec.parts_of driver.old.bring_up driver.old.writer driver.old.supply) (spec.parts_of driver.new.bring_up driver.new.writer driver.new.supply) rig.old rig.new) }
+    ensures geometry { OnOk result (driver.new.writer.geometry ≡ driver.old.writer.geometry) }
     ensures setter { OnOk result (driver.new.setter ≡ driver.old.setter) }
     ensures play { OnOk result (driver.new.play ≡ driver.old.play) }
     ensures runs { OnOk result (driver.new.runs ≡ driver.old.runs) }
@@ -111,11 +108,10 @@ pub(crate) fn run_schedule<T: Setter>(
     bytes: u32,
 ) -> Result<(), AllocError>
     requires between { (setting_of rig.old).in_run ≡ false }
-    requires silent { driver.old.play ≡ false }
     requires few { driver.old.calls + length (lines_of schedule.now) ≤ driver.old.runs }
     requires room { ring_bytes driver.old.writer.geometry.periods driver.old.writer.geometry.period + 8192 ≤ bytes }
-    ensures ran { OnOk result (spec.Ran (record { IsPlanBy = T.IsPlanBy driver.old.setter; verbs_by = T.verbs_by driver.old.setter; IsOpenBy = T.IsOpenBy driver.old.setter }) driver.old.bring_up.agenda.format (items_of schedule.now) driver.old.bring_up driver.new.bring_up rig.old rig.new) }
-    ensures writer { OnOk result (driver.new.writer ≡ driver.old.writer) }
+    ensures ran { OnOk result (spec.Ran (record { IsPlanBy = T.IsPlanBy driver.old.setter; verbs_by = T.verbs_by driver.old.setter; IsOpenBy = T.IsOpenBy driver.old.setter }) driver.old.bring_up.agenda.format driver.old.play (items_of schedule.now) (spec.parts_of driver.old.bring_up driver.old.writer driver.old.supply) (spec.parts_of driver.new.bring_up driver.new.writer driver.new.supply) rig.old rig.new) }
+    ensures geometry { OnOk result (driver.new.writer.geometry ≡ driver.old.writer.geometry) }
     ensures setter { OnOk result (driver.new.setter ≡ driver.old.setter) }
     ensures play { OnOk result (driver.new.play ≡ driver.old.play) }
     ensures runs { OnOk result (driver.new.runs ≡ driver.old.runs) }

@@ -6,6 +6,7 @@ mod calls;
 mod driving;
 mod items;
 mod lines;
+mod opening;
 mod walking;
 
 pub use walking::{walk, walk_format};

@@ -11,14 +11,14 @@ ghost use Rattle.scheduled_runs.specs.Walks as spec;
 
 use crate::driving::drive;
 use crate::lines::line_count;
-use audio_driver::{Driver, OpenFault};
-use dma_pool::{MOST_GRANULES, Pool};
+use crate::opening::open_driver;
+use audio_driver::Driver;
 use driver_progress::Phase;
 use hda_files::Machine;
 use hda_items::Items;
 use hda_schedule::Schedule;
 use machine_tasks::{
-    a_full_pool_has_room, command_count, machines_have_tasks, opened_drivers_can_begin,
+    command_count, machines_have_tasks, machines_rest, opened_drivers_can_begin,
     read_machines_are_whole,
 };
 use period_writer::Geometry;
@@ -28,7 +28,7 @@ use route_setup::Analog;
 use sound_report::{PlayFault, Played};
 use std::alloc::{AllocError, Global};
 use stream_format::{Bits, Format, Rate};
-use told_bring_up::bring_ups_keep_to_progress;
+use told_playing::drivers_keep_to_progress;
 use wav_reader::{Supply, Wav};
 
 /// How many periods the ring of a driver has that plays nothing.
@@ -74,16 +74,11 @@ fn silent_driver(alloc: Global, fifo: u16, calls: u32) -> Result<Driver<Analog>,
     ensures calls { IfOk result (λ driver. driver.calls ≡ 0) }
     ensures runs { IfOk result (λ driver. driver.runs ≡ calls) }
 {
-    a_full_pool_has_room();
     let Ok(geometry) = Geometry::new(PERIODS, PERIOD, fifo, walk_format()) else {
         unreachable!();
     };
-    let pool = Pool::new(alloc, MOST_GRANULES)?;
-    match Driver::open(alloc, pool, geometry, no_sound(alloc), calls, false) {
-        Ok(driver) => Ok(driver),
-        Err(OpenFault::OutOfMemory) => Err(AllocError),
-        Err(OpenFault::NoRun) => unreachable!(),
-    }
+    let driver = open_driver(alloc, geometry, no_sound(alloc), calls, false)?;
+    Ok(driver)
 }
 
 /// Why a walk ended before it was done, where the driver came so far and sent so many of so many commands.
@@ -137,8 +132,9 @@ pub fn walk(
 {
     read_machines_are_whole();
     machines_have_tasks();
+    machines_rest();
     opened_drivers_can_begin();
-    bring_ups_keep_to_progress::<Analog>();
+    drivers_keep_to_progress::<Analog>();
     let commands = command_count(
         alloc,
         machine.codecs.as_slice(),

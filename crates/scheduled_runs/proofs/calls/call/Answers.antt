@@ -1,26 +1,31 @@
-use Rattle.std.proofs.Common.{Bool, sym, ap, subst}
+use Rattle.std.proofs.Common.{Bool, true, false, sym, subst}
 use Rattle.std.specs.Prelude.{OnOk}
-use Rattle.codec_bring_up.specs.Calls.{Leads}
-use Rattle.audio_driver.specs.States.{plays_now}
 use Rattle.driver_commands.specs.declared.answers.TheConstants.{TAG}
+use Rattle.told_playing.specs.Keeping.{Calls}
+use Rattle.scheduled_runs.specs.Going.{parts_of}
+use Rattle.scheduled_runs.proofs.Called.{called}
 use Rattle.scheduled_runs.proofs.calls.call.Goals as goal
 
 pub returns-then-line-clause-leads : goal.returns-then-line-clause-leads
 returns-then-line-clause-leads g c =
     let driver = c.args.driver.now in
+    let now = c.irq.new.self in
     let format = driver.bring_up.agenda.format in
-    subst (λ (irq : Bool). OnOk c.irq.result (Leads (λ graph. g.T.Setter.IsPlanBy driver.setter graph format) (λ graph plan. g.T.Setter.verbs_by driver.setter graph plan format TAG) irq driver.bring_up c.irq.new.self.bring_up (g.P.Platform.told c.args.platform.now) (g.P.Platform.told c.irq.new.platform)))
-    (sym c.if-line.true) (c.irq.ensures.leads (ap (λ (play : Bool). plays_now play driver.bring_up) c.requires.silent))
+    let old = parts_of driver.bring_up driver.writer driver.supply in
+    let new = parts_of now.bring_up now.writer now.supply in
+    subst (λ (irq : Bool). OnOk c.irq.result (Calls (λ graph. g.T.Setter.IsPlanBy driver.setter graph format) (λ graph plan. g.T.Setter.verbs_by driver.setter graph plan format TAG) driver.play irq c.args.line.now.budget old new (g.P.Platform.told c.args.platform.now) (g.P.Platform.told c.irq.new.platform)))
+    (sym c.if-line.true)
+    (called (λ graph. g.T.Setter.IsPlanBy driver.setter graph format) (λ graph plan. g.T.Setter.verbs_by driver.setter graph plan format TAG) driver.play true c.args.line.now.budget old new (g.P.Platform.told c.args.platform.now) (g.P.Platform.told c.irq.new.platform) c.irq.result
+    c.irq.ensures.leads c.irq.ensures.kept c.irq.ensures.writer c.irq.ensures.supply c.irq.ensures.sounds)
 
 pub returns-else-line-clause-leads : goal.returns-else-line-clause-leads
 returns-else-line-clause-leads g c =
     let driver = c.args.driver.now in
+    let now = c.run.new.self in
     let format = driver.bring_up.agenda.format in
-    subst (λ (irq : Bool). OnOk c.run.result (Leads (λ graph. g.T.Setter.IsPlanBy driver.setter graph format) (λ graph plan. g.T.Setter.verbs_by driver.setter graph plan format TAG) irq driver.bring_up c.run.new.self.bring_up (g.P.Platform.told c.args.platform.now) (g.P.Platform.told c.run.new.platform)))
-    (sym c.if-line.false) (c.run.ensures.leads (ap (λ (play : Bool). plays_now play driver.bring_up) c.requires.silent))
-
-pub returns-then-line-clause-writer : goal.returns-then-line-clause-writer
-returns-then-line-clause-writer g c = c.irq.ensures.writer (ap (λ (play : Bool). plays_now play c.args.driver.now.bring_up) c.requires.silent)
-
-pub returns-else-line-clause-writer : goal.returns-else-line-clause-writer
-returns-else-line-clause-writer g c = c.run.ensures.writer (ap (λ (play : Bool). plays_now play c.args.driver.now.bring_up) c.requires.silent)
+    let old = parts_of driver.bring_up driver.writer driver.supply in
+    let new = parts_of now.bring_up now.writer now.supply in
+    subst (λ (irq : Bool). OnOk c.run.result (Calls (λ graph. g.T.Setter.IsPlanBy driver.setter graph format) (λ graph plan. g.T.Setter.verbs_by driver.setter graph plan format TAG) driver.play irq c.args.line.now.budget old new (g.P.Platform.told c.args.platform.now) (g.P.Platform.told c.run.new.platform)))
+    (sym c.if-line.false)
+    (called (λ graph. g.T.Setter.IsPlanBy driver.setter graph format) (λ graph plan. g.T.Setter.verbs_by driver.setter graph plan format TAG) driver.play false c.args.line.now.budget old new (g.P.Platform.told c.args.platform.now) (g.P.Platform.told c.run.new.platform) c.run.result
+    c.run.ensures.leads c.run.ensures.kept c.run.ensures.writer c.run.ensures.supply c.run.ensures.sounds)

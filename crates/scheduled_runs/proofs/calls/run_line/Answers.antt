@@ -3,7 +3,7 @@ use Rattle.hda_schedule.specs.declared.schedule.Group.{Group}
 use Rattle.rig.specs.declared.setting.Setting.{Setting}
 use Rattle.rig.specs.Rigs.{telling_of}
 use Rattle.rig.specs.Stretches.{IsStretchFrom}
-use Rattle.scheduled_runs.specs.Going.{Means}
+use Rattle.scheduled_runs.specs.Going.{Means, parts_of}
 use Rattle.scheduled_runs.proofs.Goes.{Keeps, line_goes}
 use Rattle.scheduled_runs.proofs.calls.run_line.Goals as goal
 
@@ -12,7 +12,8 @@ returns-clause-ran g c =
     let driver = c.args.driver.now in
     let format = driver.bring_up.agenda.format in
     let means : Means = record { IsPlanBy = g.T.Setter.IsPlanBy driver.setter; verbs_by = g.T.Setter.verbs_by driver.setter; IsOpenBy = g.T.Setter.IsOpenBy driver.setter } in
-    let keeps : Keeps means format = λ verbs graphs task is. c.bring_ups_keep_to_progress.ensures driver.setter format verbs graphs task is.of_codecs in
+    let keeps : Keeps means format = λ verbs graphs task is. c.drivers_keep_to_progress.ensures driver.setter format verbs graphs task is in
+    let now = c.call.new.driver in
     let before = telling_of c.args.rig.now in
     let after = telling_of c.end.new.self in
     let begun = c.in_ok-call.ensures.fixed ∙ c.in_ok-begin.ensures.setting in
@@ -20,8 +21,8 @@ returns-clause-ran g c =
     subst (λ (groups : List Group). IsStretchFrom (length before.journal) groups after.journal) c.as_slice.ensures
     (subst (λ (setting : Setting). IsStretchFrom setting.begun setting.groups after.journal) begun c.end.ensures.stretch) in
     record {
-      goes = line_goes means format keeps c.runs_follow.ensures.line c.args.line.now driver.bring_up c.call.new.driver.bring_up before (telling_of c.begin.new.self) (telling_of c.call.new.platform) after
-          c.in_ok-begin.ensures.told.is c.in_ok-call.ensures.leads c.in_ok-call.ensures.kept c.end.ensures.told.is stretched;
+      goes = line_goes means format driver.play keeps c.runs_follow.ensures.line c.args.line.now (parts_of driver.bring_up driver.writer driver.supply) (parts_of now.bring_up now.writer now.supply) before (telling_of c.begin.new.self)
+          (telling_of c.call.new.platform) after c.in_ok-begin.ensures.told.is c.in_ok-call.ensures.leads c.end.ensures.told.is stretched;
       between = ap (λ (setting : Setting). setting.in_run) c.end.ensures.setting;
       machine = ap (λ (setting : Setting). setting.machine) c.end.ensures.setting ∙ ap (λ (setting : Setting). setting.machine) begun;
     }

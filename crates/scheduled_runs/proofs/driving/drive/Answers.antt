@@ -1,6 +1,5 @@
-use Rattle.std.proofs.Common.{◌≡◌, ap, refl, ◌∙◌}
-use Rattle.period_writer.specs.declared.writer.Writer.{Writer}
-use Rattle.scheduled_runs.specs.Going.{Means}
+use Rattle.std.proofs.Common.{◌≡◌, ap, refl}
+use Rattle.scheduled_runs.specs.Going.{Means, parts_of}
 use Rattle.scheduled_runs.proofs.Ran.{if_ok}
 use Rattle.scheduled_runs.proofs.Closes.{driven_by}
 use Rattle.scheduled_runs.proofs.driving.drive.Goals as goal
@@ -13,12 +12,6 @@ returns-in-Ok-clause-driven g c =
     let means' : Means = record { IsPlanBy = g.T.Setter.IsPlanBy now.setter; verbs_by = g.T.Setter.verbs_by now.setter; IsOpenBy = g.T.Setter.IsOpenBy now.setter } in
     let same : means' ≡ means = ap (λ setter. record { IsPlanBy = g.T.Setter.IsPlanBy setter; verbs_by = g.T.Setter.verbs_by setter; IsOpenBy = g.T.Setter.IsOpenBy setter }) c.in-Ok.ensures.setter in
     if_ok c.run_last.result
-    (λ closed is. driven_by means means' driver.bring_up.agenda.format c.args.schedule.now driver.bring_up now.bring_up driver.writer now.writer closed c.args.rig.now c.run_schedule.new.rig c.run_last.new.rig
-    same refl c.in-Ok.ensures.writer c.in-Ok.ensures.ran is)
+    (λ closed is. driven_by means means' driver.bring_up.agenda.format driver.play now.play c.args.schedule.now (parts_of driver.bring_up driver.writer driver.supply) (parts_of now.bring_up now.writer now.supply) closed c.args.rig.now c.run_schedule.new.rig c.run_last.new.rig
+    same refl c.in-Ok.ensures.play c.in-Ok.ensures.geometry c.in-Ok.ensures.ran is)
     c.run_last.ensures.closed
-
-pub run_last-requires-clause-silent : goal.run_last-requires-clause-silent
-run_last-requires-clause-silent g c = c.in-Ok.ensures.play ∙ c.requires.silent
-
-pub run_last-requires-clause-fresh : goal.run_last-requires-clause-fresh
-run_last-requires-clause-fresh g c = ap (λ (writer : Writer). writer.course.started) c.in-Ok.ensures.writer ∙ c.requires.fresh

@@ -3,7 +3,7 @@ use Rattle.std.specs.Prelude.{OnOk}
 use Rattle.hda_schedule.specs.declared.schedule.Item.{Item}
 use Rattle.rig.specs.declared.setting.Setting.{Setting}
 use Rattle.rig.specs.Rigs.{telling_of}
-use Rattle.scheduled_runs.specs.Going.{Means, Ran}
+use Rattle.scheduled_runs.specs.Going.{Means, Ran, parts_of}
 use Rattle.scheduled_runs.proofs.Goes.{Keeps, step_goes}
 use Rattle.scheduled_runs.proofs.Ran.{on_ok}
 use Rattle.scheduled_runs.proofs.items.run_item.Goals as goal
@@ -13,11 +13,12 @@ returns-in-Device-clause-ran g c =
     let driver = c.args.driver.now in
     let format = driver.bring_up.agenda.format in
     let means : Means = record { IsPlanBy = g.T.Setter.IsPlanBy driver.setter; verbs_by = g.T.Setter.verbs_by driver.setter; IsOpenBy = g.T.Setter.IsOpenBy driver.setter } in
-    let keeps : Keeps means format = λ verbs graphs task is. c.bring_ups_keep_to_progress.ensures driver.setter format verbs graphs task is.of_codecs in
+    let keeps : Keeps means format = λ verbs graphs task is. c.drivers_keep_to_progress.ensures driver.setter format verbs graphs task is in
     let step = c.in-Device.step in
-    subst (λ (item : Item). OnOk c.step.result (Ran means format (item ∷ []) driver.bring_up driver.bring_up c.args.rig.now c.step.new.self)) (sym c.in-Device.is)
+    let parts = parts_of driver.bring_up driver.writer driver.supply in
+    subst (λ (item : Item). OnOk c.step.result (Ran means format driver.play (item ∷ []) parts parts c.args.rig.now c.step.new.self)) (sym c.in-Device.is)
     (on_ok c.step.result (λ went. record {
-      goes = step_goes means format keeps step driver.bring_up (telling_of c.args.rig.now) (telling_of c.step.new.self) (c.pieces_follow.ensures.step step) went;
+      goes = step_goes means format driver.play keeps step parts (telling_of c.args.rig.now) (telling_of c.step.new.self) (c.pieces_follow.ensures.step step) went;
       between = ap (λ (setting : Setting). setting.in_run) c.step.ensures.setting ∙ c.requires.between;
       machine = ap (λ (setting : Setting). setting.machine) c.step.ensures.setting;
     }) c.step.ensures.went)

@@ -1,7 +1,7 @@
 use Rattle.std.proofs.Common.{◌≡◌, ◌+◌, List, [], ◌∷◌, ◌++◌, take, get_or, ap, sym, subst, ◌∙◌, refl, arith}
 use Rattle.std.proofs.lemmas.List.{take_more}
 use Rattle.hda_schedule.specs.declared.schedule.Item.{Item}
-use Rattle.scheduled_runs.specs.Going.{Means, Ran}
+use Rattle.scheduled_runs.specs.Going.{Means, Ran, parts_of}
 use Rattle.scheduled_runs.proofs.Ran.{ran_none, ran_both}
 use Rattle.scheduled_runs.proofs.Counting.{count_more, count_within, one_line}
 use Rattle.scheduled_runs.proofs.items.run_items.Goals as goal
@@ -10,8 +10,8 @@ pub loop-item-init : goal.loop-item-init
 loop-item-init g c =
     let driver = c.args.driver.now in
     record {
-      ran = ran_none _ driver.bring_up.agenda.format c.pieces_follow.ensures.none driver.bring_up c.args.rig.now c.requires.between;
-      writer = refl;
+      ran = ran_none _ driver.bring_up.agenda.format driver.play c.pieces_follow.ensures.none (parts_of driver.bring_up driver.writer driver.supply) c.args.rig.now c.requires.between;
+      geometry = refl;
       setter = refl;
       play = refl;
       runs = refl;
@@ -38,13 +38,15 @@ loop-item-preserved g c =
     let item : c.item-item.result ≡ get_or items i c.item-item.result = c.item-item.is in
     let turn : take (i + 1) items ≡ take i items ++ c.item-item.result ∷ [] = take_more items i c.item-item.result c.loop-item-test.true ∙ ap (λ (one : Item). take i items ++ one ∷ []) (sym item) in
     let step = c.in_ok-run_item.ensures in
+    let next = c.run_item.new.driver in
+    let old = parts_of driver.bring_up driver.writer driver.supply in
     let more = count_more items i c.item-item.result c.loop-item-test.true in
     let here = ap one_line item in
     record {
-      ran = subst (λ (front : List Item). Ran means format front driver.bring_up c.run_item.new.driver.bring_up c.args.rig.now c.run_item.new.rig) (sym turn)
-          (ran_both means means' format c.pieces_follow.ensures.both (take i items) (c.item-item.result ∷ []) driver.bring_up now.bring_up c.run_item.new.driver.bring_up c.args.rig.now c.loop-item.rig c.run_item.new.rig
-          same refl c.loop-item.invariant.ran step.ran);
-      writer = step.writer ∙ c.loop-item.invariant.writer;
+      ran = subst (λ (front : List Item). Ran means format driver.play front old (parts_of next.bring_up next.writer next.supply) c.args.rig.now c.run_item.new.rig) (sym turn)
+          (ran_both means means' format driver.play now.play c.pieces_follow.ensures.both (take i items) (c.item-item.result ∷ []) old (parts_of now.bring_up now.writer now.supply) (parts_of next.bring_up next.writer next.supply) c.args.rig.now c.loop-item.rig c.run_item.new.rig
+          same refl c.loop-item.invariant.play c.loop-item.invariant.ran step.ran);
+      geometry = step.geometry ∙ c.loop-item.invariant.geometry;
       play = step.play ∙ c.loop-item.invariant.play;
       setter = step.setter ∙ c.loop-item.invariant.setter;
       runs = step.runs ∙ c.loop-item.invariant.runs;

@@ -1,14 +1,14 @@
 use Rattle.std.proofs.Common.{◌≡◌, ◌+◌, length, take}
 use Rattle.scheduled_runs.specs.Lines.{lines_in}
-use Rattle.scheduled_runs.specs.Going.{Ran}
+use Rattle.scheduled_runs.specs.Going.{Ran, parts_of}
 use Rattle.scheduled_runs.proofs.items.run_items.Given as goal
 
 -- the first of them were run
 abbrev pub invariant-loop-item : goal.invariant-loop-item
 invariant-loop-item g l = record {
-  ran : Ran (record { IsPlanBy = g.T.Setter.IsPlanBy l.fn.driver.setter; verbs_by = g.T.Setter.verbs_by l.fn.driver.setter; IsOpenBy = g.T.Setter.IsOpenBy l.fn.driver.setter }) l.fn.driver.bring_up.agenda.format
-      (take l.item-index l.items) l.fn.driver.bring_up l.driver.bring_up l.fn.rig l.rig;
-  writer : l.driver.writer ≡ l.fn.driver.writer;
+  ran : Ran (record { IsPlanBy = g.T.Setter.IsPlanBy l.fn.driver.setter; verbs_by = g.T.Setter.verbs_by l.fn.driver.setter; IsOpenBy = g.T.Setter.IsOpenBy l.fn.driver.setter }) l.fn.driver.bring_up.agenda.format l.fn.driver.play
+      (take l.item-index l.items) (parts_of l.fn.driver.bring_up l.fn.driver.writer l.fn.driver.supply) (parts_of l.driver.bring_up l.driver.writer l.driver.supply) l.fn.rig l.rig;
+  geometry : l.driver.writer.geometry ≡ l.fn.driver.writer.geometry;
   setter : l.driver.setter ≡ l.fn.driver.setter;
   play : l.driver.play ≡ l.fn.driver.play;
   runs : l.driver.runs ≡ l.fn.driver.runs;

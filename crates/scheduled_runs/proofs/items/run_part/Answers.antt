@@ -1,7 +1,7 @@
 use Rattle.std.proofs.Common.{◌≡◌, ◌+◌, ◌*◌, ℕ, List, ◌++◌, length, ap, sym, subst, ◌∙◌, refl, arith}
 use Rattle.hda_schedule.specs.declared.schedule.Item.{Item}
 use Rattle.scheduled_runs.specs.Lines.{lines_in}
-use Rattle.scheduled_runs.specs.Going.{Means, Ran}
+use Rattle.scheduled_runs.specs.Going.{Means, Ran, parts_of}
 use Rattle.scheduled_runs.proofs.Ran.{ran_both}
 use Rattle.scheduled_runs.proofs.Counting.{items_times, items_more, count_times, count_both, times_within, part_is}
 use Rattle.scheduled_runs.proofs.items.run_part.Goals as goal
@@ -29,11 +29,13 @@ loop-preserved g c =
     items_more items c.loop.counter ∙ ap (λ (back : List Item). items_times items c.loop.counter ++ back) (sym c.as_slice.ensures) in
     let more = ap (λ (all : List Item). length (lines_in all)) turn ∙ count_both (items_times items c.loop.counter) c.as_slice.result.now in
     let step = c.in_ok-run_items.ensures in
+    let next = c.run_items.new.driver in
+    let old = parts_of driver.bring_up driver.writer driver.supply in
     record {
-      ran = subst (λ (all : List Item). Ran means format all driver.bring_up c.run_items.new.driver.bring_up c.args.rig.now c.run_items.new.rig) (sym turn)
-          (ran_both means means' format c.pieces_follow.ensures.both (items_times items c.loop.counter) c.as_slice.result.now driver.bring_up now.bring_up c.run_items.new.driver.bring_up c.args.rig.now c.loop.rig c.run_items.new.rig
-          same refl c.loop.invariant.ran step.ran);
-      writer = step.writer ∙ c.loop.invariant.writer;
+      ran = subst (λ (all : List Item). Ran means format driver.play all old (parts_of next.bring_up next.writer next.supply) c.args.rig.now c.run_items.new.rig) (sym turn)
+          (ran_both means means' format driver.play now.play c.pieces_follow.ensures.both (items_times items c.loop.counter) c.as_slice.result.now old (parts_of now.bring_up now.writer now.supply) (parts_of next.bring_up next.writer next.supply) c.args.rig.now c.loop.rig c.run_items.new.rig
+          same refl c.loop.invariant.play c.loop.invariant.ran step.ran);
+      geometry = step.geometry ∙ c.loop.invariant.geometry;
       play = step.play ∙ c.loop.invariant.play;
       setter = step.setter ∙ c.loop.invariant.setter;
       runs = step.runs ∙ c.loop.invariant.runs;
@@ -46,7 +48,7 @@ returns-clause-ran g c =
     let driver = c.args.driver.now in
     let means : Means = record { IsPlanBy = g.T.Setter.IsPlanBy driver.setter; verbs_by = g.T.Setter.verbs_by driver.setter; IsOpenBy = g.T.Setter.IsOpenBy driver.setter } in
     let all : c.loop.counter ≡ c.args.part.now.times = omega (arith, c.loop.auto.counter-end, c.loop-test.false) in
-    subst (λ (n : ℕ). Ran means driver.bring_up.agenda.format (items_times items n) driver.bring_up c.loop.driver.bring_up c.args.rig.now c.loop.rig) all c.loop.invariant.ran
+    subst (λ (n : ℕ). Ran means driver.bring_up.agenda.format driver.play (items_times items n) (parts_of driver.bring_up driver.writer driver.supply) (parts_of c.loop.driver.bring_up c.loop.driver.writer c.loop.driver.supply) c.args.rig.now c.loop.rig) all c.loop.invariant.ran
 
 pub returns-clause-calls : goal.returns-clause-calls
 returns-clause-calls g c =

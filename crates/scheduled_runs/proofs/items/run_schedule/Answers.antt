@@ -7,7 +7,7 @@ use Rattle.hda_schedule.specs.declared.schedule.Item.{Item}
 use Rattle.hda_schedule.specs.declared.schedule.Part.{Part}
 use Rattle.hda_schedule.specs.Counts.{items_in}
 use Rattle.scheduled_runs.specs.Lines.{lines_in}
-use Rattle.scheduled_runs.specs.Going.{Means, Ran}
+use Rattle.scheduled_runs.specs.Going.{Means, Ran, parts_of}
 use Rattle.scheduled_runs.proofs.Ran.{ran_both}
 use Rattle.scheduled_runs.proofs.Counting.{part_lines, part_counts, count_both}
 use Rattle.scheduled_runs.proofs.items.run_schedule.Goals as goal
@@ -40,11 +40,13 @@ loop-part-preserved g c =
     ∙ flat_map-append items_in (take i parts) (part ∷ []) ∙ ap (λ (back : List Item). front ++ back) (append-nil (items_in part)) in
     let more = ap (λ (all : List Item). length (lines_in all)) turn ∙ count_both front (items_in part) in
     let step = c.in_ok-run_part.ensures in
+    let next = c.run_part.new.driver in
+    let old = parts_of driver.bring_up driver.writer driver.supply in
     record {
-      ran = subst (λ (all : List Item). Ran means format all driver.bring_up c.run_part.new.driver.bring_up c.args.rig.now c.run_part.new.rig) (sym turn)
-          (ran_both means means' format c.pieces_follow.ensures.both front (items_in part) driver.bring_up now.bring_up c.run_part.new.driver.bring_up c.args.rig.now c.loop-part.rig c.run_part.new.rig
-          same refl c.loop-part.invariant.ran step.ran);
-      writer = step.writer ∙ c.loop-part.invariant.writer;
+      ran = subst (λ (all : List Item). Ran means format driver.play all old (parts_of next.bring_up next.writer next.supply) c.args.rig.now c.run_part.new.rig) (sym turn)
+          (ran_both means means' format driver.play now.play c.pieces_follow.ensures.both front (items_in part) old (parts_of now.bring_up now.writer now.supply) (parts_of next.bring_up next.writer next.supply) c.args.rig.now c.loop-part.rig c.run_part.new.rig
+          same refl c.loop-part.invariant.play c.loop-part.invariant.ran step.ran);
+      geometry = step.geometry ∙ c.loop-part.invariant.geometry;
       play = step.play ∙ c.loop-part.invariant.play;
       setter = step.setter ∙ c.loop-part.invariant.setter;
       runs = step.runs ∙ c.loop-part.invariant.runs;
