@@ -8,3 +8,8 @@ pub mod Counting
 pub mod Phases
 pub mod Gone
 pub mod Walked
+pub mod Hearing
+pub mod Listed
+pub mod Written
+pub mod Recorded
+pub mod Played

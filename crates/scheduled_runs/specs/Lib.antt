@@ -2,6 +2,10 @@ pub mod Lines
 pub mod Events
 pub mod LinkFrames
 pub mod Walks
+pub mod SoundLeft
+pub mod Hearing
+pub mod Stretches
+pub mod Plays
 -- what private functions promise one another
 pub mod Going
 pub mod Openings

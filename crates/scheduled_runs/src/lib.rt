@@ -7,6 +7,9 @@ mod driving;
 mod items;
 mod lines;
 mod opening;
+mod playing;
+mod sound_left;
 mod walking;
 
+pub use playing::play;
 pub use walking::{walk, walk_format};

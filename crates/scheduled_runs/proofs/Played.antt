@@ -1,0 +1,167 @@
+-- What comes of playing.
+use Rattle.std.proofs.Common.{◌≡◌, ◌≤◌, ℕ, Bool, true, false, List, length, refl, sym, ap, subst, ◌∙◌, inl, inr, arith}
+use Rattle.std.specs.Prelude.{◌⊎◌, Contains}
+use Rattle.std.proofs.lemmas.List.{get_or-map, length-map}
+use Rattle.stream_format.specs.declared.format.Format.{Format}
+use Rattle.stream_format.specs.Cadence.{block_bytes}
+use Rattle.codec_graph.specs.declared.raw.RawCodec.{RawCodec}
+use Rattle.route_planner.specs.declared.routes.Plan.{Plan}
+use Rattle.wav_reader.specs.declared.wav.Wav.{Wav}
+use Rattle.hda_files.specs.declared.machine.CodecFile.{CodecFile}
+use Rattle.hda_files.specs.declared.machine.Machine.{Machine}
+use Rattle.hda_schedule.specs.declared.schedule.Schedule.{Schedule}
+use Rattle.hda_world.specs.declared.world.TheConstants.{REGION_BYTES}
+use Rattle.hda_world.specs.Events.{Event}
+use Rattle.hda_world.specs.Tellings.{Telling, world_of}
+use Rattle.period_writer.specs.declared.course.Ran.{Ran}
+use Rattle.period_writer.specs.declared.course.Ran.TheVariants as ran
+use Rattle.period_writer.specs.declared.geometry.Geometry.{Geometry}
+use Rattle.period_writer.specs.Runs.{tally_opened, measures}
+use Rattle.audio_driver.specs.States.{phase_if, played_as}
+use Rattle.audio_driver.specs.declared.driver.closing.Closed.{Closed}
+use Rattle.driver_progress.specs.declared.phase.Phase.{Phase}
+use Rattle.driver_progress.specs.declared.phase.Phase.TheVariants.{Reset, Settling, Walking, SettingUp, Ready, Playing, Drained, NothingRouted, Unanswered, Late, Malformed, Failed}
+use Rattle.driver_progress.specs.Tasks.{Task, Blocks}
+use Rattle.heard_runs.specs.Ending.{HearTheLine}
+use Rattle.told_bring_up.specs.Standing.{AreWalked, WalkedIn}
+use Rattle.told_playing.specs.Sounding.{Parts}
+use Rattle.told_playing.specs.Keeping.{WasHeard, WasNeverHeard, state_left}
+use Rattle.sound_report.specs.declared.played.Played.{Played}
+use Rattle.rig.specs.Replays.{telling_from}
+use Rattle.machine_tasks.specs.Tasks.{HavePlans, graphs_of, task_of}
+use Rattle.scheduled_runs.specs.Lines.{lines_of}
+use Rattle.scheduled_runs.specs.Going.{plan_by, open_by}
+use Rattle.scheduled_runs.specs.Walks.{can_end, journal_of}
+use Rattle.scheduled_runs.specs.SoundLeft.{written_by}
+use Rattle.scheduled_runs.specs.Hearing.{HasPlayedAll, WasPlayed, WasSilent, lists_heard}
+use Rattle.scheduled_runs.specs.Plays.{IsPlayFault, IsPlayedBy, can_end_playing, walked_all}
+use Rattle.scheduled_runs.proofs.Gone.{analog, Gone, phase_left, played_phase, unplayed_ends}
+use Rattle.scheduled_runs.proofs.Hearing.{all_hear}
+use Rattle.scheduled_runs.proofs.Recorded.{recorded_is}
+use Rattle.scheduled_runs.proofs.Written.{drained_whole, written_within}
+
+-- ---- graphs
+
+abbrev graph_in : CodecFile → RawCodec
+graph_in file = file.graph
+
+graph_among : (files : List CodecFile) (file : CodecFile) → Contains files file → Contains (graphs_of files) file.graph
+graph_among files file has =
+    let long = length-map files graph_in in (has.0, omega (arith, long, has.1), get_or-map graph_in files has.0 file file.graph has.1 ∙ ap graph_in has.2)
+
+-- ---- phases
+
+-- where a walk can end, playing can
+ends_too : (phase : Phase) → can_end phase ≡ true → can_end_playing phase ≡ true
+ends_too Reset is = refl
+ends_too Settling is = refl
+ends_too Walking is = refl
+ends_too SettingUp is = refl
+ends_too Ready is = refl
+ends_too Playing is = refl
+ends_too Drained is = refl
+ends_too NothingRouted is = is
+ends_too (Unanswered codec command issued noticed) is = refl
+ends_too (Late from to limit) is = refl
+ends_too (Malformed codec fault) is = is
+ends_too Failed is = is
+
+-- it can end in any way in which a run does
+ran_ends : (was : Ran) (limit : ℕ) → can_end_playing (played_as was limit) ≡ true
+ran_ends ran.Playing limit = refl
+ran_ends ran.Drained limit = refl
+ran_ends (ran.Late from to) limit = refl
+
+never : false ≡ true → ⊥
+never is = cc
+
+-- in a phase in which all codecs were walked
+walked_in : (phase : Phase) (all : Type 0) → walked_all phase ≡ true → WalkedIn phase all → all
+walked_in Reset all is by = absurd (never is)
+walked_in Settling all is by = absurd (never is)
+walked_in Walking all is by = absurd (never is)
+walked_in SettingUp all is by = by
+walked_in Ready all is by = by
+walked_in Playing all is by = absurd by
+walked_in Drained all is by = absurd by
+walked_in NothingRouted all is by = absurd by
+walked_in (Unanswered codec command issued noticed) all is by = absurd (never is)
+walked_in (Late from to limit) all is by = absurd by
+walked_in (Malformed codec fault) all is by = absurd by
+walked_in Failed all is by = absurd (never is)
+
+all_walked_if : (started : Bool) (phase : Phase) (was : Ran) (limit : ℕ) (all : Type 0) → (started ≡ true → phase ≡ Ready) → WalkedIn phase all → walked_all (phase_if started phase was limit) ≡ true → all
+all_walked_if true phase was limit all ready by is = walked_in Ready all refl (subst (λ (phase : Phase). WalkedIn phase all) (ready refl) by)
+all_walked_if false phase was limit all ready by is = walked_in phase all is by
+
+-- ---- the run
+
+module _ (machine : Machine) (plans : List Plan) (wav : Wav) (geometry : Geometry) (blocks : Blocks) (schedule : Schedule) (old : Parts) (closed : Closed) (journal : List Event)
+    (gone : Gone machine wav.format true (task_of wav.format machine plans geometry true wav.pcm blocks) schedule old closed journal) where
+  abbrev task : Task
+  task = task_of wav.format machine plans geometry true wav.pcm blocks
+
+  abbrev telling : Telling
+  telling = telling_from REGION_BYTES machine journal
+
+  -- it can end in its phase
+  pub playing_ends : can_end_playing closed.phase ≡ true
+  playing_ends = by gone.tally.course.started refl
+    where
+      by : (started : Bool) → gone.tally.course.started ≡ started → can_end_playing closed.phase ≡ true
+      by true some = ap can_end_playing (played_phase machine wav.format true task schedule old closed journal gone some) ∙ ran_ends gone.tally.course.ran _
+      by false none = ends_too closed.phase (unplayed_ends machine wav.format true task schedule old closed journal gone none)
+
+  -- no more was written than there is
+  pub written_few : written_by closed.runs.items ≤ length wav.pcm
+  written_few =
+      subst (λ runs. written_by runs ≤ length wav.pcm) (sym gone.leaves.runs)
+      (subst (λ state. written_by state.tally.runs ≤ length wav.pcm) gone.has.state_is (written_within task (lines_of schedule) telling))
+
+  -- ---- what was heard
+
+  hears_by : HavePlans wav.format machine.codecs plans → geometry.format ≡ wav.format
+      → ((gone.tally ≡ tally_opened) × WasNeverHeard telling) ⊎ WasHeard (plan_by analog wav.format) (open_by analog wav.format) (graphs_of machine.codecs) task gone.tally gone.last telling
+      → WasSilent gone.tally telling ⊎ WasPlayed wav.format wav.pcm machine.codecs plans gone.tally telling
+  hears_by planned same (inl (none, never)) = inl (record { none = none; stopped = never.stopped; carried = never.none })
+  hears_by planned same (inr was) =
+      let hear = subst (λ (format : Format). HearTheLine was.codecs format wav.pcm gone.tally (world_of telling).carried) same (was.hear gone.no_steps) in
+      inr (record {
+        lived = was.lived;
+        hear = all_hear wav.format wav.pcm gone.tally (world_of telling).carried was.codecs hear machine.codecs plans planned
+            (λ file has. was.set_up file.graph (graph_among machine.codecs file has));
+      })
+
+  -- what is told of it is that of the run that is kept
+  pub played_by : (played : Played) → journal_of played ≡ journal → geometry ≡ old.writer.geometry → geometry.format ≡ wav.format → HavePlans wav.format machine.codecs plans → played.graphs ≡ closed.graphs.items
+      → played.runs ≡ closed.runs.items → played.silences ≡ closed.silences.items → played.heard ≡ lists_heard (world_of telling).carried machine.codecs plans
+      → IsPlayFault closed.phase closed.sent played.commands (block_bytes wav.format) played.total closed.runs.items closed.silences.items played.fault
+      → IsPlayedBy machine plans wav schedule task (state_left task gone.ended gone.tally) (telling_from REGION_BYTES machine (journal_of played)) played
+  played_by played told ring format planned graphs runs silences heard fault =
+      subst (λ (events : List Event). IsPlayedBy machine plans wav schedule task (state_left task gone.ended gone.tally) (telling_from REGION_BYTES machine events) played) (sym told) (record {
+        progress = gone.has.progress;
+        finds = gone.has.finds;
+        state_is = gone.has.state_is;
+        fault = fault_left;
+        recorded = ap (λ state. state.tally) (sym gone.has.state_is) ∙ recorded_is task (lines_of schedule) telling;
+        runs = runs ∙ gone.leaves.runs;
+        silences = silences ∙ gone.leaves.silences;
+        walked = subst (λ (walked : List RawCodec). AreWalked (graphs_of machine.codecs) walked task.walks gone.ended.sent) (sym walked) gone.has.ended_is.walked;
+        all_walked = all_walked_if gone.tally.course.started gone.ended.phase gone.tally.course.ran (measures task.geometry).limit (played.graphs ≡ graphs_of machine.codecs) gone.has.ready
+            (subst (λ (walked : List RawCodec). WalkedIn gone.ended.phase (walked ≡ graphs_of machine.codecs)) (sym walked) gone.has.ended_is.by_phase);
+        set_up = gone.has.set_up;
+        sound = hears_by planned format gone.has.heard;
+        whole = λ drained. subst (λ state. HasPlayedAll wav.pcm state.tally) gone.has.state_is (drained_whole task (lines_of schedule) telling (ap (λ state. state.tally.course.ran) gone.has.state_is ∙ drained));
+        heard = heard;
+      })
+    where
+      walked : played.graphs ≡ gone.ended.agenda.graphs.items
+      walked = graphs ∙ ap (λ graphs. graphs.items) gone.leaves.graphs
+
+      fault_left : IsPlayFault (state_left task gone.ended gone.tally).phase gone.ended.sent played.commands (block_bytes wav.format) played.total gone.tally.runs gone.tally.silences played.fault
+      fault_left =
+          subst (λ silences. IsPlayFault (state_left task gone.ended gone.tally).phase gone.ended.sent played.commands (block_bytes wav.format) played.total gone.tally.runs silences played.fault) gone.leaves.silences
+          (subst (λ runs. IsPlayFault (state_left task gone.ended gone.tally).phase gone.ended.sent played.commands (block_bytes wav.format) played.total runs closed.silences.items played.fault) gone.leaves.runs
+          (subst (λ (sent : ℕ). IsPlayFault (state_left task gone.ended gone.tally).phase sent played.commands (block_bytes wav.format) played.total closed.runs.items closed.silences.items played.fault) gone.leaves.sent
+          (subst (λ (phase : Phase). IsPlayFault phase closed.sent played.commands (block_bytes wav.format) played.total closed.runs.items closed.silences.items played.fault)
+          (phase_left machine wav.format true task schedule old closed journal gone ring) fault)))
