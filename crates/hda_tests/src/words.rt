@@ -142,6 +142,90 @@ const BAD_WALKS: [&str; 27] = [
     "A walk S",
 ];
 
+/// Words of `play`, with the names of its three files, the periods of the ring, and the units of a period.
+const GOOD_PLAYS: [(&str, [&str; 3], u8, u8); 15] = [
+    (
+        "play A.toml T.wav S.txt",
+        ["A.toml", "T.wav", "S.txt"],
+        4,
+        8,
+    ),
+    ("play A A A", ["A", "A", "A"], 4, 8),
+    ("play A T S --periods 2", ["A", "T", "S"], 2, 8),
+    ("play A T S --periods=32", ["A", "T", "S"], 32, 8),
+    ("play A T S --periods 02", ["A", "T", "S"], 2, 8),
+    ("play --period 1 A T S", ["A", "T", "S"], 4, 1),
+    ("play A --period=128 T S", ["A", "T", "S"], 4, 128),
+    ("play A T --period 0000000128 S", ["A", "T", "S"], 4, 128),
+    ("play A --periods 3 T --period 7 S", ["A", "T", "S"], 3, 7),
+    ("play --period=5 --periods=6 A T S", ["A", "T", "S"], 6, 5),
+    ("play -- A T S", ["A", "T", "S"], 4, 8),
+    ("play A T -- -S", ["A", "T", "-S"], 4, 8),
+    (
+        "play --periods 2 -- A --period=3 S",
+        ["A", "--period=3", "S"],
+        2,
+        8,
+    ),
+    ("play   ", ["", "", ""], 4, 8),
+    ("play play walk route", ["play", "walk", "route"], 4, 8),
+];
+
+const BAD_PLAYS: [&str; 28] = [
+    "play",
+    "play A",
+    "play A T",
+    "play A T S U",
+    "play A T S ",
+    "play A T S -- U",
+    "play --",
+    "play -- A T",
+    "play A T -",
+    "play A T -S",
+    "play A T S --periods",
+    "play A T S --periods 1",
+    "play A T S --periods 33",
+    "play A T S --periods=0",
+    "play A T S --periods=",
+    "play A T S --periods 4 --periods 4",
+    "play A T S --periods 00000000004",
+    "play A T S --period",
+    "play A T S --period 0",
+    "play A T S --period=129",
+    "play A T S --period 256",
+    "play A T S --period +8",
+    "play A T S --period=8 --period 8",
+    "play A T S --period -- 8",
+    "play A T S --rate 48000",
+    "play A T S --channels=2",
+    "play A T S --help",
+    "Play A T S",
+];
+
+/// Whether these files are asked to be played, through such a ring.
+fn takes(request: &Request<'_>, names: [&str; 3], count: u8, units: u8) -> bool {
+    match request {
+        Request::Route { .. } | Request::Walk { .. } => false,
+        Request::Play {
+            codec,
+            wav,
+            schedule,
+            periods,
+            period,
+        } => [*codec, *wav, *schedule] == names && *periods == count && *period == units,
+    }
+}
+
+#[test]
+fn takes_good_plays(rt: HostRuntime) -> Result<(), Fail> {
+    for (row, names, count, units) in GOOD_PLAYS {
+        let words = words_of(rt.alloc(), row)?;
+        let request = read_words(rt.alloc(), words.as_slice())?;
+        assert!(rt; takes(&request, names, count, units), "{row}");
+    }
+    Ok(())
+}
+
 #[test]
 fn takes_good_words(rt: HostRuntime) -> Result<(), Fail> {
     for (row, name, rate, channels) in GOOD {
@@ -153,7 +237,7 @@ fn takes_good_words(rt: HostRuntime) -> Result<(), Fail> {
                     && format.bits == Bits::B16
                     && format.channels == channels
             }
-            Request::Walk { .. } => false,
+            Request::Walk { .. } | Request::Play { .. } => false,
         };
         assert!(rt; is_asked, "{row}");
     }
@@ -165,7 +249,7 @@ fn takes_good_walks(rt: HostRuntime) -> Result<(), Fail> {
     for (row, file, steps) in GOOD_WALKS {
         let words = words_of(rt.alloc(), row)?;
         let is_asked = match read_words(rt.alloc(), words.as_slice())? {
-            Request::Route { .. } => false,
+            Request::Route { .. } | Request::Play { .. } => false,
             Request::Walk { codec, schedule } => codec == file && schedule == steps,
         };
         assert!(rt; is_asked, "{row}");
@@ -185,6 +269,9 @@ fn refuses_bad_words(rt: HostRuntime) -> Result<(), Fail> {
         assert!(rt; are_refused(rt.alloc(), row)?, "{row}");
     }
     for row in BAD_WALKS {
+        assert!(rt; are_refused(rt.alloc(), row)?, "{row}");
+    }
+    for row in BAD_PLAYS {
         assert!(rt; are_refused(rt.alloc(), row)?, "{row}");
     }
     let none = Vec::new(rt.alloc());

@@ -7,11 +7,11 @@ use Rattle.stream_format.specs.declared.format.Rate.TheVariants.{R8, R16, R44, R
 use Rattle.stream_format.specs.declared.format.Bits.{Bits}
 use Rattle.stream_format.specs.declared.format.Bits.TheVariants.{B16, B24, B32}
 use Rattle.stream_format.specs.declared.format.Format.{Format}
-use Rattle.hda_words.specs.Asked.{Asked, asked_by, asked_of, asked_with, bits_of, grammar_named, hertz, request_of, route, walk}
+use Rattle.hda_words.specs.Asked.{Asked, asked_by, asked_of, asked_with, bits_of, grammar_named, hertz, play, request_of, route, walk}
 use Rattle.hda_words.specs.Commands.{CommandGrammar}
 use Rattle.hda_words.specs.Lines.{CommandLine, line_of}
 use Rattle.hda_words.specs.declared.table.CommandName.{CommandName}
-use Rattle.hda_words.specs.declared.table.CommandName.TheVariants.{Route, Walk}
+use Rattle.hda_words.specs.declared.table.CommandName.TheVariants.{Route, Walk, Play}
 use Rattle.hda_words.specs.declared.request.Request.TheVariants as request
 
 -- a rate by its blocks in a second, and a sample size by its bits
@@ -67,16 +67,32 @@ pub asked_by-same_walk : (codec other schedule second : Bor (List ℕ)) → aske
     → IsSameWalk codec other schedule second
 asked_by-same_walk codec other schedule second e = record { codec_name = cc; schedule_name = cc }
 
+-- two requests of `play` that ask the same name the same files and the same ring
+pub record IsSamePlay (codec other wav sound schedule second : Bor (List ℕ)) (periods count period units : ℕ) : Type 0 where
+  pub codec_name : codec.now ≡ other.now
+  pub wav_name : wav.now ≡ sound.now
+  pub schedule_name : schedule.now ≡ second.now
+  pub periods_are : periods ≡ count
+  pub period_is : period ≡ units
+
+pub asked_by-same_play : (codec other wav sound schedule second : Bor (List ℕ)) (periods count period units : ℕ)
+    → asked_by (request.Play codec wav schedule periods period) ≡ asked_by (request.Play other sound second count units)
+    → IsSamePlay codec other wav sound schedule second periods count period units
+asked_by-same_play codec other wav sound schedule second periods count period units e =
+    record { codec_name = cc; wav_name = cc; schedule_name = cc; periods_are = cc; period_is = cc }
+
 -- ---- 16 bits
 
--- the bits of a route; of a walk those that its format has
+-- the bits of a route, and else those of every format that is planned for
 abbrev bits_asked : Asked → ℕ
 bits_asked (route codec rate bits channels) = bits
 bits_asked (walk codec schedule) = 16
+bits_asked (play codec wav schedule periods period) = 16
 
 command_bits : (command : CommandName) (line : CommandLine) → bits_asked (asked_of command line) ≡ 16
 command_bits Route line = refl
 command_bits Walk line = refl
+command_bits Play line = refl
 
 line_bits : (command : CommandName) (line : Option CommandLine) (asked : Asked) → option_map (asked_of command) line ≡ Some asked → bits_asked asked ≡ 16
 line_bits command None asked e = let bad : None ≡ Some asked = e in cc

@@ -1,5 +1,5 @@
 -- What the words ask of the program: this project's own.
-use Rattle.std.specs.Prelude.{ℕ, List, [], ◌∷◌, Option, None, find, option_map, option_and_then, slice_index, slice_get, unwrap_or}
+use Rattle.std.specs.Prelude.{⊤, ℕ, ◌≤◌, List, [], ◌∷◌, Option, None, find, option_map, option_and_then, slice_index, slice_get, unwrap_or}
 use Rattle.std.specs.Str.{bytes_eq}
 use Rattle.stream_format.specs.declared.format.Rate.{Rate}
 use Rattle.stream_format.specs.declared.format.Rate.TheVariants.{R8, R16, R44, R48, R96, R192}
@@ -8,7 +8,7 @@ use Rattle.stream_format.specs.declared.format.Bits.TheVariants.{B16, B24, B32}
 use Rattle.hda_words.specs.Commands.{CommandGrammar, commands}
 use Rattle.hda_words.specs.Lines.{CommandLine, line_of}
 use Rattle.hda_words.specs.declared.table.CommandName.{CommandName}
-use Rattle.hda_words.specs.declared.table.CommandName.TheVariants.{Route, Walk}
+use Rattle.hda_words.specs.declared.table.CommandName.TheVariants.{Route, Walk, Play}
 use Rattle.hda_words.specs.declared.request.Request.{Request}
 use Rattle.hda_words.specs.declared.request.Request.TheVariants as request
 
@@ -18,6 +18,8 @@ pub data Asked : Type 0 where
   route : List ℕ → ℕ → ℕ → ℕ → Asked
   -- `walk`: the names of the codec file and of the schedule
   walk : List ℕ → List ℕ → Asked
+  -- `play`: the names of the codec file, of the WAV file and of the schedule, the periods of the ring, and the units of a period
+  play : List ℕ → List ℕ → List ℕ → ℕ → ℕ → Asked
 
 -- the blocks of a second
 abbrev pub hertz : Rate → ℕ
@@ -38,6 +40,20 @@ bits_of B32 = 32
 abbrev pub asked_by : Request → Asked
 asked_by (request.Route codec format) = route codec.now (hertz format.rate) (bits_of format.bits) format.channels
 asked_by (request.Walk codec schedule) = walk codec.now schedule.now
+asked_by (request.Play codec wav schedule periods period) = play codec.now wav.now schedule.now periods period
+
+-- the numbers of a ring as words can ask for them
+pub record IsRingInRange (periods period : ℕ) : Type 0 where
+  pub some_periods : 2 ≤ periods
+  pub few_periods : periods ≤ 32
+  pub some : 1 ≤ period
+  pub few : period ≤ 128
+
+-- the numbers of a request are as words can ask for them
+abbrev pub IsInRange : Request → Type 0
+IsInRange (request.Route codec format) = ⊤
+IsInRange (request.Walk codec schedule) = ⊤
+IsInRange (request.Play codec wav schedule periods period) = IsRingInRange periods period
 
 -- an operand of a line
 abbrev pub operand_at : CommandLine → ℕ → List ℕ
@@ -47,6 +63,7 @@ operand_at line place = unwrap_or (slice_get line.operands place) []
 abbrev pub asked_of : CommandName → CommandLine → Asked
 asked_of Route line = route (operand_at line 0) (slice_index line.numbers 0) 16 (slice_index line.numbers 1)
 asked_of Walk line = walk (operand_at line 0) (operand_at line 1)
+asked_of Play line = play (operand_at line 0) (operand_at line 1) (operand_at line 2) (slice_index line.numbers 0) (slice_index line.numbers 1)
 
 abbrev pub grammar_named : List ℕ → Option CommandGrammar
 grammar_named name = find (λ grammar. bytes_eq grammar.name name) commands

@@ -1,8 +1,8 @@
 -- The program's commands, with their operands and options: this project's own.
 use Rattle.std.specs.Prelude.{ℕ, List, [], ◌∷◌, codes, map}
-use Rattle.hda_words.specs.Numbers.{Numbers, listed}
+use Rattle.hda_words.specs.Numbers.{Numbers, listed, between}
 use Rattle.hda_words.specs.declared.table.CommandName.{CommandName}
-use Rattle.hda_words.specs.declared.table.CommandName.TheVariants.{Route, Walk}
+use Rattle.hda_words.specs.declared.table.CommandName.TheVariants.{Route, Walk, Play}
 
 -- an option `--name`, the numbers that it takes, and that which stands for it where it isn't given
 pub record OptionGrammar : Type 0 where
@@ -47,6 +47,23 @@ route_grammar = record {
 abbrev pub walk_grammar : CommandGrammar
 walk_grammar = record { command = Walk; name = codes "walk"; operands = 2; options = [] }
 
+-- the periods of a ring of sound
+abbrev pub periods_option : OptionGrammar
+periods_option = record { name = codes "periods"; numbers = between 2 32; default = 4 }
+
+-- the units of a period
+abbrev pub period_option : OptionGrammar
+period_option = record { name = codes "period"; numbers = between 1 128; default = 8 }
+
+-- `play CODEC WAV SCHEDULE [--periods K] [--period M]`
+abbrev pub play_grammar : CommandGrammar
+play_grammar = record {
+  command = Play;
+  name = codes "play";
+  operands = 3;
+  options = periods_option ∷ period_option ∷ [];
+}
+
 -- all commands of the program
 abbrev pub commands : List CommandGrammar
-commands = route_grammar ∷ walk_grammar ∷ []
+commands = route_grammar ∷ walk_grammar ∷ play_grammar ∷ []

@@ -1,7 +1,7 @@
 //! What the words ask the program to do.
 ghost use Rattle.std.specs.Prelude.{◌≡◌, IfOk, Some, None, Err, map, string_bytes, true};
-ghost use Rattle.hda_words.specs.Asked.{asked_by, asked_of, hertz, request_of};
-ghost use Rattle.hda_words.specs.Commands.{rate_option, route_grammar, walk_grammar};
+ghost use Rattle.hda_words.specs.Asked.{asked_by, asked_of, hertz, request_of, IsInRange};
+ghost use Rattle.hda_words.specs.Commands.{play_grammar, rate_option, route_grammar, walk_grammar};
 ghost use Rattle.hda_words.specs.Lines.{IsLineOf};
 ghost use Rattle.hda_words.specs.Numbers.{is_taken};
 ghost use Rattle.hda_words.specs.Seen.{line_seen};
@@ -28,6 +28,19 @@ pub enum Request<'a> {
         codec: &'a str,
         /// The name of the schedule.
         schedule: &'a str,
+    },
+    /// Plays a WAV file through the machine of a codec file by a schedule.
+    Play {
+        /// The name of the codec file.
+        codec: &'a str,
+        /// The name of the WAV file.
+        wav: &'a str,
+        /// The name of the schedule.
+        schedule: &'a str,
+        /// How many periods the ring of sound has: 2 to 32.
+        periods: u8,
+        /// How many units of 384 bytes a period has: 1 to 128.
+        period: u8,
     },
 }
 
@@ -99,15 +112,32 @@ fn walk_of<'a>(line: &Line<'a>) -> Request<'a>
     }
 }
 
+/// What a line of `play` asks.
+fn play_of<'a>(line: &Line<'a>) -> Request<'a>
+    requires { IsLineOf play_grammar (line_seen line.now) }
+    ensures asked { asked_by result ≡ asked_of CommandName.Play (line_seen line.now) }
+    ensures ranges { IsInRange result }
+{
+    Request::Play {
+        codec: line.operands[0],
+        wav: line.operands[1],
+        schedule: line.operands[2],
+        periods: line.numbers[0] as u8,
+        period: line.numbers[1] as u8,
+    }
+}
+
 /// Reads the words that stand after the program's name.
 ///
 /// The first is the name of a command, and those after it are its operands and options. Without `--rate` and `--channels` a route is
-/// for 48,000 blocks in a second and 2 channels, and always for 16 bits.
+/// for 48,000 blocks in a second and 2 channels, and always for 16 bits. Without `--periods` and `--period` a sound is played through
+/// a ring of 4 periods of 8 units.
 ///
 /// # Errors
 /// [`WordsFault::NoCommand`] where the words are those of no command, and want of memory.
 pub fn read_words<'a>(alloc: Global, words: &'a [String]) -> Result<Request<'a>, WordsFault>
     ensures asked { IfOk result (λ request. request_of (map string_bytes words.now) ≡ Some (asked_by request)) }
+    ensures ranges { IfOk result IsInRange }
     ensures no_command { result ≡ Err WordsFault.NoCommand → request_of (map string_bytes words.now) ≡ None }
 {
     let name = words.first().ok_or(WordsFault::NoCommand)?;
@@ -116,5 +146,6 @@ pub fn read_words<'a>(alloc: Global, words: &'a [String]) -> Result<Request<'a>,
     match row.command {
         CommandName::Route => Ok(route_of(&line)),
         CommandName::Walk => Ok(walk_of(&line)),
+        CommandName::Play => Ok(play_of(&line)),
     }
 }

@@ -11,6 +11,8 @@ pub enum CommandName {
     Route,
     /// Sets the codecs of a codec file up by a schedule.
     Walk,
+    /// Plays a WAV file through the codecs of a codec file by a schedule.
+    Play,
 }
 
 /// The numbers that an option takes.
@@ -70,7 +72,27 @@ const WALK: CommandRow = CommandRow {
     options: &[],
 };
 
-const COMMANDS: [CommandRow; 2] = [ROUTE, WALK];
+const PLAY_OPTIONS: [OptionRow; 2] = [
+    OptionRow {
+        name: "periods",
+        numbers: Numbers::Between(2, 32),
+        default: 4,
+    },
+    OptionRow {
+        name: "period",
+        numbers: Numbers::Between(1, 128),
+        default: 8,
+    },
+];
+
+const PLAY: CommandRow = CommandRow {
+    command: CommandName::Play,
+    name: "play",
+    operands: 3,
+    options: &PLAY_OPTIONS,
+};
+
+const COMMANDS: [CommandRow; 3] = [ROUTE, WALK, PLAY];
 
 /// The row with this name.
 fn row_named(rows: &[CommandRow], name: &str) -> Option<CommandRow>

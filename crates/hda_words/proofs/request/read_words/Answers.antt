@@ -1,10 +1,10 @@
 use Rattle.std.proofs.Common.{◌≡◌, map, drop, rules, subst, string_bytes, Some}
 use Rattle.hda_words.specs.Asked.{grammar_named}
-use Rattle.hda_words.specs.Commands.{CommandGrammar, route_grammar, walk_grammar}
+use Rattle.hda_words.specs.Commands.{CommandGrammar, play_grammar, route_grammar, walk_grammar}
 use Rattle.hda_words.specs.Lines.{line_of}
 use Rattle.hda_words.specs.Seen.{line_seen}
 use Rattle.hda_words.specs.Tables.{grammar_of}
-use Rattle.hda_words.proofs.LineLemmas.{command_apart, command_route, command_walk, named_command, route_line, walk_line}
+use Rattle.hda_words.proofs.LineLemmas.{command_apart, command_play, command_route, command_walk, named_command, play_line, route_line, walk_line}
 use Rattle.hda_words.proofs.request.read_words.Goals as goal
 
 pub read_line-requires : goal.read_line-requires
@@ -31,3 +31,13 @@ walk_of-requires c =
     let line : line_of walk_grammar (drop 1 (map string_bytes c.args.words.now)) ≡ Some (line_seen c.in_ok-line.line) =
     subst (λ (g : CommandGrammar). line_of g (drop 1 (map string_bytes c.args.words.now)) ≡ Some (line_seen c.in_ok-line.line)) is c.in_ok-line.ensures.ok in
     walk_line (drop 1 (map string_bytes c.args.words.now)) (line_seen c.in_ok-line.line) line
+
+-- the line is one of `play`
+pub play_of-requires : goal.play_of-requires
+play_of-requires c =
+    let named : grammar_named c.as_str.result.now ≡ Some (grammar_of c.in_ok-row.row) = first_of (cc, search rules) in
+    let is : grammar_of c.in_ok-row.row ≡ play_grammar =
+    command_play (grammar_of c.in_ok-row.row) c.in-Play.is (named_command c.as_str.result.now (grammar_of c.in_ok-row.row) named) in
+    let line : line_of play_grammar (drop 1 (map string_bytes c.args.words.now)) ≡ Some (line_seen c.in_ok-line.line) =
+    subst (λ (g : CommandGrammar). line_of g (drop 1 (map string_bytes c.args.words.now)) ≡ Some (line_seen c.in_ok-line.line)) is c.in_ok-line.ensures.ok in
+    play_line (drop 1 (map string_bytes c.args.words.now)) (line_seen c.in_ok-line.line) line
