@@ -1,5 +1,5 @@
 -- The ways in which something is meant by words.
-use Rattle.std.proofs.Common.{◌≡◌, ℕ, List, Bool, true, false, inl, inr, Option, refl, sym, ap, subst, arith, option_map}
+use Rattle.std.proofs.Common.{◌≡◌, ℕ, List, Bool, true, false, inl, inr, Option, Some, refl, sym, ap, subst, arith, option_map}
 use Rattle.std.specs.Prelude.{if◌then◌else◌}
 use Rattle.std.specs.List.{Contains}
 use Rattle.stream_format.specs.declared.format.Format.{Format}
@@ -7,110 +7,217 @@ use Rattle.route_planner.specs.declared.routes.Plan.{Plan}
 use Rattle.hda_outside.specs.Shelf.{Files}
 use Rattle.hda_files.specs.declared.machine.Machine.{Machine}
 use Rattle.hda_schedule.specs.declared.schedule.Schedule.{Schedule}
-use Rattle.hda_words.specs.Asked.{Asked}
+use Rattle.hda_words.specs.Asked.{Asked, bits_of, hertz, play, request_of, route, walk}
+use Rattle.period_writer.specs.declared.geometry.Geometry.{Geometry}
+use Rattle.wav_reader.specs.declared.wav.Wav.{Wav}
 use Rattle.sound_report.specs.declared.played.Played.{Played}
-use Rattle.sound_report.specs.declared.status.Status.TheVariants.{Done, WordsRefused, ShelfFailed, CodecRefused, ScheduleRefused, NothingRouted}
+use Rattle.sound_report.specs.declared.status.Status.{Status}
+use Rattle.sound_report.specs.declared.status.Status.TheVariants.{Done, WordsRefused, ShelfFailed, SinkFailed, CodecRefused, WavRefused, ScheduleRefused, NothingRouted, Unanswered, Late, ScheduleEnded, OutOfMemory, GeometryRefused}
 use Rattle.sound_report.specs.PlanLines.{plans_lines}
-use Rattle.hda_program.specs.Answers.{IsMeant, RouteAnswers, WalkAnswers, MachineWalks, PlansWalk}
-use Rattle.hda_program.specs.Asks.{IsNoCommand, IsRouteOf, IsWalkOf, Names, NamesCodecFile, codec_of, files_asked}
+use Rattle.hda_program.specs.Answers.{IsMeant, RouteAnswers, WalkAnswers, MachineWalks, PlansWalk, PlayAnswers, MachinePlays, SoundPlays, SchedulePlays, PlansPlay}
+use Rattle.hda_program.specs.Asks.{IsNoCommand, IsRouteOf, IsWalkOf, IsPlayOf, Names, NamesCodecFile, codec_of, files_asked, files_of}
 use Rattle.scheduled_runs.specs.Walks.{walk_format}
-use Rattle.hda_program.specs.Causes.{HasBadCodecFile, HasBadSchedule, HasPlanned, HasWalked}
-use Rattle.hda_program.specs.Files.{CodecStops, IsMachineOf, IsScheduleOf, ScheduleStops}
+use Rattle.hda_program.specs.Causes.{HasBadCodecFile, HasBadRing, HasBadSchedule, HasBadWav, HasPlanned, HasRun, HasUnreadFile, WantsRun, WantsSound}
+use Rattle.hda_program.specs.Files.{CodecStops, IsMachineOf, IsScheduleOf, IsWavOf, ScheduleStops}
 use Rattle.hda_program.specs.Meanings.{Meant, of_run, telling, unrouted}
+use Rattle.hda_program.specs.Rings.{IsRingOf}
 use Rattle.machine_tasks.specs.Tasks.{HavePlans}
 use Rattle.hda_program.specs.Plans.{have_route}
 
+-- a route was asked for, and there is one
+abbrev pub IsRouted : Option Files → List (List ℕ) → Type 0
+IsRouted told words = (name : List ℕ) × (format : Format) × IsRouteOf words name format × HasPlanned told words true
+
+-- why no more than a text is meant, with this status
+abbrev pub Cause : Option Files → (List ℕ → Type 0) → List (List ℕ) → Status → Type 0
+Cause told failed words Done = IsRouted told words
+Cause told failed words WordsRefused = IsNoCommand words
+Cause told failed words ShelfFailed = HasUnreadFile failed words
+Cause told failed words SinkFailed = ⊥
+Cause told failed words CodecRefused = HasBadCodecFile told words
+Cause told failed words WavRefused = HasBadWav told words
+Cause told failed words ScheduleRefused = HasBadSchedule told words
+Cause told failed words NothingRouted = HasPlanned told words false
+Cause told failed words Unanswered = ⊥
+Cause told failed words Late = ⊥
+Cause told failed words ScheduleEnded = ⊥
+Cause told failed words OutOfMemory = ⊥
+Cause told failed words GeometryRefused = HasBadRing told words
+
+-- a text alone, for a cause, or a run
 pub data Case (told : Option Files) (failed : List ℕ → Type 0) (words : List (List ℕ)) (meant : Meant) : Type 0 where
-  usage : IsNoCommand words → (text : List ℕ) → meant ≡ telling WordsRefused text → Case told failed words meant
-  unread : (name : List ℕ) → Names words name → failed name → (text : List ℕ) → meant ≡ telling ShelfFailed text → Case told failed words meant
-  bad_codec : HasBadCodecFile told words → (text : List ℕ) → meant ≡ telling CodecRefused text → Case told failed words meant
-  bad_schedule : HasBadSchedule told words → (text : List ℕ) → meant ≡ telling ScheduleRefused text → Case told failed words meant
-  routed : (name : List ℕ) (format : Format) → IsRouteOf words name format → HasPlanned told words true → (text : List ℕ) → meant ≡ telling Done text → Case told failed words meant
-  unrouted_case : HasPlanned told words false → (text : List ℕ) → meant ≡ telling NothingRouted text → Case told failed words meant
-  ran : (played : Played) → HasWalked told words played → meant ≡ of_run played → Case told failed words meant
+  said : (status : Status) → Cause told failed words status → (text : List ℕ) → meant ≡ telling status text → Case told failed words meant
+  ran : (played : Played) → HasRun told words played → meant ≡ of_run played → Case told failed words meant
 
--- ---- the files that the words name
+module _ (told : Option Files) (failed : List ℕ → Type 0) (words : List (List ℕ)) where
+  -- the words name the files of what they ask
+  names_of : (asked : Asked) (name : List ℕ) → request_of words ≡ Some asked → Contains (files_of asked) name → Names words name
+  names_of asked name is among = let P : Option Asked → Type 0 = λ asks. Contains (files_asked asks) name in subst P (sym is) among
 
-names_one : (words : List (List ℕ)) (name : List ℕ) (format : Format) → IsRouteOf words name format → Names words name
-names_one words name format is =
-    let P : Option Asked → Type 0 = λ asks. Contains (files_asked asks) name in subst P (sym is) (0, omega arith, refl)
+  -- ---- the ends at a file, and at a ring
 
-names_first : (words : List (List ℕ)) (codec name : List ℕ) → IsWalkOf words codec name → Names words codec
-names_first words codec name is =
-    let P : Option Asked → Type 0 = λ asks. Contains (files_asked asks) codec in subst P (sym is) (0, omega arith, refl)
+  codec_stop : (name : List ℕ) (meant : Meant) → Names words name → NamesCodecFile words name → CodecStops told failed name meant → Case told failed words meant
+  codec_stop name meant names codec (inl stop) = said ShelfFailed (name, names, stop.0) _ stop.1
+  codec_stop name meant names codec (inr stop) = said CodecRefused (name, stop.0, codec, stop.1) _ stop.2
 
-names_second : (words : List (List ℕ)) (codec name : List ℕ) → IsWalkOf words codec name → Names words name
-names_second words codec name is =
-    let P : Option Asked → Type 0 = λ asks. Contains (files_asked asks) name in subst P (sym is) (1, omega arith, refl)
+  schedule_stop : (codec name : List ℕ) (machine : Machine) (meant : Meant) → WantsRun told words codec name → Names words name → IsMachineOf told codec machine
+      → ScheduleStops told failed name meant → Case told failed words meant
+  schedule_stop codec name machine meant wants names file (inl stop) = said ShelfFailed (name, names, stop.0) _ stop.1
+  schedule_stop codec name machine meant wants names file (inr stop) =
+      said ScheduleRefused (record { codec = codec; name = name; machine = machine; text = stop.0; wants = wants; file = file; refused = stop.1 }) _ stop.2
 
--- ---- the cases
+  -- ---- `route`
 
-codec_case : (told : Option Files) (failed : List ℕ → Type 0) (words : List (List ℕ)) (name : List ℕ) (meant : Meant) → Names words name → NamesCodecFile words name
-    → CodecStops told failed name meant → Case told failed words meant
-codec_case told failed words name meant names codec (inl stop) = unread name names stop.0 _ stop.1
-codec_case told failed words name meant names codec (inr stop) = bad_codec (name, stop.0, codec, stop.1) _ stop.2
+  route_plans : (name : List ℕ) (format : Format) (machine : Machine) (plans : List Plan) (meant : Meant) → IsRouteOf words name format → IsMachineOf told name machine
+      → HavePlans format machine.codecs plans → (some : Bool) → have_route plans ≡ some
+      → meant ≡ (if some then telling Done (plans_lines machine.codecs plans) else unrouted machine.codecs plans) → Case told failed words meant
+  route_plans name format machine plans meant is file planned true some e =
+      said Done (name, format, is, record { name = name; format = format; machine = machine; plans = plans; wants = inl is; file = file; planned = planned; routed = some }) _ e
+  route_plans name format machine plans meant is file planned false some e =
+      said NothingRouted (record { name = name; format = format; machine = machine; plans = plans; wants = inl is; file = file; planned = planned; routed = some }) _ e
 
-schedule_case : (told : Option Files) (failed : List ℕ → Type 0) (words : List (List ℕ)) (codec name : List ℕ) (machine : Machine) (meant : Meant) → IsWalkOf words codec name
-    → IsMachineOf told codec machine → ScheduleStops told failed name meant → Case told failed words meant
-schedule_case told failed words codec name machine meant is file (inl stop) = unread name (names_second words codec name is) stop.0 _ stop.1
-schedule_case told failed words codec name machine meant is file (inr stop) =
-    bad_schedule (record { codec = codec; name = name; machine = machine; text = stop.0; asks = is; file = file; refused = stop.1 }) _ stop.2
+  route_cases : (name : List ℕ) (format : Format) (meant : Meant) → IsRouteOf words name format → RouteAnswers told failed name format meant → Case told failed words meant
+  route_cases name format meant is (inl stop) =
+      codec_stop name meant (names_of (route name (hertz format.rate) (bits_of format.bits) format.channels) name is (0, omega arith, refl)) (ap (option_map codec_of) is) stop
+  route_cases name format meant is (inr answers) =
+      route_plans name format answers.0 answers.2.0 meant is answers.1 answers.2.1 (have_route answers.2.0) refl answers.2.2
 
-plans_case : (told : Option Files) (failed : List ℕ → Type 0) (words : List (List ℕ)) (name : List ℕ) (format : Format) (machine : Machine) (plans : List Plan) (meant : Meant)
-    → IsRouteOf words name format → IsMachineOf told name machine → HavePlans format machine.codecs plans → (some : Bool) → have_route plans ≡ some
-    → meant ≡ (if some then telling Done (plans_lines machine.codecs plans) else unrouted machine.codecs plans) → Case told failed words meant
-plans_case told failed words name format machine plans meant is file planned true some e =
-    routed name format is (record { name = name; format = format; machine = machine; plans = plans; wants = inl is; file = file; planned = planned; routed = some }) _ e
-plans_case told failed words name format machine plans meant is file planned false some e =
-    unrouted_case (record { name = name; format = format; machine = machine; plans = plans; wants = inl is; file = file; planned = planned; routed = some }) _ e
+  -- ---- `walk`
 
-walk_case : (told : Option Files) (failed : List ℕ → Type 0) (words : List (List ℕ)) (codec name : List ℕ) (machine : Machine) (schedule : Schedule) (plans : List Plan) (meant : Meant)
-    → IsWalkOf words codec name → IsMachineOf told codec machine → IsScheduleOf told name schedule → HavePlans walk_format machine.codecs plans
-    → PlansWalk machine schedule plans meant → Case told failed words meant
-walk_case told failed words codec name machine schedule plans meant is file steps planned (inl none) =
-    unrouted_case (record {
-      name = codec;
-      format = walk_format;
-      machine = machine;
-      plans = plans;
-      wants = inr (name, is, refl);
-      file = file;
-      planned = planned;
-      routed = none.0;
-    }) _ none.1
-walk_case told failed words codec name machine schedule plans meant is file steps planned (inr run) =
-    ran run.0 (record {
-      codec = codec;
-      name = name;
-      machine = machine;
-      plans = plans;
-      schedule = schedule;
-      asks = is;
-      file = file;
-      steps = steps;
-      planned = planned;
-      routed = run.1;
-      run = run.2;
-    }) run.3
+  walk_plans : (codec name : List ℕ) (machine : Machine) (schedule : Schedule) (plans : List Plan) (meant : Meant) → IsWalkOf words codec name → IsMachineOf told codec machine
+      → IsScheduleOf told name schedule → HavePlans walk_format machine.codecs plans → PlansWalk machine schedule plans meant → Case told failed words meant
+  walk_plans codec name machine schedule plans meant is file steps planned (inl none) =
+      said NothingRouted (record {
+        name = codec;
+        format = walk_format;
+        machine = machine;
+        plans = plans;
+        wants = inr (inl (name, is, refl));
+        file = file;
+        planned = planned;
+        routed = none.0;
+      }) _ none.1
+  walk_plans codec name machine schedule plans meant is file steps planned (inr run) =
+      ran run.0 (inl (record {
+        codec = codec;
+        name = name;
+        machine = machine;
+        plans = plans;
+        schedule = schedule;
+        asks = is;
+        file = file;
+        steps = steps;
+        planned = planned;
+        routed = run.1;
+        run = run.2;
+      })) run.3
 
-route_cases : (told : Option Files) (failed : List ℕ → Type 0) (words : List (List ℕ)) (name : List ℕ) (format : Format) (meant : Meant) → IsRouteOf words name format
-    → RouteAnswers told failed name format meant → Case told failed words meant
-route_cases told failed words name format meant is (inl stop) = codec_case told failed words name meant (names_one words name format is) (ap (option_map codec_of) is) stop
-route_cases told failed words name format meant is (inr answers) =
-    plans_case told failed words name format answers.0 answers.2.0 meant is answers.1 answers.2.1 (have_route answers.2.0) refl answers.2.2
+  walk_machine : (codec name : List ℕ) (machine : Machine) (meant : Meant) → IsWalkOf words codec name → IsMachineOf told codec machine → MachineWalks told failed machine name meant
+      → Case told failed words meant
+  walk_machine codec name machine meant is file (inl stop) =
+      schedule_stop codec name machine meant (inl is) (names_of (walk codec name) name is (1, omega arith, refl)) file stop
+  walk_machine codec name machine meant is file (inr answers) =
+      walk_plans codec name machine answers.0 answers.2.0 meant is file answers.1 answers.2.1 answers.2.2
 
-machine_cases : (told : Option Files) (failed : List ℕ → Type 0) (words : List (List ℕ)) (codec name : List ℕ) (machine : Machine) (meant : Meant) → IsWalkOf words codec name
-    → IsMachineOf told codec machine → MachineWalks told failed machine name meant → Case told failed words meant
-machine_cases told failed words codec name machine meant is file (inl stop) = schedule_case told failed words codec name machine meant is file stop
-machine_cases told failed words codec name machine meant is file (inr answers) =
-    walk_case told failed words codec name machine answers.0 answers.2.0 meant is file answers.1 answers.2.1 answers.2.2
+  walk_cases : (codec name : List ℕ) (meant : Meant) → IsWalkOf words codec name → WalkAnswers told failed codec name meant → Case told failed words meant
+  walk_cases codec name meant is (inl stop) = codec_stop codec meant (names_of (walk codec name) codec is (0, omega arith, refl)) (ap (option_map codec_of) is) stop
+  walk_cases codec name meant is (inr answers) = walk_machine codec name answers.0 meant is answers.1 answers.2
 
-walk_cases : (told : Option Files) (failed : List ℕ → Type 0) (words : List (List ℕ)) (codec name : List ℕ) (meant : Meant) → IsWalkOf words codec name
-    → WalkAnswers told failed codec name meant → Case told failed words meant
-walk_cases told failed words codec name meant is (inl stop) = codec_case told failed words codec meant (names_first words codec name is) (ap (option_map codec_of) is) stop
-walk_cases told failed words codec name meant is (inr answers) = machine_cases told failed words codec name answers.0 meant is answers.1 answers.2
+  -- ---- `play`
 
-pub cases : (told : Option Files) (failed : List ℕ → Type 0) (words : List (List ℕ)) (meant : Meant) → IsMeant told failed words meant → Case told failed words meant
-cases told failed words meant (inl refused) = usage refused.0 _ refused.1
-cases told failed words meant (inr (inl asked)) = route_cases told failed words asked.0 asked.1 meant asked.2 asked.3
-cases told failed words meant (inr (inr asked)) = walk_cases told failed words asked.0 asked.1 meant asked.2 asked.3
+  module _ (codec wav name : List ℕ) (periods period : ℕ) (meant : Meant) (is : IsPlayOf words codec wav name periods period) where
+    play_wants : (sound : Wav) → IsWavOf told wav sound → WantsSound told words codec name sound
+    play_wants sound file = record { wav = wav; periods = periods; period = period; asks = is; file = file }
+
+    play_plans : (machine : Machine) (sound : Wav) (schedule : Schedule) (geometry : Geometry) (plans : List Plan) → IsMachineOf told codec machine → IsWavOf told wav sound
+        → IsScheduleOf told name schedule → IsRingOf periods period machine sound geometry → HavePlans sound.format machine.codecs plans
+        → PlansPlay machine sound geometry schedule plans meant → Case told failed words meant
+    play_plans machine sound schedule geometry plans file sound_file steps ring planned (inl none) =
+        said NothingRouted (record {
+          name = codec;
+          format = sound.format;
+          machine = machine;
+          plans = plans;
+          wants = inr (inr (name, sound, play_wants sound sound_file, refl));
+          file = file;
+          planned = planned;
+          routed = none.0;
+        }) _ none.1
+    play_plans machine sound schedule geometry plans file sound_file steps ring planned (inr run) =
+        ran run.0 (inr (record {
+          codec = codec;
+          wav = wav;
+          name = name;
+          periods = periods;
+          period = period;
+          machine = machine;
+          sound = sound;
+          geometry = geometry;
+          schedule = schedule;
+          plans = plans;
+          asks = is;
+          file = file;
+          sound_file = sound_file;
+          steps = steps;
+          geometry_is = ring;
+          planned = planned;
+          routed = run.1;
+          run = run.2;
+        })) run.3
+
+    play_schedule : (machine : Machine) (sound : Wav) (schedule : Schedule) → IsMachineOf told codec machine → IsWavOf told wav sound → IsScheduleOf told name schedule
+        → SchedulePlays periods period machine sound schedule meant → Case told failed words meant
+    play_schedule machine sound schedule file sound_file steps (inl stop) =
+        said GeometryRefused (record {
+          codec = codec;
+          wav = wav;
+          name = name;
+          periods = periods;
+          period = period;
+          machine = machine;
+          sound = sound;
+          schedule = schedule;
+          fault = stop.0;
+          asks = is;
+          file = file;
+          sound_file = sound_file;
+          steps = steps;
+          refused = stop.1;
+        }) _ stop.2
+    play_schedule machine sound schedule file sound_file steps (inr answers) =
+        play_plans machine sound schedule answers.0 answers.2.0 file sound_file steps answers.1 answers.2.1 answers.2.2
+
+    play_sound : (machine : Machine) (sound : Wav) → IsMachineOf told codec machine → IsWavOf told wav sound → SoundPlays told failed periods period machine sound name meant
+        → Case told failed words meant
+    play_sound machine sound file sound_file (inl stop) =
+        schedule_stop codec name machine meant (inr (sound, play_wants sound sound_file)) (names_of (play codec wav name periods period) name is (2, omega arith, refl)) file stop
+    play_sound machine sound file sound_file (inr answers) = play_schedule machine sound answers.0 file sound_file answers.1 answers.2
+
+    play_machine : (machine : Machine) → IsMachineOf told codec machine → MachinePlays told failed periods period machine wav name meant → Case told failed words meant
+    play_machine machine file (inl (inl stop)) = said ShelfFailed (wav, names_of (play codec wav name periods period) wav is (1, omega arith, refl), stop.0) _ stop.1
+    play_machine machine file (inl (inr stop)) =
+        said WavRefused (record {
+          codec = codec;
+          wav = wav;
+          name = name;
+          periods = periods;
+          period = period;
+          machine = machine;
+          text = stop.0;
+          asks = is;
+          file = file;
+          refused = stop.1;
+        }) _ stop.2
+    play_machine machine file (inr answers) = play_sound machine answers.0 file answers.1 answers.2
+
+    play_cases : PlayAnswers told failed codec wav name periods period meant → Case told failed words meant
+    play_cases (inl stop) = codec_stop codec meant (names_of (play codec wav name periods period) codec is (0, omega arith, refl)) (ap (option_map codec_of) is) stop
+    play_cases (inr answers) = play_machine answers.0 answers.1 answers.2
+
+  -- ---- all commands
+
+  pub cases : (meant : Meant) → IsMeant told failed words meant → Case told failed words meant
+  cases meant (inl refused) = said WordsRefused refused.0 _ refused.1
+  cases meant (inr (inl asked)) = route_cases asked.0 asked.1 meant asked.2 asked.3
+  cases meant (inr (inr (inl asked))) = walk_cases asked.0 asked.1 meant asked.2 asked.3
+  cases meant (inr (inr (inr asked))) = play_cases asked.0 asked.1 asked.2 asked.3 asked.4 meant asked.5 asked.6

@@ -1,22 +1,53 @@
 -- What the statuses of the program come to, and when it gives a run.
 use Rattle.std.proofs.Common.{◌≡◌, ◌≢◌, ◌∙◌, ◌≤◌, ℕ, List, true, false, inl, inr, Option, Some, None, refl, sym, ap, subst, arith}
-use Rattle.std.specs.Prelude.{◌⊎◌, IfSome, IsNone, IsSome}
+use Rattle.std.specs.Prelude.{◌⊎◌, ◌==◌, if◌then◌else◌, IfSome, IsNone, IsSome}
 use Rattle.stream_format.specs.declared.format.Format.{Format}
 use Rattle.hda_outside.specs.Shelf.{Files}
-use Rattle.hda_words.specs.Asked.{route, walk, hertz, bits_of}
+use Rattle.hda_words.specs.Asked.{Asked, bits_of, hertz, play, request_of, route, walk}
 use Rattle.sound_report.specs.declared.played.Played.{Played}
 use Rattle.sound_report.specs.declared.played.PlayFault.{PlayFault}
 use Rattle.sound_report.specs.declared.played.PlayFault.TheVariants as fault
 use Rattle.sound_report.specs.declared.status.Status.{Status}
-use Rattle.sound_report.specs.declared.status.Status.TheVariants.{Done, WordsRefused, ShelfFailed, CodecRefused, ScheduleRefused, NothingRouted}
+use Rattle.sound_report.specs.declared.status.Status.TheVariants.{Done, WordsRefused, ShelfFailed, SinkFailed, CodecRefused, WavRefused, ScheduleRefused, NothingRouted, Unanswered, Late, ScheduleEnded, OutOfMemory, GeometryRefused}
 use Rattle.sound_report.specs.Statuses.{number_of}
 use Rattle.hda_program.specs.Answers.{HasEnded, HasWritten}
-use Rattle.hda_program.specs.Asks.{IsNoCommand, IsRouteOf, IsWalkOf}
-use Rattle.hda_program.specs.Causes.{HasBadCodecFile, HasBadSchedule, HasPlanned, HasReported, HasUnreadFile, HasWalked, IsOfRun, IsRunless}
+use Rattle.hda_program.specs.Asks.{IsNoCommand, IsPlayOf, IsRouteOf, IsWalkOf}
+use Rattle.hda_program.specs.Causes.{HasBadCodecFile, HasBadRing, HasBadSchedule, HasBadWav, HasPlanned, HasReported, HasRun, HasUnreadFile, IsOfPlay, IsOfWalk, IsRunless}
 use Rattle.hda_program.specs.Meanings.{Meant, of_run, status_of, telling}
-use Rattle.hda_program.proofs.Cases.{Case, cases, usage, unread, bad_codec, bad_schedule, routed, unrouted_case, ran}
+use Rattle.hda_program.proofs.Cases.{Case, Cause, IsRouted, cases, ran, said}
 
 -- ---- numbers
+
+-- the status with a number
+abbrev status_with : ℕ → Status
+status_with n =
+    if n == 0 then Done
+    else (if n == 2 then WordsRefused
+    else (if n == 3 then ShelfFailed
+    else (if n == 4 then SinkFailed
+    else (if n == 5 then CodecRefused
+    else (if n == 6 then WavRefused
+    else (if n == 7 then ScheduleRefused
+    else (if n == 8 then NothingRouted
+    else (if n == 9 then Unanswered
+    else (if n == 10 then Late
+    else (if n == 11 then ScheduleEnded
+    else (if n == 12 then OutOfMemory else GeometryRefused)))))))))))
+
+status_again : (status : Status) → status_with (number_of status) ≡ status
+status_again Done = refl
+status_again WordsRefused = refl
+status_again ShelfFailed = refl
+status_again SinkFailed = refl
+status_again CodecRefused = refl
+status_again WavRefused = refl
+status_again ScheduleRefused = refl
+status_again NothingRouted = refl
+status_again Unanswered = refl
+status_again Late = refl
+status_again ScheduleEnded = refl
+status_again OutOfMemory = refl
+status_again GeometryRefused = refl
 
 -- a run ends with 0, or with 9 to 11
 run_low : (fault : Option PlayFault) → 1 ≤ number_of (status_of fault) → 9 ≤ number_of (status_of fault)
@@ -33,116 +64,88 @@ run_most (Some (fault.Late from to limit)) = omega arith
 run_most (Some (fault.CommandsLeft sent of)) = omega arith
 run_most (Some (fault.FramesLeft written heard of)) = omega arith
 
-number_told : (meant : Meant) (status : Status) (text : List ℕ) → meant ≡ telling status text → number_of meant.status ≡ number_of status
-number_told meant status text e = ap (λ (m : Meant). number_of m.status) e
+-- no run ends with this number
+abbrev IsNoEnd : ℕ → Type 0
+IsNoEnd n = ((1 ≤ n) × (n ≤ 8)) ⊎ (12 ≤ n)
 
 number_run : (meant : Meant) (played : Played) → meant ≡ of_run played → number_of meant.status ≡ number_of (status_of played.fault)
 number_run meant played e = ap (λ (m : Meant). number_of m.status) e
 
--- what was meant with one number has no other
-differs : {X : Type 0} (meant : Meant) (status : Status) (text : List ℕ) (n : ℕ) → meant ≡ telling status text → number_of meant.status ≡ n → (number_of status ≡ n → ⊥) → X
-differs meant status text n e number wrong = absurd (wrong (sym (number_told meant status text e) ∙ number))
-
-run_differs : {X : Type 0} (meant : Meant) (played : Played) (n : ℕ) → meant ≡ of_run played → number_of meant.status ≡ n → 1 ≤ n → n ≤ 8 → X
-run_differs meant played n e number some few =
+run_differs : {X : Type 0} (meant : Meant) (played : Played) (n : ℕ) → meant ≡ of_run played → number_of meant.status ≡ n → IsNoEnd n → X
+run_differs meant played n e number (inl (some, few)) =
     let is : number_of (status_of played.fault) ≡ n = sym (number_run meant played e) ∙ number in
     absurd (omega (arith, run_low played.fault (omega (arith, is, some)), is, few))
+run_differs meant played n e number (inr many) =
+    let is : number_of (status_of played.fault) ≡ n = sym (number_run meant played e) ∙ number in
+    absurd (omega (arith, run_most played.fault, is, many))
+
+-- ---- the words are those of one command
+
+same_asked : (words : List (List ℕ)) (a b : Asked) → request_of words ≡ Some a → request_of words ≡ Some b → a ≡ b
+same_asked words a b first second = let same : Some a ≡ Some b = sym first ∙ second in cc
+
+not_route_and_walk : (words : List (List ℕ)) (name : List ℕ) (format : Format) (codec schedule : List ℕ) → IsRouteOf words name format → IsWalkOf words codec schedule → ⊥
+not_route_and_walk words name format codec schedule routes walks =
+    let bad : route name (hertz format.rate) (bits_of format.bits) format.channels ≡ walk codec schedule = same_asked words _ _ routes walks in cc
+
+not_route_and_play : (words : List (List ℕ)) (name : List ℕ) (format : Format) (codec wav schedule : List ℕ) (periods period : ℕ) → IsRouteOf words name format
+    → IsPlayOf words codec wav schedule periods period → ⊥
+not_route_and_play words name format codec wav schedule periods period routes plays =
+    let bad : route name (hertz format.rate) (bits_of format.bits) format.channels ≡ play codec wav schedule periods period = same_asked words _ _ routes plays in cc
+
+-- no route makes a run
+no_run_of_route : (told : Option Files) (words : List (List ℕ)) (name : List ℕ) (format : Format) (played : Played) → IsRouteOf words name format → HasRun told words played → ⊥
+no_run_of_route told words name format played routes (inl walked) = not_route_and_walk words name format walked.codec walked.name routes walked.asks
+no_run_of_route told words name format played routes (inr sounded) =
+    not_route_and_play words name format sounded.codec sounded.wav sounded.name sounded.periods sounded.period routes sounded.asks
 
 -- ---- the causes
 
--- plans that were walked have a route
-was_planned : {told : Option Files} {words : List (List ℕ)} {played : Played} → HasWalked told words played → HasPlanned told words true
-was_planned walked = record {
+-- plans of a run have a route
+was_planned : {told : Option Files} {words : List (List ℕ)} {played : Played} → HasRun told words played → HasPlanned told words true
+was_planned (inl walked) = record {
   name = walked.codec;
   format = _;
   machine = walked.machine;
   plans = walked.plans;
-  wants = inr (walked.name, walked.asks, refl);
+  wants = inr (inl (walked.name, walked.asks, refl));
   file = walked.file;
   planned = walked.planned;
   routed = walked.routed;
 }
+was_planned (inr sounded) = record {
+  name = sounded.codec;
+  format = sounded.sound.format;
+  machine = sounded.machine;
+  plans = sounded.plans;
+  wants = inr (inr (
+    sounded.name,
+    sounded.sound,
+    record { wav = sounded.wav; periods = sounded.periods; period = sounded.period; asks = sounded.asks; file = sounded.sound_file },
+    refl,
+  ));
+  file = sounded.file;
+  planned = sounded.planned;
+  routed = sounded.routed;
+}
 
 module _ (told : Option Files) (failed : List ℕ → Type 0) (words : List (List ℕ)) where
-  -- the words are those of no command
-  no_command : (meant : Meant) → Case told failed words meant → number_of meant.status ≡ 2 → IsNoCommand words
-  no_command meant (usage refused text e) number = refused
-  no_command meant (unread name names failure text e) number = differs meant ShelfFailed text 2 e number (λ wrong. absurd (omega (arith, wrong)))
-  no_command meant (bad_codec bad text e) number = differs meant CodecRefused text 2 e number (λ wrong. absurd (omega (arith, wrong)))
-  no_command meant (bad_schedule bad text e) number = differs meant ScheduleRefused text 2 e number (λ wrong. absurd (omega (arith, wrong)))
-  no_command meant (routed name format asks planned text e) number = differs meant Done text 2 e number (λ wrong. absurd (omega (arith, wrong)))
-  no_command meant (unrouted_case planned text e) number = differs meant NothingRouted text 2 e number (λ wrong. absurd (omega (arith, wrong)))
-  no_command meant (ran played walked e) number = run_differs meant played 2 e number (omega arith) (omega arith)
+  -- the cause of a text, by the number of its status
+  said_cause : (n : ℕ) (meant : Meant) (status : Status) (text : List ℕ) → meant ≡ telling status text → number_of meant.status ≡ n → Cause told failed words status
+      → Cause told failed words (status_with n)
+  said_cause n meant status text e number cause =
+      let told_number : number_of meant.status ≡ number_of status = ap (λ (m : Meant). number_of m.status) e in
+      let is : status_with n ≡ status = ap status_with (sym number ∙ told_number) ∙ status_again status in
+      subst (λ (s : Status). Cause told failed words s) (sym is) cause
 
-  -- the shelf failed under a name of the words
-  unread_file : (meant : Meant) → Case told failed words meant → number_of meant.status ≡ 3 → HasUnreadFile failed words
-  unread_file meant (usage refused text e) number = differs meant WordsRefused text 3 e number (λ wrong. absurd (omega (arith, wrong)))
-  unread_file meant (unread name names failure text e) number = (name, names, failure)
-  unread_file meant (bad_codec bad text e) number = differs meant CodecRefused text 3 e number (λ wrong. absurd (omega (arith, wrong)))
-  unread_file meant (bad_schedule bad text e) number = differs meant ScheduleRefused text 3 e number (λ wrong. absurd (omega (arith, wrong)))
-  unread_file meant (routed name format asks planned text e) number = differs meant Done text 3 e number (λ wrong. absurd (omega (arith, wrong)))
-  unread_file meant (unrouted_case planned text e) number = differs meant NothingRouted text 3 e number (λ wrong. absurd (omega (arith, wrong)))
-  unread_file meant (ran played walked e) number = run_differs meant played 3 e number (omega arith) (omega arith)
+  cause_at : (n : ℕ) → IsNoEnd n → (meant : Meant) → Case told failed words meant → number_of meant.status ≡ n → Cause told failed words (status_with n)
+  cause_at n no_end meant (said status cause text e) number = said_cause n meant status text e number cause
+  cause_at n no_end meant (ran played run e) number = run_differs meant played n e number no_end
 
-  -- the codec file is refused
-  bad_codec_file : (meant : Meant) → Case told failed words meant → number_of meant.status ≡ 5 → HasBadCodecFile told words
-  bad_codec_file meant (usage refused text e) number = differs meant WordsRefused text 5 e number (λ wrong. absurd (omega (arith, wrong)))
-  bad_codec_file meant (unread name names failure text e) number = differs meant ShelfFailed text 5 e number (λ wrong. absurd (omega (arith, wrong)))
-  bad_codec_file meant (bad_codec bad text e) number = bad
-  bad_codec_file meant (bad_schedule bad text e) number = differs meant ScheduleRefused text 5 e number (λ wrong. absurd (omega (arith, wrong)))
-  bad_codec_file meant (routed name format asks planned text e) number = differs meant Done text 5 e number (λ wrong. absurd (omega (arith, wrong)))
-  bad_codec_file meant (unrouted_case planned text e) number = differs meant NothingRouted text 5 e number (λ wrong. absurd (omega (arith, wrong)))
-  bad_codec_file meant (ran played walked e) number = run_differs meant played 5 e number (omega arith) (omega arith)
-
-  -- the schedule is refused
-  bad_schedule_file : (meant : Meant) → Case told failed words meant → number_of meant.status ≡ 7 → HasBadSchedule told words
-  bad_schedule_file meant (usage refused text e) number = differs meant WordsRefused text 7 e number (λ wrong. absurd (omega (arith, wrong)))
-  bad_schedule_file meant (unread name names failure text e) number = differs meant ShelfFailed text 7 e number (λ wrong. absurd (omega (arith, wrong)))
-  bad_schedule_file meant (bad_codec bad text e) number = differs meant CodecRefused text 7 e number (λ wrong. absurd (omega (arith, wrong)))
-  bad_schedule_file meant (bad_schedule bad text e) number = bad
-  bad_schedule_file meant (routed name format asks planned text e) number = differs meant Done text 7 e number (λ wrong. absurd (omega (arith, wrong)))
-  bad_schedule_file meant (unrouted_case planned text e) number = differs meant NothingRouted text 7 e number (λ wrong. absurd (omega (arith, wrong)))
-  bad_schedule_file meant (ran played walked e) number = run_differs meant played 7 e number (omega arith) (omega arith)
-
-  -- some pin has a route
+  -- some pin has a route, of a route or of a run
   some_routed : (meant : Meant) → Case told failed words meant → number_of meant.status ≡ 0 → HasPlanned told words true
-  some_routed meant (usage refused text e) number = differs meant WordsRefused text 0 e number (λ wrong. absurd (omega (arith, wrong)))
-  some_routed meant (unread name names failure text e) number = differs meant ShelfFailed text 0 e number (λ wrong. absurd (omega (arith, wrong)))
-  some_routed meant (bad_codec bad text e) number = differs meant CodecRefused text 0 e number (λ wrong. absurd (omega (arith, wrong)))
-  some_routed meant (bad_schedule bad text e) number = differs meant ScheduleRefused text 0 e number (λ wrong. absurd (omega (arith, wrong)))
-  some_routed meant (routed name format asks planned text e) number = planned
-  some_routed meant (unrouted_case planned text e) number = differs meant NothingRouted text 0 e number (λ wrong. absurd (omega (arith, wrong)))
-  some_routed meant (ran played walked e) number = was_planned walked
-
-  -- no pin has a route
-  none_routed : (meant : Meant) → Case told failed words meant → number_of meant.status ≡ 8 → HasPlanned told words false
-  none_routed meant (usage refused text e) number = differs meant WordsRefused text 8 e number (λ wrong. absurd (omega (arith, wrong)))
-  none_routed meant (unread name names failure text e) number = differs meant ShelfFailed text 8 e number (λ wrong. absurd (omega (arith, wrong)))
-  none_routed meant (bad_codec bad text e) number = differs meant CodecRefused text 8 e number (λ wrong. absurd (omega (arith, wrong)))
-  none_routed meant (bad_schedule bad text e) number = differs meant ScheduleRefused text 8 e number (λ wrong. absurd (omega (arith, wrong)))
-  none_routed meant (routed name format asks planned text e) number = differs meant Done text 8 e number (λ wrong. absurd (omega (arith, wrong)))
-  none_routed meant (unrouted_case planned text e) number = planned
-  none_routed meant (ran played walked e) number = run_differs meant played 8 e number (omega arith) (omega arith)
-
-  -- nothing is meant with the sink's status
-  never_sink : (meant : Meant) → Case told failed words meant → number_of meant.status ≡ 4 → ⊥
-  never_sink meant (usage refused text e) number = differs meant WordsRefused text 4 e number (λ wrong. absurd (omega (arith, wrong)))
-  never_sink meant (unread name names failure text e) number = differs meant ShelfFailed text 4 e number (λ wrong. absurd (omega (arith, wrong)))
-  never_sink meant (bad_codec bad text e) number = differs meant CodecRefused text 4 e number (λ wrong. absurd (omega (arith, wrong)))
-  never_sink meant (bad_schedule bad text e) number = differs meant ScheduleRefused text 4 e number (λ wrong. absurd (omega (arith, wrong)))
-  never_sink meant (routed name format asks planned text e) number = differs meant Done text 4 e number (λ wrong. absurd (omega (arith, wrong)))
-  never_sink meant (unrouted_case planned text e) number = differs meant NothingRouted text 4 e number (λ wrong. absurd (omega (arith, wrong)))
-  never_sink meant (ran played walked e) number = run_differs meant played 4 e number (omega arith) (omega arith)
-
--- the words are not those of both commands
-not_both : (words : List (List ℕ)) (name : List ℕ) (format : Format) (codec schedule : List ℕ) → IsRouteOf words name format → IsWalkOf words codec schedule → ⊥
-not_both words name format codec schedule routes walks =
-    let bad : Some (route name (hertz format.rate) (bits_of format.bits) format.channels) ≡ Some (walk codec schedule) = sym routes ∙ walks in cc
-
--- a number that is 0 or at least 9 is none from 1 to 8
-out_of : {X : Type 0} (n : ℕ) → (n ≡ 0) ⊎ (9 ≤ n) → 1 ≤ n → n ≤ 8 → X
-out_of n (inl none) some few = absurd (omega (arith, none, some))
-out_of n (inr many) some few = absurd (omega (arith, many, few))
+  some_routed meant (said status cause text e) number = let routed : IsRouted told words = said_cause 0 meant status text e number cause in routed.3
+  some_routed meant (ran played run e) number = was_planned run
 
 -- ---- an end
 
@@ -161,26 +164,33 @@ module _ (told : Option Files) (failed : List ℕ → Type 0) (words : List (Lis
   caused n cause no_sink no_memory (inr memory) is = absurd (no_memory (sym is ∙ memory.0))
 
   pub refused_words : HasEnded told failed words before after sink_failed play status → status ≡ 2 → IsNoCommand words
-  refused_words = caused 2 (no_command told failed words) (λ e. absurd (omega (arith, e))) (λ e. absurd (omega (arith, e)))
+  refused_words = caused 2 (cause_at told failed words 2 (inl (omega arith, omega arith))) (λ e. absurd (omega (arith, e))) (λ e. absurd (omega (arith, e)))
 
   pub shelf_failed : HasEnded told failed words before after sink_failed play status → status ≡ 3 → HasUnreadFile failed words
-  shelf_failed = caused 3 (unread_file told failed words) (λ e. absurd (omega (arith, e))) (λ e. absurd (omega (arith, e)))
+  shelf_failed = caused 3 (cause_at told failed words 3 (inl (omega arith, omega arith))) (λ e. absurd (omega (arith, e))) (λ e. absurd (omega (arith, e)))
 
   pub refused_codec : HasEnded told failed words before after sink_failed play status → status ≡ 5 → HasBadCodecFile told words
-  refused_codec = caused 5 (bad_codec_file told failed words) (λ e. absurd (omega (arith, e))) (λ e. absurd (omega (arith, e)))
+  refused_codec = caused 5 (cause_at told failed words 5 (inl (omega arith, omega arith))) (λ e. absurd (omega (arith, e))) (λ e. absurd (omega (arith, e)))
+
+  pub refused_wav : HasEnded told failed words before after sink_failed play status → status ≡ 6 → HasBadWav told words
+  refused_wav = caused 6 (cause_at told failed words 6 (inl (omega arith, omega arith))) (λ e. absurd (omega (arith, e))) (λ e. absurd (omega (arith, e)))
 
   pub refused_schedule : HasEnded told failed words before after sink_failed play status → status ≡ 7 → HasBadSchedule told words
-  refused_schedule = caused 7 (bad_schedule_file told failed words) (λ e. absurd (omega (arith, e))) (λ e. absurd (omega (arith, e)))
+  refused_schedule = caused 7 (cause_at told failed words 7 (inl (omega arith, omega arith))) (λ e. absurd (omega (arith, e))) (λ e. absurd (omega (arith, e)))
+
+  pub refused_geometry : HasEnded told failed words before after sink_failed play status → status ≡ 13 → HasBadRing told words
+  refused_geometry = caused 13 (cause_at told failed words 13 (inr (omega arith))) (λ e. absurd (omega (arith, e))) (λ e. absurd (omega (arith, e)))
 
   pub was_routed : HasEnded told failed words before after sink_failed play status → status ≡ 0 → HasPlanned told words true
   was_routed = caused 0 (some_routed told failed words) (λ e. absurd (omega (arith, e))) (λ e. absurd (omega (arith, e)))
 
   pub was_unrouted : HasEnded told failed words before after sink_failed play status → status ≡ 8 → HasPlanned told words false
-  was_unrouted = caused 8 (none_routed told failed words) (λ e. absurd (omega (arith, e))) (λ e. absurd (omega (arith, e)))
+  was_unrouted = caused 8 (cause_at told failed words 8 (inl (omega arith, omega arith))) (λ e. absurd (omega (arith, e))) (λ e. absurd (omega (arith, e)))
 
-  -- at the sink's status its count of faults rose
+  -- at the sink's status its count of faults rose, since nothing is meant with that status
   sink_answered : (meant : Meant) → Case told failed words meant → HasWritten before after sink_failed meant status → status ≡ 4 → sink_failed
-  sink_answered meant case (inl whole) four = absurd (never_sink told failed words meant case (sym whole.0 ∙ four))
+  sink_answered meant case (inl whole) four =
+      let never : ⊥ = cause_at told failed words 4 (inl (omega arith, omega arith)) meant case (sym whole.0 ∙ four) in absurd never
   sink_answered meant case (inr (inl sink)) four = sink.1
   sink_answered meant case (inr (inr memory)) four = absurd (omega (arith, memory.0, four))
 
@@ -199,23 +209,18 @@ module _ (told : Option Files) (failed : List ℕ → Type 0) (words : List (Lis
       let some : play ≡ Some played = is ∙ ap (λ (m : Meant). m.play) e in subst (λ (o : Option Played). IfSome o P) (sym some) holds
 
   -- what holds of the run that was meant holds of the run that is given
-  of_given : (P : Played → Type 0) (meant : Meant) → Case told failed words meant → play ≡ meant.play → ((played : Played) → HasWalked told words played → meant ≡ of_run played → P played) → IfSome play P
-  of_given P meant (usage refused text e) is holds = no_run P meant WordsRefused text e is
-  of_given P meant (unread name names failure text e) is holds = no_run P meant ShelfFailed text e is
-  of_given P meant (bad_codec bad text e) is holds = no_run P meant CodecRefused text e is
-  of_given P meant (bad_schedule bad text e) is holds = no_run P meant ScheduleRefused text e is
-  of_given P meant (routed name format asks planned text e) is holds = no_run P meant Done text e is
-  of_given P meant (unrouted_case planned text e) is holds = no_run P meant NothingRouted text e is
-  of_given P meant (ran played walked e) is holds = run_of P meant played e is (holds played walked e)
+  of_given : (P : Played → Type 0) (meant : Meant) → Case told failed words meant → play ≡ meant.play → ((played : Played) → HasRun told words played → meant ≡ of_run played → P played) → IfSome play P
+  of_given P meant (said of cause text e) is holds = no_run P meant of text e is
+  of_given P meant (ran played run e) is holds = run_of P meant played e is (holds played run e)
 
   given : (P : Played → Type 0) → HasEnded told failed words before after sink_failed play status
-      → ((meant : Meant) (played : Played) → HasWalked told words played → meant ≡ of_run played → HasWritten before after sink_failed meant status → P played) → IfSome play P
+      → ((meant : Meant) (played : Played) → HasRun told words played → meant ≡ of_run played → HasWritten before after sink_failed meant status → P played) → IfSome play P
   given P (inl answered) holds =
-      of_given P answered.meant (cases told failed words answered.meant answered.is) answered.given (λ played walked e. holds answered.meant played walked e answered.written)
+      of_given P answered.meant (cases told failed words answered.meant answered.is) answered.given (λ played run e. holds answered.meant played run e answered.written)
   given P (inr memory) holds = subst (λ (o : Option Played). IfSome o P) (sym memory.1) tt
 
-  pub run_walked : HasEnded told failed words before after sink_failed play status → IfSome play (HasWalked told words)
-  run_walked ended = given (HasWalked told words) ended (λ meant played walked e written. walked)
+  pub run_given : HasEnded told failed words before after sink_failed play status → IfSome play (HasRun told words)
+  run_given ended = given (HasRun told words) ended (λ meant played run e written. run)
 
   reported_as : (played : Played) → HasWritten before after sink_failed (of_run played) status → HasReported before after played status
   reported_as played (inl whole) = inl whole
@@ -223,7 +228,7 @@ module _ (told : Option Files) (failed : List ℕ → Type 0) (words : List (Lis
   reported_as played (inr (inr memory)) = inr (inr memory.0, memory.1)
 
   pub run_reported : HasEnded told failed words before after sink_failed play status → IfSome play (λ played. HasReported before after played status)
-  run_reported ended = given (λ played. HasReported before after played status) ended (λ meant played walked e written.
+  run_reported ended = given (λ played. HasReported before after played status) ended (λ meant played run e written.
       reported_as played (subst (λ (m : Meant). HasWritten before after sink_failed m status) e written))
 
   none_given : (o : Option Played) → IfSome o (λ played. ⊥) → IsNone o
@@ -231,53 +236,48 @@ module _ (told : Option Files) (failed : List ℕ → Type 0) (words : List (Lis
   none_given (Some played) holds = absurd holds
 
   -- no run is given at a status of a refusal
-  not_refusal : (n : ℕ) → status ≡ n → (2 ≤ n) → (n ≢ 4) → (n ≢ 12) → (n ≤ 8) ⊎ (12 ≤ n) → (meant : Meant) (played : Played) → meant ≡ of_run played
-      → HasWritten before after sink_failed meant status → ⊥
-  not_refusal n is some no_sink no_memory (inl few) meant played e written =
-      run_differs meant played n e (meant_number meant n written is no_sink no_memory) (omega (arith, some)) few
-  not_refusal n is some no_sink no_memory (inr many) meant played e written =
-      let number : number_of (status_of played.fault) ≡ n = sym (number_run meant played e) ∙ meant_number meant n written is no_sink no_memory in
-      omega (arith, run_most played.fault, number, many)
-
-  refusal_runless : (n : ℕ) → HasEnded told failed words before after sink_failed play status → status ≡ n → (2 ≤ n) → (n ≢ 4) → (n ≢ 12) → (n ≤ 8) ⊎ (12 ≤ n) → IsNone play
-  refusal_runless n ended is some no_sink no_memory range =
-      none_given play (given (λ played. ⊥) ended (λ meant played walked e written. not_refusal n is some no_sink no_memory range meant played e written))
+  refusal_runless : (n : ℕ) → HasEnded told failed words before after sink_failed play status → status ≡ n → IsNoEnd n → (n ≢ 4) → (n ≢ 12) → IsNone play
+  refusal_runless n ended is no_end no_sink no_memory =
+      none_given play (given (λ played. ⊥) ended (λ meant played run e written. run_differs meant played n e (meant_number meant n written is no_sink no_memory) no_end))
 
   pub runless : HasEnded told failed words before after sink_failed play status → IsRunless status → IsNone play
-  runless ended (inl is) = refusal_runless 2 ended is (omega arith) (λ e. absurd (omega (arith, e))) (λ e. absurd (omega (arith, e))) (inl (omega arith))
-  runless ended (inr (inl is)) = refusal_runless 3 ended is (omega arith) (λ e. absurd (omega (arith, e))) (λ e. absurd (omega (arith, e))) (inl (omega arith))
-  runless ended (inr (inr (inl is))) = refusal_runless 5 ended is (omega arith) (λ e. absurd (omega (arith, e))) (λ e. absurd (omega (arith, e))) (inl (omega arith))
-  runless ended (inr (inr (inr (inl is)))) = refusal_runless 6 ended is (omega arith) (λ e. absurd (omega (arith, e))) (λ e. absurd (omega (arith, e))) (inl (omega arith))
-  runless ended (inr (inr (inr (inr (inl is))))) = refusal_runless 7 ended is (omega arith) (λ e. absurd (omega (arith, e))) (λ e. absurd (omega (arith, e))) (inl (omega arith))
-  runless ended (inr (inr (inr (inr (inr (inl is)))))) = refusal_runless 8 ended is (omega arith) (λ e. absurd (omega (arith, e))) (λ e. absurd (omega (arith, e))) (inl (omega arith))
-  runless ended (inr (inr (inr (inr (inr (inr is)))))) = refusal_runless 13 ended is (omega arith) (λ e. absurd (omega (arith, e))) (λ e. absurd (omega (arith, e))) (inr (omega arith))
+  runless ended (inl is) = refusal_runless 2 ended is (inl (omega arith, omega arith)) (λ e. absurd (omega (arith, e))) (λ e. absurd (omega (arith, e)))
+  runless ended (inr (inl is)) = refusal_runless 3 ended is (inl (omega arith, omega arith)) (λ e. absurd (omega (arith, e))) (λ e. absurd (omega (arith, e)))
+  runless ended (inr (inr (inl is))) = refusal_runless 5 ended is (inl (omega arith, omega arith)) (λ e. absurd (omega (arith, e))) (λ e. absurd (omega (arith, e)))
+  runless ended (inr (inr (inr (inl is)))) = refusal_runless 6 ended is (inl (omega arith, omega arith)) (λ e. absurd (omega (arith, e))) (λ e. absurd (omega (arith, e)))
+  runless ended (inr (inr (inr (inr (inl is))))) = refusal_runless 7 ended is (inl (omega arith, omega arith)) (λ e. absurd (omega (arith, e))) (λ e. absurd (omega (arith, e)))
+  runless ended (inr (inr (inr (inr (inr (inl is)))))) = refusal_runless 8 ended is (inl (omega arith, omega arith)) (λ e. absurd (omega (arith, e))) (λ e. absurd (omega (arith, e)))
+  runless ended (inr (inr (inr (inr (inr (inr is)))))) = refusal_runless 13 ended is (inr (omega arith)) (λ e. absurd (omega (arith, e))) (λ e. absurd (omega (arith, e)))
 
   -- `route` makes no run
   pub route_runless : HasEnded told failed words before after sink_failed play status → (name : List ℕ) (format : Format) → IsRouteOf words name format → IsNone play
-  route_runless ended name format is = none_given play (given (λ played. ⊥) ended (λ meant played walked e written. not_both words name format walked.codec walked.name is walked.asks))
+  route_runless ended name format routes =
+      none_given play (given (λ played. ⊥) ended (λ meant played run e written. no_run_of_route told words name format played routes run))
 
-  -- `walk` gives its run at the statuses of a run
+  -- `walk` and `play` give their run at the statuses of a run, since nothing else is meant with them by their words
   some_given : (meant : Meant) (played : Played) → meant ≡ of_run played → play ≡ meant.play → IsSome play
   some_given meant played e is =
       let some : play ≡ Some played = is ∙ ap (λ (m : Meant). m.play) e in subst (λ (o : Option Played). IsSome o) (sym some) refl
 
-  walk_case : (n : ℕ) (codec name : List ℕ) → IsWalkOf words codec name → (meant : Meant) → Case told failed words meant → play ≡ meant.play → number_of meant.status ≡ n
-      → (n ≡ 0) ⊎ (9 ≤ n) → IsSome play
-  walk_case n codec name walks meant (usage refused text e) is number range = differs meant WordsRefused text n e number (λ bad. out_of n range (omega (arith, bad)) (omega (arith, bad)))
-  walk_case n codec name walks meant (unread file names failure text e) is number range = differs meant ShelfFailed text n e number (λ bad. out_of n range (omega (arith, bad)) (omega (arith, bad)))
-  walk_case n codec name walks meant (bad_codec bad text e) is number range = differs meant CodecRefused text n e number (λ wrong. out_of n range (omega (arith, wrong)) (omega (arith, wrong)))
-  walk_case n codec name walks meant (bad_schedule bad text e) is number range = differs meant ScheduleRefused text n e number (λ wrong. out_of n range (omega (arith, wrong)) (omega (arith, wrong)))
-  walk_case n codec name walks meant (routed file format asks planned text e) is number range = absurd (not_both words file format codec name asks walks)
-  walk_case n codec name walks meant (unrouted_case planned text e) is number range = differs meant NothingRouted text n e number (λ bad. out_of n range (omega (arith, bad)) (omega (arith, bad)))
-  walk_case n codec name walks meant (ran played walked e) is number range = some_given meant played e is
+  run_case : (n : ℕ) → (Cause told failed words (status_with n) → ⊥) → (meant : Meant) → Case told failed words meant → play ≡ meant.play → number_of meant.status ≡ n → IsSome play
+  run_case n none meant (said of cause text e) is number = absurd (none (said_cause told failed words n meant of text e number cause))
+  run_case n none meant (ran played run e) is number = some_given meant played e is
 
-  walk_at : (n : ℕ) (codec name : List ℕ) → IsWalkOf words codec name → HasEnded told failed words before after sink_failed play status → status ≡ n → (n ≢ 4) → (n ≢ 12)
-      → (n ≡ 0) ⊎ (9 ≤ n) → IsSome play
-  walk_at n codec name walks (inl answered) is no_sink no_memory range =
-      walk_case n codec name walks answered.meant (cases told failed words answered.meant answered.is) answered.given (meant_number answered.meant n answered.written is no_sink no_memory) range
-  walk_at n codec name walks (inr memory) is no_sink no_memory range = absurd (no_memory (sym is ∙ memory.0))
+  run_at : (n : ℕ) → (Cause told failed words (status_with n) → ⊥) → HasEnded told failed words before after sink_failed play status → status ≡ n → (n ≢ 4) → (n ≢ 12) → IsSome play
+  run_at n none (inl answered) is no_sink no_memory =
+      run_case n none answered.meant (cases told failed words answered.meant answered.is) answered.given (meant_number answered.meant n answered.written is no_sink no_memory)
+  run_at n none (inr memory) is no_sink no_memory = absurd (no_memory (sym is ∙ memory.0))
 
-  pub walk_runs : HasEnded told failed words before after sink_failed play status → (codec name : List ℕ) → IsWalkOf words codec name → IsOfRun status → IsSome play
-  walk_runs ended codec name walks (inl is) = walk_at 0 codec name walks ended is (λ e. absurd (omega (arith, e))) (λ e. absurd (omega (arith, e))) (inl refl)
-  walk_runs ended codec name walks (inr (inl is)) = walk_at 9 codec name walks ended is (λ e. absurd (omega (arith, e))) (λ e. absurd (omega (arith, e))) (inr (omega arith))
-  walk_runs ended codec name walks (inr (inr is)) = walk_at 11 codec name walks ended is (λ e. absurd (omega (arith, e))) (λ e. absurd (omega (arith, e))) (inr (omega arith))
+  runs : HasEnded told failed words before after sink_failed play status → (IsRouted told words → ⊥) → IsOfPlay status → IsSome play
+  runs ended unrouted (inl (inl is)) = run_at 0 unrouted ended is (λ e. absurd (omega (arith, e))) (λ e. absurd (omega (arith, e)))
+  runs ended unrouted (inl (inr (inl is))) = run_at 9 (λ none. none) ended is (λ e. absurd (omega (arith, e))) (λ e. absurd (omega (arith, e)))
+  runs ended unrouted (inl (inr (inr is))) = run_at 11 (λ none. none) ended is (λ e. absurd (omega (arith, e))) (λ e. absurd (omega (arith, e)))
+  runs ended unrouted (inr is) = run_at 10 (λ none. none) ended is (λ e. absurd (omega (arith, e))) (λ e. absurd (omega (arith, e)))
+
+  pub walk_runs : HasEnded told failed words before after sink_failed play status → (codec name : List ℕ) → IsWalkOf words codec name → IsOfWalk status → IsSome play
+  walk_runs ended codec name walks is = runs ended (λ routed. not_route_and_walk words routed.0 routed.1 codec name routed.2 walks) (inl is)
+
+  pub play_runs : HasEnded told failed words before after sink_failed play status → (codec wav name : List ℕ) (periods period : ℕ) → IsPlayOf words codec wav name periods period
+      → IsOfPlay status → IsSome play
+  play_runs ended codec wav name periods period plays is =
+      runs ended (λ routed. not_route_and_play words routed.0 routed.1 codec wav name periods period routed.2 plays) is

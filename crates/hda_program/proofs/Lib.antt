@@ -1,4 +1,5 @@
 mod ReadLemmas
 mod WalkLemmas
+mod PlayLemmas
 mod Cases
 mod Endings

@@ -28,7 +28,9 @@ MachineWalks-both told later failed both machine name meant same rose (inr walke
 pub request_meant : (told : Option Files) (failed : List ℕ → Type 0) (words : List (List ℕ)) (asked : Request) (meant : Meant)
     → request_of words ≡ Some (asked_by asked) → RequestAnswers told failed asked meant → IsMeant told failed words meant
 request_meant told failed words (request.Route codec format) meant is answers = inr (inl (codec.now, format, is, answers))
-request_meant told failed words (request.Walk codec schedule) meant is answers = inr (inr (codec.now, schedule.now, is, answers))
+request_meant told failed words (request.Walk codec schedule) meant is answers = inr (inr (inl (codec.now, schedule.now, is, answers)))
+request_meant told failed words (request.Play codec wav schedule periods period) meant is answers =
+    inr (inr (inr (codec.now, wav.now, schedule.now, periods, period, is, answers)))
 
 -- a name that the words do not name is none of the request's files
 pub other_name : (words : List (List ℕ)) (asked : Asked) (name : List ℕ) → request_of words ≡ Some asked → (Names words name → ⊥) → Contains (files_of asked) name → ⊥
@@ -44,3 +46,16 @@ other_first one two name other same = other (0, omega arith, sym same)
 
 pub other_second : (one two name : List ℕ) → (Contains (one ∷ two ∷ []) name → ⊥) → name ≢ two
 other_second one two name other same = other (1, omega arith, sym same)
+
+-- a name that is none of three names
+pub record IsOtherThan (one two three name : List ℕ) : Type 0 where
+  pub first : name ≢ one
+  pub second : name ≢ two
+  pub third : name ≢ three
+
+pub other_three : (one two three name : List ℕ) → (Contains (one ∷ two ∷ three ∷ []) name → ⊥) → IsOtherThan one two three name
+other_three one two three name other = record {
+  first = λ same. other (0, omega arith, sym same);
+  second = λ same. other (1, omega arith, sym same);
+  third = λ same. other (2, omega arith, sym same);
+}

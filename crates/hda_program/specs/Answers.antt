@@ -9,13 +9,17 @@ use Rattle.hda_files.specs.declared.machine.CodecFile.{CodecFile}
 use Rattle.hda_outside.specs.Shelf.{Files}
 use Rattle.hda_outside.specs.Sink.{taken_with, TookFront}
 use Rattle.hda_schedule.specs.declared.schedule.Schedule.{Schedule}
+use Rattle.period_writer.specs.declared.geometry.Geometry.{Geometry}
+use Rattle.wav_reader.specs.declared.wav.Wav.{Wav}
 use Rattle.sound_report.specs.declared.played.Played.{Played}
 use Rattle.sound_report.specs.declared.status.Status.TheVariants.{Done, WordsRefused, SinkFailed, OutOfMemory}
 use Rattle.sound_report.specs.PlanLines.{plans_lines}
 use Rattle.sound_report.specs.Statuses.{number_of}
-use Rattle.hda_program.specs.Asks.{IsNoCommand, IsRouteOf, IsWalkOf}
+use Rattle.hda_program.specs.Asks.{IsNoCommand, IsRouteOf, IsWalkOf, IsPlayOf}
 use Rattle.scheduled_runs.specs.Walks.{walk_format, IsWalked}
-use Rattle.hda_program.specs.Files.{IsMachineOf, IsScheduleOf, CodecStops, ScheduleStops}
+use Rattle.scheduled_runs.specs.Plays.{IsPlayed}
+use Rattle.hda_program.specs.Files.{IsMachineOf, IsWavOf, IsScheduleOf, CodecStops, WavStops, ScheduleStops}
+use Rattle.hda_program.specs.Rings.{IsRingOf, RingStops}
 use Rattle.hda_program.specs.Meanings.{Meant, telling, unrouted, of_run}
 use Rattle.machine_tasks.specs.Tasks.{HavePlans}
 use Rattle.hda_program.specs.Plans.{have_route}
@@ -56,19 +60,60 @@ abbrev pub WalkAnswers : Option Files → (List ℕ → Type 0) → List ℕ →
 WalkAnswers told failed codec name meant =
     CodecStops told failed codec meant ⊎ ((machine : Machine) × IsMachineOf told codec machine × MachineWalks told failed machine name meant)
 
+-- ---- `play`
+
+-- what it answers for plans: nothing is run where no pin has a route, and else the sound is played through the ring by the schedule
+abbrev pub PlansPlay : Machine → Wav → Geometry → Schedule → List Plan → Meant → Type 0
+PlansPlay machine sound geometry schedule plans meant =
+    ((have_route plans ≡ false) × (meant ≡ unrouted machine.codecs plans))
+    ⊎ ((played : Played) × (have_route plans ≡ true) × IsPlayed machine plans sound geometry schedule played × (meant ≡ of_run played))
+
+-- the plans are for the sound's format
+abbrev pub RingPlays : Machine → Wav → Geometry → Schedule → Meant → Type 0
+RingPlays machine sound geometry schedule meant =
+    (plans : List Plan) × HavePlans sound.format machine.codecs plans × PlansPlay machine sound geometry schedule plans meant
+
+-- it ends at the ring, or goes on with that of the words
+abbrev pub SchedulePlays : (periods period : ℕ) → Machine → Wav → Schedule → Meant → Type 0
+SchedulePlays periods period machine sound schedule meant =
+    RingStops periods period machine sound meant
+    ⊎ ((geometry : Geometry) × IsRingOf periods period machine sound geometry × RingPlays machine sound geometry schedule meant)
+
+-- it ends at the schedule, or goes on with what this reads as
+abbrev pub SoundPlays : Option Files → (List ℕ → Type 0) → (periods period : ℕ) → Machine → Wav → List ℕ → Meant → Type 0
+SoundPlays told failed periods period machine sound name meant =
+    ScheduleStops told failed name meant
+    ⊎ ((schedule : Schedule) × IsScheduleOf told name schedule × SchedulePlays periods period machine sound schedule meant)
+
+-- it ends at the WAV file, or goes on with the sound that this reads as
+abbrev pub MachinePlays : Option Files → (List ℕ → Type 0) → (periods period : ℕ) → Machine → (wav schedule : List ℕ) → Meant → Type 0
+MachinePlays told failed periods period machine wav name meant =
+    WavStops told failed wav meant
+    ⊎ ((sound : Wav) × IsWavOf told wav sound × SoundPlays told failed periods period machine sound name meant)
+
+-- it ends at the codec file, or goes on with the machine that this reads as
+abbrev pub PlayAnswers : Option Files → (List ℕ → Type 0) → (codec wav schedule : List ℕ) → (periods period : ℕ) → Meant → Type 0
+PlayAnswers told failed codec wav name periods period meant =
+    CodecStops told failed codec meant
+    ⊎ ((machine : Machine) × IsMachineOf told codec machine × MachinePlays told failed periods period machine wav name meant)
+
 -- ---- all commands
 
 -- what is answered to a request of the words
 abbrev pub RequestAnswers : Option Files → (List ℕ → Type 0) → Request → Meant → Type 0
 RequestAnswers told failed (request.Route codec format) meant = RouteAnswers told failed codec.now format meant
 RequestAnswers told failed (request.Walk codec schedule) meant = WalkAnswers told failed codec.now schedule.now meant
+RequestAnswers told failed (request.Play codec wav schedule periods period) meant =
+    PlayAnswers told failed codec.now wav.now schedule.now periods period meant
 
 -- what the program answers to its words, where the shelf told these files and failed under some names
 abbrev pub IsMeant : Option Files → (List ℕ → Type 0) → List (List ℕ) → Meant → Type 0
 IsMeant told failed words meant =
     (IsNoCommand words × (meant ≡ telling WordsRefused usage_line))
     ⊎ (((name : List ℕ) × (format : Format) × IsRouteOf words name format × RouteAnswers told failed name format meant)
-    ⊎ ((codec : List ℕ) × (name : List ℕ) × IsWalkOf words codec name × WalkAnswers told failed codec name meant))
+    ⊎ (((codec : List ℕ) × (name : List ℕ) × IsWalkOf words codec name × WalkAnswers told failed codec name meant)
+    ⊎ ((codec : List ℕ) × (wav : List ℕ) × (name : List ℕ) × (periods : ℕ) × (period : ℕ) × IsPlayOf words codec wav name periods period
+    × PlayAnswers told failed codec wav name periods period meant)))
 
 -- ---- the end
 

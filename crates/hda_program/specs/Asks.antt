@@ -1,8 +1,7 @@
 -- What the words ask for, and which files they name. This project's own.
-use Rattle.std.specs.Prelude.{◌≡◌, ◌⊎◌, ℕ, List, [], ◌∷◌, Option, Some, None, Contains, option_map}
+use Rattle.std.specs.Prelude.{◌≡◌, ℕ, List, [], ◌∷◌, Option, Some, None, Contains, option_map}
 use Rattle.stream_format.specs.declared.format.Format.{Format}
-use Rattle.scheduled_runs.specs.Walks.{walk_format}
-use Rattle.hda_words.specs.Asked.{Asked, route, walk, hertz, bits_of, request_of}
+use Rattle.hda_words.specs.Asked.{Asked, route, walk, play, hertz, bits_of, request_of}
 
 -- the words are those of no command
 abbrev pub IsNoCommand : List (List ℕ) → Type 0
@@ -16,10 +15,15 @@ IsRouteOf words name format = request_of words ≡ Some (route name (hertz forma
 abbrev pub IsWalkOf : List (List ℕ) → List ℕ → List ℕ → Type 0
 IsWalkOf words codec schedule = request_of words ≡ Some (walk codec schedule)
 
+-- the words ask for the sound of the second file, through the codecs of the first, by the schedule of the third, and a ring of these numbers
+abbrev pub IsPlayOf : List (List ℕ) → (codec wav schedule : List ℕ) → (periods period : ℕ) → Type 0
+IsPlayOf words codec wav schedule periods period = request_of words ≡ Some (play codec wav schedule periods period)
+
 -- the names of the files that are asked for
 abbrev pub files_of : Asked → List (List ℕ)
 files_of (route codec rate bits channels) = codec ∷ []
 files_of (walk codec schedule) = codec ∷ schedule ∷ []
+files_of (play codec wav schedule periods period) = codec ∷ wav ∷ schedule ∷ []
 
 abbrev pub files_asked : Option Asked → List (List ℕ)
 files_asked None = []
@@ -37,11 +41,8 @@ AsksForItsFiles words before after = (name : List ℕ) → (Names words name →
 abbrev pub codec_of : Asked → List ℕ
 codec_of (route codec rate bits channels) = codec
 codec_of (walk codec schedule) = codec
+codec_of (play codec wav schedule periods period) = codec
 
 -- the words name a codec file
 abbrev pub NamesCodecFile : List (List ℕ) → List ℕ → Type 0
 NamesCodecFile words name = option_map codec_of (request_of words) ≡ Some name
-
--- the words want plans of the codec file of this name, for this format
-abbrev pub WantsPlans : List (List ℕ) → List ℕ → Format → Type 0
-WantsPlans words name format = IsRouteOf words name format ⊎ ((schedule : List ℕ) × IsWalkOf words name schedule × (format ≡ walk_format))

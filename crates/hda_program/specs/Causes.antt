@@ -6,13 +6,18 @@ use Rattle.hda_files.specs.declared.machine.Machine.{Machine}
 use Rattle.hda_outside.specs.Shelf.{Files}
 use Rattle.hda_outside.specs.Sink.{taken_with, TookFront}
 use Rattle.hda_schedule.specs.declared.schedule.Schedule.{Schedule}
+use Rattle.period_writer.specs.declared.geometry.Geometry.{Geometry}
+use Rattle.period_writer.specs.declared.geometry.GeometryFault.{GeometryFault}
+use Rattle.wav_reader.specs.declared.wav.Wav.{Wav}
 use Rattle.sound_report.specs.declared.played.Played.{Played}
-use Rattle.sound_report.specs.declared.status.Status.TheVariants.{Done, WordsRefused, ShelfFailed, SinkFailed, CodecRefused, WavRefused, ScheduleRefused, NothingRouted, Unanswered, ScheduleEnded, OutOfMemory, GeometryRefused}
+use Rattle.sound_report.specs.declared.status.Status.TheVariants.{Done, WordsRefused, ShelfFailed, SinkFailed, CodecRefused, WavRefused, ScheduleRefused, NothingRouted, Unanswered, Late, ScheduleEnded, OutOfMemory, GeometryRefused}
 use Rattle.sound_report.specs.Statuses.{number_of}
 use Rattle.sound_report.specs.Texts.{text_of}
-use Rattle.hda_program.specs.Asks.{Names, NamesCodecFile, IsWalkOf, WantsPlans}
+use Rattle.hda_program.specs.Asks.{Names, NamesCodecFile, IsRouteOf, IsWalkOf, IsPlayOf}
 use Rattle.scheduled_runs.specs.Walks.{walk_format, IsWalked}
-use Rattle.hda_program.specs.Files.{IsMachineOf, IsScheduleOf, IsCodecRefused, IsScheduleRefused}
+use Rattle.scheduled_runs.specs.Plays.{IsPlayed}
+use Rattle.hda_program.specs.Files.{IsMachineOf, IsWavOf, IsScheduleOf, IsCodecRefused, IsWavRefused, IsScheduleRefused}
+use Rattle.hda_program.specs.Rings.{IsRingOf, IsBadRing}
 use Rattle.hda_program.specs.Meanings.{status_of}
 use Rattle.machine_tasks.specs.Tasks.{HavePlans}
 use Rattle.hda_program.specs.Plans.{have_route}
@@ -25,15 +30,65 @@ HasUnreadFile failed words = (name : List ℕ) × Names words name × failed nam
 abbrev pub HasBadCodecFile : Option Files → List (List ℕ) → Type 0
 HasBadCodecFile told words = (name : List ℕ) × (text : List ℕ) × NamesCodecFile words name × IsCodecRefused told name text
 
--- the words name a codec file that reads as a machine, and a schedule that is too long, or whose bytes read as a fault
+-- the words ask for a sound by the schedule of the second name, and their WAV file reads as this one
+pub record WantsSound (told : Option Files) (words : List (List ℕ)) (codec name : List ℕ) (sound : Wav) : Type 0 where
+  pub wav : List ℕ
+  pub periods : ℕ
+  pub period : ℕ
+  pub asks : IsPlayOf words codec wav name periods period
+  pub file : IsWavOf told wav sound
+
+-- the words want a run by the schedule of the second name: a walk, or a sound
+abbrev pub WantsRun : Option Files → List (List ℕ) → (codec name : List ℕ) → Type 0
+WantsRun told words codec name = IsWalkOf words codec name ⊎ ((sound : Wav) × WantsSound told words codec name sound)
+
+-- the words want plans of the codec file of this name, for this format: a sound for its own
+abbrev pub WantsPlans : Option Files → List (List ℕ) → List ℕ → Format → Type 0
+WantsPlans told words codec format =
+    IsRouteOf words codec format
+    ⊎ (((name : List ℕ) × IsWalkOf words codec name × (format ≡ walk_format))
+    ⊎ ((name : List ℕ) × (sound : Wav) × WantsSound told words codec name sound × (format ≡ sound.format)))
+
+-- the words name a codec file that reads as a machine, and a WAV file that is too long, or whose bytes read as a fault
+pub record HasBadWav (told : Option Files) (words : List (List ℕ)) : Type 0 where
+  pub codec : List ℕ
+  pub wav : List ℕ
+  pub name : List ℕ
+  pub periods : ℕ
+  pub period : ℕ
+  pub machine : Machine
+  pub text : List ℕ
+  pub asks : IsPlayOf words codec wav name periods period
+  pub file : IsMachineOf told codec machine
+  pub refused : IsWavRefused told wav text
+
+-- the words name a codec file that reads as a machine, for a sound a WAV file that reads as one, and a schedule that is too long, or
+-- whose bytes read as a fault
 pub record HasBadSchedule (told : Option Files) (words : List (List ℕ)) : Type 0 where
   pub codec : List ℕ
   pub name : List ℕ
   pub machine : Machine
   pub text : List ℕ
-  pub asks : IsWalkOf words codec name
+  pub wants : WantsRun told words codec name
   pub file : IsMachineOf told codec machine
   pub refused : IsScheduleRefused told name text
+
+-- the words name three files that read as a machine, a sound and a schedule, and the ring of their numbers has a fault
+pub record HasBadRing (told : Option Files) (words : List (List ℕ)) : Type 0 where
+  pub codec : List ℕ
+  pub wav : List ℕ
+  pub name : List ℕ
+  pub periods : ℕ
+  pub period : ℕ
+  pub machine : Machine
+  pub sound : Wav
+  pub schedule : Schedule
+  pub fault : GeometryFault
+  pub asks : IsPlayOf words codec wav name periods period
+  pub file : IsMachineOf told codec machine
+  pub sound_file : IsWavOf told wav sound
+  pub steps : IsScheduleOf told name schedule
+  pub refused : IsBadRing periods period machine sound fault
 
 -- the words name a codec file that reads as a machine, of whose plans some has a route, or none
 pub record HasPlanned (told : Option Files) (words : List (List ℕ)) (some : Bool) : Type 0 where
@@ -41,7 +96,7 @@ pub record HasPlanned (told : Option Files) (words : List (List ℕ)) (some : Bo
   pub format : Format
   pub machine : Machine
   pub plans : List Plan
-  pub wants : WantsPlans words name format
+  pub wants : WantsPlans told words name format
   pub file : IsMachineOf told name machine
   pub planned : HavePlans format machine.codecs plans
   pub routed : have_route plans ≡ some
@@ -59,6 +114,32 @@ pub record HasWalked (told : Option Files) (words : List (List ℕ)) (played : P
   pub planned : HavePlans walk_format machine.codecs plans
   pub routed : have_route plans ≡ true
   pub run : IsWalked machine plans schedule played
+
+-- the run is that for which the words ask: of the sound that their WAV file reads as, through the machine that their codec file reads as and
+-- the ring of their numbers, with the plans for that sound, by their schedule
+pub record HasPlayed (told : Option Files) (words : List (List ℕ)) (played : Played) : Type 0 where
+  pub codec : List ℕ
+  pub wav : List ℕ
+  pub name : List ℕ
+  pub periods : ℕ
+  pub period : ℕ
+  pub machine : Machine
+  pub sound : Wav
+  pub geometry : Geometry
+  pub schedule : Schedule
+  pub plans : List Plan
+  pub asks : IsPlayOf words codec wav name periods period
+  pub file : IsMachineOf told codec machine
+  pub sound_file : IsWavOf told wav sound
+  pub steps : IsScheduleOf told name schedule
+  pub geometry_is : IsRingOf periods period machine sound geometry
+  pub planned : HavePlans sound.format machine.codecs plans
+  pub routed : have_route plans ≡ true
+  pub run : IsPlayed machine plans sound geometry schedule played
+
+-- the run is the walk for which the words ask, or the play
+abbrev pub HasRun : Option Files → List (List ℕ) → Played → Type 0
+HasRun told words played = HasWalked told words played ⊎ HasPlayed told words played
 
 -- the report of the run was written whole, and the status is that of its end; or its front was, and the sink failed or memory was
 -- wanting
@@ -78,5 +159,9 @@ IsRunless status =
     ⊎ ((status ≡ number_of NothingRouted) ⊎ (status ≡ number_of GeometryRefused))))))
 
 -- a status at which a walk was run
-abbrev pub IsOfRun : ℕ → Type 0
-IsOfRun status = (status ≡ number_of Done) ⊎ ((status ≡ number_of Unanswered) ⊎ (status ≡ number_of ScheduleEnded))
+abbrev pub IsOfWalk : ℕ → Type 0
+IsOfWalk status = (status ≡ number_of Done) ⊎ ((status ≡ number_of Unanswered) ⊎ (status ≡ number_of ScheduleEnded))
+
+-- a status at which a sound was played
+abbrev pub IsOfPlay : ℕ → Type 0
+IsOfPlay status = IsOfWalk status ⊎ (status ≡ number_of Late)

@@ -1,5 +1,5 @@
 -- What the files that the words name come to. This project's own.
-use Rattle.std.specs.Prelude.{◌≡◌, ◌≢◌, ◌⊎◌, ◌<◌, ◌≤◌, ℕ, List, length, Option, Some, None, Result, Ok, Err, codes}
+use Rattle.std.specs.Prelude.{◌≡◌, ◌≢◌, ◌⊎◌, ◌<◌, ◌≤◌, ◌*◌, ℕ, List, length, Option, Some, None, Result, Ok, Err, codes}
 use Rattle.hda_outside.specs.Shelf.{Files, file_of}
 use Rattle.hda_files.specs.declared.machine.Machine.{Machine}
 use Rattle.hda_files.specs.declared.fault.FileFault.{FileFault}
@@ -9,14 +9,22 @@ use Rattle.hda_schedule.specs.declared.schedule.Schedule.{Schedule}
 use Rattle.hda_schedule.specs.declared.fault.SchedFault.{SchedFault}
 use Rattle.hda_schedule.specs.Schedules.{schedule_of, IsLimited}
 use Rattle.hda_schedule.specs.Ranges.{IsInRange}
-use Rattle.sound_report.specs.declared.status.Status.TheVariants.{ShelfFailed, CodecRefused, ScheduleRefused}
+use Rattle.stream_format.specs.Cadence.{block_bytes}
+use Rattle.wav_reader.specs.declared.fault.WavFault.{WavFault}
+use Rattle.wav_reader.specs.declared.fault.WavFault.TheVariants as wav
+use Rattle.wav_reader.specs.declared.wav.Wav.{Wav}
+use Rattle.wav_reader.specs.Wavs as wavs
+use Rattle.sound_report.specs.declared.status.Status.TheVariants.{ShelfFailed, CodecRefused, WavRefused, ScheduleRefused}
 use Rattle.hda_program.specs.declared.message.Message.{Message}
 use Rattle.hda_program.specs.Meanings.{Meant, telling, message_meant}
-use Rattle.hda_program.specs.Text.{fault_text, schedule_fault_text, unreadable_line, codec_refused_line, schedule_refused_line}
+use Rattle.hda_program.specs.Text.{fault_text, wav_fault_text, schedule_fault_text, unreadable_line, codec_refused_line, wav_refused_line, schedule_refused_line}
 
--- how long a codec file and a schedule may be
+-- how long a codec file, a WAV file and a schedule may be
 abbrev pub most_codec_bytes : ℕ
 most_codec_bytes = 262144
+
+abbrev pub most_wav_bytes : ℕ
+most_wav_bytes = 67108864
 
 abbrev pub most_schedule_bytes : ℕ
 most_schedule_bytes = 4194304
@@ -76,6 +84,47 @@ IsCodecRead told failed name (Err message) = CodecStops told failed name (messag
 abbrev pub AreCodecBytesRead : List ℕ → Result Machine Message → Type 0
 AreCodecBytesRead bytes (Ok machine) = Reads bytes (Ok machine) × IsSound machine
 AreCodecBytesRead bytes (Err message) = (text : List ℕ) × IsCodecFault bytes text × (message_meant message ≡ telling CodecRefused (codec_refused_line text))
+
+-- ---- the WAV file
+
+-- the file of this name reads as this sound
+pub record IsWavOf (told : Option Files) (name : List ℕ) (sound : Wav) : Type 0 where
+  pub bytes : List ℕ
+  pub file : IsShortFile most_wav_bytes told name bytes
+  pub reads : wavs.Reads bytes (Ok sound)
+
+-- the bytes read as a fault, which the text names
+pub record IsWavFault (bytes text : List ℕ) : Type 0 where
+  pub fault : WavFault
+  pub known : fault ≢ wav.OutOfMemory
+  pub reads : wavs.Reads bytes (Err fault)
+  pub says : text ≡ wav_fault_text fault
+
+-- the file is too long, or its bytes read as a fault; the text says which
+abbrev pub IsWavRefused : Option Files → List ℕ → List ℕ → Type 0
+IsWavRefused told name text =
+    (IsLonger most_wav_bytes told name × (text ≡ codes "TooLong"))
+    ⊎ ((bytes : List ℕ) × IsShortFile most_wav_bytes told name bytes × IsWavFault bytes text)
+
+-- a command ends at its WAV file: the shelf failed, or the file is refused
+abbrev pub WavStops : Option Files → (List ℕ → Type 0) → List ℕ → Meant → Type 0
+WavStops told failed name meant =
+    IsUnread failed name meant
+    ⊎ ((text : List ℕ) × IsWavRefused told name text × (meant ≡ telling WavRefused (wav_refused_line text)))
+
+-- a sound has whole blocks, one for each frame
+abbrev pub HasWholeBlocks : Wav → Type 0
+HasWholeBlocks sound = length sound.pcm ≡ sound.frames * block_bytes sound.format
+
+-- what reading the WAV file gives: a sound, or the end of the command
+abbrev pub IsWavRead : Option Files → (List ℕ → Type 0) → List ℕ → Result Wav Message → Type 0
+IsWavRead told failed name (Ok sound) = IsWavOf told name sound × HasWholeBlocks sound
+IsWavRead told failed name (Err message) = WavStops told failed name (message_meant message)
+
+-- what its bytes give
+abbrev pub AreWavBytesRead : List ℕ → Result Wav Message → Type 0
+AreWavBytesRead bytes (Ok sound) = wavs.Reads bytes (Ok sound) × HasWholeBlocks sound
+AreWavBytesRead bytes (Err message) = (text : List ℕ) × IsWavFault bytes text × (message_meant message ≡ telling WavRefused (wav_refused_line text))
 
 -- ---- the schedule
 

@@ -12,6 +12,10 @@ use Rattle.hda_files.specs.declared.fault.FileFault.TheVariants.{Toml, MissingKe
 use Rattle.hda_files.specs.Keys.{key_name}
 use Rattle.hda_schedule.specs.declared.fault.SchedFault.{SchedFault}
 use Rattle.hda_schedule.specs.declared.fault.SchedFault.TheVariants as schedule
+use Rattle.period_writer.specs.declared.geometry.GeometryFault.{GeometryFault}
+use Rattle.period_writer.specs.declared.geometry.GeometryFault.TheVariants.{FifoTooSmall, RingTooSmall}
+use Rattle.wav_reader.specs.declared.fault.WavFault.{WavFault}
+use Rattle.wav_reader.specs.declared.fault.WavFault.TheVariants as wav
 use Rattle.sound_report.specs.PlanLines.{nid_text, newline}
 
 -- the name of a graph's fault, and its node identifier
@@ -73,12 +77,36 @@ schedule_fault_text schedule.TooManySteps = codes "TooManySteps"
 schedule_fault_text schedule.TooManyFrames = codes "TooManyFrames"
 schedule_fault_text schedule.OutOfMemory = []
 
+-- the fault of a WAV file
+abbrev pub wav_fault_text : WavFault → List ℕ
+wav_fault_text wav.NotRiff = codes "NotRiff"
+wav_fault_text wav.NoFormat = codes "NoFormat"
+wav_fault_text wav.NoData = codes "NoData"
+wav_fault_text (wav.Truncated place) = codes "Truncated " ++ decimal place
+wav_fault_text (wav.Tag tag) = codes "Tag " ++ decimal tag
+wav_fault_text (wav.Channels channels) = codes "Channels " ++ decimal channels
+wav_fault_text (wav.Rate rate) = codes "Rate " ++ decimal rate
+wav_fault_text (wav.Bits bits) = codes "Bits " ++ decimal bits
+wav_fault_text wav.BlockAlign = codes "BlockAlign"
+wav_fault_text wav.OutOfMemory = []
+
+-- the fault of a ring of sound
+abbrev pub geometry_fault_text : GeometryFault → List ℕ
+geometry_fault_text FifoTooSmall = codes "FifoTooSmall"
+geometry_fault_text RingTooSmall = codes "RingTooSmall"
+
 -- the last lines of the program
 abbrev pub codec_refused_line : List ℕ → List ℕ
 codec_refused_line fault = codes "codec refused: " ++ fault ++ newline
 
 abbrev pub schedule_refused_line : List ℕ → List ℕ
 schedule_refused_line fault = codes "schedule refused: " ++ fault ++ newline
+
+abbrev pub wav_refused_line : List ℕ → List ℕ
+wav_refused_line fault = codes "wav refused: " ++ fault ++ newline
+
+abbrev pub geometry_refused_line : List ℕ → List ℕ
+geometry_refused_line fault = codes "geometry refused: " ++ fault ++ newline
 
 abbrev pub unreadable_line : List ℕ → List ℕ
 unreadable_line name = codes "cannot read: " ++ name ++ newline

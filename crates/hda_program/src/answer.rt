@@ -1,12 +1,13 @@
 //! What the program answers to its words, before anything is written.
 ghost use Rattle.std.specs.Prelude.{◌≡◌, ◌≤◌, ℕ, List, Contains, map, string_bytes, IfOk};
 ghost use Rattle.hda_outside.specs.Counts.{Rose};
-ghost use Rattle.hda_words.specs.Asked.{asked_by};
+ghost use Rattle.hda_words.specs.Asked.{asked_by, IsInRange};
 ghost use Rattle.hda_program.specs.Answers.{IsMeant, RequestAnswers};
 ghost use Rattle.hda_program.specs.Asks.{AsksForItsFiles, files_of};
 ghost use Rattle.hda_program.specs.Meanings.{answer_meant};
 
 use crate::message::{Message, words_refused};
+use crate::play::answer_play;
 use crate::route::answer_route;
 use crate::walk::answer_walk;
 use hda_outside::Shelf;
@@ -54,6 +55,7 @@ fn answer_request<S: Shelf>(
     shelf: &mut S,
     request: Request<'_>,
 ) -> Result<Answer, AllocError>
+    requires ranges { IsInRange request }
     ensures answers { IfOk result (λ answer. RequestAnswers (S.told shelf.old) (λ name. Rose (S.faults shelf.old name) (S.faults shelf.new name))
         request.entry (answer_meant answer)) }
     ensures asked { (other : List ℕ) → (Contains (files_of (asked_by request.entry)) other → ⊥) → S.asked shelf.new other ≡ S.asked shelf.old other }
@@ -66,5 +68,12 @@ fn answer_request<S: Shelf>(
             Ok(Answer::Message(message))
         }
         Request::Walk { codec, schedule } => answer_walk(alloc, shelf, codec, schedule),
+        Request::Play {
+            codec,
+            wav,
+            schedule,
+            periods,
+            period,
+        } => answer_play(alloc, shelf, codec, wav, schedule, periods, period),
     }
 }

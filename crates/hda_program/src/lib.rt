@@ -1,16 +1,18 @@
-//! The program over any shelf and sink: it plans the routes of a codec's output pins, and drives a machine until its codecs are set
-//! up. This project's own.
+//! The program over any shelf and sink: it plans the routes of a codec's output pins, drives a machine until its codecs are set up, and
+//! plays sound through it. This project's own.
 #![tactic(auto)]
 
 mod answer;
 mod codec;
 mod message;
 mod plans;
+mod play;
 mod route;
 mod run;
 mod schedule;
 mod text;
 mod walk;
+mod wav;
 
 pub use run::{Ended, hda_main};
 pub use sound_report::Status;

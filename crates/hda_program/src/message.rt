@@ -1,7 +1,7 @@
 //! Texts with a status, and the lines of refusals.
 ghost use Rattle.std.specs.Prelude.{◌≡◌, IfOk, string_bytes};
 ghost use Rattle.hda_program.specs.Meanings.{telling, message_meant};
-ghost use Rattle.hda_program.specs.Text.{codec_refused_line, schedule_refused_line, unreadable_line, usage_line};
+ghost use Rattle.hda_program.specs.Text.{codec_refused_line, geometry_refused_line, schedule_refused_line, unreadable_line, usage_line, wav_refused_line};
 
 use crate::text::USAGE;
 use sound_report::Status;
@@ -55,6 +55,19 @@ pub fn codec_refused(alloc: Global, fault: &str) -> Result<Message, AllocError>
     })
 }
 
+/// The WAV file is refused for this fault.
+///
+/// # Errors
+/// Want of memory.
+pub fn wav_refused(alloc: Global, fault: &str) -> Result<Message, AllocError>
+    ensures { IfOk result (λ message. message_meant message ≡ telling Status.WavRefused (wav_refused_line fault.now)) }
+{
+    Ok(Message {
+        status: Status::WavRefused,
+        text: format!(in alloc; "wav refused: {fault}\n")?,
+    })
+}
+
 /// The schedule is refused for this fault.
 ///
 /// # Errors
@@ -65,5 +78,18 @@ pub fn schedule_refused(alloc: Global, fault: &str) -> Result<Message, AllocErro
     Ok(Message {
         status: Status::ScheduleRefused,
         text: format!(in alloc; "schedule refused: {fault}\n")?,
+    })
+}
+
+/// The ring of sound is refused for this fault.
+///
+/// # Errors
+/// Want of memory.
+pub fn geometry_refused(alloc: Global, fault: &str) -> Result<Message, AllocError>
+    ensures { IfOk result (λ message. message_meant message ≡ telling Status.GeometryRefused (geometry_refused_line fault.now)) }
+{
+    Ok(Message {
+        status: Status::GeometryRefused,
+        text: format!(in alloc; "geometry refused: {fault}\n")?,
     })
 }

@@ -4,8 +4,8 @@ ghost use Rattle.stream_format.specs.declared.format.Format.{Format};
 ghost use Rattle.hda_outside.specs.Counts.{Rose};
 ghost use Rattle.sound_report.specs.Statuses.{number_of};
 ghost use Rattle.hda_program.specs.Answers.{HasEnded, HasWritten};
-ghost use Rattle.hda_program.specs.Asks.{AsksForItsFiles, IsNoCommand, IsRouteOf, IsWalkOf};
-ghost use Rattle.hda_program.specs.Causes.{HasBadCodecFile, HasBadSchedule, HasPlanned, HasReported, HasUnreadFile, HasWalked, IsOfRun, IsRunless};
+ghost use Rattle.hda_program.specs.Asks.{AsksForItsFiles, IsNoCommand, IsPlayOf, IsRouteOf, IsWalkOf};
+ghost use Rattle.hda_program.specs.Causes.{HasBadCodecFile, HasBadRing, HasBadSchedule, HasBadWav, HasPlanned, HasReported, HasRun, HasUnreadFile, IsOfPlay, IsOfWalk, IsRunless};
 ghost use Rattle.hda_program.specs.Meanings.{answer_meant, of_run, status_of, telling};
 
 use crate::answer::{Answer, answer_words};
@@ -24,8 +24,8 @@ pub struct Ended {
 
 /// Runs the command of these words, those after the program's name, and writes its text.
 ///
-/// The statuses are those of [`Status`]. `route` ends with 0 where some pin has a route, `walk` where all codecs were set up.
-/// `walk` gives its run of the driver, also where its text could not be written.
+/// The statuses are those of [`Status`]. `route` ends with 0 where some pin has a route, `walk` where all codecs were set up, `play`
+/// where all frames of sound were played. `walk` and `play` give their run of the driver, also where its text could not be written.
 pub fn hda_main<S: Shelf, K: Sink>(
     alloc: Global,
     words: &[String],
@@ -37,20 +37,24 @@ pub fn hda_main<S: Shelf, K: Sink>(
         (map string_bytes words.now) (K.taken out.old) (K.taken out.new) (Rose (K.faults out.old) (K.faults out.new)) result.play result.status }
 
     // The run that is given is the one that the words ask for, and its report was written.
-    ensures walked { IfSome result.play (HasWalked (S.told shelf.old) (map string_bytes words.now)) }
+    ensures run_is { IfSome result.play (HasRun (S.told shelf.old) (map string_bytes words.now)) }
     ensures reported { IfSome result.play (λ played. HasReported (K.taken out.old) (K.taken out.new) played result.status) }
 
     // When a run is given.
     ensures runless { IsRunless result.status → IsNone result.play }
     ensures route_runless { (name : List ℕ) (format : Format) → IsRouteOf (map string_bytes words.now) name format → IsNone result.play }
-    ensures walk_runs { (codec schedule : List ℕ) → IsWalkOf (map string_bytes words.now) codec schedule → IsOfRun result.status → IsSome result.play }
+    ensures walk_runs { (codec schedule : List ℕ) → IsWalkOf (map string_bytes words.now) codec schedule → IsOfWalk result.status → IsSome result.play }
+    ensures play_runs { (codec wav schedule : List ℕ) (periods period : ℕ) → IsPlayOf (map string_bytes words.now) codec wav schedule periods period
+        → IsOfPlay result.status → IsSome result.play }
 
     // The causes of single statuses.
     ensures refused_words { result.status ≡ number_of Status.WordsRefused → IsNoCommand (map string_bytes words.now) }
     ensures unread { result.status ≡ number_of Status.ShelfFailed
         → HasUnreadFile (λ name. Rose (S.faults shelf.old name) (S.faults shelf.new name)) (map string_bytes words.now) }
     ensures refused_codec { result.status ≡ number_of Status.CodecRefused → HasBadCodecFile (S.told shelf.old) (map string_bytes words.now) }
+    ensures refused_wav { result.status ≡ number_of Status.WavRefused → HasBadWav (S.told shelf.old) (map string_bytes words.now) }
     ensures refused_schedule { result.status ≡ number_of Status.ScheduleRefused → HasBadSchedule (S.told shelf.old) (map string_bytes words.now) }
+    ensures refused_geometry { result.status ≡ number_of Status.GeometryRefused → HasBadRing (S.told shelf.old) (map string_bytes words.now) }
     ensures routed { result.status ≡ number_of Status.Done → HasPlanned (S.told shelf.old) (map string_bytes words.now) true }
     ensures nothing_routed { result.status ≡ number_of Status.NothingRouted → HasPlanned (S.told shelf.old) (map string_bytes words.now) false }
     ensures unwritten { result.status ≡ number_of Status.SinkFailed → Rose (K.faults out.old) (K.faults out.new) }

@@ -1,12 +1,12 @@
 use Rattle.std.proofs.Common.{ℕ, List, subst, sym}
 use Rattle.std.specs.Prelude.{IfOk, Contains}
 use Rattle.hda_outside.specs.Counts.{Rose}
-use Rattle.hda_words.specs.Asked.{asked_by}
+use Rattle.hda_words.specs.Asked.{asked_by, IsInRange}
 use Rattle.hda_words.specs.declared.request.Request.{Request}
 use Rattle.hda_program.specs.Answers.{RequestAnswers}
 use Rattle.hda_program.specs.Asks.{files_of}
 use Rattle.hda_program.specs.Meanings.{answer_meant, message_meant}
-use Rattle.hda_program.proofs.WalkLemmas.{other_first, other_second}
+use Rattle.hda_program.proofs.WalkLemmas.{other_first, other_second, other_three}
 use Rattle.hda_program.proofs.answer.answer_request.Goals as goal
 
 pub returns-in_ok-message-in-Route-clause-answers : goal.returns-in_ok-message-in-Route-clause-answers
@@ -26,3 +26,18 @@ returns-in-Walk-clause-asked g c = λ other apart.
     let P : Request → Type 0 = λ asked. Contains (files_of (asked_by asked)) other → ⊥ in
     let both = subst P c.in-Walk.is apart in
     c.answer_walk.ensures.asked other (other_first c.in-Walk.codec.now c.in-Walk.schedule.now other both) (other_second c.in-Walk.codec.now c.in-Walk.schedule.now other both)
+
+pub answer_play-requires : goal.answer_play-requires
+answer_play-requires g c = let P : Request → Type 0 = λ asked. IsInRange asked in record { ring = subst P c.in-Play.is c.requires.ranges }
+
+pub returns-in-Play-clause-answers : goal.returns-in-Play-clause-answers
+returns-in-Play-clause-answers g c =
+    let failed : List ℕ → Type 0 = λ name. Rose (g.S.Shelf.faults c.args.shelf.now name) (g.S.Shelf.faults c.answer_play.new.shelf name) in
+    let P : Request → Type 0 = λ asked. IfOk c.answer_play.result (λ answer. RequestAnswers (g.S.Shelf.told c.args.shelf.now) failed asked (answer_meant answer)) in
+    subst P (sym c.in-Play.is) c.answer_play.ensures.answers
+
+pub returns-in-Play-clause-asked : goal.returns-in-Play-clause-asked
+returns-in-Play-clause-asked g c = λ other apart.
+    let P : Request → Type 0 = λ asked. Contains (files_of (asked_by asked)) other → ⊥ in
+    let apart_from = other_three c.in-Play.codec.now c.in-Play.wav.now c.in-Play.schedule.now other (subst P c.in-Play.is apart) in
+    c.answer_play.ensures.asked other apart_from.first apart_from.second apart_from.third

@@ -1,0 +1,10 @@
+use Rattle.std.proofs.Common.{◌≡◌, true, rules, inr, refl}
+use Rattle.machine_tasks.specs.Tasks.{HavePlans}
+use Rattle.hda_program.specs.Plans.{have_route}
+use Rattle.hda_program.proofs.play.play_ring.Goals as goal
+
+pub returns-in_ok-played : goal.returns-in_ok-played
+returns-in_ok-played c =
+    let planned : HavePlans c.args.sound.format c.args.machine.codecs c.in_ok-plans.plans.items = search rules in
+    let routed : have_route c.in_ok-plans.plans.items ≡ true = search rules in
+    (c.in_ok-plans.plans.items, planned, inr (c.in_ok-played.played, routed, c.in_ok-played.ensures, refl))

@@ -1,0 +1,26 @@
+-- The ring of sound that words ask for, for a machine and a sound, or why it is no good. This project's own.
+use Rattle.std.specs.Prelude.{◌≡◌, ℕ, Some}
+use Rattle.hda_files.specs.declared.machine.Machine.{Machine}
+use Rattle.period_writer.specs.declared.geometry.Geometry.{Geometry}
+use Rattle.period_writer.specs.declared.geometry.GeometryFault.{GeometryFault}
+use Rattle.period_writer.specs.Rings.{fault_of}
+use Rattle.wav_reader.specs.declared.wav.Wav.{Wav}
+use Rattle.sound_report.specs.declared.status.Status.TheVariants.{GeometryRefused}
+use Rattle.hda_program.specs.Meanings.{Meant, telling}
+use Rattle.hda_program.specs.Text.{geometry_fault_text, geometry_refused_line}
+
+-- the ring has the numbers of the words, and is for the machine's FIFO and the sound's format
+pub record IsRingOf (periods period : ℕ) (machine : Machine) (sound : Wav) (geometry : Geometry) : Type 0 where
+  pub periods_are : geometry.periods ≡ periods
+  pub period_is : geometry.period ≡ period
+  pub fifo_is : geometry.fifo ≡ machine.fifo
+  pub format_is : geometry.format ≡ sound.format
+
+-- such a ring has this fault
+abbrev pub IsBadRing : (periods period : ℕ) → Machine → Wav → GeometryFault → Type 0
+IsBadRing periods period machine sound fault = fault_of periods period machine.fifo sound.format ≡ Some fault
+
+-- a command ends at its ring, whose fault the text names
+abbrev pub RingStops : (periods period : ℕ) → Machine → Wav → Meant → Type 0
+RingStops periods period machine sound meant =
+    (fault : GeometryFault) × IsBadRing periods period machine sound fault × (meant ≡ telling GeometryRefused (geometry_refused_line (geometry_fault_text fault)))

@@ -1,0 +1,164 @@
+//! What `play` answers.
+ghost use Rattle.std.specs.Prelude.{◌≡◌, ◌≢◌, ◌≤◌, ℕ, List, IfOk};
+ghost use Rattle.hda_files.specs.Machines.{IsSound};
+ghost use Rattle.hda_outside.specs.Counts.{Rose};
+ghost use Rattle.hda_words.specs.Asked.{IsRingInRange};
+ghost use Rattle.hda_program.specs.Answers.{MachinePlays, PlayAnswers, RingPlays, SchedulePlays, SoundPlays};
+ghost use Rattle.machine_tasks.specs.Reading.{IsRead};
+ghost use Rattle.hda_program.specs.Files.{HasWholeBlocks, IsGoodSchedule};
+ghost use Rattle.hda_program.specs.Meanings.{answer_meant};
+
+use crate::answer::Answer;
+use crate::codec::read_codec;
+use crate::message::geometry_refused;
+use crate::plans::{have_route, nothing_routed, plans_of};
+use crate::schedule::read_steps;
+use crate::text::geometry_fault_name;
+use crate::wav::read_sound;
+use hda_files::Machine;
+use hda_outside::Shelf;
+use hda_schedule::Schedule;
+use period_writer::Geometry;
+use scheduled_runs::play;
+use std::alloc::{AllocError, Global};
+use wav_reader::Wav;
+
+/// What `play` answers for the files of these names and a ring of so many periods of so many units.
+///
+/// # Errors
+/// Want of memory.
+pub fn answer_play<S: Shelf>(
+    alloc: Global,
+    shelf: &mut S,
+    codec: &str,
+    wav: &str,
+    schedule: &str,
+    periods: u8,
+    period: u8,
+) -> Result<Answer, AllocError>
+    requires ring { IsRingInRange periods period }
+    ensures answers { IfOk result (λ answer. PlayAnswers (S.told shelf.old) (λ name. Rose (S.faults shelf.old name) (S.faults shelf.new name))
+        codec.now wav.now schedule.now periods period (answer_meant answer)) }
+    ensures asked { (other : List ℕ) → other ≢ codec.now → other ≢ wav.now → other ≢ schedule.now → S.asked shelf.new other ≡ S.asked shelf.old other }
+    ensures told { S.told shelf.new ≡ S.told shelf.old }
+    ensures later { (other : List ℕ) → S.faults shelf.old other ≤ S.faults shelf.new other }
+{
+    match read_codec(alloc, shelf, codec)? {
+        Ok(machine) => play_machine(alloc, shelf, machine, wav, schedule, periods, period),
+        Err(message) => Ok(Answer::Message(message)),
+    }
+}
+
+/// What `play` answers for a machine, and the WAV file and the schedule of these names.
+///
+/// # Errors
+/// Want of memory.
+fn play_machine<S: Shelf>(
+    alloc: Global,
+    shelf: &mut S,
+    machine: Machine,
+    wav: &str,
+    schedule: &str,
+    periods: u8,
+    period: u8,
+) -> Result<Answer, AllocError>
+    requires sound { IsSound machine }
+    requires read { IsRead machine }
+    requires ring { IsRingInRange periods period }
+    ensures answers { IfOk result (λ answer. MachinePlays (S.told shelf.old) (λ name. Rose (S.faults shelf.old name) (S.faults shelf.new name))
+        periods period machine wav.now schedule.now (answer_meant answer)) }
+    ensures asked { (other : List ℕ) → other ≢ wav.now → other ≢ schedule.now → S.asked shelf.new other ≡ S.asked shelf.old other }
+    ensures told { S.told shelf.new ≡ S.told shelf.old }
+    ensures later { (other : List ℕ) → S.faults shelf.old other ≤ S.faults shelf.new other }
+{
+    match read_sound(alloc, shelf, wav)? {
+        Ok(sound) => play_sound(alloc, shelf, machine, sound, schedule, periods, period),
+        Err(message) => Ok(Answer::Message(message)),
+    }
+}
+
+/// What `play` answers for a machine, a sound, and the schedule of this name.
+///
+/// # Errors
+/// Want of memory.
+fn play_sound<S: Shelf>(
+    alloc: Global,
+    shelf: &mut S,
+    machine: Machine,
+    sound: Wav,
+    schedule: &str,
+    periods: u8,
+    period: u8,
+) -> Result<Answer, AllocError>
+    requires sound { IsSound machine }
+    requires read { IsRead machine }
+    requires whole { HasWholeBlocks sound }
+    requires ring { IsRingInRange periods period }
+    ensures answers { IfOk result (λ answer. SoundPlays (S.told shelf.old) (λ name. Rose (S.faults shelf.old name) (S.faults shelf.new name))
+        periods period machine sound schedule.now (answer_meant answer)) }
+    ensures asked { (other : List ℕ) → other ≢ schedule.now → S.asked shelf.new other ≡ S.asked shelf.old other }
+    ensures told { S.told shelf.new ≡ S.told shelf.old }
+    ensures later { (other : List ℕ) → S.faults shelf.old other ≤ S.faults shelf.new other }
+{
+    match read_steps(alloc, shelf, schedule)? {
+        Ok(steps) => play_schedule(alloc, machine, sound, &steps, periods, period),
+        Err(message) => Ok(Answer::Message(message)),
+    }
+}
+
+/// What `play` answers for a machine, a sound and a schedule: it plays through the ring of these numbers, if that is good.
+///
+/// # Errors
+/// Want of memory.
+fn play_schedule(
+    alloc: Global,
+    machine: Machine,
+    sound: Wav,
+    schedule: &Schedule,
+    periods: u8,
+    period: u8,
+) -> Result<Answer, AllocError>
+    requires sound { IsSound machine }
+    requires read { IsRead machine }
+    requires whole { HasWholeBlocks sound }
+    requires good { IsGoodSchedule schedule.now }
+    requires ring { IsRingInRange periods period }
+    ensures { IfOk result (λ answer. SchedulePlays periods period machine sound schedule.now (answer_meant answer)) }
+{
+    match Geometry::new(periods, period, machine.fifo, sound.format) {
+        Ok(geometry) => play_ring(alloc, machine, sound, geometry, schedule),
+        Err(fault) => {
+            let message = geometry_refused(alloc, geometry_fault_name(fault))?;
+            Ok(Answer::Message(message))
+        }
+    }
+}
+
+/// What `play` answers for a machine, a sound, a ring and a schedule: it runs nothing where no pin has a route.
+///
+/// # Errors
+/// Want of memory.
+fn play_ring(
+    alloc: Global,
+    machine: Machine,
+    sound: Wav,
+    geometry: Geometry,
+    schedule: &Schedule,
+) -> Result<Answer, AllocError>
+    requires sound { IsSound machine }
+    requires read { IsRead machine }
+    requires whole { HasWholeBlocks sound }
+    requires good { IsGoodSchedule schedule.now }
+    requires fifo { geometry.fifo ≡ machine.fifo }
+    requires format { geometry.format ≡ sound.format }
+    ensures { IfOk result (λ answer. RingPlays machine sound geometry schedule.now (answer_meant answer)) }
+{
+    let plans = plans_of(alloc, machine.codecs.as_slice(), sound.format)?;
+    if have_route(plans.as_slice()) {
+        let played = play(alloc, machine, plans, sound, geometry, schedule)?;
+        Ok(Answer::Run(played))
+    } else {
+        let message = nothing_routed(alloc, machine.codecs.as_slice(), plans.as_slice())?;
+        Ok(Answer::Message(message))
+    }
+}
