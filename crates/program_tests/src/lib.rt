@@ -8,6 +8,10 @@ mod graphs;
 #[cfg(test)]
 mod jacks;
 #[cfg(test)]
+mod playing;
+#[cfg(test)]
+mod plays;
+#[cfg(test)]
 mod refusals;
 #[cfg(test)]
 mod routes;

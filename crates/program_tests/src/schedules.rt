@@ -7,16 +7,16 @@ use std::alloc::AllocError;
 const WALK: [&str; 3] = ["walk", "codec.toml", "steps"];
 
 /// A pin 14 that leads to a selector of nothing, so that no path is there.
-const NO_PATH: &str =
+pub const NO_PATH: &str =
     "{nid = 2, caps = 1}, {nid = 0x14, caps = 0x0040010D, pin_caps = 0x10, default = 0x01014010, list = [0x15]},
     {nid = 0x15, caps = 0x00100001}";
 
 /// A converter without its capabilities.
-const NO_CAPS: &str = "{nid = 2}";
+pub const NO_CAPS: &str = "{nid = 2}";
 
-const CAPS_MISSING: &str = "codec refused: MissingKey caps at codec 0 node 0\n";
+pub const CAPS_MISSING: &str = "codec refused: MissingKey caps at codec 0 node 0\n";
 
-const UNROUTED: &str = "nopath 3 14 pair 0\nnothing routed\n";
+pub const UNROUTED: &str = "nopath 3 14 pair 0\nnothing routed\n";
 
 /// Schedules with a fault, and that fault.
 const FAULTS: [(&str, &str); 9] = [

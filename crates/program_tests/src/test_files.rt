@@ -76,14 +76,34 @@ pub fn files(alloc: Global, named: &[(&str, &str)]) -> Result<Vec<(String, Vec<u
     Ok(files)
 }
 
+/// A file of two channels of 16 bits, with so many frames in a second and these frames.
+pub fn wav_file(alloc: Global, hertz: u32, sound: &[u8]) -> Result<Vec<u8>, AllocError> {
+    let size = u32::try_from(sound.len()).unwrap_or(u32::MAX);
+    let mut bytes = Vec::from_slice(alloc, b"RIFF\0\0\0\0WAVEfmt \x10\0\0\0\x01\0\x02\0")?;
+    bytes.extend_from_slice(&hertz.to_le_bytes())?;
+    bytes.extend_from_slice(b"\0\0\0\0\x04\0\x10\0data")?;
+    bytes.extend_from_slice(&size.to_le_bytes())?;
+    bytes.extend_from_slice(sound)?;
+    Ok(bytes)
+}
+
 /// The status and the text with which the program ends over these files.
 pub fn told(
     alloc: Global,
     words: &[&str],
     named: &[(&str, &str)],
 ) -> Result<(u8, String), AllocError> {
+    told_over(alloc, words, files(alloc, named)?)
+}
+
+/// The same over files whose bytes are no texts.
+pub fn told_over(
+    alloc: Global,
+    words: &[&str],
+    files: Vec<(String, Vec<u8>)>,
+) -> Result<(u8, String), AllocError> {
     let words = strings(alloc, words)?;
-    let mut shelf = SureShelf::new(files(alloc, named)?);
+    let mut shelf = SureShelf::new(files);
     let mut out = SureSink::new(alloc);
     let ended = hda_main(alloc, words.as_slice(), &mut shelf, &mut out);
     let text = String::from_utf8_lossy(alloc, out.bytes())?;
