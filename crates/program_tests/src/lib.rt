@@ -8,9 +8,9 @@ mod graphs;
 #[cfg(test)]
 mod jacks;
 #[cfg(test)]
-mod playing;
+mod play_refusals;
 #[cfg(test)]
-mod plays;
+mod playing;
 #[cfg(test)]
 mod refusals;
 #[cfg(test)]

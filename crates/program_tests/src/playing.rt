@@ -1,8 +1,7 @@
 //! Plays over files in memory: how the program ends, and what it writes. Most go through a ring of two periods of one unit: 768 bytes, of
 //! which a FIFO of 192 bytes leaves 144 link frames.
-use crate::plays::FAST_NODES;
-use crate::test_files::{ONE_ROUTE, PIN, codec, files, least_codecs, told_over, wav_file};
-use crate::walks::RESET;
+use crate::test_files::{ONE_ROUTE, PIN, files, least_codecs, told_over, wav_file};
+use crate::walks::{RESET, losing};
 use hda_program::Status;
 use std::alloc::{AllocError, Global};
 use std::process::Abort;
@@ -93,22 +92,6 @@ fn expect_played(
     Ok(())
 }
 
-/// Fails the test unless a play through the small ring ends so, and this is the last line.
-fn expect_last_line(
-    rt: &impl Abort,
-    alloc: Global,
-    sound: &[u8],
-    steps: &str,
-    (status, want): (Status, &str),
-) -> Result<(), AllocError> {
-    let least = least_codecs(alloc, &[0], PIN)?;
-    let codec = format!(in alloc; "fifo = 192\n{least}")?;
-    let (ended, text) = played(alloc, &SMALL_RING, codec.as_str(), sound, steps)?;
-    assert_eq!(rt; ended, status.number(), "{text}");
-    assert!(rt; text.lines().last() == Some(want), "{text}");
-    Ok(())
-}
-
 #[test]
 fn plays_two_frames(rt: HostRuntime) -> Result<(), AllocError> {
     let alloc = rt.alloc();
@@ -195,10 +178,6 @@ fn plays_with_silence_between(rt: HostRuntime) -> Result<(), AllocError> {
     let alloc = rt.alloc();
     let sound = frames(alloc, 196)?;
     let two_parts = "fetch 1 192\nlink 48\nfetch 1 192\nlink 48\n";
-    let lines = format!(in alloc;
-        "run 400\n{two_parts}run 1000\n{two_parts}run 0\n{two_parts}run 0\n"
-    )?;
-    let steps = after_set_up(alloc, lines.as_str())?;
     let mut line = Vec::from_slice(alloc, sound.as_slice().get(..400).unwrap_or(&[]))?;
     line.extend_from_slice(&[0; 92 * FRAME_BYTES])?;
     line.extend_from_slice(sound.as_slice().get(400..).unwrap_or(&[]))?;
@@ -206,26 +185,73 @@ fn plays_with_silence_between(rt: HostRuntime) -> Result<(), AllocError> {
     let want = format!(in alloc;
         "run 0 12500 12500 400 400\nrun 384 60500 60500 1000 384\nrun 768 108500 108500 0 0\nrun 1152 156500 156500 0 0\nsilence 400 768\nsilence 1152 1920\n{HEARS}{heard}played 196\n"
     )?;
-    let end = (Status::Done, want.as_str());
-    expect_played(&rt, alloc, sound.as_slice(), steps.as_str(), end)
+    // A period was fetched to its end before each later call, so there is an interrupt.
+    for call in ["run", "irq"] {
+        let lines = format!(in alloc;
+            "run 400\n{two_parts}{call} 1000\n{two_parts}{call} 0\n{two_parts}{call} 0\n"
+        )?;
+        let steps = after_set_up(alloc, lines.as_str())?;
+        let end = (Status::Done, want.as_str());
+        expect_played(&rt, alloc, sound.as_slice(), steps.as_str(), end)?;
+    }
+    Ok(())
 }
 
 #[test]
 fn ends_where_the_schedule_does(rt: HostRuntime) -> Result<(), AllocError> {
     let alloc = rt.alloc();
     let sound = frames(alloc, 196)?;
-    for (lines, want) in [
-        ("", "schedule ended: commands 44 of 44"),
+    for (lines, runs, last) in [
+        ("", "", "commands 44 of 44"),
         (
             "run 400\n",
-            "schedule ended: frames 100 written 0 heard of 196",
+            "run 0 12500 12500 400 400\nrun 0 12500 12500 0 0\nsilence 400 768\n",
+            "frames 100 written 0 heard of 196",
         ),
     ] {
         let steps = after_set_up(alloc, lines)?;
-        let end = (Status::ScheduleEnded, want);
-        expect_last_line(&rt, alloc, sound.as_slice(), steps.as_str(), end)?;
+        let want = format!(in alloc; "{runs}{HEARS}schedule ended: {last}\n")?;
+        let end = (Status::ScheduleEnded, want.as_str());
+        expect_played(&rt, alloc, sound.as_slice(), steps.as_str(), end)?;
+    }
+    let steps = format!(in alloc; "{RESET}repeat 40\nrun 0\ncorb\nanswer 0\nrirb\nend\n")?;
+    let want = format!(in alloc; "{HEARS}schedule ended: commands 40 of 44\n")?;
+    let end = (Status::ScheduleEnded, want.as_str());
+    expect_played(&rt, alloc, FRAMES, steps.as_str(), end)
+}
+
+#[test]
+fn gives_a_lost_command_up(rt: HostRuntime) -> Result<(), AllocError> {
+    let alloc = rt.alloc();
+    for (link_frames, status, last) in [
+        (
+            1000,
+            Status::Unanswered,
+            "unanswered 0 000f0004 12500 512500",
+        ),
+        (
+            999,
+            Status::ScheduleEnded,
+            "schedule ended: commands 3 of 44",
+        ),
+    ] {
+        let steps = losing(alloc, 2, link_frames)?;
+        let want = format!(in alloc; "{HEARS}{last}\n")?;
+        expect_played(&rt, alloc, FRAMES, steps.as_str(), (status, want.as_str()))?;
     }
     Ok(())
+}
+
+#[test]
+fn writes_nothing_without_an_interrupt(rt: HostRuntime) -> Result<(), AllocError> {
+    let alloc = rt.alloc();
+    // No period was fetched to its end.
+    let steps = after_set_up(alloc, "run 4\nfetch 1 16\nlink 4\nirq 8\n")?;
+    let want = format!(in alloc;
+        "run 0 12500 12500 4 4\nrun 16 14500 14500 0 0\nsilence 4 784\n{HEARS}sound 01000200000000000000000000000000\nschedule ended: frames 1 written 1 heard of 2\n"
+    )?;
+    let end = (Status::ScheduleEnded, want.as_str());
+    expect_played(&rt, alloc, FRAMES, steps.as_str(), end)
 }
 
 #[test]
@@ -234,24 +260,6 @@ fn ends_at_an_empty_schedule(rt: HostRuntime) -> Result<(), AllocError> {
     let want = format!(in alloc; "{HEARS}schedule ended: commands 0 of 44\n")?;
     let end = (Status::ScheduleEnded, want.as_str());
     expect_played(&rt, alloc, FRAMES, "", end)
-}
-
-#[test]
-fn plays_at_the_rate_of_the_sound(rt: HostRuntime) -> Result<(), AllocError> {
-    let alloc = rt.alloc();
-    let file = codec(alloc, FAST_NODES)?;
-    let mut named = files(alloc, &[("codec.toml", file.as_str()), ("steps", "")])?;
-    named.push((
-        String::from_str(alloc, "T.wav")?,
-        wav_file(alloc, 96_000, FRAMES)?,
-    ))?;
-    let (ended, text) = told_over(alloc, &SMALL_RING, named)?;
-    assert_eq!(rt; ended, Status::ScheduleEnded.number(), "{text}");
-    assert!(rt;
-        text.starts_with("route 3 14 pair 0 via 14.0 02\npin 3 14\n"),
-        "{text}"
-    );
-    Ok(())
 }
 
 #[test]

@@ -129,7 +129,7 @@ fn ends_where_the_schedule_does(rt: HostRuntime) -> Result<(), AllocError> {
 }
 
 /// A schedule that loses the answer after so many turns, and then lets so many link frames pass.
-fn losing(alloc: Global, turns: u32, frames: u32) -> Result<String, AllocError> {
+pub fn losing(alloc: Global, turns: u32, frames: u32) -> Result<String, AllocError> {
     let turns = times(alloc, TURN, turns)?;
     format!(in alloc; "{RESET}{turns}run 0\ncorb\nlose 0\nlink {frames}\nrun 0\n")
 }

@@ -32,7 +32,7 @@ use Rattle.machine_tasks.specs.Tasks.{HavePlans, graphs_of, task_of}
 use Rattle.scheduled_runs.specs.Lines.{lines_of}
 use Rattle.scheduled_runs.specs.Going.{plan_by, open_by}
 use Rattle.scheduled_runs.specs.Walks.{can_end, journal_of}
-use Rattle.scheduled_runs.specs.SoundLeft.{written_by}
+use Rattle.scheduled_runs.specs.FrameCounts.{written_by}
 use Rattle.scheduled_runs.specs.Hearing.{HasPlayedAll, WasPlayed, WasSilent, lists_heard}
 use Rattle.scheduled_runs.specs.Plays.{IsPlayFault, IsPlayedBy, can_end_playing, walked_all}
 use Rattle.scheduled_runs.proofs.Gone.{analog, Gone, phase_left, played_phase, unplayed_ends}

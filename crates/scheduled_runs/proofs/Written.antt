@@ -15,7 +15,7 @@ use Rattle.period_writer.specs.Runs.{Measures, RunFacts, Stretch, Tally, facts_o
 use Rattle.driver_progress.specs.Tasks.{Task, DriverLine}
 use Rattle.driver_progress.specs.Progress.{Course, course_after, course_of, course_opened, ended, ended_if, noted, state_of}
 use Rattle.scheduled_runs.specs.Hearing.{HasPlayedAll}
-use Rattle.scheduled_runs.specs.SoundLeft.{written_in, written_by}
+use Rattle.scheduled_runs.specs.FrameCounts.{written_in, written_by}
 
 -- the runs wrote what was used, which is no more than there is, and all of it once the line has drained
 record IsWithin (total : ℕ) (tally : Tally) : Type 0 where

@@ -1,8 +1,9 @@
 pub mod Lines
 pub mod Events
 pub mod LinkFrames
+pub mod FirstFits
 pub mod Walks
-pub mod SoundLeft
+pub mod FrameCounts
 pub mod Hearing
 pub mod Stretches
 pub mod Plays

@@ -6,6 +6,8 @@ use Rattle.period_writer.specs.Writers.{ring_of}
 use Rattle.codec_bring_up.specs.declared.bringing.BringUp.{BringUp}
 use Rattle.audio_driver.specs.Opening.{IsOpened}
 use Rattle.stream_rest.specs.Resting.{AreApartFrom}
+use Rattle.machine_tasks.specs.Tasks.{blocks_of}
+use Rattle.scheduled_runs.specs.FirstFits.{AreFirstFits}
 use Rattle.scheduled_runs.specs.Walks.{walk_format}
 
 -- it was just opened, for a FIFO of so many bytes and so many calls
@@ -16,5 +18,6 @@ pub record IsFresh (fifo calls : ℕ) (bring_up : BringUp) (writer : Writer) : T
   pub periods : geometry.periods ≡ 4
   pub period : geometry.period ≡ 8
   pub fifo_is : geometry.fifo ≡ fifo
+  pub first_fits : AreFirstFits geometry (blocks_of bring_up writer)
   -- its ring lies apart from RIRB
   pub apart : AreApartFrom (ring_of writer) bring_up.engine.rirb.address

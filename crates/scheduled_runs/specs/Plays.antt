@@ -32,11 +32,12 @@ use Rattle.sound_report.specs.declared.played.PlayFault.TheVariants as faults
 use Rattle.rig.specs.Follows.{Follows}
 use Rattle.rig.specs.Replays.{start_of, telling_from}
 use Rattle.machine_tasks.specs.Tasks.{graphs_of, commands_of, task_of, stream_tag}
+use Rattle.scheduled_runs.specs.FirstFits.{AreFirstFits}
 use Rattle.scheduled_runs.specs.Lines.{lines_of}
 use Rattle.scheduled_runs.specs.Events.{told_in}
 use Rattle.scheduled_runs.specs.Walks.{journal_of}
 use Rattle.scheduled_runs.specs.Stretches.{stretches_of}
-use Rattle.scheduled_runs.specs.SoundLeft.{frames_written, frames_below, last_at}
+use Rattle.scheduled_runs.specs.FrameCounts.{frames_written, frames_below, last_at}
 use Rattle.scheduled_runs.specs.Hearing.{HasPlayedAll, WasSilent, WasPlayed, lists_heard}
 
 -- ---- how it ended
@@ -121,8 +122,9 @@ pub record IsPlayed (machine : Machine) (plans : List Plan) (wav : Wav) (geometr
   -- the journal replays from the machine's start, and follows the schedule
   pub replays : AreHonest (journal_of played) (start_of REGION_BYTES machine)
   pub follows : Follows schedule (journal_of played)
-  -- wherever the driver's blocks lay, it made the accesses that are to be made, and no others
+  -- the driver's blocks are first fits, and it made the accesses that are to be made, and no others
   pub blocks : Blocks
+  pub first_fits : AreFirstFits geometry blocks
   pub state : State
   pub driven : IsPlayedBy machine plans wav schedule (task_of wav.format machine plans geometry true wav.pcm blocks) state (telling_from REGION_BYTES machine (journal_of played)) played
   -- jacks count what was read of RIRB that came unasked

@@ -31,6 +31,7 @@ use Rattle.sound_report.specs.declared.played.PlayFault.TheVariants as faults
 use Rattle.rig.specs.Follows.{Follows}
 use Rattle.rig.specs.Replays.{start_of, telling_from}
 use Rattle.machine_tasks.specs.Tasks.{graphs_of, commands_of, task_of, stream_tag}
+use Rattle.scheduled_runs.specs.FirstFits.{AreFirstFits}
 use Rattle.scheduled_runs.specs.Lines.{lines_of}
 use Rattle.scheduled_runs.specs.Events.{told_in}
 
@@ -105,10 +106,11 @@ pub record IsWalked (machine : Machine) (plans : List Plan) (schedule : Schedule
   -- the journal replays from the machine's start, and follows the schedule
   pub replays : AreHonest (journal_of played) (start_of REGION_BYTES machine)
   pub follows : Follows schedule (journal_of played)
-  -- wherever the driver's blocks lay, it made the accesses that are to be made, and no others
+  -- the driver's blocks are first fits, and it made the accesses that are to be made, and no others
   pub geometry : Geometry
   pub ring : IsWalkRing machine geometry
   pub blocks : Blocks
+  pub first_fits : AreFirstFits geometry blocks
   pub state : State
   pub driven : IsWalkedBy machine schedule (task_of walk_format machine plans geometry false [] blocks) state (telling_from REGION_BYTES machine (journal_of played)) played
   -- jacks count what was read of RIRB that came unasked

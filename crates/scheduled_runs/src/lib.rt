@@ -4,11 +4,11 @@
 
 mod calls;
 mod driving;
+mod frame_counts;
 mod items;
 mod lines;
 mod opening;
 mod playing;
-mod sound_left;
 mod walking;
 
 pub use playing::play;

@@ -3,6 +3,8 @@ ghost use Rattle.std.specs.Prelude.{◌≡◌, ◌≤◌, IfOk};
 ghost use Rattle.period_writer.specs.Writers.{ring_of};
 ghost use Rattle.audio_driver.specs.Opening.{IsOpened};
 ghost use Rattle.stream_rest.specs.Resting.{AreApartFrom};
+ghost use Rattle.machine_tasks.specs.Tasks.{blocks_of};
+ghost use Rattle.scheduled_runs.specs.FirstFits.{AreFirstFits};
 
 use audio_driver::{Driver, OpenFault};
 use dma_pool::{MOST_GRANULES, Pool};
@@ -26,6 +28,7 @@ pub(crate) fn open_driver(
 ) -> Result<Driver<Analog>, AllocError>
     requires few { calls ≤ 1000000 }
     ensures opened { IfOk result (λ driver. IsOpened geometry calls driver.bring_up driver.writer) }
+    ensures first_fits { IfOk result (λ driver. AreFirstFits geometry (blocks_of driver.bring_up driver.writer)) }
     ensures apart { IfOk result (λ driver. AreApartFrom (ring_of driver.writer) driver.bring_up.engine.rirb.address) }
     ensures supply { IfOk result (λ driver. driver.supply ≡ supply) }
     ensures play { IfOk result (λ driver. driver.play ≡ play) }

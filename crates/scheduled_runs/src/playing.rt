@@ -8,12 +8,12 @@ ghost use Rattle.hda_schedule.specs.Schedules.{IsLimited};
 ghost use Rattle.machine_tasks.specs.Reading.{IsRead};
 ghost use Rattle.machine_tasks.specs.Tasks.{HavePlans};
 ghost use Rattle.scheduled_runs.specs.Plays as spec;
-ghost use Rattle.scheduled_runs.specs.SoundLeft as counts;
+ghost use Rattle.scheduled_runs.specs.FrameCounts as counts;
 
 use crate::driving::drive;
+use crate::frame_counts::{frames_below, frames_written, last_at};
 use crate::lines::line_count;
 use crate::opening::open_driver;
-use crate::sound_left::{frames_below, frames_written, last_at};
 use audio_driver::Closed;
 use driver_progress::Phase;
 use hda_files::Machine;

@@ -8,6 +8,14 @@ unreachable-requires c =
     c.a_full_pool_has_room.ensures c.args.geometry c.in_ok-pool.pool
     (record { granules = ap (λ (pool : PoolState). pool.granules) c.in_ok-pool.ensures; free = ap (λ (pool : PoolState). pool.taken) c.in_ok-pool.ensures }) none
 
+pub returns-in-Ok-clause-first_fits : goal.returns-in-Ok-clause-first_fits
+returns-in-Ok-clause-first_fits c = record {
+  free = c.in_ok-pool.pool;
+  taken = c.in-Ok.driver.pool;
+  all_free = record { granules = ap (λ (pool : PoolState). pool.granules) c.in_ok-pool.ensures; free = ap (λ (pool : PoolState). pool.taken) c.in_ok-pool.ensures };
+  opens = c.in-Ok.ensures.takes;
+}
+
 pub returns-in-Ok-clause-apart : goal.returns-in-Ok-clause-apart
 returns-in-Ok-clause-apart c =
     let driver = c.in-Ok.driver in

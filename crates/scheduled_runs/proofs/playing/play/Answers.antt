@@ -101,6 +101,7 @@ returns c =
       replays = subst (λ (events : List Event). AreHonest events (start_of REGION_BYTES machine)) (sym told) gone.replays;
       follows = subst (Follows c.args.schedule.now) (sym told) gone.follows;
       blocks = blocks_for earlier;
+      first_fits = c.in_ok-driver.ensures.first_fits;
       state = state_left (task_for earlier) gone.ended gone.tally;
       driven = played_by machine c.args.plans.items wav c.args.geometry (blocks_for earlier) c.args.schedule.now (opened earlier) c.in_ok-closed.closed (telling_of c.drive.new.rig).journal gone
           _ told (sym c.in_ok-driver.ensures.opened.geometry_is) c.requires.format c.requires.plans c.from_vec-2.ensures c.from_vec-3.ensures c.from_vec-4.ensures

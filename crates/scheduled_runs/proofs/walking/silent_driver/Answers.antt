@@ -9,5 +9,6 @@ returns-clause-fresh c = record {
   periods = c.in-Ok.ensures.periods;
   period = c.in-Ok.ensures.period;
   fifo_is = c.in-Ok.ensures.fifo;
+  first_fits = c.in_ok-driver.ensures.first_fits;
   apart = c.in_ok-driver.ensures.apart;
 }

@@ -84,6 +84,7 @@ returns c =
       geometry = fresh.geometry;
       ring = record { periods = fresh.periods; period = fresh.period; fifo = fresh.fifo_is; format = fresh.format };
       blocks = blocks_of driver.bring_up driver.writer;
+      first_fits = fresh.first_fits;
       state = state_left (task_for earlier) gone.ended gone.tally;
       driven = walked_by machine driver.play (task_for earlier) c.args.schedule.now (opened earlier) c.in_ok-closed.closed (telling_of c.drive.new.rig).journal gone c.in_ok-driver.ensures.play (can_go earlier).fresh
           _ told c.from_vec-2.ensures c.fault_of.ensures;

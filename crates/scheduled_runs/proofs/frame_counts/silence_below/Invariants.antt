@@ -1,7 +1,7 @@
 use Rattle.std.proofs.Common.{◌≡◌, ◌≤◌, ◌*◌, take}
 use Rattle.std.specs.Prelude.{sum_by}
-use Rattle.scheduled_runs.specs.SoundLeft as spec
-use Rattle.scheduled_runs.proofs.sound_left.silence_below.Given as goal
+use Rattle.scheduled_runs.specs.FrameCounts as spec
+use Rattle.scheduled_runs.proofs.frame_counts.silence_below.Given as goal
 
 -- those of the first silences are counted, each below a number of 64 bits
 abbrev pub invariant-loop-span : goal.invariant-loop-span

@@ -1,7 +1,7 @@
 use Rattle.std.proofs.Common.{◌≡◌, take}
 use Rattle.std.specs.Prelude.{sum_by}
-use Rattle.scheduled_runs.specs.SoundLeft.{written_in}
-use Rattle.scheduled_runs.proofs.sound_left.frames_written.Given as goal
+use Rattle.scheduled_runs.specs.FrameCounts.{written_in}
+use Rattle.scheduled_runs.proofs.frame_counts.frames_written.Given as goal
 
 -- what the first runs wrote is counted
 abbrev pub invariant-loop-run : goal.invariant-loop-run

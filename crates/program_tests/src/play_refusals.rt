@@ -246,7 +246,7 @@ fn looks_at_rings(rt: HostRuntime) -> Result<(), AllocError> {
 }
 
 /// A pin at a converter that carries 96 kHz alone.
-pub const FAST_NODES: &str = "{nid = 2, caps = 0x11, pcm = 0x00020100, formats = 1},
+const FAST_NODES: &str = "{nid = 2, caps = 0x11, pcm = 0x00020100, formats = 1},
     {nid = 0x14, caps = 0x0040010D, pin_caps = 0x10, default = 0x01014010, list = [2]}";
 
 #[test]

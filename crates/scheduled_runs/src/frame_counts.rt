@@ -1,7 +1,7 @@
 //! How many frames of sound were written and heard.
 ghost use Rattle.std.specs.Prelude.{◌≡◌, ◌≤◌, sum_by};
-ghost use Rattle.scheduled_runs.specs.SoundLeft as spec;
-ghost use Rattle.scheduled_runs.specs.SoundLeft.{written_by};
+ghost use Rattle.scheduled_runs.specs.FrameCounts as spec;
+ghost use Rattle.scheduled_runs.specs.FrameCounts.{written_by};
 
 use period_writer::{Run, Span};
 
