@@ -45,9 +45,12 @@ Cause told failed words OutOfMemory = ⊥
 Cause told failed words GeometryRefused = HasBadRing told words
 
 -- a text alone, for a cause, or a run
-pub data Case (told : Option Files) (failed : List ℕ → Type 0) (words : List (List ℕ)) (meant : Meant) : Type 0 where
-  said : (status : Status) → Cause told failed words status → (text : List ℕ) → meant ≡ telling status text → Case told failed words meant
-  ran : (played : Played) → HasRun told words played → meant ≡ of_run played → Case told failed words meant
+pub data Case (Cause : Status → Type 0) (Run : Played → Type 0) (meant : Meant) : Type 0 where
+  said : (status : Status) → Cause status → (text : List ℕ) → meant ≡ telling status text → Case Cause Run meant
+  ran : (played : Played) → Run played → meant ≡ of_run played → Case Cause Run meant
+
+abbrev pub WordsCase : Option Files → (List ℕ → Type 0) → List (List ℕ) → Meant → Type 0
+WordsCase told failed words meant = Case (Cause told failed words) (HasRun told words) meant
 
 module _ (told : Option Files) (failed : List ℕ → Type 0) (words : List (List ℕ)) where
   -- the words name the files of what they ask
@@ -56,12 +59,12 @@ module _ (told : Option Files) (failed : List ℕ → Type 0) (words : List (Lis
 
   -- ---- the ends at a file, and at a ring
 
-  codec_stop : (name : List ℕ) (meant : Meant) → Names words name → NamesCodecFile words name → CodecStops told failed name meant → Case told failed words meant
+  codec_stop : (name : List ℕ) (meant : Meant) → Names words name → NamesCodecFile words name → CodecStops told failed name meant → WordsCase told failed words meant
   codec_stop name meant names codec (inl stop) = said ShelfFailed (name, names, stop.0) _ stop.1
   codec_stop name meant names codec (inr stop) = said CodecRefused (name, stop.0, codec, stop.1) _ stop.2
 
   schedule_stop : (codec name : List ℕ) (machine : Machine) (meant : Meant) → WantsRun told words codec name → Names words name → IsMachineOf told codec machine
-      → ScheduleStops told failed name meant → Case told failed words meant
+      → ScheduleStops told failed name meant → WordsCase told failed words meant
   schedule_stop codec name machine meant wants names file (inl stop) = said ShelfFailed (name, names, stop.0) _ stop.1
   schedule_stop codec name machine meant wants names file (inr stop) =
       said ScheduleRefused (record { codec = codec; name = name; machine = machine; text = stop.0; wants = wants; file = file; refused = stop.1 }) _ stop.2
@@ -70,13 +73,13 @@ module _ (told : Option Files) (failed : List ℕ → Type 0) (words : List (Lis
 
   route_plans : (name : List ℕ) (format : Format) (machine : Machine) (plans : List Plan) (meant : Meant) → IsRouteOf words name format → IsMachineOf told name machine
       → HavePlans format machine.codecs plans → (some : Bool) → have_route plans ≡ some
-      → meant ≡ (if some then telling Done (plans_lines machine.codecs plans) else unrouted machine.codecs plans) → Case told failed words meant
+      → meant ≡ (if some then telling Done (plans_lines machine.codecs plans) else unrouted machine.codecs plans) → WordsCase told failed words meant
   route_plans name format machine plans meant is file planned true some e =
       said Done (name, format, is, record { name = name; format = format; machine = machine; plans = plans; wants = inl is; file = file; planned = planned; routed = some }) _ e
   route_plans name format machine plans meant is file planned false some e =
       said NothingRouted (record { name = name; format = format; machine = machine; plans = plans; wants = inl is; file = file; planned = planned; routed = some }) _ e
 
-  route_cases : (name : List ℕ) (format : Format) (meant : Meant) → IsRouteOf words name format → RouteAnswers told failed name format meant → Case told failed words meant
+  route_cases : (name : List ℕ) (format : Format) (meant : Meant) → IsRouteOf words name format → RouteAnswers told failed name format meant → WordsCase told failed words meant
   route_cases name format meant is (inl stop) =
       codec_stop name meant (names_of (route name (hertz format.rate) (bits_of format.bits) format.channels) name is (0, omega arith, refl)) (ap (option_map codec_of) is) stop
   route_cases name format meant is (inr answers) =
@@ -85,7 +88,7 @@ module _ (told : Option Files) (failed : List ℕ → Type 0) (words : List (Lis
   -- ---- `walk`
 
   walk_plans : (codec name : List ℕ) (machine : Machine) (schedule : Schedule) (plans : List Plan) (meant : Meant) → IsWalkOf words codec name → IsMachineOf told codec machine
-      → IsScheduleOf told name schedule → HavePlans walk_format machine.codecs plans → PlansWalk machine schedule plans meant → Case told failed words meant
+      → IsScheduleOf told name schedule → HavePlans walk_format machine.codecs plans → PlansWalk machine schedule plans meant → WordsCase told failed words meant
   walk_plans codec name machine schedule plans meant is file steps planned (inl none) =
       said NothingRouted (record {
         name = codec;
@@ -113,13 +116,13 @@ module _ (told : Option Files) (failed : List ℕ → Type 0) (words : List (Lis
       })) run.3
 
   walk_machine : (codec name : List ℕ) (machine : Machine) (meant : Meant) → IsWalkOf words codec name → IsMachineOf told codec machine → MachineWalks told failed machine name meant
-      → Case told failed words meant
+      → WordsCase told failed words meant
   walk_machine codec name machine meant is file (inl stop) =
       schedule_stop codec name machine meant (inl is) (names_of (walk codec name) name is (1, omega arith, refl)) file stop
   walk_machine codec name machine meant is file (inr answers) =
       walk_plans codec name machine answers.0 answers.2.0 meant is file answers.1 answers.2.1 answers.2.2
 
-  walk_cases : (codec name : List ℕ) (meant : Meant) → IsWalkOf words codec name → WalkAnswers told failed codec name meant → Case told failed words meant
+  walk_cases : (codec name : List ℕ) (meant : Meant) → IsWalkOf words codec name → WalkAnswers told failed codec name meant → WordsCase told failed words meant
   walk_cases codec name meant is (inl stop) = codec_stop codec meant (names_of (walk codec name) codec is (0, omega arith, refl)) (ap (option_map codec_of) is) stop
   walk_cases codec name meant is (inr answers) = walk_machine codec name answers.0 meant is answers.1 answers.2
 
@@ -131,7 +134,7 @@ module _ (told : Option Files) (failed : List ℕ → Type 0) (words : List (Lis
 
     play_plans : (machine : Machine) (sound : Wav) (schedule : Schedule) (geometry : Geometry) (plans : List Plan) → IsMachineOf told codec machine → IsWavOf told wav sound
         → IsScheduleOf told name schedule → IsRingOf periods period machine sound geometry → HavePlans sound.format machine.codecs plans
-        → PlansPlay machine sound geometry schedule plans meant → Case told failed words meant
+        → PlansPlay machine sound geometry schedule plans meant → WordsCase told failed words meant
     play_plans machine sound schedule geometry plans file sound_file steps ring planned (inl none) =
         said NothingRouted (record {
           name = codec;
@@ -150,23 +153,25 @@ module _ (told : Option Files) (failed : List ℕ → Type 0) (words : List (Lis
           name = name;
           periods = periods;
           period = period;
-          machine = machine;
-          sound = sound;
-          geometry = geometry;
-          schedule = schedule;
-          plans = plans;
           asks = is;
-          file = file;
-          sound_file = sound_file;
-          steps = steps;
-          geometry_is = ring;
-          planned = planned;
-          routed = run.1;
-          run = run.2;
+          files = record {
+            machine = machine;
+            sound = sound;
+            geometry = geometry;
+            schedule = schedule;
+            plans = plans;
+            file = file;
+            sound_file = sound_file;
+            steps = steps;
+            geometry_is = ring;
+            planned = planned;
+            routed = run.1;
+            run = run.2;
+          };
         })) run.3
 
     play_schedule : (machine : Machine) (sound : Wav) (schedule : Schedule) → IsMachineOf told codec machine → IsWavOf told wav sound → IsScheduleOf told name schedule
-        → SchedulePlays periods period machine sound schedule meant → Case told failed words meant
+        → SchedulePlays periods period machine sound schedule meant → WordsCase told failed words meant
     play_schedule machine sound schedule file sound_file steps (inl stop) =
         said GeometryRefused (record {
           codec = codec;
@@ -188,12 +193,12 @@ module _ (told : Option Files) (failed : List ℕ → Type 0) (words : List (Lis
         play_plans machine sound schedule answers.0 answers.2.0 file sound_file steps answers.1 answers.2.1 answers.2.2
 
     play_sound : (machine : Machine) (sound : Wav) → IsMachineOf told codec machine → IsWavOf told wav sound → SoundPlays told failed periods period machine sound name meant
-        → Case told failed words meant
+        → WordsCase told failed words meant
     play_sound machine sound file sound_file (inl stop) =
         schedule_stop codec name machine meant (inr (sound, play_wants sound sound_file)) (names_of (play codec wav name periods period) name is (2, omega arith, refl)) file stop
     play_sound machine sound file sound_file (inr answers) = play_schedule machine sound answers.0 file sound_file answers.1 answers.2
 
-    play_machine : (machine : Machine) → IsMachineOf told codec machine → MachinePlays told failed periods period machine wav name meant → Case told failed words meant
+    play_machine : (machine : Machine) → IsMachineOf told codec machine → MachinePlays told failed periods period machine wav name meant → WordsCase told failed words meant
     play_machine machine file (inl (inl stop)) = said ShelfFailed (wav, names_of (play codec wav name periods period) wav is (1, omega arith, refl), stop.0) _ stop.1
     play_machine machine file (inl (inr stop)) =
         said WavRefused (record {
@@ -210,13 +215,13 @@ module _ (told : Option Files) (failed : List ℕ → Type 0) (words : List (Lis
         }) _ stop.2
     play_machine machine file (inr answers) = play_sound machine answers.0 file answers.1 answers.2
 
-    play_cases : PlayAnswers told failed codec wav name periods period meant → Case told failed words meant
+    play_cases : PlayAnswers told failed codec wav name periods period meant → WordsCase told failed words meant
     play_cases (inl stop) = codec_stop codec meant (names_of (play codec wav name periods period) codec is (0, omega arith, refl)) (ap (option_map codec_of) is) stop
     play_cases (inr answers) = play_machine answers.0 answers.1 answers.2
 
   -- ---- all commands
 
-  pub cases : (meant : Meant) → IsMeant told failed words meant → Case told failed words meant
+  pub cases : (meant : Meant) → IsMeant told failed words meant → WordsCase told failed words meant
   cases meant (inl refused) = said WordsRefused refused.0 _ refused.1
   cases meant (inr (inl asked)) = route_cases asked.0 asked.1 meant asked.2 asked.3
   cases meant (inr (inr (inl asked))) = walk_cases asked.0 asked.1 meant asked.2 asked.3

@@ -3,3 +3,5 @@ mod WalkLemmas
 mod PlayLemmas
 mod Cases
 mod Endings
+mod PlayCases
+mod PlayEndings

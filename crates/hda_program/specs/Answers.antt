@@ -124,15 +124,26 @@ HasWritten before after sink_failed meant status =
     ⊎ (((status ≡ number_of SinkFailed) × sink_failed × TookFront before after meant.text)
     ⊎ ((status ≡ number_of OutOfMemory) × TookFront before after meant.text))
 
--- what was meant was written so, and its run is given, if it has one
-pub record HasAnswered (told : Option Files) (failed : List ℕ → Type 0) (words : List (List ℕ)) (before after : Option (List ℕ)) (sink_failed : Type 0) (play : Option Played) (status : ℕ) : Type 0 where
+-- something that can be meant was written so, and its run is given, if it has one
+pub record HasAnswered (CanMean : Meant → Type 0) (before after : Option (List ℕ)) (sink_failed : Type 0) (play : Option Played) (status : ℕ) : Type 0 where
   pub meant : Meant
-  pub is : IsMeant told failed words meant
+  pub is : CanMean meant
   pub given : play ≡ meant.play
   pub written : HasWritten before after sink_failed meant status
 
--- the program has answered, or memory was wanting before anything was meant, and nothing was written
+-- it has answered with something that can be meant, or memory was wanting before anything was meant, and nothing was written
+abbrev pub HasEndedWith : (Meant → Type 0) → Option (List ℕ) → Option (List ℕ) → Type 0 → Option Played → ℕ → Type 0
+HasEndedWith CanMean before after sink_failed play status =
+    HasAnswered CanMean before after sink_failed play status
+    ⊎ ((status ≡ number_of OutOfMemory) × (play ≡ None) × (after ≡ before))
+
+-- the program has ended so, with what it answers to its words
 abbrev pub HasEnded : Option Files → (List ℕ → Type 0) → List (List ℕ) → Option (List ℕ) → Option (List ℕ) → Type 0 → Option Played → ℕ → Type 0
 HasEnded told failed words before after sink_failed play status =
-    HasAnswered told failed words before after sink_failed play status
-    ⊎ ((status ≡ number_of OutOfMemory) × (play ≡ None) × (after ≡ before))
+    HasEndedWith (IsMeant told failed words) before after sink_failed play status
+
+-- it has ended so, with what `play` answers for the files of these names and a ring of these numbers
+abbrev pub HasEndedPlay : Option Files → (List ℕ → Type 0) → (codec wav schedule : List ℕ) → (periods period : ℕ) → Option (List ℕ) → Option (List ℕ) → Type 0 → Option Played → ℕ
+    → Type 0
+HasEndedPlay told failed codec wav name periods period before after sink_failed play status =
+    HasEndedWith (PlayAnswers told failed codec wav name periods period) before after sink_failed play status

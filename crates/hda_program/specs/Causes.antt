@@ -115,20 +115,14 @@ pub record HasWalked (told : Option Files) (words : List (List ℕ)) (played : P
   pub routed : have_route plans ≡ true
   pub run : IsWalked machine plans schedule played
 
--- the run is that for which the words ask: of the sound that their WAV file reads as, through the machine that their codec file reads as and
--- the ring of their numbers, with the plans for that sound, by their schedule
-pub record HasPlayed (told : Option Files) (words : List (List ℕ)) (played : Played) : Type 0 where
-  pub codec : List ℕ
-  pub wav : List ℕ
-  pub name : List ℕ
-  pub periods : ℕ
-  pub period : ℕ
+-- the run is that of the sound that the WAV file of the second name reads as, through the machine that the codec file of the first reads as
+-- and a ring of these numbers, with the plans for that sound, by the schedule of the third
+pub record HasPlayedFiles (told : Option Files) (codec wav name : List ℕ) (periods period : ℕ) (played : Played) : Type 0 where
   pub machine : Machine
   pub sound : Wav
   pub geometry : Geometry
   pub schedule : Schedule
   pub plans : List Plan
-  pub asks : IsPlayOf words codec wav name periods period
   pub file : IsMachineOf told codec machine
   pub sound_file : IsWavOf told wav sound
   pub steps : IsScheduleOf told name schedule
@@ -136,6 +130,16 @@ pub record HasPlayed (told : Option Files) (words : List (List ℕ)) (played : P
   pub planned : HavePlans sound.format machine.codecs plans
   pub routed : have_route plans ≡ true
   pub run : IsPlayed machine plans sound geometry schedule played
+
+-- the run is that for which the words ask: of the files that they name, and the ring of their numbers
+pub record HasPlayed (told : Option Files) (words : List (List ℕ)) (played : Played) : Type 0 where
+  pub codec : List ℕ
+  pub wav : List ℕ
+  pub name : List ℕ
+  pub periods : ℕ
+  pub period : ℕ
+  pub asks : IsPlayOf words codec wav name periods period
+  pub files : HasPlayedFiles told codec wav name periods period played
 
 -- the run is the walk for which the words ask, or the play
 abbrev pub HasRun : Option Files → List (List ℕ) → Played → Type 0

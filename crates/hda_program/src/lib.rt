@@ -4,6 +4,7 @@
 
 mod answer;
 mod codec;
+mod files;
 mod message;
 mod plans;
 mod play;
@@ -14,5 +15,6 @@ mod text;
 mod walk;
 mod wav;
 
+pub use files::play_files;
 pub use run::{Ended, hda_main};
 pub use sound_report::Status;

@@ -77,7 +77,7 @@ pub fn hda_main<S: Shelf, K: Sink>(
 }
 
 /// Writes the text of an answer, and gives its status and its run.
-fn write_answer<K: Sink>(alloc: Global, out: &mut K, answer: Answer) -> Ended
+pub fn write_answer<K: Sink>(alloc: Global, out: &mut K, answer: Answer) -> Ended
     ensures written { HasWritten (K.taken out.old) (K.taken out.new) (Rose (K.faults out.old) (K.faults out.new)) (answer_meant answer) result.status }
     ensures play { result.play ≡ (answer_meant answer).play }
     ensures later { K.faults out.old ≤ K.faults out.new }

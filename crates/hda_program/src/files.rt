@@ -1,0 +1,57 @@
+//! What `play` does with three files, for callers that have no words.
+ghost use Rattle.std.specs.Prelude.{◌≡◌, ◌≢◌, ◌≤◌, ℕ, List, IfSome, IsNone, IsSome};
+ghost use Rattle.hda_outside.specs.Counts.{Rose};
+ghost use Rattle.hda_words.specs.Asked.{IsRingInRange};
+ghost use Rattle.hda_program.specs.Answers.{HasEndedPlay};
+ghost use Rattle.hda_program.specs.Causes.{HasPlayedFiles, HasReported, IsOfPlay, IsRunless};
+
+use crate::play::answer_play;
+use crate::run::{Ended, write_answer};
+use hda_outside::{Shelf, Sink};
+use sound_report::Status;
+use std::alloc::Global;
+
+/// Plays the sound of the WAV file through the machine of the codec file, by the schedule, and writes its text, as `play` does with
+/// these names. The ring has so many periods of so many units.
+///
+/// It ends with 0 where all frames of sound were played, and gives its run of the driver also where its text could not be written.
+pub fn play_files<S: Shelf, K: Sink>(
+    alloc: Global,
+    shelf: &mut S,
+    out: &mut K,
+    codec: &str,
+    wav: &str,
+    schedule: &str,
+    periods: u8,
+    period: u8,
+) -> Ended
+    requires ring { IsRingInRange periods period }
+
+    // The meant text was written whole, or its front at a fault of the sink or at want of memory.
+    ensures ended { HasEndedPlay (S.told shelf.old) (λ name. Rose (S.faults shelf.old name) (S.faults shelf.new name))
+        codec.now wav.now schedule.now periods period (K.taken out.old) (K.taken out.new) (Rose (K.faults out.old) (K.faults out.new)) result.play result.status }
+
+    // The run that is given is that of these files and this ring, and its report was written.
+    ensures run_is { IfSome result.play (HasPlayedFiles (S.told shelf.old) codec.now wav.now schedule.now periods period) }
+    ensures reported { IfSome result.play (λ played. HasReported (K.taken out.old) (K.taken out.new) played result.status) }
+
+    // When a run is given.
+    ensures runless { IsRunless result.status → IsNone result.play }
+    ensures runs { IsOfPlay result.status → IsSome result.play }
+
+    // The shelf is asked under the three names alone.
+    ensures asked { (other : List ℕ) → other ≢ codec.now → other ≢ wav.now → other ≢ schedule.now → S.asked shelf.new other ≡ S.asked shelf.old other }
+
+    // The shelf's files stay as they are, and no count of faults falls.
+    ensures told { S.told shelf.new ≡ S.told shelf.old }
+    ensures shelf_later { (name : List ℕ) → S.faults shelf.old name ≤ S.faults shelf.new name }
+    ensures sink_later { K.faults out.old ≤ K.faults out.new }
+{
+    match answer_play(alloc, shelf, codec, wav, schedule, periods, period) {
+        Ok(answer) => write_answer(alloc, out, answer),
+        Err(_) => Ended {
+            status: Status::OutOfMemory.number(),
+            play: None,
+        },
+    }
+}
