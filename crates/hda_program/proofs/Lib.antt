@@ -5,3 +5,5 @@ mod Cases
 mod Endings
 mod PlayCases
 mod PlayEndings
+mod OneReading
+mod Complete

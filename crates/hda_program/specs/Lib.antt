@@ -7,3 +7,4 @@ pub mod Files
 pub mod Rings
 pub mod Answers
 pub mod Causes
+pub mod Complete

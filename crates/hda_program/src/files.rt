@@ -4,6 +4,7 @@ ghost use Rattle.hda_outside.specs.Counts.{Rose};
 ghost use Rattle.hda_words.specs.Asked.{IsRingInRange};
 ghost use Rattle.hda_program.specs.Answers.{HasEndedPlay};
 ghost use Rattle.hda_program.specs.Causes.{HasPlayedFiles, HasReported, IsOfPlay, IsRunless};
+ghost use Rattle.hda_program.specs.Complete.{CanPlay, HasPlayedOn};
 
 use crate::play::answer_play;
 use crate::run::{Ended, write_answer};
@@ -38,6 +39,10 @@ pub fn play_files<S: Shelf, K: Sink>(
     // When a run is given.
     ensures runless { IsRunless result.status → IsNone result.play }
     ensures runs { IsOfPlay result.status → IsSome result.play }
+
+    // Good files and a good ring are not refused.
+    ensures completes { CanPlay (S.told shelf.old) (λ name. Rose (S.faults shelf.old name) (S.faults shelf.new name)) codec.now wav.now schedule.now periods period
+        → (Rose (K.faults out.old) (K.faults out.new) → ⊥) → HasPlayedOn result.status }
 
     // The shelf is asked under the three names alone.
     ensures asked { (other : List ℕ) → other ≢ codec.now → other ≢ wav.now → other ≢ schedule.now → S.asked shelf.new other ≡ S.asked shelf.old other }

@@ -6,6 +6,7 @@ ghost use Rattle.sound_report.specs.Statuses.{number_of};
 ghost use Rattle.hda_program.specs.Answers.{HasEnded, HasWritten};
 ghost use Rattle.hda_program.specs.Asks.{AsksForItsFiles, IsNoCommand, IsPlayOf, IsRouteOf, IsWalkOf};
 ghost use Rattle.hda_program.specs.Causes.{HasBadCodecFile, HasBadRing, HasBadSchedule, HasBadWav, HasPlanned, HasReported, HasRun, HasUnreadFile, IsOfPlay, IsOfWalk, IsRunless};
+ghost use Rattle.hda_program.specs.Complete.{CanPlay, CanWalk, HasPlayedOn, HasWalkedOn};
 ghost use Rattle.hda_program.specs.Meanings.{answer_meant, of_run, status_of, telling};
 
 use crate::answer::{Answer, answer_words};
@@ -25,7 +26,8 @@ pub struct Ended {
 /// Runs the command of these words, those after the program's name, and writes its text.
 ///
 /// The statuses are those of [`Status`]. `route` ends with 0 where some pin has a route, `walk` where all codecs were set up, `play`
-/// where all frames of sound were played. `walk` and `play` give their run of the driver, also where its text could not be written.
+/// where all frames of sound were played. `walk` and `play` give their run of the driver, also where its text could not be written. Where
+/// their files and the ring are good, some pin has a route and neither shelf nor sink fails, they refuse nothing.
 pub fn hda_main<S: Shelf, K: Sink>(
     alloc: Global,
     words: &[String],
@@ -58,6 +60,14 @@ pub fn hda_main<S: Shelf, K: Sink>(
     ensures routed { result.status ≡ number_of Status.Done → HasPlanned (S.told shelf.old) (map string_bytes words.now) true }
     ensures nothing_routed { result.status ≡ number_of Status.NothingRouted → HasPlanned (S.told shelf.old) (map string_bytes words.now) false }
     ensures unwritten { result.status ≡ number_of Status.SinkFailed → Rose (K.faults out.old) (K.faults out.new) }
+
+    // Good files and a good ring are not refused.
+    ensures walk_completes { (codec schedule : List ℕ) → IsWalkOf (map string_bytes words.now) codec schedule
+        → CanWalk (S.told shelf.old) (λ name. Rose (S.faults shelf.old name) (S.faults shelf.new name)) codec schedule
+        → (Rose (K.faults out.old) (K.faults out.new) → ⊥) → HasWalkedOn result.status }
+    ensures play_completes { (codec wav schedule : List ℕ) (periods period : ℕ) → IsPlayOf (map string_bytes words.now) codec wav schedule periods period
+        → CanPlay (S.told shelf.old) (λ name. Rose (S.faults shelf.old name) (S.faults shelf.new name)) codec wav schedule periods period
+        → (Rose (K.faults out.old) (K.faults out.new) → ⊥) → HasPlayedOn result.status }
 
     // The shelf is asked under the names of the words alone.
     ensures asked { AsksForItsFiles (map string_bytes words.now) (S.asked shelf.old) (S.asked shelf.new) }

@@ -1,0 +1,208 @@
+-- Where nothing is refused, `play` and `walk` come to their runs.
+use Rattle.std.proofs.Common.{◌≡◌, ◌∙◌, ℕ, List, true, false, inl, inr, Option, Some, None, refl, sym, ap, subst}
+use Rattle.std.specs.Prelude.{◌⊎◌}
+use Rattle.stream_format.specs.declared.format.Format.{Format}
+use Rattle.route_planner.specs.declared.routes.Plan.{Plan}
+use Rattle.hda_outside.specs.Shelf.{Files}
+use Rattle.hda_files.specs.declared.machine.Machine.{Machine}
+use Rattle.hda_schedule.specs.declared.schedule.Schedule.{Schedule}
+use Rattle.hda_words.specs.Asked.{Asked, play, route, walk}
+use Rattle.period_writer.specs.declared.geometry.Geometry.{Geometry}
+use Rattle.period_writer.specs.declared.geometry.GeometryFault.{GeometryFault}
+use Rattle.period_writer.specs.Rings.{fault_of}
+use Rattle.wav_reader.specs.declared.wav.Wav.{Wav}
+use Rattle.driver_progress.specs.declared.phase.Phase.{Phase}
+use Rattle.driver_progress.specs.declared.phase.Phase.TheVariants.{Reset, Settling, Walking, SettingUp, Ready, Playing, Drained, NothingRouted, Unanswered, Late, Malformed, Failed}
+use Rattle.sound_report.specs.declared.played.Played.{Played}
+use Rattle.sound_report.specs.declared.played.PlayFault.{PlayFault}
+use Rattle.sound_report.specs.declared.played.PlayFault.TheVariants as fault
+use Rattle.sound_report.specs.declared.status.Status.TheVariants.{OutOfMemory}
+use Rattle.sound_report.specs.Statuses.{number_of}
+use Rattle.scheduled_runs.specs.Walks.{IsWalkFault, IsWalked, walk_format}
+use Rattle.machine_tasks.specs.Tasks.{HavePlans}
+use Rattle.hda_program.specs.Answers.{HasEnded, HasEndedPlay, HasEndedWith, HasWritten, IsMeant, MachinePlays, MachineWalks, PlansPlay, PlansWalk, PlayAnswers, SchedulePlays, SoundPlays, WalkAnswers}
+use Rattle.hda_program.specs.Asks.{IsPlayOf, IsWalkOf}
+use Rattle.hda_program.specs.Causes.{IsOfPlay, IsOfWalk}
+use Rattle.hda_program.specs.Complete.{CanPlay, CanWalk, HasPlayedOn, HasWalkedOn}
+use Rattle.hda_program.specs.Meanings.{Meant, of_run, status_of}
+use Rattle.hda_program.specs.Plans.{have_route}
+use Rattle.hda_program.proofs.Endings.{not_route_and_play, not_route_and_walk, same_asked}
+use Rattle.hda_program.proofs.OneReading.{codec_unrefused, one_machine, one_plans, one_wav_format, schedule_unrefused, wav_unrefused}
+
+-- ---- the statuses of runs
+
+of_play : (end : Option PlayFault) → IsOfPlay (number_of (status_of end))
+of_play None = inl (inl refl)
+of_play (Some (fault.Unanswered codec command issued noticed)) = inl (inr (inl refl))
+of_play (Some (fault.Late from to limit)) = inr refl
+of_play (Some (fault.CommandsLeft sent of)) = inl (inr (inr refl))
+of_play (Some (fault.FramesLeft written heard of)) = inl (inr (inr refl))
+
+WalkEnd : Option PlayFault → Type 0
+WalkEnd end = IsOfWalk (number_of (status_of end))
+
+of_walk : (phase : Phase) (sent of : ℕ) (end : Option PlayFault) → IsWalkFault phase sent of end → WalkEnd end
+unfolding WalkEnd
+of_walk Reset sent of end is = subst (λ (e : Option PlayFault). WalkEnd e) (sym is) (inr (inr refl))
+of_walk Settling sent of end is = subst (λ (e : Option PlayFault). WalkEnd e) (sym is) (inr (inr refl))
+of_walk Walking sent of end is = subst (λ (e : Option PlayFault). WalkEnd e) (sym is) (inr (inr refl))
+of_walk SettingUp sent of end is = subst (λ (e : Option PlayFault). WalkEnd e) (sym is) (inr (inr refl))
+of_walk Ready sent of end is = subst (λ (e : Option PlayFault). WalkEnd e) (sym is) (inl refl)
+of_walk Playing sent of end is = absurd is
+of_walk Drained sent of end is = absurd is
+of_walk NothingRouted sent of end is = absurd is
+of_walk (Unanswered codec command issued noticed) sent of end is = subst (λ (e : Option PlayFault). WalkEnd e) (sym is) (inr (inl refl))
+of_walk (Late from to limit) sent of end is = absurd is
+of_walk (Malformed codec malformed) sent of end is = absurd is
+of_walk Failed sent of end is = absurd is
+
+walk_end : (machine : Machine) (plans : List Plan) (schedule : Schedule) (played : Played) → IsWalked machine plans schedule played → IsOfWalk (number_of (status_of played.fault))
+unfolding WalkEnd
+walk_end machine plans schedule played walked = of_walk walked.state.phase walked.state.sent played.commands played.fault walked.driven.fault
+
+-- ---- what is meant is a run
+
+-- a run is meant whose status is one of these
+abbrev IsRunOf : (ℕ → Type 0) → Meant → Type 0
+IsRunOf IsOf meant = (played : Played) × IsOf (number_of (status_of played.fault)) × (meant ≡ of_run played)
+
+same_routes : (format : Format) (machine : Machine) (one other : List Plan) → HavePlans format machine.codecs one → HavePlans format machine.codecs other → have_route one ≡ true
+    → have_route other ≡ false → ⊥
+same_routes format machine one other h k routed none =
+    let bad : true ≡ false = sym routed ∙ (ap have_route (sym (one_plans format machine.codecs one other h k)) ∙ none) in cc
+
+-- ---- `play`
+
+module _ (told : Option Files) (failed : List ℕ → Type 0) (codec wav name : List ℕ) (periods period : ℕ) (can : CanPlay told failed codec wav name periods period) (meant : Meant) where
+  abbrev Here : Option Files
+  Here = Some can.files
+
+  play_plans : (machine : Machine) (sound : Wav) (schedule : Schedule) (geometry : Geometry) (plans : List Plan) → can.machine ≡ machine → can.sound.format ≡ sound.format
+      → HavePlans sound.format machine.codecs plans → PlansPlay machine sound geometry schedule plans meant → IsRunOf IsOfPlay meant
+  play_plans machine sound schedule geometry plans same format planned (inl none) =
+      let P : Format → Type 0 = λ f. HavePlans f can.machine.codecs can.plans in
+      let Q : Machine → Type 0 = λ m. HavePlans sound.format m.codecs can.plans in
+      absurd (same_routes sound.format machine can.plans plans (subst Q same (subst P format can.planned)) planned can.routed none.0)
+  play_plans machine sound schedule geometry plans same format planned (inr run) = (run.0, of_play run.0.fault, run.3)
+
+  ring_good : (machine : Machine) (sound : Wav) (end : GeometryFault) → can.machine ≡ machine → can.sound.format ≡ sound.format
+      → fault_of periods period machine.fifo sound.format ≡ Some end → ⊥
+  ring_good machine sound end same format faulty =
+      let P : Format → Type 0 = λ f. fault_of periods period can.machine.fifo f ≡ None in
+      let Q : Machine → Type 0 = λ m. fault_of periods period m.fifo sound.format ≡ None in
+      let good : fault_of periods period machine.fifo sound.format ≡ None = subst Q same (subst P format can.good_ring) in
+      let bad : None ≡ Some end = sym good ∙ faulty in cc
+
+  play_schedule : (machine : Machine) (sound : Wav) (schedule : Schedule) → can.machine ≡ machine → can.sound.format ≡ sound.format
+      → SchedulePlays periods period machine sound schedule meant → IsRunOf IsOfPlay meant
+  play_schedule machine sound schedule same format (inl stop) = absurd (ring_good machine sound stop.0 same format stop.1)
+  play_schedule machine sound schedule same format (inr (geometry, ring, (plans, planned, plays))) = play_plans machine sound schedule geometry plans same format planned plays
+
+  play_sound : (machine : Machine) (sound : Wav) → can.machine ≡ machine → can.sound.format ≡ sound.format → SoundPlays Here failed periods period machine sound name meant
+      → IsRunOf IsOfPlay meant
+  play_sound machine sound same format (inl (inl stop)) = absurd (can.schedule_given stop.0)
+  play_sound machine sound same format (inl (inr stop)) = absurd (schedule_unrefused can.files name stop.0 can.schedule can.steps stop.1)
+  play_sound machine sound same format (inr answers) = play_schedule machine sound answers.0 same format answers.2
+
+  play_machine : (machine : Machine) → can.machine ≡ machine → MachinePlays Here failed periods period machine wav name meant → IsRunOf IsOfPlay meant
+  play_machine machine same (inl (inl stop)) = absurd (can.wav_given stop.0)
+  play_machine machine same (inl (inr stop)) = absurd (wav_unrefused can.files wav stop.0 can.sound can.sound_file stop.1)
+  play_machine machine same (inr answers) = play_sound machine answers.0 same (one_wav_format can.files wav answers.0 can.sound answers.1 can.sound_file) answers.2
+
+  play_files : PlayAnswers Here failed codec wav name periods period meant → IsRunOf IsOfPlay meant
+  play_files (inl (inl stop)) = absurd (can.codec_given stop.0)
+  play_files (inl (inr stop)) = absurd (codec_unrefused can.files codec stop.0 can.machine can.file stop.1)
+  play_files (inr answers) = play_machine answers.0 (one_machine can.files codec answers.0 can.machine answers.1 can.file) answers.2
+
+  play_meant : PlayAnswers told failed codec wav name periods period meant → IsRunOf IsOfPlay meant
+  play_meant answers =
+      let P : Option Files → Type 0 = λ t. PlayAnswers t failed codec wav name periods period meant in play_files (subst P can.tells answers)
+
+-- ---- `walk`
+
+module _ (told : Option Files) (failed : List ℕ → Type 0) (codec name : List ℕ) (can : CanWalk told failed codec name) (meant : Meant) where
+  abbrev HereWalk : Option Files
+  HereWalk = Some can.files
+
+  walk_plans : (machine : Machine) (schedule : Schedule) (plans : List Plan) → can.machine ≡ machine → HavePlans walk_format machine.codecs plans
+      → PlansWalk machine schedule plans meant → IsRunOf IsOfWalk meant
+  walk_plans machine schedule plans same planned (inl none) =
+      let Q : Machine → Type 0 = λ m. HavePlans walk_format m.codecs can.plans in
+      absurd (same_routes walk_format machine can.plans plans (subst Q same can.planned) planned can.routed none.0)
+  walk_plans machine schedule plans same planned (inr (played, routed, walked, is)) = (played, walk_end machine plans schedule played walked, is)
+
+  walk_machine : (machine : Machine) → can.machine ≡ machine → MachineWalks HereWalk failed machine name meant → IsRunOf IsOfWalk meant
+  walk_machine machine same (inl (inl stop)) = absurd (can.schedule_given stop.0)
+  walk_machine machine same (inl (inr stop)) = absurd (schedule_unrefused can.files name stop.0 can.schedule can.steps stop.1)
+  walk_machine machine same (inr (schedule, steps, (plans, planned, walks))) = walk_plans machine schedule plans same planned walks
+
+  walk_files : WalkAnswers HereWalk failed codec name meant → IsRunOf IsOfWalk meant
+  walk_files (inl (inl stop)) = absurd (can.codec_given stop.0)
+  walk_files (inl (inr stop)) = absurd (codec_unrefused can.files codec stop.0 can.machine can.file stop.1)
+  walk_files (inr answers) = walk_machine answers.0 (one_machine can.files codec answers.0 can.machine answers.1 can.file) answers.2
+
+  walk_meant : WalkAnswers told failed codec name meant → IsRunOf IsOfWalk meant
+  walk_meant answers = let P : Option Files → Type 0 = λ t. WalkAnswers t failed codec name meant in walk_files (subst P can.tells answers)
+
+-- ---- the words ask for one thing
+
+walk_of_words : (told : Option Files) (failed : List ℕ → Type 0) (words : List (List ℕ)) (codec name : List ℕ) (meant : Meant) → IsWalkOf words codec name
+    → IsMeant told failed words meant → WalkAnswers told failed codec name meant
+walk_of_words told failed words codec name meant walks (inl refused) = let bad : None ≡ Some (walk codec name) = sym refused.0 ∙ walks in cc
+walk_of_words told failed words codec name meant walks (inr (inl asked)) = absurd (not_route_and_walk words asked.0 asked.1 codec name asked.2 walks)
+walk_of_words told failed words codec name meant walks (inr (inr (inl (first, second, asks, answers)))) =
+    let same : walk first second ≡ walk codec name = same_asked words _ _ asks walks in
+    let codec_is : first ≡ codec = cc in
+    let name_is : second ≡ name = cc in
+    subst (λ (n : List ℕ). WalkAnswers told failed codec n meant) name_is (subst (λ (n : List ℕ). WalkAnswers told failed n second meant) codec_is answers)
+walk_of_words told failed words codec name meant walks (inr (inr (inr (first, second, third, most, units, asks, answers)))) =
+    let bad : play first second third most units ≡ walk codec name = same_asked words _ _ asks walks in cc
+
+-- what is answered to these words for a play
+abbrev PlayAnswersTo : Option Files → (List ℕ → Type 0) → Meant → Asked → Type 0
+PlayAnswersTo told failed meant (route codec rate bits channels) = ⊥
+PlayAnswersTo told failed meant (walk codec name) = ⊥
+PlayAnswersTo told failed meant (play codec wav name periods period) = PlayAnswers told failed codec wav name periods period meant
+
+play_of_words : (told : Option Files) (failed : List ℕ → Type 0) (words : List (List ℕ)) (codec wav name : List ℕ) (periods period : ℕ) (meant : Meant)
+    → IsPlayOf words codec wav name periods period → IsMeant told failed words meant → PlayAnswers told failed codec wav name periods period meant
+play_of_words told failed words codec wav name periods period meant plays (inl refused) =
+    let bad : None ≡ Some (play codec wav name periods period) = sym refused.0 ∙ plays in cc
+play_of_words told failed words codec wav name periods period meant plays (inr (inl asked)) =
+    absurd (not_route_and_play words asked.0 asked.1 codec wav name periods period asked.2 plays)
+play_of_words told failed words codec wav name periods period meant plays (inr (inr (inl (first, second, asks, answers)))) =
+    let bad : walk first second ≡ play codec wav name periods period = same_asked words _ _ asks plays in cc
+play_of_words told failed words codec wav name periods period meant plays (inr (inr (inr (first, second, third, most, units, asks, answers)))) =
+    let same : play first second third most units ≡ play codec wav name periods period = same_asked words _ _ asks plays in
+    subst (λ (a : Asked). PlayAnswersTo told failed meant a) same answers
+
+-- ---- the end
+
+module _ (before after : Option (List ℕ)) (sink_failed : Type 0) (given : Option Played) (status : ℕ) (sink_good : sink_failed → ⊥) where
+  written_run : (IsOf : ℕ → Type 0) (meant : Meant) → IsRunOf IsOf meant → HasWritten before after sink_failed meant status → IsOf status ⊎ (status ≡ number_of OutOfMemory)
+  written_run IsOf meant (played, ends, is) (inl whole) =
+      let number : number_of (status_of played.fault) ≡ status = sym (whole.0 ∙ ap (λ (m : Meant). number_of m.status) is) in inl (subst IsOf number ends)
+  written_run IsOf meant run (inr (inl sink)) = absurd (sink_good sink.1)
+  written_run IsOf meant run (inr (inr memory)) = inr memory.0
+
+  ended_run : (CanMean : Meant → Type 0) (IsOf : ℕ → Type 0) → ((meant : Meant) → CanMean meant → IsRunOf IsOf meant)
+      → HasEndedWith CanMean before after sink_failed given status → IsOf status ⊎ (status ≡ number_of OutOfMemory)
+  ended_run CanMean IsOf run (inl answered) = written_run IsOf answered.meant (run answered.meant answered.is) answered.written
+  ended_run CanMean IsOf run (inr memory) = inr memory.0
+
+  module _ (told : Option Files) (failed : List ℕ → Type 0) where
+    pub files_complete : (codec wav name : List ℕ) (periods period : ℕ) → CanPlay told failed codec wav name periods period
+        → HasEndedPlay told failed codec wav name periods period before after sink_failed given status → HasPlayedOn status
+    files_complete codec wav name periods period can ended =
+        ended_run (PlayAnswers told failed codec wav name periods period) IsOfPlay (play_meant told failed codec wav name periods period can) ended
+
+    pub play_complete : (words : List (List ℕ)) (codec wav name : List ℕ) (periods period : ℕ) → IsPlayOf words codec wav name periods period
+        → CanPlay told failed codec wav name periods period → HasEnded told failed words before after sink_failed given status → HasPlayedOn status
+    play_complete words codec wav name periods period plays can ended =
+        ended_run (IsMeant told failed words) IsOfPlay
+        (λ meant is. play_meant told failed codec wav name periods period can meant (play_of_words told failed words codec wav name periods period meant plays is)) ended
+
+    pub walk_complete : (words : List (List ℕ)) (codec name : List ℕ) → IsWalkOf words codec name → CanWalk told failed codec name
+        → HasEnded told failed words before after sink_failed given status → HasWalkedOn status
+    walk_complete words codec name walks can ended =
+        ended_run (IsMeant told failed words) IsOfWalk (λ meant is. walk_meant told failed codec name can meant (walk_of_words told failed words codec name meant walks is)) ended

@@ -1,0 +1,136 @@
+-- Where a shelf tells its files, a name has one reading.
+use Rattle.std.proofs.Common.{◌≡◌, ◌≢◌, ◌∙◌, ◌%◌, ℕ, ◌≤◌, List, [], ◌∷◌, inl, inr, Some, Ok, Err, refl, sym, ap, subst, length, arith}
+use Rattle.std.proofs.Props.{props}
+use Rattle.stream_format.specs.declared.format.Format.{Format}
+use Rattle.stream_format.specs.Layouts.{Layout, layout}
+use Rattle.route_planner.specs.declared.routes.Plan.{Plan}
+use Rattle.route_planner.proofs.Callers.{only_plan}
+use Rattle.hda_outside.specs.Shelf.{Files, file_of}
+use Rattle.hda_files.specs.declared.machine.CodecFile.{CodecFile}
+use Rattle.hda_files.specs.declared.machine.Machine.{Machine}
+use Rattle.hda_files.specs.declared.fault.FileFault.{FileFault}
+use Rattle.hda_files.specs.declared.fault.FileFault.TheVariants as fault
+use Rattle.hda_files.specs.Machines.{IsReadingOfBytes, Reads}
+use Rattle.hda_files.proofs.Callers.{one_reading}
+use Rattle.hda_schedule.specs.declared.schedule.Schedule.{Schedule}
+use Rattle.hda_schedule.specs.declared.fault.SchedFault.{SchedFault}
+use Rattle.hda_schedule.specs.Schedules.{schedule_of}
+use Rattle.wav_reader.specs.declared.fault.WavFault.{WavFault}
+use Rattle.wav_reader.specs.declared.fault.WavFault.TheVariants as wav
+use Rattle.wav_reader.specs.declared.wav.Wav.{Wav}
+use Rattle.wav_reader.specs.Wavs as wavs
+use Rattle.machine_tasks.specs.Tasks.{HavePlans}
+use Rattle.hda_program.specs.Files.{IsCodecRefused, IsLonger, IsMachineOf, IsScheduleOf, IsScheduleRefused, IsShortFile, IsWavOf, IsWavRefused, most_codec_bytes, most_schedule_bytes, most_wav_bytes}
+
+-- ---- bytes
+
+module _ (files : Files) (name : List ℕ) where
+  one_file : (bytes other : List ℕ) → file_of files name ≡ Some bytes → file_of files name ≡ Some other → bytes ≡ other
+  one_file bytes other here there = let same : Some bytes ≡ Some other = sym here ∙ there in cc
+
+  not_longer : (most : ℕ) (bytes : List ℕ) → IsShortFile most (Some files) name bytes → IsLonger most (Some files) name → ⊥
+  not_longer most bytes short (other, there, long) =
+      let same : length bytes ≡ length other = ap (λ (b : List ℕ). length b) (one_file bytes other short.file there) in absurd (omega (arith, short.short, long, same))
+
+-- ---- codec files
+
+machine_reading : (bytes : List ℕ) (machine : Machine) → Reads bytes (Ok machine) → IsReadingOfBytes bytes (Ok machine)
+machine_reading bytes machine (inl memory) = let bad : Ok machine ≡ Err fault.OutOfMemory = memory in cc
+machine_reading bytes machine (inr reading) = reading
+
+fault_reading : (bytes : List ℕ) (f : FileFault) → f ≢ fault.OutOfMemory → Reads bytes (Err f) → IsReadingOfBytes bytes (Err f)
+fault_reading bytes f known (inl memory) = let same : f ≡ fault.OutOfMemory = cc in absurd (known same)
+fault_reading bytes f known (inr reading) = reading
+
+machine_of_bytes : (bytes : List ℕ) (one other : Machine) → Reads bytes (Ok one) → Reads bytes (Ok other) → other ≡ one
+machine_of_bytes bytes one other h k =
+    let same : Ok other ≡ Ok one = one_reading bytes (Ok one) (machine_reading bytes one h) (Ok other) (machine_reading bytes other k) in cc
+
+pub one_machine : (files : Files) (name : List ℕ) (one other : Machine) → IsMachineOf (Some files) name one → IsMachineOf (Some files) name other → other ≡ one
+one_machine files name one other h k =
+    let same : k.bytes ≡ h.bytes = one_file files name k.bytes h.bytes k.file.file h.file.file in
+    machine_of_bytes h.bytes one other h.reads (subst (λ (b : List ℕ). Reads b (Ok other)) same k.reads)
+
+codec_unfaulty : (bytes : List ℕ) (machine : Machine) (f : FileFault) → Reads bytes (Ok machine) → f ≢ fault.OutOfMemory → Reads bytes (Err f) → ⊥
+codec_unfaulty bytes machine f h known k =
+    let bad : Err f ≡ Ok machine = one_reading bytes (Ok machine) (machine_reading bytes machine h) (Err f) (fault_reading bytes f known k) in cc
+
+pub codec_unrefused : (files : Files) (name text : List ℕ) (machine : Machine) → IsMachineOf (Some files) name machine → IsCodecRefused (Some files) name text → ⊥
+codec_unrefused files name text machine h (inl long) = not_longer files name most_codec_bytes h.bytes h.file long.0
+codec_unrefused files name text machine h (inr refused) =
+    let same : h.bytes ≡ refused.0 = one_file files name h.bytes refused.0 h.file.file refused.1.file in
+    codec_unfaulty refused.0 machine refused.2.fault (subst (λ (b : List ℕ). Reads b (Ok machine)) same h.reads) refused.2.known refused.2.reads
+
+-- ---- WAV files
+
+wav_reading : (bytes : List ℕ) (sound : Wav) → wavs.Reads bytes (Ok sound) → Ok (wavs.meaning sound) ≡ wavs.wav_of bytes
+wav_reading bytes sound (inl memory) = let bad : Ok sound ≡ Err wav.OutOfMemory = memory in cc
+wav_reading bytes sound (inr reading) = reading
+
+wav_fault_reading : (bytes : List ℕ) (f : WavFault) → f ≢ wav.OutOfMemory → wavs.Reads bytes (Err f) → Err f ≡ wavs.wav_of bytes
+wav_fault_reading bytes f known (inl memory) = let same : f ≡ wav.OutOfMemory = cc in absurd (known same)
+wav_fault_reading bytes f known (inr reading) = reading
+
+layout_of_bytes : (bytes : List ℕ) (one other : Wav) → wavs.Reads bytes (Ok one) → wavs.Reads bytes (Ok other) → layout other.format ≡ layout one.format
+layout_of_bytes bytes one other h k =
+    let both : Ok (wavs.meaning other) ≡ Ok (wavs.meaning one) = wav_reading bytes other k ∙ sym (wav_reading bytes one h) in
+    let same : wavs.meaning other ≡ wavs.meaning one = cc in ap (λ (m : wavs.Meaning). m.format) same
+
+-- formats that say the same are one
+made : (l : Layout) → l.channels % 2 ≡ 0 → 2 ≤ l.channels → l.channels ≤ 8 → Format
+made l even some few = record { rate = l.rate; bits = l.bits; channels = l.channels; even = even; some = some; few = few }
+
+made_once : (l : Layout) (e even : l.channels % 2 ≡ 0) (s some : 2 ≤ l.channels) (f few : l.channels ≤ 8) → made l e s f ≡ made l even some few
+made_once l e even s some f few =
+    let even_is : e ≡ even = (let p : IsProp (l.channels % 2 ≡ 0) = hlevel props in p e even) in
+    let some_is : s ≡ some = (let p : IsProp (2 ≤ l.channels) = hlevel props in p s some) in
+    let few_is : f ≡ few = (let p : IsProp (l.channels ≤ 8) = hlevel props in p f few) in
+    ap (λ (x : l.channels % 2 ≡ 0). made l x s f) even_is ∙ (ap (λ (x : 2 ≤ l.channels). made l even x f) some_is ∙ ap (λ (x : l.channels ≤ 8). made l even some x) few_is)
+
+format_as : (format : Format) (l : Layout) → layout format ≡ l → (even : l.channels % 2 ≡ 0) (some : 2 ≤ l.channels) (few : l.channels ≤ 8) → format ≡ made l even some few
+unfolding made
+format_as format l same =
+    subst (λ (l : Layout). (even : l.channels % 2 ≡ 0) (some : 2 ≤ l.channels) (few : l.channels ≤ 8) → format ≡ made l even some few) same
+    (λ even some few. made_once (layout format) format.even even format.some some format.few few)
+
+one_format : (one other : Format) → layout other ≡ layout one → other ≡ one
+unfolding made
+one_format one other same = format_as other (layout one) same one.even one.some one.few
+
+pub one_wav_format : (files : Files) (name : List ℕ) (one other : Wav) → IsWavOf (Some files) name one → IsWavOf (Some files) name other → other.format ≡ one.format
+one_wav_format files name one other h k =
+    let same : k.bytes ≡ h.bytes = one_file files name k.bytes h.bytes k.file.file h.file.file in
+    one_format one.format other.format (layout_of_bytes h.bytes one other h.reads (subst (λ (b : List ℕ). wavs.Reads b (Ok other)) same k.reads))
+
+wav_unfaulty : (bytes : List ℕ) (sound : Wav) (f : WavFault) → wavs.Reads bytes (Ok sound) → f ≢ wav.OutOfMemory → wavs.Reads bytes (Err f) → ⊥
+wav_unfaulty bytes sound f h known k =
+    let bad : Ok (wavs.meaning sound) ≡ Err f = wav_reading bytes sound h ∙ sym (wav_fault_reading bytes f known k) in cc
+
+pub wav_unrefused : (files : Files) (name text : List ℕ) (sound : Wav) → IsWavOf (Some files) name sound → IsWavRefused (Some files) name text → ⊥
+wav_unrefused files name text sound h (inl long) = not_longer files name most_wav_bytes h.bytes h.file long.0
+wav_unrefused files name text sound h (inr refused) =
+    let same : h.bytes ≡ refused.0 = one_file files name h.bytes refused.0 h.file.file refused.1.file in
+    wav_unfaulty refused.0 sound refused.2.fault (subst (λ (b : List ℕ). wavs.Reads b (Ok sound)) same h.reads) refused.2.known refused.2.reads
+
+-- ---- schedules
+
+schedule_unfaulty : (bytes : List ℕ) (schedule : Schedule) (f : SchedFault) → schedule_of bytes ≡ Ok schedule → schedule_of bytes ≡ Err f → ⊥
+schedule_unfaulty bytes schedule f h k = let bad : Ok schedule ≡ Err f = sym h ∙ k in cc
+
+pub schedule_unrefused : (files : Files) (name text : List ℕ) (schedule : Schedule) → IsScheduleOf (Some files) name schedule → IsScheduleRefused (Some files) name text → ⊥
+schedule_unrefused files name text schedule h (inl long) = not_longer files name most_schedule_bytes h.bytes h.file long.0
+schedule_unrefused files name text schedule h (inr refused) =
+    let same : h.bytes ≡ refused.0 = one_file files name h.bytes refused.0 h.file.file refused.1.file in
+    schedule_unfaulty refused.0 schedule refused.2.fault (ap schedule_of (sym same) ∙ h.reads) refused.2.reads
+
+-- ---- plans
+
+pub one_plans : (format : Format) (codecs : List CodecFile) (one other : List Plan) → HavePlans format codecs one → HavePlans format codecs other → other ≡ one
+one_plans format [] [] [] h k = refl
+one_plans format [] [] (plan ∷ others) h k = absurd k
+one_plans format [] (plan ∷ ones) other h k = absurd h
+one_plans format (file ∷ codecs) [] other h k = absurd h
+one_plans format (file ∷ codecs) (plan ∷ ones) [] h k = absurd k
+one_plans format (file ∷ codecs) (plan ∷ ones) (twin ∷ others) h k =
+    let first : twin ≡ plan = only_plan file.graph format plan h.0 twin k.0 in
+    let rest : others ≡ ones = one_plans format codecs ones others h.1 k.1 in cc

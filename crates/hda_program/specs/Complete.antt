@@ -1,0 +1,57 @@
+-- When a command finds nothing to refuse, so that it comes to its run. This project's own.
+use Rattle.std.specs.Prelude.{◌≡◌, ◌⊎◌, ℕ, true, List, Option, Some, None}
+use Rattle.route_planner.specs.declared.routes.Plan.{Plan}
+use Rattle.hda_outside.specs.Shelf.{Files}
+use Rattle.hda_files.specs.declared.machine.Machine.{Machine}
+use Rattle.hda_schedule.specs.declared.schedule.Schedule.{Schedule}
+use Rattle.period_writer.specs.Rings.{fault_of}
+use Rattle.wav_reader.specs.declared.wav.Wav.{Wav}
+use Rattle.sound_report.specs.declared.status.Status.TheVariants.{OutOfMemory}
+use Rattle.sound_report.specs.Statuses.{number_of}
+use Rattle.scheduled_runs.specs.Walks.{walk_format}
+use Rattle.machine_tasks.specs.Tasks.{HavePlans}
+use Rattle.hda_program.specs.Causes.{IsOfPlay, IsOfWalk}
+use Rattle.hda_program.specs.Files.{IsMachineOf, IsScheduleOf, IsWavOf}
+use Rattle.hda_program.specs.Plans.{have_route}
+
+-- the shelf tells its files and failed under none of the three names, whose files read as a machine, a sound and a schedule; the ring of
+-- these numbers has no fault, and some pin has a route for the sound's format
+pub record CanPlay (told : Option Files) (failed : List ℕ → Type 0) (codec wav name : List ℕ) (periods period : ℕ) : Type 0 where
+  pub files : Files
+  pub machine : Machine
+  pub sound : Wav
+  pub schedule : Schedule
+  pub plans : List Plan
+  pub tells : told ≡ Some files
+  pub codec_given : failed codec → ⊥
+  pub wav_given : failed wav → ⊥
+  pub schedule_given : failed name → ⊥
+  pub file : IsMachineOf (Some files) codec machine
+  pub sound_file : IsWavOf (Some files) wav sound
+  pub steps : IsScheduleOf (Some files) name schedule
+  pub good_ring : fault_of periods period machine.fifo sound.format ≡ None
+  pub planned : HavePlans sound.format machine.codecs plans
+  pub routed : have_route plans ≡ true
+
+-- the shelf tells its files and failed under neither name, whose files read as a machine and a schedule, and some pin has a route for the
+-- format of walks
+pub record CanWalk (told : Option Files) (failed : List ℕ → Type 0) (codec name : List ℕ) : Type 0 where
+  pub files : Files
+  pub machine : Machine
+  pub schedule : Schedule
+  pub plans : List Plan
+  pub tells : told ≡ Some files
+  pub codec_given : failed codec → ⊥
+  pub schedule_given : failed name → ⊥
+  pub file : IsMachineOf (Some files) codec machine
+  pub steps : IsScheduleOf (Some files) name schedule
+  pub planned : HavePlans walk_format machine.codecs plans
+  pub routed : have_route plans ≡ true
+
+-- the status is that of a sound that was played, or memory was wanting
+abbrev pub HasPlayedOn : ℕ → Type 0
+HasPlayedOn status = IsOfPlay status ⊎ (status ≡ number_of OutOfMemory)
+
+-- the status is that of a walk that was run, or memory was wanting
+abbrev pub HasWalkedOn : ℕ → Type 0
+HasWalkedOn status = IsOfWalk status ⊎ (status ≡ number_of OutOfMemory)
