@@ -1,9 +1,9 @@
 -- What a FIFO stands for, byte by byte.
-use Rattle.std.proofs.Common.{◌≡◌, ◌<◌, ◌≤◌, ◌+◌, ◌-◌, ◌==◌, ℕ, true, false, List, [], ◌∷◌, ◌++◌, length, refl, sym, ap, ◌∙◌, arith, rules, tests, length-append, length-drop}
+use Rattle.std.proofs.Common.{◌≡◌, ◌<◌, ◌≤◌, ◌+◌, ◌-◌, ◌==◌, ℕ, true, false, List, ◌++◌, length, take, drop, refl, sym, ap, ◌∙◌, arith, rules, tests, length-append, length-drop}
 use Rattle.std.proofs.lemmas.List.{drop-append-le}
-use Rattle.stream_moves.specs.Lists.{byte_of, after_byte}
 use Rattle.stream_moves.specs.Streams.{StreamState}
-use Rattle.stream_moves.specs.Output.{has_room, next_of, with_byte}
+use Rattle.stream_moves.specs.Output.{has_room, next_of}
+use Rattle.stream_fetch.specs.Bytes.{after_bytes, with_bytes}
 use Rattle.stream_fetch.specs.Fetching.{Fetching, StandsFor}
 
 -- how many bytes it holds
@@ -28,14 +28,17 @@ has_none fetch state stands same =
     let full : state.left + fetch.capacity ≤ length state.entered = omega (arith, long, behind, equal) in
     search (rules, tests)
 
--- a byte more
-pub one_more : (fetch : Fetching) (state : StreamState) (base last : ℕ) (memory : List ℕ) → StandsFor fetch state
-    → StandsFor (record fetch { bytes = fetch.bytes ++ byte_of memory (next_of memory base state) state.list.fetched ∷ []; list = after_byte last (next_of memory base state) state.list }) (with_byte memory base last state)
-one_more fetch state base last memory stands =
+-- some bytes more
+pub some_more : (count base last : ℕ) (fetch : Fetching) (state : StreamState) (memory : List ℕ) → StandsFor fetch state
+    → StandsFor (record fetch {
+      bytes = fetch.bytes ++ take count (drop ((next_of memory base state).address + state.list.fetched) memory);
+      list = after_bytes count last (next_of memory base state) state.list;
+    }) (with_bytes count memory base last state)
+some_more count base last fetch state memory stands =
     let behind = stands.behind in
-    let byte = byte_of memory (next_of memory base state) state.list.fetched in
+    let more = take count (drop ((next_of memory base state).address + state.list.fetched) memory) in
     record {
-      bytes = ap (λ (bytes : List ℕ). bytes ++ byte ∷ []) stands.bytes ∙ sym (drop-append-le state.left state.entered (byte ∷ []) behind);
+      bytes = ap (λ (bytes : List ℕ). bytes ++ more) stands.bytes ∙ sym (drop-append-le state.left state.entered more behind);
       list = refl;
-      behind = rw (length-append state.entered (byte ∷ [])) (omega (arith, behind));
+      behind = rw (length-append state.entered more) (omega (arith, behind));
     }

@@ -1,6 +1,7 @@
 //! Entries of a list of buffers (HDA 1.0a, 3.6.3).
 ghost use Rattle.std.specs.Prelude.{◌≡◌, ◌<◌, ◌≤◌, ◌+◌, ◌^◌, IfSome, length};
 ghost use Rattle.stream_moves.specs.Lists as lists;
+ghost use Rattle.stream_fetch.specs.Bytes as spec;
 
 use ring_entries::word_from;
 use stream_moves::{BUFFER_ALIGNMENT, BUFFER_ENTRY_BYTES, Buffer, ListPlace};
@@ -33,12 +34,12 @@ pub(crate) fn is_good(memory: &[u8], buffer: Buffer) -> bool
         && buffer.address <= len - bytes
 }
 
-/// The place in the list after a byte of the buffer, of a list with this last entry.
-pub(crate) fn after_byte(last: u8, buffer: Buffer, place: ListPlace) -> ListPlace
-    requires { place.fetched < buffer.bytes }
-    ensures { result ≡ lists.after_byte last buffer place }
+/// The place in the list after so many more bytes of the buffer, of a list with this last entry.
+pub(crate) fn after_bytes(last: u8, buffer: Buffer, place: ListPlace, count: u32) -> ListPlace
+    requires { place.fetched + count ≤ buffer.bytes }
+    ensures { result ≡ spec.after_bytes count last buffer place }
 {
-    if place.fetched + 1 == buffer.bytes {
+    if place.fetched + count == buffer.bytes {
         let index = if place.index < last {
             place.index + 1
         } else {
@@ -53,7 +54,7 @@ pub(crate) fn after_byte(last: u8, buffer: Buffer, place: ListPlace) -> ListPlac
         ListPlace {
             index: place.index,
             buffer: Some(buffer),
-            fetched: place.fetched + 1,
+            fetched: place.fetched + count,
         }
     }
 }

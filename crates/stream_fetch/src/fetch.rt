@@ -1,13 +1,13 @@
 //! A FIFO that is filled from a list of buffers.
-ghost use Rattle.std.specs.Prelude.{◌≡◌, ◌≤◌, ◌<◌, ◌+◌, ◌-◌, [], ◌∷◌, ◌++◌, true, false, IsTrue, IfOk, length, nat_le, drop, take};
+ghost use Rattle.std.specs.Prelude.{◌≡◌, ◌≤◌, ◌<◌, ◌+◌, ◌-◌, [], ◌∷◌, ◌++◌, true, false, IsTrue, IfOk, length, min, nat_le, drop, take};
 ghost use Rattle.stream_moves.specs.Streams.{StreamState, begun, held, held_bytes};
 ghost use Rattle.stream_moves.specs.Output as output;
 ghost use Rattle.stream_moves.specs.Lists.{is_good};
 ghost use Rattle.stream_fetch.specs.Fetching.{StandsFor};
-ghost use Rattle.stream_fetch.specs.Bytes.{IsByte, count_of};
+ghost use Rattle.stream_fetch.specs.Bytes.{AreAtMost, AreBytes, count_of};
 ghost use Rattle.circular_buffer.specs.Buffer.{buffer};
 
-use crate::entries::{after_byte, buffer_at, is_good};
+use crate::entries::{after_bytes, buffer_at, is_good};
 use circular_buffer::HeapCircularBuffer;
 use std::alloc::{AllocError, Global};
 use std::marker::Model;
@@ -40,15 +40,15 @@ pub struct Fetched {
     pub broken: bool,
 }
 
-/// What the fetch of one byte came to.
+/// What the fetch of some bytes of one buffer came to.
 #[derive(Clone, Copy, Debug, PartialEq, Eq)]
-pub(crate) enum Byte {
+pub(crate) enum Bytes {
     /// The FIFO is full.
     Full,
     /// The entry of the list can't be used.
     Broken,
-    /// A byte came; whether it was the last of a buffer with IOC.
-    Came(bool),
+    /// So many bytes came; whether the last of a buffer with IOC was among them.
+    Came(u32, bool),
 }
 
 /// The FIFO of a stream, with its place in the list of buffers. Contracts see how much it can hold, its bytes and the place.
@@ -112,26 +112,29 @@ impl Fetch {
         }
     }
 
-    /// Fetches the next byte where there is room and its buffer can be used.
-    fn fetch_byte(&mut self, list: ListAt, memory: &[u8]) -> Byte
+    /// Fetches the next bytes of one buffer, at most so many, as far as there is room and the buffer can be used.
+    fn fetch_bytes(&mut self, list: ListAt, memory: &[u8], most: u32) -> Bytes
+        requires { 1 ≤ most }
         ensures stands { (state : StreamState) → StandsFor self.old state
-            → StandsFor self.new (output.next_byte self.old.capacity memory.now list.address list.last state) }
-        ensures found { (state : StreamState) → StandsFor self.old state → IsByte self.old.capacity memory.now list.address state result }
+            → StandsFor self.new (output.bytes_came (count_of result) self.old.capacity memory.now list.address list.last state) }
+        ensures found { (state : StreamState) → StandsFor self.old state → AreBytes self.old.capacity memory.now list.address list.last state result }
         ensures count { length self.new.bytes ≡ length self.old.bytes + count_of result }
+        ensures within { AreAtMost most result }
         ensures capacity { self.new.capacity ≡ self.old.capacity }
     {
         if self.fifo.is_full() {
-            return Byte::Full;
+            return Bytes::Full;
         }
         let buffer = self.next_buffer(memory, list.address);
         if !is_good(memory, buffer) {
-            return Byte::Broken;
+            return Bytes::Broken;
         }
         let place = buffer.address as usize + self.list.fetched as usize;
-        put(&mut self.fifo, memory[place]);
-        let ends = self.list.fetched + 1 == buffer.bytes;
-        self.list = after_byte(list.last, buffer, self.list);
-        Byte::Came(ends && buffer.interrupts)
+        let left = (buffer.bytes - self.list.fetched).min(most) as usize;
+        let count = fill(&mut self.fifo, &memory[place..place + left]) as u32;
+        let ends = self.list.fetched + count == buffer.bytes;
+        self.list = after_bytes(list.last, buffer, self.list, count);
+        Bytes::Came(count, ends && buffer.interrupts)
     }
 
     /// Fetches at most so many bytes of the list's buffers, in the list's order and round again, as far as there is room.
@@ -150,15 +153,15 @@ impl Fetch {
             done: false,
             broken: false,
         };
-        for _ in 0..most {
-            match self.fetch_byte(list, memory) {
-                Byte::Full => return fetched,
-                Byte::Broken => {
+        while fetched.bytes < most {
+            match self.fetch_bytes(list, memory, most - fetched.bytes) {
+                Bytes::Full => return fetched,
+                Bytes::Broken => {
                     fetched.broken = true;
                     return fetched;
                 }
-                Byte::Came(ends) => {
-                    fetched.bytes += 1;
+                Bytes::Came(count, ends) => {
+                    fetched.bytes += count;
                     fetched.done |= ends;
                 }
             }
@@ -184,10 +187,10 @@ impl Fetch {
     }
 }
 
-/// Puts a byte last, for which there is room.
-fn put(fifo: &mut HeapCircularBuffer<u8>, byte: u8)
-    requires { length fifo.old.items < fifo.old.capacity }
-    ensures { fifo.new ≡ buffer (fifo.old.items ++ byte ∷ []) fifo.old.capacity }
+/// Puts the first of the bytes last, as many as there is room for, and says how many.
+fn fill(fifo: &mut HeapCircularBuffer<u8>, bytes: &[u8]) -> usize
+    ensures count { result ≡ min (length bytes.now) (fifo.old.capacity - length fifo.old.items) }
+    ensures items { fifo.new ≡ buffer (fifo.old.items ++ take result bytes.now) fifo.old.capacity }
 {
-    fifo.push_back(byte);
+    fifo.fill_from_slice(bytes)
 }
