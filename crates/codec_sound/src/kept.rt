@@ -14,10 +14,15 @@ use std::alloc::{AllocError, Global};
 use std::marker::Model;
 use stream_format::Format;
 
+/// How many node identifiers there are (HDA 1.0a, 7.1.2).
+const NODES: usize = 256;
+
 /// Pins of a codec, each with its signal, and how often the signals were renewed. This project's own.
 #[derive(Debug, Drop)]
 pub struct Kept {
     pins: Vec<(u8, Signal)>,
+    /// Where among the pins to look for one first, by its node identifier.
+    places: [u8; NODES],
     renewals: u64,
 }
 
@@ -51,6 +56,7 @@ impl Kept {
     {
         let mut kept = Kept {
             pins: silent_pins(alloc, pins.as_slice())?,
+            places: places_of(pins.as_slice()),
             renewals: 0,
         };
         kept.work_out(graph, settings, tag, format);
@@ -86,6 +92,19 @@ impl Kept {
         ensures kept { Contains self.now.pins (pin, result) }
         ensures worked_out { (signal : ℕ → Signal) → spec.AreKept signal self.now.pins → result ≡ signal pin }
     {
+        let place = usize::from(self.places[usize::from(pin)]);
+        match self.pins.get(place) {
+            Some((kept, signal)) if *kept == pin => *signal,
+            _ => self.find(pin),
+        }
+    }
+
+    /// The same, by a look at each pin.
+    fn find(&self, pin: u8) -> Signal
+        requires { Contains (spec.kept_pins self.now.pins) pin }
+        ensures kept { Contains self.now.pins (pin, result) }
+        ensures worked_out { (signal : ℕ → Signal) → spec.AreKept signal self.now.pins → result ≡ signal pin }
+    {
         for (kept, signal) in &self.pins {
             if *kept == pin {
                 return *signal;
@@ -100,6 +119,15 @@ impl Kept {
     {
         self.renewals
     }
+}
+
+/// The place of each of some pins, by its node identifier.
+fn places_of(pins: &[u8]) -> [u8; NODES] {
+    let mut places = [0; NODES];
+    for (place, pin) in pins.iter().enumerate() {
+        places[usize::from(*pin)] = u8::try_from(place).unwrap_or(0);
+    }
+    places
 }
 
 /// Each of some pins, with nothing to hear.

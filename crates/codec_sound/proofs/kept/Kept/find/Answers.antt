@@ -2,7 +2,7 @@ use Rattle.std.proofs.Common.{below_more, ℕ, sym, ◌∙◌, arith}
 use Rattle.std.proofs.lemmas.List.{get_or-map}
 use Rattle.codec_sound.specs.declared.signals.Signal.{Signal}
 use Rattle.codec_sound.specs.declared.signals.Signal.TheVariants.{Silence}
-use Rattle.codec_sound.proofs.kept.Kept.hear.Goals as goal
+use Rattle.codec_sound.proofs.kept.Kept.find.Goals as goal
 
 pub loop-kept-preserved : goal.loop-kept-preserved
 loop-kept-preserved c =
