@@ -6,67 +6,65 @@ mod heard;
 mod plays;
 mod walks;
 
-use sound_report::{Played, report};
+use hda_outside::{Fault, OutSink, Sink, write_all};
+use sound_report::{Played, write_report};
 use std::alloc::Global;
 use std::process::ExitCode;
 
-/// Appends the text of a run after the line that says what it is. `None` where memory is wanting.
-fn push_report(text: &mut String, alloc: Global, head: &str, played: &Played) -> Option<()> {
-    text.push_str(head).ok()?;
-    text.push_str("\n").ok()?;
-    let lines = String::from_utf8(report(alloc, played).ok()?).ok()?;
-    text.push_str(lines.as_str()).ok()
-}
-
-/// Appends the text of a run that was put together, where memory sufficed for it, after the line that says what it is.
-fn push_made(text: &mut String, alloc: Global, head: &str, made: Option<Played>) -> Option<()> {
-    let played = made?;
-    push_report(text, alloc, head, &played)
+/// Writes the text of a run that was put together, where memory sufficed for it, after the line that says what it is.
+fn write_made<K: Sink>(
+    alloc: Global,
+    out: &mut K,
+    head: &str,
+    made: Option<Played>,
+) -> Result<(), Fault> {
+    let Some(played) = made else {
+        return Err(Fault::OutOfMemory);
+    };
+    write_all(alloc, out, head.as_bytes())?;
+    write_report(alloc, out, &played)
 }
 
 /// The texts of walks.
-fn push_walks(text: &mut String, alloc: Global) -> Option<()> {
-    push_made(text, alloc, "-- set up", walks::set_up(alloc))?;
-    push_made(text, alloc, "-- jacks", walks::jacks(alloc))?;
-    push_made(text, alloc, "-- unanswered", walks::unanswered(alloc))
+fn write_walks<K: Sink>(alloc: Global, out: &mut K) -> Result<(), Fault> {
+    write_made(alloc, out, "-- set up\n", walks::set_up(alloc))?;
+    write_made(alloc, out, "-- jacks\n", walks::jacks(alloc))?;
+    write_made(alloc, out, "-- unanswered\n", walks::unanswered(alloc))
 }
 
 /// The texts of plays.
-fn push_plays(text: &mut String, alloc: Global) -> Option<()> {
-    push_made(text, alloc, "-- two frames", plays::two_frames(alloc))?;
-    push_made(text, alloc, "-- a hole", plays::hole(alloc))?;
-    push_made(
-        text,
+fn write_plays<K: Sink>(alloc: Global, out: &mut K) -> Result<(), Fault> {
+    write_made(alloc, out, "-- two frames\n", plays::two_frames(alloc))?;
+    write_made(alloc, out, "-- a hole\n", plays::hole(alloc))?;
+    write_made(
         alloc,
-        "-- silence inside",
+        out,
+        "-- silence inside\n",
         plays::silence_inside(alloc),
     )?;
-    push_made(text, alloc, "-- no whole block", plays::no_block(alloc))?;
-    push_made(text, alloc, "-- no frame", plays::no_frame(alloc))?;
-    push_made(text, alloc, "-- late", plays::late(alloc))
+    write_made(alloc, out, "-- no whole block\n", plays::no_block(alloc))?;
+    write_made(alloc, out, "-- no frame\n", plays::no_frame(alloc))?;
+    write_made(alloc, out, "-- late\n", plays::late(alloc))
 }
 
 /// The texts of what pins heard beyond that.
-fn push_heard(text: &mut String, alloc: Global) -> Option<()> {
-    push_made(text, alloc, "-- kinds", heard::kinds(alloc))?;
-    push_made(text, alloc, "-- 24 bits", heard::wide(alloc))
+fn write_heard<K: Sink>(alloc: Global, out: &mut K) -> Result<(), Fault> {
+    write_made(alloc, out, "-- kinds\n", heard::kinds(alloc))?;
+    write_made(alloc, out, "-- 24 bits\n", heard::wide(alloc))
 }
 
-/// What is printed. `None` where memory is wanting.
-fn text(alloc: Global) -> Option<String> {
-    let mut text = String::new(alloc);
-    push_walks(&mut text, alloc)?;
-    push_plays(&mut text, alloc)?;
-    push_heard(&mut text, alloc)?;
-    Some(text)
+/// Writes what is printed.
+fn write_texts<K: Sink>(alloc: Global, out: &mut K) -> Result<(), Fault> {
+    write_walks(alloc, out)?;
+    write_plays(alloc, out)?;
+    write_heard(alloc, out)
 }
 
 fn main(rt: HostRuntime) -> ExitCode {
-    let Some(text) = text(rt.alloc()) else {
-        return ExitCode::from(12);
-    };
-    match print!(rt; "{text}") {
+    let mut out = OutSink::new(&rt);
+    match write_texts(rt.alloc(), &mut out) {
         Ok(()) => ExitCode::from(0),
-        Err(_) => ExitCode::from(4),
+        Err(Fault::Failed) => ExitCode::from(4),
+        Err(Fault::OutOfMemory) => ExitCode::from(12),
     }
 }

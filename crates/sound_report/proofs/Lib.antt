@@ -1,3 +1,4 @@
+mod PageLemmas
 mod PlanParts
 mod SoundLines
 mod StretchLemmas

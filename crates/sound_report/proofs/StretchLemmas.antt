@@ -1,8 +1,9 @@
 -- Stretches, as a loop over chunks of one kind finds them.
-use Rattle.std.proofs.Common.{◌≡◌, ℕ, suc, ◌+◌, ◌-◌, ◌<◌, Bool, true, false, if◌then◌else◌, List, [], ◌∷◌, ◌++◌, length, refl, ap, subst, ◌∙◌, arith}
+use Rattle.std.proofs.Common.{◌≡◌, ℕ, suc, ◌+◌, ◌-◌, ◌<◌, Bool, true, false, if◌then◌else◌, List, [], ◌∷◌, ◌++◌, length, take, drop, take_all, length-drop, refl, sym, ap, subst, ◌∙◌, arith}
 use Rattle.std.specs.Prelude.{slice_index_or}
 use Rattle.std.specs.List.{AllAdjacentBelow, IsChunkByPrefix, flat_map}
 use Rattle.std.proofs.lemmas.List.{nil_from_length}
+use Rattle.std.proofs.Math.Seq.{drop-append_seam}
 use Rattle.codec_sound.specs.declared.heard.Heard.{Heard}
 use Rattle.stream_format.specs.declared.format.Bits.{Bits}
 use Rattle.sound_report.specs.PinParts.{is_like, before, stretches, stretch_lines, heard_lines}
@@ -37,13 +38,22 @@ stretches-front (item ∷ second ∷ front) rest some same other =
     (λ l d. subst (ended d) (let e : length (item ∷ second ∷ front) - 1 ≡ suc (length (second ∷ front) - 1) = omega arith in e) (other (omega (arith, l)) d)) in
     ap (before item) tail ∙ ap (λ (test : Bool). if test then (item ∷ second ∷ front) ∷ stretches rest else (item ∷ []) ∷ (second ∷ front) ∷ stretches rest) like
 
--- the lines of items are those of the stretch at their front, and those of the items after it
-pub heard_lines-front : (bits : Bits) (items front left : List Heard) → items ≡ front ++ left → 0 < length front → IsChunkByPrefix is_like items (length front)
-    → heard_lines bits items ≡ stretch_lines bits front ++ heard_lines bits left
-heard_lines-front bits items front left cut some prefix =
+-- the first stretch, as a loop over chunks finds it
+pub stretches-first : (items front left : List Heard) → items ≡ front ++ left → 0 < length front → IsChunkByPrefix is_like items (length front)
+    → stretches items ≡ front ∷ stretches (drop (length front) items)
+stretches-first items front left cut some prefix =
     let Prefix : List Heard → Type 0 = λ l. IsChunkByPrefix is_like l (length front) in
     let here = subst Prefix cut prefix in
-    ap (heard_lines bits) cut ∙ ap (flat_map (stretch_lines bits)) (stretches-front front left some here.0 here.1)
+    let rest : left ≡ drop (length front) items = sym (ap (drop (length front)) cut ∙ drop-append_seam front left) in
+    ap stretches cut ∙ stretches-front front left some here.0 here.1 ∙ ap (λ l. front ∷ stretches l) rest
+
+-- the lines of items are those of their first stretch, and those of the items after it
+pub heard_lines-first : (bits : Bits) (items front : List Heard) → stretches items ≡ front ∷ stretches (drop (length front) items)
+    → heard_lines bits items ≡ stretch_lines bits front ++ heard_lines bits (take (length items - length front) (drop (length front) items))
+heard_lines-first bits items front first =
+    let rest : take (length items - length front) (drop (length front) items) ≡ drop (length front) items =
+    take_all (length items - length front) (drop (length front) items) (omega (arith, length-drop (length front) items)) in
+    ap (flat_map (stretch_lines bits)) first ∙ ap (λ l. stretch_lines bits front ++ heard_lines bits l) (sym rest)
 
 -- no items have no lines
 pub heard_lines-none : (bits : Bits) (items : List Heard) → length items ≡ 0 → heard_lines bits items ≡ []

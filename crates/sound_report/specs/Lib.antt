@@ -3,3 +3,4 @@ pub mod PlanLines
 pub mod RunLines
 pub mod PinParts
 pub mod Texts
+pub mod Pages

@@ -34,24 +34,24 @@ stretches (item ∷ items) = before item (stretches items)
 
 -- ---- sound
 
--- a sample: the bytes of its container, in two's complement and lowest byte first, each as two lower hexadecimal digits
-abbrev pub sample_text : Bits → ℤ → List ℕ
-sample_text bits sample = encode_lower (bytes_low_first 0 (container_bytes bits) (cast_unsigned w32 sample))
+-- a sample: the bytes of its container, in two's complement and lowest byte first
+abbrev pub sample_bytes : Bits → ℤ → List ℕ
+sample_bytes bits sample = bytes_low_first 0 (container_bytes bits) (cast_unsigned w32 sample)
 
 -- a block: left, then right
-abbrev pub block_text : Bits → Heard → List ℕ
-block_text bits (Sound left right) = sample_text bits left ++ sample_text bits right
-block_text bits Quiet = []
-block_text bits Hole = []
-block_text bits Altered = []
+abbrev pub block_bytes : Bits → Heard → List ℕ
+block_bytes bits (Sound left right) = sample_bytes bits left ++ sample_bytes bits right
+block_bytes bits Quiet = []
+block_bytes bits Hole = []
+block_bytes bits Altered = []
 
 -- how many blocks a line has
 abbrev pub line_blocks : ℕ
 line_blocks = 16
 
--- some blocks of sound in one line
+-- some blocks of sound in one line, each byte as two lower hexadecimal digits
 abbrev pub sound_line : Bits → List Heard → List ℕ
-sound_line bits blocks = codes "sound " ++ flat_map (block_text bits) blocks ++ newline
+sound_line bits blocks = codes "sound " ++ encode_lower (flat_map (block_bytes bits) blocks) ++ newline
 
 -- the first lines of blocks: so many blocks in each, in the last as many as are left
 abbrev pub lines_before : List Heard → ℕ → List (List Heard)

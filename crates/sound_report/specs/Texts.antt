@@ -48,12 +48,17 @@ abbrev pub last_line : Option PlayFault → List ℕ → List ℕ
 last_line None done = done
 last_line (Some fault) done = fault_line fault
 
+-- the lines between the plans and the last one: runs, silences, jacks and pins
+abbrev pub middle_lines : Played → List ℕ
+middle_lines played =
+    flat_map run_line played.runs
+    ++ flat_map silence_line played.silences
+    ++ flat_map jack_line played.jacks
+    ++ flat_map (pin_part played.format.bits) played.heard
+
 -- the text: plans, runs, silences, jacks, pins, and how it ended
 abbrev pub text_of : Played → List ℕ
 text_of played =
     plans_lines played.machine.codecs played.plans
-    ++ flat_map run_line played.runs
-    ++ flat_map silence_line played.silences
-    ++ flat_map jack_line played.jacks
-    ++ flat_map (pin_part played.format.bits) played.heard
+    ++ middle_lines played
     ++ last_line played.fault (done_line played.walk played.commands played.total)

@@ -1,9 +1,10 @@
 //! The text that the program writes of a run of the driver: what was planned, how the run went, what each pin heard, and how it
-//! ended. This project's own.
+//! ended. It goes out page by page. This project's own.
 #![tactic(auto)]
 
 mod ends;
 mod lines;
+mod pages;
 mod pieces;
 mod pins;
 mod plans;
@@ -14,4 +15,4 @@ mod whole;
 pub use plans::{push_nid, push_plans};
 pub use played::{PlayFault, Played};
 pub use status::Status;
-pub use whole::report;
+pub use whole::{report, write_report};

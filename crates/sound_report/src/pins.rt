@@ -1,10 +1,15 @@
-//! The parts of pins. Each call here appends to a text.
-ghost use Rattle.std.specs.Prelude.{◌≡◌, ◌++◌, OnOk};
+//! The parts of pins. A `push` call appends to a text, and a `write` call to the page, which goes out where it is
+//! full.
+ghost use Rattle.std.specs.Prelude.{◌≡◌, ◌<◌, ◌≤◌, max, ◌∷◌, ◌++◌, length, drop, codes, OnOk};
 ghost use Rattle.std.specs.List.{flat_map};
+ghost use Rattle.hda_outside.specs.Counts.{Rose};
+ghost use Rattle.sound_report.specs.Pages.{Writes};
 ghost use Rattle.sound_report.specs.PinParts as text;
 
+use crate::pages::turn;
 use crate::pieces::{push_hex, push_word};
 use codec_sound::Heard;
+use hda_outside::{Fault, Sink};
 use heard_lists::PinHeard;
 use std::alloc::AllocError;
 use std::io::Write;
@@ -12,6 +17,9 @@ use stream_format::Bits;
 
 /// How many blocks of sound a line has.
 const LINE_BLOCKS: usize = 16;
+
+/// The most bytes that the samples of a line have.
+const LINE_BYTES: usize = 128;
 
 /// Whether two items are of one kind.
 fn is_like(first: &Heard, second: &Heard) -> bool
@@ -26,102 +34,191 @@ fn is_like(first: &Heard, second: &Heard) -> bool
     )
 }
 
-/// The digits of a sample.
-fn push_sample(out: &mut Vec<u8>, bits: Bits, sample: i32) -> Result<(), AllocError>
-    ensures { OnOk result (out.new.items ≡ out.old.items ++ text.sample_text bits sample) }
+/// Appends the bytes of a sample.
+fn push_sample(bytes: &mut Vec<u8>, bits: Bits, sample: i32) -> Result<(), AllocError>
+    ensures { OnOk result (bytes.new.items ≡ bytes.old.items ++ text.sample_bytes bits sample) }
 {
-    let bytes = sample.to_le_bytes();
+    let container = sample.to_le_bytes();
     match bits {
-        Bits::B16 => push_hex(out, &bytes[..2]),
-        Bits::B24 | Bits::B32 => push_hex(out, &bytes),
+        Bits::B16 => bytes.extend_from_slice(&container[..2]),
+        Bits::B24 | Bits::B32 => bytes.extend_from_slice(&container),
     }
 }
 
-/// The digits of a block.
-fn push_block(out: &mut Vec<u8>, bits: Bits, block: &Heard) -> Result<(), AllocError>
-    ensures { OnOk result (out.new.items ≡ out.old.items ++ text.block_text bits block.now) }
+/// Appends the bytes of a block.
+fn push_block(bytes: &mut Vec<u8>, bits: Bits, block: &Heard) -> Result<(), AllocError>
+    ensures { OnOk result (bytes.new.items ≡ bytes.old.items ++ text.block_bytes bits block.now) }
 {
     match *block {
         Heard::Sound(left, right) => {
-            push_sample(out, bits, left)?;
-            push_sample(out, bits, right)
+            push_sample(bytes, bits, left)?;
+            push_sample(bytes, bits, right)
         }
         Heard::Quiet | Heard::Hole | Heard::Altered => Ok(()),
     }
 }
 
-/// A line of blocks of sound.
-fn push_sound_line(out: &mut Vec<u8>, bits: Bits, blocks: &[Heard]) -> Result<(), AllocError>
-    ensures { OnOk result (out.new.items ≡ out.old.items ++ text.sound_line bits blocks.now) }
+/// Appends the bytes of blocks.
+fn push_blocks(bytes: &mut Vec<u8>, bits: Bits, blocks: &[Heard]) -> Result<(), AllocError>
+    ensures { OnOk result (bytes.new.items ≡ bytes.old.items ++ flat_map (text.block_bytes bits) blocks.now) }
 {
-    push_word(out, "sound ")?;
     for block in blocks {
-        push_block(out, bits, block)?;
-    }
-    push_word(out, "\n")
-}
-
-/// Blocks of sound, line by line.
-fn push_sound_lines(out: &mut Vec<u8>, bits: Bits, blocks: &[Heard]) -> Result<(), AllocError>
-    ensures { OnOk result (out.new.items ≡ out.old.items ++ text.sound_lines bits blocks.now) }
-{
-    for line in blocks.chunks(LINE_BLOCKS) {
-        push_sound_line(out, bits, line)?;
+        push_block(bytes, bits, block)?;
     }
     Ok(())
 }
 
+/// A line of blocks of sound, whose bytes are gathered in `bytes`.
+fn push_sound_line(
+    page: &mut Vec<u8>,
+    bytes: &mut Vec<u8>,
+    bits: Bits,
+    blocks: &[Heard],
+) -> Result<(), AllocError>
+    ensures { OnOk result (page.new.items ≡ page.old.items ++ text.sound_line bits blocks.now) }
+{
+    bytes.clear();
+    push_blocks(bytes, bits, blocks)?;
+    push_word(page, "sound ")?;
+    push_hex(page, bytes.as_slice())?;
+    push_word(page, "\n")
+}
+
+/// Blocks of sound, line by line.
+fn write_sound_lines<K: Sink>(
+    out: &mut K,
+    page: &mut Vec<u8>,
+    bits: Bits,
+    blocks: &[Heard],
+) -> Result<(), Fault>
+    ensures text { Writes result (K.taken out.old) (K.taken out.new) (page.old.items ++ text.sound_lines bits blocks.now) page.new.items }
+    ensures pieces { K.longest out.new ≤ max (K.longest out.old) 4096 }
+    ensures later { K.faults out.old ≤ K.faults out.new }
+    ensures failed { result ≡ Err Fault.Failed → Rose (K.faults out.old) (K.faults out.new) }
+{
+    let mut bytes = Vec::with_capacity(*page.allocator(), LINE_BYTES)?;
+    for line in blocks.chunks(LINE_BLOCKS) {
+        push_sound_line(page, &mut bytes, bits, line)?;
+        turn(out, page)?;
+    }
+    Ok(())
+}
+
+/// How long a stretch is, after the word for its kind.
+fn write_count<K: Sink>(
+    out: &mut K,
+    page: &mut Vec<u8>,
+    word: &str,
+    items: usize,
+) -> Result<(), Fault>
+    ensures text { Writes result (K.taken out.old) (K.taken out.new) (page.old.items ++ text.count_line word.now items) page.new.items }
+    ensures pieces { K.longest out.new ≤ max (K.longest out.old) 4096 }
+    ensures later { K.faults out.old ≤ K.faults out.new }
+    ensures failed { result ≡ Err Fault.Failed → Rose (K.faults out.old) (K.faults out.new) }
+{
+    writeln!(page, "{word} {items}").map_err(|_| AllocError)?;
+    turn(out, page)
+}
+
 /// The lines of a stretch.
-fn push_stretch(out: &mut Vec<u8>, bits: Bits, stretch: &[Heard]) -> Result<(), AllocError>
-    ensures { OnOk result (out.new.items ≡ out.old.items ++ text.stretch_lines bits stretch.now) }
+fn write_stretch<K: Sink>(
+    out: &mut K,
+    page: &mut Vec<u8>,
+    bits: Bits,
+    stretch: &[Heard],
+) -> Result<(), Fault>
+    ensures text { Writes result (K.taken out.old) (K.taken out.new) (page.old.items ++ text.stretch_lines bits stretch.now) page.new.items }
+    ensures pieces { K.longest out.new ≤ max (K.longest out.old) 4096 }
+    ensures later { K.faults out.old ≤ K.faults out.new }
+    ensures failed { result ≡ Err Fault.Failed → Rose (K.faults out.old) (K.faults out.new) }
 {
     let items = stretch.len();
     match stretch.first() {
-        Some(Heard::Sound(_, _)) => push_sound_lines(out, bits, stretch),
-        Some(Heard::Quiet) => writeln!(out, "quiet {items}").map_err(|_| AllocError),
-        Some(Heard::Hole) => writeln!(out, "hole {items}").map_err(|_| AllocError),
-        Some(Heard::Altered) => writeln!(out, "altered {items}").map_err(|_| AllocError),
+        Some(Heard::Sound(_, _)) => write_sound_lines(out, page, bits, stretch),
+        Some(Heard::Quiet) => write_count(out, page, "quiet", items),
+        Some(Heard::Hole) => write_count(out, page, "hole", items),
+        Some(Heard::Altered) => write_count(out, page, "altered", items),
         None => Ok(()),
     }
 }
 
-/// What a pin heard, stretch by stretch.
-fn push_heard(out: &mut Vec<u8>, bits: Bits, items: &[Heard]) -> Result<(), AllocError>
-    ensures { OnOk result (out.new.items ≡ out.old.items ++ text.heard_lines bits items.now) }
+/// The first stretch of some items.
+fn first_stretch(items: &[Heard]) -> &[Heard]
+    requires { 0 < length items.now }
+    ensures some { 0 < length result.now }
+    ensures within { length result.now ≤ length items.now }
+    ensures first { text.stretches items.now ≡ result.now ∷ text.stretches (drop (length result.now) items.now) }
 {
-    for stretch in items.chunk_by(is_like) {
-        push_stretch(out, bits, stretch)?;
+    match items.chunk_by(is_like).next() {
+        Some(stretch) => stretch,
+        None => unreachable!(),
+    }
+}
+
+/// What a pin heard, stretch by stretch.
+fn write_heard<K: Sink>(
+    out: &mut K,
+    page: &mut Vec<u8>,
+    bits: Bits,
+    items: &[Heard],
+) -> Result<(), Fault>
+    ensures text { Writes result (K.taken out.old) (K.taken out.new) (page.old.items ++ text.heard_lines bits items.now) page.new.items }
+    ensures pieces { K.longest out.new ≤ max (K.longest out.old) 4096 }
+    ensures later { K.faults out.old ≤ K.faults out.new }
+    ensures failed { result ≡ Err Fault.Failed → Rose (K.faults out.old) (K.faults out.new) }
+{
+    let mut rest = items;
+    while !rest.is_empty() {
+        let stretch = first_stretch(rest);
+        write_stretch(out, page, bits, stretch)?;
+        rest = &rest[stretch.len()..];
     }
     Ok(())
 }
 
 /// The first line of a pin.
 #[tactic(auto, unfolding(crate::specs::PlanLines::nid_text))]
-fn push_pin_line(out: &mut Vec<u8>, codec: u8, pin: u8) -> Result<(), AllocError>
-    ensures { OnOk result (out.new.items ≡ out.old.items ++ text.pin_line codec pin) }
+fn push_pin_line(page: &mut Vec<u8>, codec: u8, pin: u8) -> Result<(), AllocError>
+    ensures { OnOk result (page.new.items ≡ page.old.items ++ text.pin_line codec pin) }
 {
-    write!(out, "pin {codec} ").map_err(|_| AllocError)?;
-    push_hex(out, &[pin])?;
-    push_word(out, "\n")
+    write!(page, "pin {codec} ").map_err(|_| AllocError)?;
+    push_hex(page, &[pin])?;
+    push_word(page, "\n")
 }
 
 /// The part of a pin.
-fn push_pin(out: &mut Vec<u8>, bits: Bits, pin: &PinHeard) -> Result<(), AllocError>
-    ensures { OnOk result (out.new.items ≡ out.old.items ++ text.pin_part bits pin.now) }
+fn write_pin<K: Sink>(
+    out: &mut K,
+    page: &mut Vec<u8>,
+    bits: Bits,
+    pin: &PinHeard,
+) -> Result<(), Fault>
+    ensures text { Writes result (K.taken out.old) (K.taken out.new) (page.old.items ++ text.pin_part bits pin.now) page.new.items }
+    ensures pieces { K.longest out.new ≤ max (K.longest out.old) 4096 }
+    ensures later { K.faults out.old ≤ K.faults out.new }
+    ensures failed { result ≡ Err Fault.Failed → Rose (K.faults out.old) (K.faults out.new) }
 {
-    push_pin_line(out, pin.codec, pin.pin)?;
-    push_heard(out, bits, pin.list.as_slice())
+    push_pin_line(page, pin.codec, pin.pin)?;
+    write_heard(out, page, bits, pin.list.as_slice())
 }
 
-/// Appends the parts of pins.
+/// The parts of pins.
 ///
 /// # Errors
-/// Want of memory.
-pub(crate) fn push_pins(out: &mut Vec<u8>, bits: Bits, pins: &[PinHeard]) -> Result<(), AllocError>
-    ensures { OnOk result (out.new.items ≡ out.old.items ++ flat_map (text.pin_part bits) pins.now) }
+/// The sink's fault, or want of memory.
+pub(crate) fn write_pins<K: Sink>(
+    out: &mut K,
+    page: &mut Vec<u8>,
+    bits: Bits,
+    pins: &[PinHeard],
+) -> Result<(), Fault>
+    ensures text { Writes result (K.taken out.old) (K.taken out.new) (page.old.items ++ flat_map (text.pin_part bits) pins.now) page.new.items }
+    ensures pieces { K.longest out.new ≤ max (K.longest out.old) 4096 }
+    ensures later { K.faults out.old ≤ K.faults out.new }
+    ensures failed { result ≡ Err Fault.Failed → Rose (K.faults out.old) (K.faults out.new) }
 {
     for pin in pins {
-        push_pin(out, bits, pin)?;
+        write_pin(out, page, bits, pin)?;
     }
     Ok(())
 }

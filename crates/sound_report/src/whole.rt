@@ -1,21 +1,44 @@
 //! The whole text of a run.
-ghost use Rattle.std.specs.Prelude.{◌≡◌, ◌++◌, IfOk, OnOk};
-ghost use Rattle.sound_report.specs.Texts.{text_of};
+ghost use Rattle.std.specs.Prelude.{◌≡◌, ◌≤◌, max, ◌++◌, IfOk, OnOk, OnErr};
+ghost use Rattle.hda_outside.specs.Counts.{Rose};
+ghost use Rattle.hda_outside.specs.Sink.{taken_with, TookFront};
+ghost use Rattle.sound_report.specs.Pages.{Writes};
+ghost use Rattle.sound_report.specs.Texts.{middle_lines, text_of};
 
 use crate::ends::push_last;
-use crate::lines::{push_jacks, push_runs, push_silences};
-use crate::pins::push_pins;
+use crate::lines::{write_jacks, write_runs, write_silences};
+use crate::pages::PAGE_LEN;
+use crate::pins::write_pins;
 use crate::plans::push_plans;
 use crate::played::Played;
+use hda_outside::{Fault, Sink, SureSink, write_all};
 use std::alloc::{AllocError, Global};
 
-/// The text of a run of the driver, in the order of its lines: the plans, the recorded runs, the silences, the jacks, what each
-/// candidate pin heard, and how it ended. Each line ends in a line feed. This project's own.
+/// The lines between the plans and the last one.
+fn write_middle<K: Sink>(out: &mut K, page: &mut Vec<u8>, played: &Played) -> Result<(), Fault>
+    ensures text { Writes result (K.taken out.old) (K.taken out.new) (page.old.items ++ middle_lines played.now) page.new.items }
+    ensures pieces { K.longest out.new ≤ max (K.longest out.old) 4096 }
+    ensures later { K.faults out.old ≤ K.faults out.new }
+    ensures failed { result ≡ Err Fault.Failed → Rose (K.faults out.old) (K.faults out.new) }
+{
+    write_runs(out, page, played.runs.as_slice())?;
+    write_silences(out, page, played.silences.as_slice())?;
+    write_jacks(out, page, played.jacks.as_slice())?;
+    write_pins(out, page, played.format.bits, played.heard.as_slice())
+}
+
+/// Writes the text of a run of the driver in pieces, in the order of its lines: the plans, the recorded runs, the silences, the jacks,
+/// what each candidate pin heard, and how it ended. Each line ends in a line feed. The text goes out in pages of some 65,536 bytes,
+/// so that its length takes no memory. This project's own.
 ///
 /// # Errors
-/// Want of memory.
-pub fn report(alloc: Global, played: &Played) -> Result<Vec<u8>, AllocError>
-    ensures { IfOk result (λ text. text.items ≡ text_of played.now) }
+/// The sink's fault, or want of memory. The sink then took the first of the text's bytes, maybe none.
+pub fn write_report<K: Sink>(alloc: Global, out: &mut K, played: &Played) -> Result<(), Fault>
+    ensures all { OnOk result (K.taken out.new ≡ taken_with (K.taken out.old) (text_of played.now)) }
+    ensures front { OnErr result (TookFront (K.taken out.old) (K.taken out.new) (text_of played.now)) }
+    ensures pieces { K.longest out.new ≤ max (K.longest out.old) 4096 }
+    ensures later { K.faults out.old ≤ K.faults out.new }
+    ensures failed { result ≡ Err Fault.Failed → Rose (K.faults out.old) (K.faults out.new) }
 {
     let mut plans = String::new(alloc);
     push_plans(
@@ -23,17 +46,29 @@ pub fn report(alloc: Global, played: &Played) -> Result<Vec<u8>, AllocError>
         played.machine.codecs.as_slice(),
         played.plans.as_slice(),
     )?;
-    let mut text = plans.into_bytes();
-    push_runs(&mut text, played.runs.as_slice())?;
-    push_silences(&mut text, played.silences.as_slice())?;
-    push_jacks(&mut text, played.jacks.as_slice())?;
-    push_pins(&mut text, played.format.bits, played.heard.as_slice())?;
+    let mut page = plans.into_bytes();
+    page.reserve(PAGE_LEN)?;
+    write_middle(out, &mut page, played)?;
     push_last(
-        &mut text,
+        &mut page,
         played.fault,
         played.walk,
         played.commands,
         played.total,
     )?;
-    Ok(text)
+    write_all(alloc, out, page.as_slice())
+}
+
+/// The text of a run of the driver, whole.
+///
+/// # Errors
+/// Want of memory.
+pub fn report(alloc: Global, played: &Played) -> Result<Vec<u8>, AllocError>
+    ensures { IfOk result (λ text. text.items ≡ text_of played.now) }
+{
+    let mut out = SureSink::new(alloc);
+    match write_report(alloc, &mut out, played) {
+        Ok(()) => Vec::from_slice(alloc, out.bytes()),
+        Err(_) => Err(AllocError),
+    }
 }
