@@ -1,19 +1,19 @@
 -- The blocks of a driver lie apart.
-use Rattle.std.proofs.Common.{◌≡◌, ◌≤◌, ◌+◌, ◌%◌, ◌/◌, ◌⊎◌, inl, inr, ℕ, List, [], ◌∷◌, true, subst, sym, arith, rules}
+use Rattle.std.proofs.Common.{◌≡◌, ◌<◌, ◌%◌, ◌/◌, inl, inr, ℕ, zero, suc, List, [], ◌∷◌, length, subst, sym, arith}
 use Rattle.std.specs.Prelude.{Contains, slice_index}
 use Rattle.std.proofs.lemmas.List.Elements.{Contains-append_left, Contains-append_right, Contains-push}
 use Rattle.dma_pool.specs.declared.blocks.Lent.{Lent}
 use Rattle.dma_pool.specs.declared.runs.Run.{Run}
 use Rattle.dma_pool.specs.Pools.{PoolState, AddsRun, IsApart, granules_for}
 use Rattle.dma_pool.specs.Blocks.{run_at}
+use Rattle.dma_pool.specs.Several.{TakesAll}
 use Rattle.command_engine.specs.Blocks.{rirb_bytes}
 use Rattle.period_writer.specs.declared.geometry.Geometry.{Geometry}
 use Rattle.period_writer.specs.declared.writer.Writer.{Writer}
-use Rattle.period_writer.specs.Blocks.{are_apart, addresses_of}
+use Rattle.period_writer.specs.Blocks.{addresses_of}
 use Rattle.period_writer.specs.Rings.{period_bytes, list_bytes}
 use Rattle.period_writer.specs.Writers.{periods_of, ring_of}
 use Rattle.period_writer.proofs.Callers.{adds_keeps}
-use Rattle.period_writer.proofs.Apart.{taken_beside}
 use Rattle.codec_bring_up.specs.declared.bringing.BringUp.{BringUp}
 use Rattle.audio_driver.specs.Opening.{Opens}
 use Rattle.stream_rest.specs.Resting.{IsApartFrom, AreApartFrom}
@@ -27,12 +27,14 @@ runs_apart : (rirb address bytes : ℕ) → rirb % 128 ≡ 0 → address % 128 �
 runs_apart rirb address bytes aligned aligned' (inl less) = inr (omega (arith, less, aligned, aligned'))
 runs_apart rirb address bytes aligned aligned' (inr less) = inl (omega (arith, less, aligned, aligned'))
 
--- so by the test
-beside_apart : (rirb address bytes : ℕ) → are_apart rirb rirb_bytes address bytes ≡ true → IsApartFrom rirb address bytes
-beside_apart rirb address bytes apart = (let split : (rirb + rirb_bytes ≤ address) ⊎ (address + bytes ≤ rirb) = search (rules, apart) in swapped split) where
-  swapped : (rirb + rirb_bytes ≤ address) ⊎ (address + bytes ≤ rirb) → IsApartFrom rirb address bytes
-  swapped (inl less) = inr less
-  swapped (inr less) = inl less
+-- of periods that are taken one after another too
+periods_apart : (granules bytes rirb : ℕ) (taken : List Run) (periods : List Lent) (taken' : List Run) → rirb % 128 ≡ 0 → Contains taken (run_at rirb rirb_bytes) → TakesAll granules bytes taken (addresses_of periods) taken'
+    → (index : ℕ) → index < length (addresses_of periods) → IsApartFrom rirb (slice_index (addresses_of periods) index) bytes
+periods_apart granules bytes rirb taken [] taken' aligned has takes index within = absurd (omega (arith, within))
+periods_apart granules bytes rirb taken (period ∷ periods) taken' aligned has (middle, first, rest) zero within =
+    runs_apart rirb period.address bytes aligned period.aligned (subst (IsApart (period.address / 128) (granules_for bytes)) has.2 (first.fits.free.apart has.0 (run_at rirb rirb_bytes) has.1))
+periods_apart granules bytes rirb taken (period ∷ periods) taken' aligned has (middle, first, rest) (suc index) within =
+    periods_apart granules bytes rirb middle periods taken' aligned (adds_keeps taken (run_at period.address bytes) middle first.adds (run_at rirb rirb_bytes) has) rest index (omega (arith, within))
 
 -- of blocks that were taken in this order
 taken_apart : (geometry : Geometry) (pool pool' : PoolState) (corb rirb list : ℕ) (periods : List Lent) → rirb % 128 ≡ 0 → list % 128 ≡ 0 → Opens geometry pool corb rirb list (addresses_of periods) pool'
@@ -41,9 +43,8 @@ taken_apart geometry pool pool' corb rirb list periods aligned aligned' opens = 
   list = runs_apart rirb list (list_bytes geometry.periods) aligned aligned'
       (subst (IsApart (list / 128) (granules_for (list_bytes geometry.periods))) first.2 (opens.writer.list_taken.fits.free.apart first.0 (run_at rirb rirb_bytes) first.1));
   periods = λ index within.
-      (beside_apart rirb (slice_index (addresses_of periods) index) (period_bytes geometry.period)
-      (taken_beside opens.middle.granules (period_bytes geometry.period) rirb rirb_bytes opens.writer.middle periods pool'.taken aligned later opens.writer.periods_taken index
-      (let number = opens.writer.number in omega (arith, number, within))));
+      (periods_apart opens.middle.granules (period_bytes geometry.period) rirb opens.writer.middle periods pool'.taken aligned later opens.writer.periods_taken index
+      (let number = opens.writer.number in omega (arith, number, within)));
 } where
   first : Contains opens.middle.taken (run_at rirb rirb_bytes)
   first = adds_has opens.engine.middle (run_at rirb rirb_bytes) opens.middle.taken opens.engine.rirb_taken.adds

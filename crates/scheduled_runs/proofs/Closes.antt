@@ -12,7 +12,6 @@ use Rattle.driver_commands.specs.Commanding.{entries_in, with_told}
 use Rattle.hda_schedule.specs.declared.schedule.Schedule.{Schedule}
 use Rattle.hda_schedule.specs.Counts.{items_of}
 use Rattle.hda_schedule.specs.declared.schedule.Group.{Group}
-use Rattle.driver_progress.specs.declared.phase.Phase.TheVariants.{Ready}
 use Rattle.driver_progress.specs.Tasks.{DriverLine}
 use Rattle.hda_world.proofs.Callers.{went_both}
 use Rattle.jack_counts.specs.Counted.{IsCount}
@@ -20,7 +19,7 @@ use Rattle.jack_counts.specs.Jacks.{IsOfPin, Counts}
 use Rattle.codec_bring_up.specs.declared.bringing.BringUp.{BringUp}
 use Rattle.period_writer.specs.declared.geometry.Geometry.{Geometry}
 use Rattle.period_writer.specs.declared.writer.Writer.{Writer}
-use Rattle.period_writer.specs.Runs.{Tally, measures}
+use Rattle.period_writer.specs.Runs.{measures}
 use Rattle.period_writer.specs.Writers.{tally_of}
 use Rattle.audio_driver.specs.States.{plays_now, phase_with}
 use Rattle.audio_driver.specs.declared.driver.closing.Closed.{Closed}
@@ -29,7 +28,6 @@ use Rattle.rig.specs.Follows.{AreAccesses}
 use Rattle.rig.specs.Stretches.{IsStretchFrom, is_access, accesses_of, all_steps_in, woven, stretch}
 use Rattle.told_playing.specs.Sounding.{Parts}
 use Rattle.told_playing.specs.Keeping.{Closes}
-use Rattle.told_playing.proofs.States.{plays_then}
 use Rattle.scheduled_runs.specs.Events.{told_in}
 use Rattle.scheduled_runs.specs.Lines.{lines_of}
 use Rattle.rig.specs.declared.rig.Rig.{Rig}
@@ -90,10 +88,9 @@ module _ (means : Means) (format : Format) (play : Bool) where
     by true is = (let sounds = closes.sounds is in record { made = sounds.made; by = sounds.by.is.by; counted = sounds.counted })
 
   pub run_closes : Keeps means format → IsWithoutSteps → TakesAccesses → AreOfPins → (old : Parts) (closed : Closed) (before begun made after : Telling)
-      → (old.writer.course.started ≡ true → plays_now play old.bring_up ≡ true) → Accessed before begun Begin
-      → of_driver.Closes (plan_by means format) (verbs_for means format) play old.bring_up old.writer old.supply closed (Some begun) (Some made) → Accessed made after End
+      → Accessed before begun Begin → of_driver.Closes (plan_by means format) (verbs_for means format) play old.bring_up old.writer old.supply closed (Some begun) (Some made) → Accessed made after End
       → IsStretchFrom (length before.journal) [] after.journal → IsClosed means format play old closed before after
-  run_closes keeps without accesses of_pins old closed before begun made after plays opened closes ended stretched = record {
+  run_closes keeps without accesses of_pins old closed before begun made after opened closes ended stretched = record {
     accesses = accesses_of run.events;
     are = accesses run.events;
     went = went;
@@ -114,14 +111,8 @@ module _ (means : Means) (format : Format) (play : Bool) where
       runs = closes.runs;
       silences = closes.silences;
       silent = λ none. closes.recorded (ap (λ (plays : Bool). plays_now plays old.bring_up) none);
-      ready = ready (plays_now play old.bring_up) refl;
     };
   } where
-    ready : (now : Bool) → plays_now play old.bring_up ≡ now → closes.tally.course.started ≡ true → closes.ended.phase ≡ Ready
-    ready true is some = (closes.sounds is).phase ∙ (plays_then play old.bring_up is).1
-    ready false is some =
-        (let was : plays_now play old.bring_up ≡ true = plays (ap (λ (tally : Tally). tally.course.started) (sym (closes.recorded is)) ∙ some) in let never : false ≡ true = sym is ∙ was in cc)
-
     call : Made old.bring_up closes.ended begun made
     call = made_by old closed begun made closes
 
@@ -161,7 +152,6 @@ module _ (means : Means) (format : Format) (play : Bool) where
       runs = closes.leaves.runs;
       silences = closes.leaves.silences;
       silent = λ none. (closes.leaves.silent none ∙ ap (λ (writer : Writer). tally_of writer) (goes.silent none));
-      ready = closes.leaves.ready;
     };
   }
 

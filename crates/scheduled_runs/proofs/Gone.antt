@@ -42,7 +42,7 @@ use Rattle.scheduled_runs.specs.Lines.{lines_of}
 use Rattle.scheduled_runs.specs.Events.{told_in}
 use Rattle.scheduled_runs.specs.LinkFrames.{IsShort}
 use Rattle.scheduled_runs.specs.Going.{Means, parts_of, IsTask, UnderWay, Leaves, IsDriven, plan_by, open_by}
-use Rattle.scheduled_runs.specs.Walks.{can_end}
+use Rattle.scheduled_runs.specs.Ends.{can_end}
 use Rattle.scheduled_runs.proofs.LinkFrames.{follows_frames}
 use Rattle.scheduled_runs.proofs.Goes.{Keeps}
 use Rattle.scheduled_runs.proofs.Phases.{is_failed, course_well, ended_well, ends}
@@ -184,15 +184,15 @@ module _ (machine : Machine) (format : Format) (play : Bool) (task : Task) (sche
   pub played_phase : gone.tally.course.started ≡ true → closed.phase ≡ played_as gone.tally.course.ran (measures_of old.writer).limit
   played_phase some = gone.leaves.phase ∙ ap (λ (started : Bool). phase_if started gone.ended.phase gone.tally.course.ran (measures_of old.writer).limit) some
 
-  -- the bring-up then is in a phase in which a walk can end
-  pub unplayed_ends : gone.tally.course.started ≡ false → can_end closed.phase ≡ true
-  unplayed_ends none =
+  -- the bring-up then is in a phase in which runs can end
+  pub unplayed_ends : (walk : Bool) → gone.tally.course.started ≡ false → can_end walk closed.phase ≡ true
+  unplayed_ends walk none =
       let telling = telling_from REGION_BYTES machine journal in
       let course = course_of task (lines_of schedule) telling in
       let well = ended_well course.within task course (course_well task telling.journal telling.start (course_opened (lines_of schedule)) refl) in
       let left : is_failed (state_left task gone.ended gone.tally).phase ≡ false = ap (λ state. is_failed state.phase) (sym gone.has.state_is) ∙ well in
       let own = failed_if gone.tally.course.started gone.ended.phase gone.tally (measures task.geometry).limit none left in
-      ap can_end (unplayed_phase none) ∙ ends gone.ended.phase (gone.ended.agenda.graphs.items ≡ graphs_of machine.codecs) own gone.has.ended_is.by_phase
+      ap (can_end walk) (unplayed_phase none) ∙ ends walk gone.ended.phase (gone.ended.agenda.graphs.items ≡ graphs_of machine.codecs) own gone.has.ended_is.by_phase
 
   -- ---- which graphs were walked
 
@@ -205,7 +205,3 @@ module _ (machine : Machine) (format : Format) (play : Bool) (task : Task) (sche
   pub graphs_by_phase : WalkedIn gone.ended.phase (closed.graphs.items ≡ graphs_of machine.codecs)
   graphs_by_phase =
       subst (λ (walked : List RawCodec). WalkedIn gone.ended.phase (walked ≡ graphs_of machine.codecs)) (sym (ap (λ graphs. graphs.items) gone.leaves.graphs)) gone.has.ended_is.by_phase
-
-  -- and so where sound was played
-  pub played_graphs : gone.tally.course.started ≡ true → closed.graphs.items ≡ graphs_of machine.codecs
-  played_graphs some = subst (λ (phase : Phase). WalkedIn phase (closed.graphs.items ≡ graphs_of machine.codecs)) (gone.leaves.ready some) graphs_by_phase

@@ -1,8 +1,9 @@
 -- Pins of codecs that are set up hear as their plans say.
-use Rattle.std.proofs.Common.{◌≡◌, ◌≢◌, ◌==◌, ◌&&◌, ◌<◌, ℕ, Bool, true, false, List, [], ◌∷◌, length, map, get_or, refl, sym, ap, subst, ◌∙◌, inl, inr, arith}
-use Rattle.std.specs.Prelude.{All, AllPairs, Contains, Option, None, Some, not, nat_le}
+use Rattle.std.proofs.Common.{◌≡◌, ◌==◌, ◌&&◌, ◌||◌, ◌<◌, ℕ, Bool, true, false, List, [], ◌∷◌, length, map, get_or, refl, sym, ap, subst, ◌∙◌, inl, inr, arith}
+use Rattle.std.specs.Prelude.{All, AllPairs, Contains, Option, None, Some, not, nat_le, nat_lt}
 use Rattle.std.specs.List.{AllZip}
 use Rattle.std.proofs.lemmas.Bool.{cases_order}
+use Rattle.std.proofs.lemmas.Bool.Decides.{nat_tests}
 use Rattle.std.proofs.lemmas.List.{get_or-map, get_or_default, length-map}
 use Rattle.std.proofs.lemmas.List.Elements.{Contains-append_right}
 use Rattle.stream_format.specs.declared.format.Format.{Format}
@@ -22,14 +23,16 @@ use Rattle.route_planner.specs.declared.routes.Outcome.{Outcome}
 use Rattle.route_planner.specs.declared.routes.Outcome.TheVariants as outcome
 use Rattle.route_planner.specs.declared.routes.PinPlan.{PinPlan}
 use Rattle.route_planner.specs.declared.routes.Plan.{Plan}
+use Rattle.route_planner.specs.Order.{association_of, sequence_of, comes_before}
 use Rattle.route_planner.specs.Paths.{passes}
 use Rattle.route_planner.specs.Plans.{IsPlan}
-use Rattle.setup_verbs.proofs.Fitting.{pins_apart}
 use Rattle.setup_verbs.specs.SetUp.{IsSetUp, IsNoRoute, IsOutcomeOpen, HasNoRoute}
 use Rattle.hda_files.specs.declared.machine.CodecFile.{CodecFile}
 use Rattle.hda_world.specs.Worlds.{CarriedFrame, codec_at}
-use Rattle.period_writer.specs.Runs.{Tally}
-use Rattle.line_heard.specs.Plays.{IsSilent}
+use Rattle.period_writer.specs.Runs.{Tally, tally_opened}
+use Rattle.line_heard.specs.Plays.{IsSilent, WasSent}
+use Rattle.codec_sound.specs.declared.heard.Heard.{Heard}
+use Rattle.period_writer.specs.declared.course.Ran.TheVariants as ran
 use Rattle.told_bring_up.specs.SettingUp.{IsThere}
 use Rattle.heard_runs.specs.Ending.{HearTheLine}
 use Rattle.scheduled_runs.specs.Hearing.{HearsBy, HearTheirs}
@@ -51,12 +54,19 @@ pin_of (Some node) is =
 abbrev pin_in : PinPlan → ℕ
 pin_in entry = entry.pin
 
--- two entries with one pin stand at one place
-same_place : (xs : List ℕ) (j k d : ℕ) → AllPairs (λ x y. x ≢ y) xs → j < length xs → k < length xs → get_or xs j d ≡ get_or xs k d → j ≡ k
-same_place xs j k d apart in_j in_k same = elim (cases_order j k) [
+-- no pin comes before itself
+never_first : (group rank pin : ℕ) → (nat_lt group group || (group == group && (nat_lt rank rank || (rank == rank && nat_lt pin pin)))) ≡ true → ⊥
+never_first group rank pin is = grind (arith, nat_tests)
+
+not_before : (codec : RawCodec) (pin : ℕ) → comes_before codec pin pin ≡ true → ⊥
+not_before codec pin = never_first (association_of (node_at codec pin)) (sequence_of (node_at codec pin)) pin
+
+-- so two places with one pin are one
+same_place : (codec : RawCodec) (pins : List ℕ) (j k d : ℕ) → AllPairs (λ pin other. comes_before codec pin other ≡ true) pins → j < length pins → k < length pins → get_or pins j d ≡ get_or pins k d → j ≡ k
+same_place codec pins j k d ascending in_j in_k same = elim (cases_order j k) [
   | inl is ↦ is
-  | inr (inl less) ↦ absurd (apart j k d less in_k same)
-  | inr (inr more) ↦ absurd (apart k j d more in_j (sym same))
+  | inr (inl less) ↦ absurd (not_before codec (get_or pins j d) (subst (λ (pin : ℕ). comes_before codec (get_or pins j d) pin ≡ true) (sym same) (ascending j k d less in_k)))
+  | inr (inr more) ↦ absurd (not_before codec (get_or pins k d) (subst (λ (pin : ℕ). comes_before codec (get_or pins k d) pin ≡ true) same (ascending k j d more in_j)))
 ]
 
 -- where the entry at a place has no route, its pin has none in the plan
@@ -64,10 +74,9 @@ none_of : (codec : RawCodec) (format : Format) (plan : Plan) (k : ℕ) (d : PinP
 none_of codec format plan k d is within none = λ j e less same.
     let pins = map pin_in plan.pins in
     let long = length-map plan.pins pin_in in
-    let apart = pins_apart codec pins is.pins.in_order in
     let here = get_or-map pin_in plan.pins j e (pin_in e) less in
     let there = get_or-map pin_in plan.pins k d (pin_in e) within in
-    let place = same_place pins j k (pin_in e) apart (omega (arith, long, less)) (omega (arith, long, within)) (here ∙ same ∙ sym there) in
+    let place = same_place codec pins j k (pin_in e) is.pins.in_order.ascending (omega (arith, long, less)) (omega (arith, long, within)) (here ∙ same ∙ sym there) in
     subst (λ (n : ℕ). IsNoRoute (get_or plan.pins n e).outcome) (sym place) (subst (λ (entry : PinPlan). IsNoRoute entry.outcome) (get_or_default plan.pins k d e within) none)
 
 -- ---- what a codec's pins hear
@@ -121,3 +130,26 @@ module _ (format : Format) (pcm : List ℕ) (tally : Tally) (carried : List Carr
   all_hear (file ∷ files) [] planned all_there = planned
   all_hear (file ∷ files) (plan ∷ plans) planned all_there =
       (plan_hears file plan planned.0 (all_there file (0, omega arith, refl)), all_hear files plans planned.1 (λ other has. all_there other (Contains-append_right (file ∷ []) files other has)))
+
+-- ---- what is heard of nothing
+
+never_drained : ran.Playing ≡ ran.Drained → ⊥
+never_drained is = cc
+
+nothing : (P : Heard → Type 0) → All P []
+nothing P = λ k d within. absurd (omega (arith, within))
+
+-- no pin heard anything where no link frame carried anything, which is what its plan says of a line without runs
+none_hears : (format : Format) (pcm : List ℕ) (pair : ℕ) (found : Outcome) → HearsBy format pcm tally_opened pair found []
+none_hears format pcm pair (outcome.Route route) =
+    record { plays = record { count = 0; zeros = 0; none = λ is. refl; within = omega arith; are = refl }; alone = nothing WasSent; all = λ drained. absurd (never_drained drained) }
+none_hears format pcm pair outcome.Blocked = nothing IsSilent
+none_hears format pcm pair outcome.NoPath = nothing IsSilent
+
+pub none_hear : (format : Format) (pcm : List ℕ) (files : List CodecFile) (plans : List Plan) → AllZip (λ (file : CodecFile) (plan : Plan). IsPlan file.graph format plan) files plans
+    → AllZip (HearTheirs format pcm tally_opened []) files plans
+none_hear format pcm [] [] planned = planned
+none_hear format pcm [] (plan ∷ plans) planned = planned
+none_hear format pcm (file ∷ files) [] planned = planned
+none_hear format pcm (file ∷ files) (plan ∷ plans) planned =
+    (λ k d within. none_hears format pcm (get_or plan.pins k d).pair (get_or plan.pins k d).outcome, none_hear format pcm files plans planned.1)

@@ -7,6 +7,7 @@ pub mod Ran
 pub mod Counting
 pub mod Phases
 pub mod Gone
+pub mod WalkedIn
 pub mod Walked
 pub mod Hearing
 pub mod Listed

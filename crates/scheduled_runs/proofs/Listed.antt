@@ -6,12 +6,12 @@ use Rattle.std.proofs.Math.Logic.{∥∥₁_elim}
 use Rattle.std.proofs.lemmas.List.{map-append}
 use Rattle.std.proofs.lemmas.List.Elements.{All-head, All-tail}
 use Rattle.stream_format.specs.declared.format.Format.{Format}
+use Rattle.codec_graph.specs.declared.raw.RawCodec.{RawCodec}
 use Rattle.codec_sound.specs.HeardLists.{heard}
 use Rattle.route_planner.specs.declared.routes.PinPlan.{PinPlan}
 use Rattle.route_planner.specs.declared.routes.Plan.{Plan}
 use Rattle.route_planner.specs.Order.{IsOrder}
 use Rattle.route_planner.specs.Plans.{IsPlan}
-use Rattle.route_planner.proofs.OnlyPlan.{same_order}
 use Rattle.hda_files.specs.declared.machine.CodecFile.{CodecFile}
 use Rattle.hda_world.specs.Worlds.{CarriedFrame, World}
 use Rattle.heard_lists.specs.declared.pin_list.PinHeard.{PinHeard}
@@ -29,23 +29,27 @@ places_planned codec = places_of codec.0.graph.address (map pin_in codec.1.pins)
 abbrev places_by : List CodecFile → List Plan → List (ℕ × ℕ)
 places_by files plans = flat_map places_planned (zip files plans)
 
--- they are those of the lists
-same_places : (format : Format) (files : List CodecFile) (plans : List Plan) (orders : List (List ℕ)) → AllZip IsOrder (graphs_in files) orders → AllZip (λ (file : CodecFile) (plan : Plan). IsPlan file.graph format plan) files plans
-    → places_in (graphs_in files) orders ≡ places_by files plans
-same_places format [] [] [] ordered planned = refl
-same_places format [] [] (pins ∷ orders) ordered planned = absurd ordered
-same_places format [] (plan ∷ plans) orders ordered planned = absurd planned
-same_places format (file ∷ files) [] orders ordered planned = absurd planned
-same_places format (file ∷ files) (plan ∷ plans) [] ordered planned = absurd ordered
-same_places format (file ∷ files) (plan ∷ plans) (pins ∷ orders) ordered planned =
-    let same = same_order file.graph pins (map pin_in plan.pins) ordered.0 planned.0.pins.in_order in
-    ap (λ (pins : List ℕ). places_of file.graph.address pins ++ places_in (graphs_in files) orders) same
-    ∙ ap (λ (places : List (ℕ × ℕ)). places_of file.graph.address (map pin_in plan.pins) ++ places) (same_places format files plans orders ordered.1 planned.1)
+-- what the planner's law says of the order of pins
+abbrev pub HaveOneOrder : Type 0
+HaveOneOrder = (codec : RawCodec) (first second : List ℕ) → IsOrder codec first → IsOrder codec second → first ≡ second
 
-pins_planned : (format : Format) (files : List CodecFile) (plans : List Plan) (lists : List Listing) → ∥ AreListsOf (graphs_in files) lists ∥₁ → AllZip (λ (file : CodecFile) (plan : Plan). IsPlan file.graph format plan) files plans
+-- they are those of the lists
+same_places : HaveOneOrder → (format : Format) (files : List CodecFile) (plans : List Plan) (orders : List (List ℕ)) → AllZip IsOrder (graphs_in files) orders → AllZip (λ (file : CodecFile) (plan : Plan). IsPlan file.graph format plan) files plans
+    → places_in (graphs_in files) orders ≡ places_by files plans
+same_places one_order format [] [] [] ordered planned = refl
+same_places one_order format [] [] (pins ∷ orders) ordered planned = absurd ordered
+same_places one_order format [] (plan ∷ plans) orders ordered planned = absurd planned
+same_places one_order format (file ∷ files) [] orders ordered planned = absurd planned
+same_places one_order format (file ∷ files) (plan ∷ plans) [] ordered planned = absurd ordered
+same_places one_order format (file ∷ files) (plan ∷ plans) (pins ∷ orders) ordered planned =
+    let same = one_order file.graph pins (map pin_in plan.pins) ordered.0 planned.0.pins.in_order in
+    ap (λ (pins : List ℕ). places_of file.graph.address pins ++ places_in (graphs_in files) orders) same
+    ∙ ap (λ (places : List (ℕ × ℕ)). places_of file.graph.address (map pin_in plan.pins) ++ places) (same_places one_order format files plans orders ordered.1 planned.1)
+
+pins_planned : HaveOneOrder → (format : Format) (files : List CodecFile) (plans : List Plan) (lists : List Listing) → ∥ AreListsOf (graphs_in files) lists ∥₁ → AllZip (λ (file : CodecFile) (plan : Plan). IsPlan file.graph format plan) files plans
     → pins_of lists ≡ places_by files plans
-pins_planned format files plans lists are planned =
-    ∥∥₁_elim are (Coded-set (coded_list (coded× coded_ℕ coded_ℕ)) _ _) (λ of. of.pins ∙ same_places format files plans of.orders of.ordered planned)
+pins_planned one_order format files plans lists are planned =
+    ∥∥₁_elim are (Coded-set (coded_list (coded× coded_ℕ coded_ℕ)) _ _) (λ of. of.pins ∙ same_places one_order format files plans of.orders of.ordered planned)
 
 -- ---- what each of them heard
 
@@ -71,7 +75,7 @@ of_codecs carried (codec ∷ codecs) =
     ∙ ap (λ (rest : List PinHeard). heard_by carried codec ++ rest) (of_codecs carried codecs)
 
 -- so the lists that are handed out are those of the plans' pins
-pub lists_are : (format : Format) (files : List CodecFile) (plans : List Plan) (world : World) (lists : List Listing) → AreHeardIn world lists → ∥ AreListsOf (graphs_in files) lists ∥₁
+pub lists_are : HaveOneOrder → (format : Format) (files : List CodecFile) (plans : List Plan) (world : World) (lists : List Listing) → AreHeardIn world lists → ∥ AreListsOf (graphs_in files) lists ∥₁
     → AllZip (λ (file : CodecFile) (plan : Plan). IsPlan file.graph format plan) files plans → map handed_out lists ≡ lists_heard world.carried files plans
-lists_are format files plans world lists heard are planned =
-    by_place world lists heard ∙ ap (map (heard_at world.carried)) (pins_planned format files plans lists are planned) ∙ of_codecs world.carried (zip files plans)
+lists_are one_order format files plans world lists heard are planned =
+    by_place world lists heard ∙ ap (map (heard_at world.carried)) (pins_planned one_order format files plans lists are planned) ∙ of_codecs world.carried (zip files plans)

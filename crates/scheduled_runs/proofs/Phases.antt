@@ -1,4 +1,4 @@
--- That no stretch leads to the phase of want of memory, and in which phases a walk can end.
+-- That no stretch leads to the phase of want of memory, and in which phases runs can end.
 use Rattle.std.proofs.Common.{◌≡◌, ℕ, Bool, true, false, List, [], ◌∷◌, refl, Option, None, Some, if◌then◌else◌}
 use Rattle.std.specs.Prelude.{nat_le, length}
 use Rattle.command_engine.specs.declared.answers.Outstanding.{Outstanding}
@@ -17,7 +17,7 @@ use Rattle.driver_progress.specs.Next.{next, led, closed, tally_next, phase_poll
 use Rattle.driver_progress.specs.Expected.{next_order, has_settled, rings_seen}
 use Rattle.driver_progress.specs.Progress.{Course, course_after, noted, ended_if, seen_in}
 use Rattle.told_bring_up.specs.Standing.{WalkedIn}
-use Rattle.scheduled_runs.specs.Walks.{can_end}
+use Rattle.scheduled_runs.specs.Ends.{can_end}
 
 abbrev pub is_failed : Phase → Bool
 is_failed Reset = false
@@ -131,17 +131,17 @@ pub ended_well : (within : Bool) (task : Task) (course : Course) → IsWell cour
 ended_well true task course well = next_well task course.state course.turn (seen_in course) well
 ended_well false task course well = well
 
--- in a phase in which the walked graphs are known a walk can end
-pub ends : (phase : Phase) (all : Type 0) → is_failed phase ≡ false → WalkedIn phase all → can_end phase ≡ true
-ends Reset all well walked = refl
-ends Settling all well walked = refl
-ends Walking all well walked = refl
-ends SettingUp all well walked = refl
-ends Ready all well walked = refl
-ends Playing all well walked = absurd walked
-ends Drained all well walked = absurd walked
-ends NothingRouted all well walked = absurd walked
-ends (Unanswered codec command issued noticed) all well walked = refl
-ends (Late from to limit) all well walked = absurd walked
-ends (Malformed codec fault) all well walked = absurd walked
-ends Failed all well walked = cc
+-- in a phase in which the walked graphs are known runs can end
+pub ends : (walk : Bool) (phase : Phase) (all : Type 0) → is_failed phase ≡ false → WalkedIn phase all → can_end walk phase ≡ true
+ends walk Reset all well walked = refl
+ends walk Settling all well walked = refl
+ends walk Walking all well walked = refl
+ends walk SettingUp all well walked = refl
+ends walk Ready all well walked = refl
+ends walk Playing all well walked = absurd walked
+ends walk Drained all well walked = absurd walked
+ends walk NothingRouted all well walked = absurd walked
+ends walk (Unanswered codec command issued noticed) all well walked = refl
+ends walk (Late from to limit) all well walked = absurd walked
+ends walk (Malformed codec fault) all well walked = absurd walked
+ends walk Failed all well walked = cc

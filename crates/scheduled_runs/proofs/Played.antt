@@ -1,6 +1,7 @@
 -- What comes of playing.
 use Rattle.std.proofs.Common.{◌≡◌, ◌≤◌, ℕ, Bool, true, false, List, length, refl, sym, ap, subst, ◌∙◌, inl, inr, arith}
-use Rattle.std.specs.Prelude.{◌⊎◌, Contains}
+use Rattle.std.specs.Prelude.{◌⊎◌, [], Contains}
+use Rattle.std.specs.List.{AllZip}
 use Rattle.std.proofs.lemmas.List.{get_or-map, length-map}
 use Rattle.stream_format.specs.declared.format.Format.{Format}
 use Rattle.stream_format.specs.Cadence.{block_bytes}
@@ -12,15 +13,18 @@ use Rattle.hda_files.specs.declared.machine.Machine.{Machine}
 use Rattle.hda_schedule.specs.declared.schedule.Schedule.{Schedule}
 use Rattle.hda_world.specs.declared.world.TheConstants.{REGION_BYTES}
 use Rattle.hda_world.specs.Events.{Event}
+use Rattle.hda_world.specs.Worlds.{CarriedFrame}
 use Rattle.hda_world.specs.Tellings.{Telling, world_of}
+use Rattle.heard_runs.specs.Lives.{HasStopped}
+use Rattle.driver_progress.specs.States.{State}
 use Rattle.period_writer.specs.declared.course.Ran.{Ran}
 use Rattle.period_writer.specs.declared.course.Ran.TheVariants as ran
 use Rattle.period_writer.specs.declared.geometry.Geometry.{Geometry}
-use Rattle.period_writer.specs.Runs.{tally_opened, measures}
+use Rattle.period_writer.specs.Runs.{Tally, tally_opened, measures}
 use Rattle.audio_driver.specs.States.{phase_if, played_as}
 use Rattle.audio_driver.specs.declared.driver.closing.Closed.{Closed}
 use Rattle.driver_progress.specs.declared.phase.Phase.{Phase}
-use Rattle.driver_progress.specs.declared.phase.Phase.TheVariants.{Reset, Settling, Walking, SettingUp, Ready, Playing, Drained, NothingRouted, Unanswered, Late, Malformed, Failed}
+use Rattle.driver_progress.specs.declared.phase.Phase.TheVariants.{Ready}
 use Rattle.driver_progress.specs.Tasks.{Task, Blocks}
 use Rattle.heard_runs.specs.Ending.{HearTheLine}
 use Rattle.told_bring_up.specs.Standing.{AreWalked, WalkedIn}
@@ -28,16 +32,18 @@ use Rattle.told_playing.specs.Sounding.{Parts}
 use Rattle.told_playing.specs.Keeping.{WasHeard, WasNeverHeard, state_left}
 use Rattle.sound_report.specs.declared.played.Played.{Played}
 use Rattle.rig.specs.Replays.{telling_from}
-use Rattle.machine_tasks.specs.Tasks.{HavePlans, graphs_of, task_of}
+use Rattle.machine_tasks.specs.Tasks.{HavePlans, graphs_of}
 use Rattle.scheduled_runs.specs.Lines.{lines_of}
 use Rattle.scheduled_runs.specs.Going.{plan_by, open_by}
-use Rattle.scheduled_runs.specs.Walks.{can_end, journal_of}
+use Rattle.scheduled_runs.specs.Ends.{can_end}
+use Rattle.scheduled_runs.specs.Histories.{MakesProgress, StaysOpen, journal_of, told_by, walked_all}
 use Rattle.scheduled_runs.specs.FrameCounts.{written_by}
-use Rattle.scheduled_runs.specs.Hearing.{HasPlayedAll, WasPlayed, WasSilent, lists_heard}
-use Rattle.scheduled_runs.specs.Plays.{IsPlayFault, IsPlayedBy, can_end_playing, walked_all}
+use Rattle.scheduled_runs.specs.Hearing.{HasPlayedAll, HearTheirs, WasSilent, lists_heard}
+use Rattle.scheduled_runs.specs.Plays.{AreRecorded, IsHeard, IsPlayFault, played_task}
 use Rattle.scheduled_runs.proofs.Gone.{analog, Gone, phase_left, played_phase, unplayed_ends}
-use Rattle.scheduled_runs.proofs.Hearing.{all_hear}
+use Rattle.scheduled_runs.proofs.Hearing.{all_hear, none_hear}
 use Rattle.scheduled_runs.proofs.Recorded.{recorded_is}
+use Rattle.scheduled_runs.proofs.WalkedIn.{walked_in}
 use Rattle.scheduled_runs.proofs.Written.{drained_whole, written_within}
 
 -- ---- graphs
@@ -51,44 +57,11 @@ graph_among files file has =
 
 -- ---- phases
 
--- where a walk can end, playing can
-ends_too : (phase : Phase) → can_end phase ≡ true → can_end_playing phase ≡ true
-ends_too Reset is = refl
-ends_too Settling is = refl
-ends_too Walking is = refl
-ends_too SettingUp is = refl
-ends_too Ready is = refl
-ends_too Playing is = refl
-ends_too Drained is = refl
-ends_too NothingRouted is = is
-ends_too (Unanswered codec command issued noticed) is = refl
-ends_too (Late from to limit) is = refl
-ends_too (Malformed codec fault) is = is
-ends_too Failed is = is
-
 -- it can end in any way in which a run does
-ran_ends : (was : Ran) (limit : ℕ) → can_end_playing (played_as was limit) ≡ true
+ran_ends : (was : Ran) (limit : ℕ) → can_end false (played_as was limit) ≡ true
 ran_ends ran.Playing limit = refl
 ran_ends ran.Drained limit = refl
 ran_ends (ran.Late from to) limit = refl
-
-never : false ≡ true → ⊥
-never is = cc
-
--- in a phase in which all codecs were walked
-walked_in : (phase : Phase) (all : Type 0) → walked_all phase ≡ true → WalkedIn phase all → all
-walked_in Reset all is by = absurd (never is)
-walked_in Settling all is by = absurd (never is)
-walked_in Walking all is by = absurd (never is)
-walked_in SettingUp all is by = by
-walked_in Ready all is by = by
-walked_in Playing all is by = absurd by
-walked_in Drained all is by = absurd by
-walked_in NothingRouted all is by = absurd by
-walked_in (Unanswered codec command issued noticed) all is by = absurd (never is)
-walked_in (Late from to limit) all is by = absurd by
-walked_in (Malformed codec fault) all is by = absurd by
-walked_in Failed all is by = absurd (never is)
 
 all_walked_if : (started : Bool) (phase : Phase) (was : Ran) (limit : ℕ) (all : Type 0) → (started ≡ true → phase ≡ Ready) → WalkedIn phase all → walked_all (phase_if started phase was limit) ≡ true → all
 all_walked_if true phase was limit all ready by is = walked_in Ready all refl (subst (λ (phase : Phase). WalkedIn phase all) (ready refl) by)
@@ -96,21 +69,29 @@ all_walked_if false phase was limit all ready by is = walked_in phase all is by
 
 -- ---- the run
 
+-- what is told of a run is that of the state to which its journal leads
+pub record IsDriven (machine : Machine) (plans : List Plan) (wav : Wav) (schedule : Schedule) (task : Task) (state : State) (telling : Telling) (played : Played) : Type 0 where
+  pub progress : MakesProgress machine schedule task state telling played.graphs
+  pub opened : StaysOpen wav.format machine schedule task telling
+  pub runs : AreRecorded schedule task state.tally telling played
+  pub heard : IsHeard machine plans wav state.tally (world_of telling).carried played.heard
+  pub ended : IsPlayFault state.phase state.sent played.commands (block_bytes wav.format) played.total state.tally.runs state.tally.silences played.fault
+
 module _ (machine : Machine) (plans : List Plan) (wav : Wav) (geometry : Geometry) (blocks : Blocks) (schedule : Schedule) (old : Parts) (closed : Closed) (journal : List Event)
-    (gone : Gone machine wav.format true (task_of wav.format machine plans geometry true wav.pcm blocks) schedule old closed journal) where
+    (gone : Gone machine wav.format true (played_task machine plans wav geometry blocks) schedule old closed journal) where
   abbrev task : Task
-  task = task_of wav.format machine plans geometry true wav.pcm blocks
+  task = played_task machine plans wav geometry blocks
 
   abbrev telling : Telling
   telling = telling_from REGION_BYTES machine journal
 
   -- it can end in its phase
-  pub playing_ends : can_end_playing closed.phase ≡ true
+  pub playing_ends : can_end false closed.phase ≡ true
   playing_ends = by gone.tally.course.started refl
     where
-      by : (started : Bool) → gone.tally.course.started ≡ started → can_end_playing closed.phase ≡ true
-      by true some = ap can_end_playing (played_phase machine wav.format true task schedule old closed journal gone some) ∙ ran_ends gone.tally.course.ran _
-      by false none = ends_too closed.phase (unplayed_ends machine wav.format true task schedule old closed journal gone none)
+      by : (started : Bool) → gone.tally.course.started ≡ started → can_end false closed.phase ≡ true
+      by true some = ap (can_end false) (played_phase machine wav.format true task schedule old closed journal gone some) ∙ ran_ends gone.tally.course.ran _
+      by false none = unplayed_ends machine wav.format true task schedule old closed journal gone false none
 
   -- no more was written than there is
   pub written_few : written_by closed.runs.items ≤ length wav.pcm
@@ -120,39 +101,52 @@ module _ (machine : Machine) (plans : List Plan) (wav : Wav) (geometry : Geometr
 
   -- ---- what was heard
 
-  hears_by : HavePlans wav.format machine.codecs plans → geometry.format ≡ wav.format
-      → ((gone.tally ≡ tally_opened) × WasNeverHeard telling) ⊎ WasHeard (plan_by analog wav.format) (open_by analog wav.format) (graphs_of machine.codecs) task gone.tally gone.last telling
-      → WasSilent gone.tally telling ⊎ WasPlayed wav.format wav.pcm machine.codecs plans gone.tally telling
-  hears_by planned same (inl (none, never)) = inl (record { none = none; stopped = never.stopped; carried = never.none })
+  abbrev carried : List CarriedFrame
+  carried = (world_of telling).carried
+
+  abbrev Heard : Type 0
+  Heard = ((gone.tally ≡ tally_opened) × WasNeverHeard telling) ⊎ WasHeard (plan_by analog wav.format) (open_by analog wav.format) (graphs_of machine.codecs) task gone.tally gone.last telling
+
+  streamed : Heard → WasSilent gone.tally telling ⊎ HasStopped telling
+  streamed (inl (none, never)) = inl (record { none = none; stopped = never.stopped; carried = never.none })
+  streamed (inr was) = inr was.lived
+
+  hears_by : HavePlans wav.format machine.codecs plans → geometry.format ≡ wav.format → Heard → AllZip (HearTheirs wav.format wav.pcm gone.tally carried) machine.codecs plans
+  hears_by planned same (inl (none, never)) =
+      subst (λ (frames : List CarriedFrame). AllZip (HearTheirs wav.format wav.pcm gone.tally frames) machine.codecs plans) (sym never.none)
+      (subst (λ (tally : Tally). AllZip (HearTheirs wav.format wav.pcm tally []) machine.codecs plans) (sym none) (none_hear wav.format wav.pcm machine.codecs plans planned))
   hears_by planned same (inr was) =
-      let hear = subst (λ (format : Format). HearTheLine was.codecs format wav.pcm gone.tally (world_of telling).carried) same (was.hear gone.no_steps) in
-      inr (record {
-        lived = was.lived;
-        hear = all_hear wav.format wav.pcm gone.tally (world_of telling).carried was.codecs hear machine.codecs plans planned
-            (λ file has. was.set_up file.graph (graph_among machine.codecs file has));
-      })
+      let hear = subst (λ (format : Format). HearTheLine was.codecs format wav.pcm gone.tally carried) same (was.hear gone.no_steps) in
+      all_hear wav.format wav.pcm gone.tally carried was.codecs hear machine.codecs plans planned (λ file has. was.set_up file.graph (graph_among machine.codecs file has))
 
   -- what is told of it is that of the run that is kept
-  pub played_by : (played : Played) → journal_of played ≡ journal → geometry ≡ old.writer.geometry → geometry.format ≡ wav.format → HavePlans wav.format machine.codecs plans → played.graphs ≡ closed.graphs.items
-      → played.runs ≡ closed.runs.items → played.silences ≡ closed.silences.items → played.heard ≡ lists_heard (world_of telling).carried machine.codecs plans
+  pub driven : (played : Played) → journal_of played ≡ journal → geometry ≡ old.writer.geometry → geometry.format ≡ wav.format → HavePlans wav.format machine.codecs plans → played.graphs ≡ closed.graphs.items
+      → played.runs ≡ closed.runs.items → played.silences ≡ closed.silences.items → played.heard ≡ lists_heard carried machine.codecs plans
       → IsPlayFault closed.phase closed.sent played.commands (block_bytes wav.format) played.total closed.runs.items closed.silences.items played.fault
-      → IsPlayedBy machine plans wav schedule task (state_left task gone.ended gone.tally) (telling_from REGION_BYTES machine (journal_of played)) played
-  played_by played told ring format planned graphs runs silences heard fault =
-      subst (λ (events : List Event). IsPlayedBy machine plans wav schedule task (state_left task gone.ended gone.tally) (telling_from REGION_BYTES machine events) played) (sym told) (record {
-        progress = gone.has.progress;
-        finds = gone.has.finds;
-        state_is = gone.has.state_is;
-        fault = fault_left;
-        recorded = ap (λ state. state.tally) (sym gone.has.state_is) ∙ recorded_is task (lines_of schedule) telling;
-        runs = runs ∙ gone.leaves.runs;
-        silences = silences ∙ gone.leaves.silences;
-        walked = subst (λ (walked : List RawCodec). AreWalked (graphs_of machine.codecs) walked task.walks gone.ended.sent) (sym walked) gone.has.ended_is.walked;
-        all_walked = all_walked_if gone.tally.course.started gone.ended.phase gone.tally.course.ran (measures task.geometry).limit (played.graphs ≡ graphs_of machine.codecs) gone.has.ready
-            (subst (λ (walked : List RawCodec). WalkedIn gone.ended.phase (walked ≡ graphs_of machine.codecs)) (sym walked) gone.has.ended_is.by_phase);
-        set_up = gone.has.set_up;
-        sound = hears_by planned format gone.has.heard;
-        whole = λ drained. subst (λ state. HasPlayedAll wav.pcm state.tally) gone.has.state_is (drained_whole task (lines_of schedule) telling (ap (λ state. state.tally.course.ran) gone.has.state_is ∙ drained));
-        heard = heard;
+      → IsDriven machine plans wav schedule task (state_left task gone.ended gone.tally) (told_by machine played) played
+  driven played told ring format planned graphs runs silences heard fault =
+      subst (λ (events : List Event). IsDriven machine plans wav schedule task (state_left task gone.ended gone.tally) (telling_from REGION_BYTES machine events) played) (sym told) (record {
+        progress = record {
+          progress = gone.has.progress;
+          finds = gone.has.finds;
+          state_is = gone.has.state_is;
+          walked = subst (λ (walked : List RawCodec). AreWalked (graphs_of machine.codecs) walked task.walks gone.ended.sent) (sym walked) gone.has.ended_is.walked;
+          all_walked = all_walked_if gone.tally.course.started gone.ended.phase gone.tally.course.ran (measures task.geometry).limit (played.graphs ≡ graphs_of machine.codecs) gone.has.ready
+              (subst (λ (walked : List RawCodec). WalkedIn gone.ended.phase (walked ≡ graphs_of machine.codecs)) (sym walked) gone.has.ended_is.by_phase);
+        };
+        opened = gone.has.set_up;
+        runs = record {
+          recorded = ap (λ state. state.tally) (sym gone.has.state_is) ∙ recorded_is task (lines_of schedule) telling;
+          runs = runs ∙ gone.leaves.runs;
+          silences = silences ∙ gone.leaves.silences;
+          stream = streamed gone.has.heard;
+        };
+        heard = record {
+          lists_are = heard;
+          hear = hears_by planned format gone.has.heard;
+          whole = λ drained. subst (λ state. HasPlayedAll wav.pcm state.tally) gone.has.state_is (drained_whole task (lines_of schedule) telling (ap (λ state. state.tally.course.ran) gone.has.state_is ∙ drained));
+        };
+        ended = fault_left;
       })
     where
       walked : played.graphs ≡ gone.ended.agenda.graphs.items

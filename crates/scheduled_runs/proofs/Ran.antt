@@ -3,9 +3,12 @@ use Rattle.std.proofs.Common.{◌≡◌, Bool, List, [], ◌++◌, refl, sym, su
 use Rattle.std.specs.Prelude.{false, OnOk, IfOk, Result, Ok, Err}
 use Rattle.stream_format.specs.declared.format.Format.{Format}
 use Rattle.hda_schedule.specs.declared.schedule.Item.{Item}
+use Rattle.hda_world.specs.Events.{Event}
 use Rattle.rig.specs.declared.rig.Rig.{Rig}
+use Rattle.rig.specs.declared.setting.Setting.{Setting}
 use Rattle.rig.specs.Rigs.{telling_of, setting_of}
 use Rattle.rig.specs.Follows.{FollowItems}
+use Rattle.rig.specs.Stretches.{IsStretchFrom}
 use Rattle.told_playing.specs.Sounding.{Parts}
 use Rattle.scheduled_runs.specs.Going.{Means, Goes, Ran}
 use Rattle.scheduled_runs.proofs.Goes.{FollowBoth, goes_none, goes_both}
@@ -29,6 +32,10 @@ ran_both means means' format play play' follow first second old middle new rig r
       between = other.between;
       machine = other.machine ∙ one.machine;
     }
+
+-- a run is a stretch of the groups with which it began, from where it began
+pub stretched_from : (now middle begun : Setting) (journal : List Event) → now ≡ middle → middle ≡ begun → IsStretchFrom now.begun now.groups journal → IsStretchFrom begun.begun begun.groups journal
+stretched_from now middle begun journal kept same stretched = subst (λ (setting : Setting). IsStretchFrom setting.begun setting.groups journal) (kept ∙ same) stretched
 
 -- what holds where a call answered leads to what follows from it
 pub on_ok : {X E : Type 0} {A B : Type 0} (result : Result X E) → (A → B) → OnOk result A → OnOk result B

@@ -9,17 +9,26 @@ use Rattle.sound_report.specs.declared.played.Played.{Played}
 use Rattle.period_writer.specs.Runs.{Tally, tally_opened, measures}
 use Rattle.driver_progress.specs.declared.phase.Phase.{Phase}
 use Rattle.driver_progress.specs.Tasks.{Task}
+use Rattle.driver_progress.specs.States.{State}
+use Rattle.hda_world.specs.Tellings.{Telling}
 use Rattle.told_bring_up.specs.Standing.{AreWalked, WalkedIn}
 use Rattle.told_playing.specs.Sounding.{Parts, tally_in}
-use Rattle.told_playing.specs.Keeping.{HasGone, state_left}
+use Rattle.told_playing.specs.Keeping.{state_left}
 use Rattle.audio_driver.specs.States.{phase_if}
 use Rattle.audio_driver.specs.declared.driver.closing.Closed.{Closed}
 use Rattle.rig.specs.Replays.{telling_from}
 use Rattle.machine_tasks.specs.Tasks.{graphs_of}
-use Rattle.scheduled_runs.specs.Lines.{lines_of}
-use Rattle.scheduled_runs.specs.Going.{plan_by, open_by}
-use Rattle.scheduled_runs.specs.Walks.{walk_format, can_end, journal_of, IsWalkFault, IsWalkedBy}
-use Rattle.scheduled_runs.proofs.Gone.{analog, Gone, unplayed_phase, unplayed_ends, graphs_walked, graphs_by_phase}
+use Rattle.scheduled_runs.specs.Ends.{can_end}
+use Rattle.scheduled_runs.specs.Walks.{walk_format, IsWalkFault}
+use Rattle.scheduled_runs.specs.Histories.{MakesProgress, StaysOpen, journal_of, told_by}
+use Rattle.scheduled_runs.proofs.WalkedIn.{walked_in}
+use Rattle.scheduled_runs.proofs.Gone.{Gone, unplayed_phase, unplayed_ends, graphs_walked, graphs_by_phase}
+
+-- what is told of a run is that of the state to which its journal leads
+pub record IsDriven (machine : Machine) (schedule : Schedule) (task : Task) (state : State) (telling : Telling) (played : Played) : Type 0 where
+  pub progress : MakesProgress machine schedule task state telling played.graphs
+  pub opened : StaysOpen walk_format machine schedule task telling
+  pub ended : IsWalkFault state.phase state.sent played.commands played.fault
 
 -- a driver that plays nothing and was just opened has gone so far
 module _ (machine : Machine) (play : Bool) (task : Task) (schedule : Schedule) (old : Parts) (closed : Closed) (journal : List Event) (gone : Gone machine walk_format play task schedule old closed journal)
@@ -32,8 +41,8 @@ module _ (machine : Machine) (play : Bool) (task : Task) (schedule : Schedule) (
   started = ap (λ (tally : Tally). tally.course.started) none_recorded
 
   -- so a walk can end in its phase
-  pub walk_ends : can_end closed.phase ≡ true
-  walk_ends = unplayed_ends machine walk_format play task schedule old closed journal gone started
+  pub walk_ends : can_end true closed.phase ≡ true
+  walk_ends = unplayed_ends machine walk_format play task schedule old closed journal gone true started
 
   -- that of the bring-up, and of the state to which the journal leads
   left_is : gone.ended.phase ≡ (state_left task gone.ended gone.tally).phase
@@ -43,19 +52,21 @@ module _ (machine : Machine) (play : Bool) (task : Task) (schedule : Schedule) (
   phase_is = unplayed_phase machine walk_format play task schedule old closed journal gone started ∙ left_is
 
   -- what is told of it is that of the run that is kept
-  pub walked_by : (played : Played) → journal_of played ≡ journal → played.graphs ≡ closed.graphs.items → IsWalkFault closed.phase closed.sent played.commands played.fault
-      → IsWalkedBy machine schedule task (state_left task gone.ended gone.tally) (telling_from REGION_BYTES machine (journal_of played)) played
-  walked_by played told graphs fault =
-      let has = subst (λ (events : List Event). HasGone (plan_by analog walk_format) (open_by analog walk_format) (graphs_of machine.codecs) task (lines_of schedule) gone.ended gone.tally gone.last (telling_from REGION_BYTES machine events)) (sym told) gone.has in
-      record {
-        progress = has.progress;
-        finds = has.finds;
-        state_is = has.state_is;
-        fault = subst (λ (phase : Phase). IsWalkFault phase gone.ended.sent played.commands played.fault) phase_is
+  pub driven : (played : Played) → journal_of played ≡ journal → played.graphs ≡ closed.graphs.items → IsWalkFault closed.phase closed.sent played.commands played.fault
+      → IsDriven machine schedule task (state_left task gone.ended gone.tally) (told_by machine played) played
+  driven played told graphs fault =
+      subst (λ (events : List Event). IsDriven machine schedule task (state_left task gone.ended gone.tally) (telling_from REGION_BYTES machine events) played) (sym told) (record {
+        progress = record {
+          progress = gone.has.progress;
+          finds = gone.has.finds;
+          state_is = gone.has.state_is;
+          walked = subst (λ (walked : List RawCodec). AreWalked (graphs_of machine.codecs) walked task.walks gone.ended.sent) (sym graphs)
+              (subst (λ (sent : ℕ). AreWalked (graphs_of machine.codecs) closed.graphs.items task.walks sent) gone.leaves.sent (graphs_walked machine walk_format play task schedule old closed journal gone));
+          all_walked = λ all. walked_in (state_left task gone.ended gone.tally).phase (played.graphs ≡ graphs_of machine.codecs) all
+              (subst (λ (phase : Phase). WalkedIn phase (played.graphs ≡ graphs_of machine.codecs)) left_is
+              (subst (λ (walked : List RawCodec). WalkedIn gone.ended.phase (walked ≡ graphs_of machine.codecs)) (sym graphs) (graphs_by_phase machine walk_format play task schedule old closed journal gone)));
+        };
+        opened = gone.has.set_up;
+        ended = subst (λ (phase : Phase). IsWalkFault phase gone.ended.sent played.commands played.fault) phase_is
             (subst (λ (sent : ℕ). IsWalkFault closed.phase sent played.commands played.fault) gone.leaves.sent fault);
-        walked = subst (λ (walked : List RawCodec). AreWalked (graphs_of machine.codecs) walked task.walks gone.ended.sent) (sym graphs)
-            (subst (λ (sent : ℕ). AreWalked (graphs_of machine.codecs) closed.graphs.items task.walks sent) gone.leaves.sent (graphs_walked machine walk_format play task schedule old closed journal gone));
-        all_walked = subst (λ (phase : Phase). WalkedIn phase (played.graphs ≡ graphs_of machine.codecs)) left_is
-            (subst (λ (walked : List RawCodec). WalkedIn gone.ended.phase (walked ≡ graphs_of machine.codecs)) (sym graphs) (graphs_by_phase machine walk_format play task schedule old closed journal gone));
-        set_up = has.set_up;
-      }
+      })

@@ -1,5 +1,5 @@
 -- How calls of a driver go on over a rig, item by item. This project's own.
-use Rattle.std.specs.Prelude.{◌≡◌, ◌++◌, [], Bool, true, false, ℕ, List, All}
+use Rattle.std.specs.Prelude.{◌≡◌, ◌++◌, [], Bool, false, ℕ, List, All}
 use Rattle.verb_codes.specs.declared.verbs.Command.{Command}
 use Rattle.codec_graph.specs.declared.raw.RawCodec.{RawCodec}
 use Rattle.codec_graph.specs.Settings.{Entries}
@@ -8,7 +8,6 @@ use Rattle.route_planner.specs.declared.routes.Plan.{Plan}
 use Rattle.hda_schedule.specs.declared.schedule.Item.{Item}
 use Rattle.hda_world.specs.Events.{Event, IsNoStep}
 use Rattle.hda_world.specs.Tellings.{Telling, Went}
-use Rattle.driver_progress.specs.declared.phase.Phase.TheVariants.{Ready}
 use Rattle.driver_progress.specs.Tasks.{Task, DriverLine}
 use Rattle.driver_commands.specs.declared.answers.TheConstants.{TAG}
 use Rattle.jack_counts.specs.Counted.{IsCount}
@@ -92,9 +91,8 @@ pub record Leaves (play : Bool) (old : Parts) (ended : BringUp) (tally : Tally) 
   pub graphs : closed.graphs ≡ ended.agenda.graphs
   pub runs : closed.runs.items ≡ tally.runs
   pub silences : closed.silences.items ≡ tally.silences
-  -- where nothing is played nothing is recorded, and what was played was played once all codecs were set up
+  -- where nothing is played nothing is recorded
   pub silent : play ≡ false → tally ≡ tally_in old
-  pub ready : tally.course.started ≡ true → ended.phase ≡ Ready
 
 -- the last call was made, in a run without steps
 pub record IsClosed (means : Means) (format : Format) (play : Bool) (old : Parts) (closed : Closed) (before after : Telling) : Type 0 where

@@ -1,6 +1,6 @@
 -- What the pins of a machine's codecs heard of a sound. This project's own.
 use Rattle.std.specs.Prelude.{◌≡◌, ◌≤◌, ◌/◌, ℕ, List, [], length, map, All}
-use Rattle.std.specs.List.{flat_map, zip, AllZip}
+use Rattle.std.specs.List.{flat_map, zip}
 use Rattle.stream_format.specs.declared.format.Format.{Format}
 use Rattle.stream_format.specs.Layouts.{layout}
 use Rattle.codec_sound.specs.declared.heard.Heard.{Heard}
@@ -17,7 +17,7 @@ use Rattle.period_writer.specs.declared.course.Ran.TheVariants as ran
 use Rattle.period_writer.specs.Runs.{Tally, tally_opened}
 use Rattle.period_writer.specs.Lines.{line_of}
 use Rattle.line_heard.specs.Plays.{WasSent, IsSilent, without_holes}
-use Rattle.heard_runs.specs.Lives.{Along, IsStopped, HasStopped}
+use Rattle.heard_runs.specs.Lives.{Along, IsStopped}
 use Rattle.heard_runs.specs.Ending.{HeardAs}
 
 -- what link frames carried, as each candidate pin of some codecs hears it, in the order of their plans
@@ -58,8 +58,3 @@ pub record WasSilent (tally : Tally) (telling : Telling) : Type 0 where
   pub none : tally ≡ tally_opened
   pub stopped : Along IsStopped telling.journal telling.start
   pub carried : (world_of telling).carried ≡ []
-
--- it was set going once, ran without an error until it was stopped, and the pins of all codecs heard the line
-pub record WasPlayed (format : Format) (pcm : List ℕ) (files : List CodecFile) (plans : List Plan) (tally : Tally) (telling : Telling) : Type 0 where
-  pub lived : HasStopped telling
-  pub hear : AllZip (HearTheirs format pcm tally (world_of telling).carried) files plans

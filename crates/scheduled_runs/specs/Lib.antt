@@ -2,6 +2,7 @@ pub mod Lines
 pub mod Events
 pub mod LinkFrames
 pub mod FirstFits
+pub mod Histories
 pub mod Walks
 pub mod FrameCounts
 pub mod Hearing
@@ -10,3 +11,4 @@ pub mod Plays
 -- what private functions promise one another
 pub mod Going
 pub mod Openings
+pub mod Ends

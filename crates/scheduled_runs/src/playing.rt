@@ -1,5 +1,5 @@
 //! Playing: the reset, the walk over all codecs, their set-up, and then the sound, by a schedule.
-ghost use Rattle.std.specs.Prelude.{◌≡◌, ◌≤◌, ◌*◌, true, IfOk, length};
+ghost use Rattle.std.specs.Prelude.{◌≡◌, ◌≤◌, ◌*◌, true, false, IfOk, length};
 ghost use Rattle.std.specs.List.{list_any};
 ghost use Rattle.codec_agenda.specs.Planned.{has_route};
 ghost use Rattle.stream_format.specs.Cadence.{block_bytes};
@@ -7,6 +7,7 @@ ghost use Rattle.hda_files.specs.Machines.{IsSound};
 ghost use Rattle.hda_schedule.specs.Schedules.{IsLimited};
 ghost use Rattle.machine_tasks.specs.Reading.{IsRead};
 ghost use Rattle.machine_tasks.specs.Tasks.{HavePlans};
+ghost use Rattle.scheduled_runs.specs.Ends.{can_end};
 ghost use Rattle.scheduled_runs.specs.Plays as spec;
 ghost use Rattle.scheduled_runs.specs.FrameCounts as counts;
 
@@ -14,6 +15,7 @@ use crate::driving::drive;
 use crate::frame_counts::{frames_below, frames_written, last_at};
 use crate::lines::line_count;
 use crate::opening::open_driver;
+use crate::walking::walk_fault;
 use audio_driver::Closed;
 use driver_progress::Phase;
 use hda_files::Machine;
@@ -25,7 +27,7 @@ use machine_tasks::{
 };
 use period_writer::Geometry;
 use rig::Rig;
-use route_planner::Plan;
+use route_planner::{Plan, one_order};
 use route_setup::Analog;
 use sound_report::{PlayFault, Played};
 use std::alloc::{AllocError, Global};
@@ -47,8 +49,8 @@ fn frames_left(closed: &Closed, block: u32, total: u64) -> PlayFault
 }
 
 /// Why it ended before all frames were played, of so many with blocks of so many bytes, where so many commands set the codecs up.
-fn fault_of(closed: &Closed, of: u32, block: u32, total: u64) -> Option<PlayFault>
-    requires can_end { spec.can_end_playing closed.now.phase ≡ true }
+fn play_fault(closed: &Closed, of: u32, block: u32, total: u64) -> Option<PlayFault>
+    requires can_end { can_end false closed.now.phase ≡ true }
     requires some { 1 ≤ block }
     requires few { counts.written_by closed.now.runs.items ≤ 0xFFFFFFFFFFFFFFFF }
     ensures { spec.IsPlayFault closed.now.phase closed.now.sent of block total closed.now.runs.items closed.now.silences.items result }
@@ -57,24 +59,12 @@ fn fault_of(closed: &Closed, of: u32, block: u32, total: u64) -> Option<PlayFaul
         Phase::Drained => None,
         Phase::Playing => Some(frames_left(closed, block, total)),
         Phase::Late { from, to, limit } => Some(PlayFault::Late { from, to, limit }),
-        Phase::Unanswered {
-            codec,
-            command,
-            issued,
-            noticed,
-        } => Some(PlayFault::Unanswered {
-            codec,
-            command,
-            issued,
-            noticed,
+        Phase::Ready => Some(PlayFault::CommandsLeft {
+            sent: closed.sent,
+            of,
         }),
-        Phase::Reset | Phase::Settling | Phase::Walking | Phase::SettingUp | Phase::Ready => {
-            Some(PlayFault::CommandsLeft {
-                sent: closed.sent,
-                of,
-            })
-        }
-        Phase::NothingRouted | Phase::Malformed { .. } | Phase::Failed => unreachable!(),
+        // until all codecs are set up it ends as a walk does
+        early => walk_fault(early, closed.sent, of),
     }
 }
 
@@ -107,6 +97,7 @@ pub fn play(
     machines_rest();
     opened_drivers_can_begin();
     drivers_keep_to_progress::<Analog>();
+    one_order();
     let format = wav.format;
     let total = wav.frames;
     let _bytes = wav.pcm.len();
@@ -121,7 +112,7 @@ pub fn play(
     )?;
     let closed = drive(&mut rig, driver, schedule, geometry.ring() + 8192)?;
     let (machine, heard, journal) = rig.parts();
-    let fault = fault_of(&closed, commands, format.block_bytes(), total);
+    let fault = play_fault(&closed, commands, format.block_bytes(), total);
     Ok(Played {
         machine,
         format,

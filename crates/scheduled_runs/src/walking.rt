@@ -6,6 +6,7 @@ ghost use Rattle.hda_files.specs.Machines.{IsSound};
 ghost use Rattle.hda_schedule.specs.Schedules.{IsLimited};
 ghost use Rattle.machine_tasks.specs.Reading.{IsRead};
 ghost use Rattle.machine_tasks.specs.Tasks.{HavePlans};
+ghost use Rattle.scheduled_runs.specs.Ends.{can_end};
 ghost use Rattle.scheduled_runs.specs.Openings.{IsFresh};
 ghost use Rattle.scheduled_runs.specs.Walks as spec;
 
@@ -82,8 +83,8 @@ fn silent_driver(alloc: Global, fifo: u16, calls: u32) -> Result<Driver<Analog>,
 }
 
 /// Why a walk ended before it was done, where the driver came so far and sent so many of so many commands.
-fn fault_of(phase: Phase, sent: u32, of: u32) -> Option<PlayFault>
-    requires { spec.can_end phase ≡ true }
+pub(crate) fn walk_fault(phase: Phase, sent: u32, of: u32) -> Option<PlayFault>
+    requires { can_end true phase ≡ true }
     ensures { spec.IsWalkFault phase sent of result }
 {
     match phase {
@@ -159,6 +160,6 @@ pub fn walk(
         jacks: Items::from_vec(closed.jacks),
         journal,
         walk: true,
-        fault: fault_of(closed.phase, closed.sent, commands),
+        fault: walk_fault(closed.phase, closed.sent, commands),
     })
 }

@@ -1,9 +1,9 @@
-use Rattle.std.proofs.Common.{[], length, subst, ◌∙◌}
-use Rattle.rig.specs.declared.setting.Setting.{Setting}
-use Rattle.rig.specs.Rigs.{telling_of}
+use Rattle.std.proofs.Common.{[], length}
+use Rattle.rig.specs.Rigs.{setting_of, telling_of}
 use Rattle.rig.specs.Stretches.{IsStretchFrom}
 use Rattle.scheduled_runs.specs.Going.{Means, parts_of}
 use Rattle.scheduled_runs.proofs.Goes.{Keeps}
+use Rattle.scheduled_runs.proofs.Ran.{stretched_from}
 use Rattle.scheduled_runs.proofs.Closes.{run_closes}
 use Rattle.scheduled_runs.proofs.calls.run_last.Goals as goal
 
@@ -15,8 +15,7 @@ returns-clause-closed g c =
     let keeps : Keeps means format = λ verbs graphs task is. c.drivers_keep_to_progress.ensures driver.setter format verbs graphs task is in
     let before = telling_of c.args.rig.now in
     let after = telling_of c.end.new.self in
-    let begun = c.in_ok-closed.ensures.fixed ∙ c.in-Ok.ensures.setting in
     let stretched : IsStretchFrom (length before.journal) [] after.journal =
-    subst (λ (setting : Setting). IsStretchFrom setting.begun setting.groups after.journal) begun c.end.ensures.stretch in
+    stretched_from (setting_of c.close.new.platform) (setting_of c.begin.new.self) _ after.journal c.in_ok-closed.ensures.fixed c.in-Ok.ensures.setting c.end.ensures.stretch in
     run_closes means format driver.play keeps c.runs_follow.ensures.closing c.runs_follow.ensures.accesses c.events_are_of_pins.ensures (parts_of driver.bring_up driver.writer driver.supply) c.in_ok-closed.closed
-    before (telling_of c.begin.new.self) (telling_of c.close.new.platform) after driver.begun c.in-Ok.ensures.told.is c.in_ok-closed.ensures.closes c.end.ensures.told.is stretched
+    before (telling_of c.begin.new.self) (telling_of c.close.new.platform) after c.in-Ok.ensures.told.is c.in_ok-closed.ensures.closes c.end.ensures.told.is stretched

@@ -1,10 +1,11 @@
 use Rattle.std.proofs.Common.{List, length, ap, subst, ◌∙◌}
 use Rattle.hda_schedule.specs.declared.schedule.Group.{Group}
 use Rattle.rig.specs.declared.setting.Setting.{Setting}
-use Rattle.rig.specs.Rigs.{telling_of}
+use Rattle.rig.specs.Rigs.{setting_of, telling_of}
 use Rattle.rig.specs.Stretches.{IsStretchFrom}
 use Rattle.scheduled_runs.specs.Going.{Means, parts_of}
 use Rattle.scheduled_runs.proofs.Goes.{Keeps, line_goes}
+use Rattle.scheduled_runs.proofs.Ran.{stretched_from}
 use Rattle.scheduled_runs.proofs.calls.run_line.Goals as goal
 
 pub returns-clause-ran : goal.returns-clause-ran
@@ -19,7 +20,7 @@ returns-clause-ran g c =
     let begun = c.in_ok-call.ensures.fixed ∙ c.in_ok-begin.ensures.setting in
     let stretched : IsStretchFrom (length before.journal) c.args.line.now.groups after.journal =
     subst (λ (groups : List Group). IsStretchFrom (length before.journal) groups after.journal) c.as_slice.ensures
-    (subst (λ (setting : Setting). IsStretchFrom setting.begun setting.groups after.journal) begun c.end.ensures.stretch) in
+    (stretched_from (setting_of c.call.new.platform) (setting_of c.begin.new.self) _ after.journal c.in_ok-call.ensures.fixed c.in_ok-begin.ensures.setting c.end.ensures.stretch) in
     record {
       goes = line_goes means format driver.play keeps c.runs_follow.ensures.line c.args.line.now (parts_of driver.bring_up driver.writer driver.supply) (parts_of now.bring_up now.writer now.supply) before (telling_of c.begin.new.self)
           (telling_of c.call.new.platform) after c.in_ok-begin.ensures.told.is c.in_ok-call.ensures.leads c.end.ensures.told.is stretched;

@@ -1,4 +1,5 @@
-use Rattle.std.proofs.Common.{false, List, [], length, refl, sym, ap, subst, ◌∙◌, arith}
+use Rattle.sound_report.specs.declared.played.Played.{Played}
+use Rattle.std.proofs.Common.{true, false, List, [], length, refl, sym, ap, subst, ◌∙◌, arith}
 use Rattle.stream_format.specs.declared.format.Format.{Format}
 use Rattle.route_planner.specs.declared.routes.Plan.{Plan}
 use Rattle.hda_files.specs.declared.machine.CodecFile.{CodecFile}
@@ -19,7 +20,7 @@ use Rattle.scheduled_runs.specs.Going.{parts_of}
 use Rattle.scheduled_runs.specs.Walks.{walk_format}
 use Rattle.scheduled_runs.proofs.Counting.{few_lines}
 use Rattle.scheduled_runs.proofs.Gone.{CanGo, Gone, gone, opened_can_go}
-use Rattle.scheduled_runs.proofs.Walked.{none_recorded, walk_ends, walked_by}
+use Rattle.scheduled_runs.proofs.Walked.{driven, none_recorded, walk_ends}
 use Rattle.scheduled_runs.proofs.walking.walk.Goals as goal
 
 pub silent_driver-requires-clause-few : goal.silent_driver-requires-clause-few
@@ -53,8 +54,8 @@ over c =
     (task_for c) c.args.schedule.now (opened c) c.in_ok-closed.closed (telling_of c.in_ok-rig.rig) (telling_of c.drive.new.rig) (telling_of c.drive.new.rig).journal (can_go c) c.requires.limits
     c.in_ok-rig.ensures.told refl c.in_ok-closed.ensures.driven
 
-pub fault_of-requires : goal.fault_of-requires
-fault_of-requires c =
+pub walk_fault-requires : goal.walk_fault-requires
+walk_fault-requires c =
     walk_ends c.args.machine c.in_ok-driver.driver.play (task_for c) c.args.schedule.now (opened c) c.in_ok-closed.closed (telling_of c.drive.new.rig).journal (over c) c.in_ok-driver.ensures.play (can_go c).fresh
 
 pub returns : goal.returns
@@ -66,28 +67,52 @@ returns c =
     let gone = over earlier in
     let told = c.parts-machine.ensures.journal in
     let none = none_recorded machine driver.play (task_for earlier) c.args.schedule.now (opened earlier) c.in_ok-closed.closed (telling_of c.drive.new.rig).journal gone c.in_ok-driver.ensures.play (can_go earlier).fresh in
+    let played : Played = record {
+      machine = c.parts-machine.result.0;
+      format = c.walk_format-2.result;
+      total = 0;
+      commands = c.in_ok-commands.commands;
+      plans = c.from_vec.result;
+      graphs = c.from_vec-2.result;
+      runs = c.from_vec-3.result;
+      silences = c.from_vec-4.result;
+      heard = c.new-2.result;
+      jacks = c.from_vec-5.result;
+      journal = c.parts-machine.result.2;
+      walk = true;
+      fault = c.walk_fault.result;
+    } in
+    let by = driven machine driver.play (task_for earlier) c.args.schedule.now (opened earlier) c.in_ok-closed.closed (telling_of c.drive.new.rig).journal gone c.in_ok-driver.ensures.play (can_go earlier).fresh
+    played told c.from_vec-2.ensures c.walk_fault.ensures in
     record {
-      machine_is = c.parts-machine.ensures.machine ∙ c.in_ok-closed.ensures.machine ∙ c.in_ok-rig.ensures.machine;
-      format_is = c.walk_format-2.ensures;
-      plans_are = c.from_vec.ensures;
-      walk = refl;
-      commands = c.in_ok-commands.ensures
-          ∙ ap (λ (codecs : List CodecFile). length (commands_of c.walk_format.result codecs c.as_slice-2.result.now)) c.as_slice.ensures
-          ∙ ap (λ (plans : List Plan). length (commands_of c.walk_format.result machine.codecs plans)) c.as_slice-2.ensures.value
-          ∙ ap (λ (f : Format). length (commands_of f machine.codecs c.args.plans.items)) c.walk_format.ensures;
-      total = refl;
-      runs = c.from_vec-3.ensures ∙ gone.leaves.runs ∙ ap (λ (tally : Tally). tally.runs) none;
-      silences = c.from_vec-4.ensures ∙ gone.leaves.silences ∙ ap (λ (tally : Tally). tally.silences) none;
-      heard = c.new-2.ensures;
-      replays = subst (λ (events : List Event). AreHonest events (start_of REGION_BYTES machine)) (sym told) gone.replays;
-      follows = subst (Follows c.args.schedule.now) (sym told) gone.follows;
+      input = record {
+        machine_is = c.parts-machine.ensures.machine ∙ c.in_ok-closed.ensures.machine ∙ c.in_ok-rig.ensures.machine;
+        plans_are = c.from_vec.ensures;
+        walk_is = refl;
+        format_is = c.walk_format-2.ensures;
+        frames_are = refl;
+      };
       geometry = fresh.geometry;
       ring = record { periods = fresh.periods; period = fresh.period; fifo = fresh.fifo_is; format = fresh.format };
       blocks = blocks_of driver.bring_up driver.writer;
       first_fits = fresh.first_fits;
       state = state_left (task_for earlier) gone.ended gone.tally;
-      driven = walked_by machine driver.play (task_for earlier) c.args.schedule.now (opened earlier) c.in_ok-closed.closed (telling_of c.drive.new.rig).journal gone c.in_ok-driver.ensures.play (can_go earlier).fresh
-          _ told c.from_vec-2.ensures c.fault_of.ensures;
+      history = record {
+        replays = subst (λ (events : List Event). AreHonest events (start_of REGION_BYTES machine)) (sym told) gone.replays;
+        follows = subst (Follows c.args.schedule.now) (sym told) gone.follows;
+      };
+      progress = by.progress;
+      opened = by.opened;
+      silent = record {
+        runs = c.from_vec-3.ensures ∙ gone.leaves.runs ∙ ap (λ (tally : Tally). tally.runs) none;
+        silences = c.from_vec-4.ensures ∙ gone.leaves.silences ∙ ap (λ (tally : Tally). tally.silences) none;
+        heard = c.new-2.ensures;
+      };
       jacks = subst (λ jacks. Counts (told_in (events_of c.parts-machine.result.2)) jacks) (sym c.from_vec-5.ensures)
           (subst (λ (events : List Event). Counts (told_in events) c.in_ok-closed.closed.jacks.items) (sym told) gone.jacks);
+      commands = c.in_ok-commands.ensures
+          ∙ ap (λ (codecs : List CodecFile). length (commands_of c.walk_format.result codecs c.as_slice-2.result.now)) c.as_slice.ensures
+          ∙ ap (λ (plans : List Plan). length (commands_of c.walk_format.result machine.codecs plans)) c.as_slice-2.ensures.value
+          ∙ ap (λ (f : Format). length (commands_of f machine.codecs c.args.plans.items)) c.walk_format.ensures;
+      ended = by.ended;
     }
