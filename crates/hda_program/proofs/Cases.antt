@@ -17,7 +17,8 @@ use Rattle.sound_report.specs.PlanLines.{plans_lines}
 use Rattle.hda_program.specs.Answers.{IsMeant, RouteAnswers, WalkAnswers, MachineWalks, PlansWalk, PlayAnswers, MachinePlays, SoundPlays, SchedulePlays, PlansPlay}
 use Rattle.hda_program.specs.Asks.{IsNoCommand, IsRouteOf, IsWalkOf, IsPlayOf, Names, NamesCodecFile, codec_of, files_asked, files_of}
 use Rattle.scheduled_runs.specs.Walks.{walk_format}
-use Rattle.hda_program.specs.Causes.{HasBadCodecFile, HasBadRing, HasBadSchedule, HasBadWav, HasPlanned, HasRun, HasUnreadFile, WantsRun, WantsSound}
+use Rattle.hda_program.specs.Causes.{HasBadCodecFile, HasBadRing, HasBadSchedule, HasBadWav, HasPlanned, HasUnreadFile, WantsRun, WantsSound}
+use Rattle.hda_program.specs.Promises.{HasRun}
 use Rattle.hda_program.specs.Files.{CodecStops, IsMachineOf, IsScheduleOf, IsWavOf, ScheduleStops}
 use Rattle.hda_program.specs.Meanings.{Meant, of_run, telling, unrouted}
 use Rattle.hda_program.specs.Rings.{IsRingOf}

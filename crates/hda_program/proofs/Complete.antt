@@ -1,12 +1,18 @@
 -- Where nothing is refused, `play` and `walk` come to their runs.
 use Rattle.std.proofs.Common.{◌≡◌, ◌∙◌, ℕ, List, true, false, inl, inr, Option, Some, None, refl, sym, ap, subst}
-use Rattle.std.specs.Prelude.{◌⊎◌}
+use Rattle.std.specs.Prelude.{◌⊎◌, ◌==◌, if◌then◌else◌, Bool}
+use Rattle.stream_format.specs.declared.format.Rate.{Rate}
+use Rattle.stream_format.specs.declared.format.Rate.TheVariants.{R8, R16, R44, R48, R96, R192}
+use Rattle.stream_format.specs.declared.format.Bits.{Bits}
+use Rattle.stream_format.specs.declared.format.Bits.TheVariants.{B16, B24, B32}
+use Rattle.stream_format.specs.Layouts.{layout}
+use Rattle.sound_report.specs.PlanLines.{plans_lines}
 use Rattle.stream_format.specs.declared.format.Format.{Format}
 use Rattle.route_planner.specs.declared.routes.Plan.{Plan}
 use Rattle.hda_outside.specs.Shelf.{Files}
 use Rattle.hda_files.specs.declared.machine.Machine.{Machine}
 use Rattle.hda_schedule.specs.declared.schedule.Schedule.{Schedule}
-use Rattle.hda_words.specs.Asked.{Asked, play, route, walk}
+use Rattle.hda_words.specs.Asked.{Asked, bits_of, hertz, play, route, walk}
 use Rattle.period_writer.specs.declared.geometry.Geometry.{Geometry}
 use Rattle.period_writer.specs.declared.geometry.GeometryFault.{GeometryFault}
 use Rattle.period_writer.specs.Rings.{fault_of}
@@ -16,18 +22,18 @@ use Rattle.driver_progress.specs.declared.phase.Phase.TheVariants.{Reset, Settli
 use Rattle.sound_report.specs.declared.played.Played.{Played}
 use Rattle.sound_report.specs.declared.played.PlayFault.{PlayFault}
 use Rattle.sound_report.specs.declared.played.PlayFault.TheVariants as fault
-use Rattle.sound_report.specs.declared.status.Status.TheVariants.{OutOfMemory}
+use Rattle.sound_report.specs.declared.status.Status.TheVariants.{Done, OutOfMemory}
 use Rattle.sound_report.specs.Statuses.{number_of}
 use Rattle.scheduled_runs.specs.Walks.{IsWalkFault, IsWalked, walk_format}
 use Rattle.machine_tasks.specs.Tasks.{HavePlans}
-use Rattle.hda_program.specs.Answers.{HasEnded, HasEndedPlay, HasEndedWith, HasWritten, IsMeant, MachinePlays, MachineWalks, PlansPlay, PlansWalk, PlayAnswers, SchedulePlays, SoundPlays, WalkAnswers}
-use Rattle.hda_program.specs.Asks.{IsPlayOf, IsWalkOf}
+use Rattle.hda_program.specs.Answers.{HasEnded, HasEndedPlay, HasEndedWith, HasWritten, IsMeant, MachinePlays, MachineWalks, PlansPlay, PlansWalk, PlayAnswers, RouteAnswers, SchedulePlays, SoundPlays, WalkAnswers}
+use Rattle.hda_program.specs.Asks.{IsPlayOf, IsRouteOf, IsWalkOf}
 use Rattle.hda_program.specs.Causes.{IsOfPlay, IsOfWalk}
-use Rattle.hda_program.specs.Complete.{CanPlay, CanWalk, HasPlayedOn, HasWalkedOn}
-use Rattle.hda_program.specs.Meanings.{Meant, of_run, status_of}
+use Rattle.hda_program.specs.Complete.{CanPlay, CanRoute, CanWalk, HasPlayedOn, HasRoutes, HasWalkedOn}
+use Rattle.hda_program.specs.Meanings.{Meant, of_run, status_of, telling, unrouted}
 use Rattle.hda_program.specs.Plans.{have_route}
 use Rattle.hda_program.proofs.Endings.{not_route_and_play, not_route_and_walk, same_asked}
-use Rattle.hda_program.proofs.OneReading.{codec_unrefused, one_machine, one_plans, one_wav_format, schedule_unrefused, wav_unrefused}
+use Rattle.hda_program.proofs.OneReading.{codec_unrefused, one_format, one_machine, one_plans, one_wav_format, schedule_unrefused, wav_unrefused}
 
 -- ---- the statuses of runs
 
@@ -58,7 +64,7 @@ of_walk Failed sent of end is = absurd is
 
 walk_end : (machine : Machine) (plans : List Plan) (schedule : Schedule) (played : Played) → IsWalked machine plans schedule played → IsOfWalk (number_of (status_of played.fault))
 unfolding WalkEnd
-walk_end machine plans schedule played walked = of_walk walked.state.phase walked.state.sent played.commands played.fault walked.driven.fault
+walk_end machine plans schedule played walked = of_walk walked.state.phase walked.state.sent played.commands played.fault walked.ended
 
 -- ---- what is meant is a run
 
@@ -144,7 +150,77 @@ module _ (told : Option Files) (failed : List ℕ → Type 0) (codec name : List
   walk_meant : WalkAnswers told failed codec name meant → IsRunOf IsOfWalk meant
   walk_meant answers = let P : Option Files → Type 0 = λ t. WalkAnswers t failed codec name meant in walk_files (subst P can.tells answers)
 
+-- ---- `route`
+
+-- what is meant has the status of routes
+abbrev IsDone : Meant → Type 0
+IsDone meant = number_of meant.status ≡ number_of Done
+
+module _ (told : Option Files) (failed : List ℕ → Type 0) (name : List ℕ) (format : Format) (can : CanRoute told failed name format) (meant : Meant) where
+  abbrev HereRoute : Option Files
+  HereRoute = Some can.files
+
+  route_done : (machine : Machine) (plans : List Plan) → can.machine ≡ machine → HavePlans format machine.codecs plans → (some : Bool) → have_route plans ≡ some
+      → meant ≡ (if some then telling Done (plans_lines machine.codecs plans) else unrouted machine.codecs plans) → IsDone meant
+  route_done machine plans same planned true routed is = ap (λ (m : Meant). number_of m.status) is
+  route_done machine plans same planned false routed is =
+      let Q : Machine → Type 0 = λ m. HavePlans format m.codecs can.plans in absurd (same_routes format machine can.plans plans (subst Q same can.planned) planned can.routed routed)
+
+  route_file : RouteAnswers HereRoute failed name format meant → IsDone meant
+  route_file (inl (inl stop)) = absurd (can.given stop.0)
+  route_file (inl (inr stop)) = absurd (codec_unrefused can.files name stop.0 can.machine can.file stop.1)
+  route_file (inr (machine, file, (plans, planned, is))) = route_done machine plans (one_machine can.files name machine can.machine file can.file) planned (have_route plans) refl is
+
+  route_meant : RouteAnswers told failed name format meant → IsDone meant
+  route_meant answers = let P : Option Files → Type 0 = λ t. RouteAnswers t failed name format meant in route_file (subst P can.tells answers)
+
 -- ---- the words ask for one thing
+
+-- a format is that of its numbers
+rate_with : ℕ → Rate
+rate_with n = if n == 8000 then R8 else (if n == 16000 then R16 else (if n == 44100 then R44 else (if n == 48000 then R48 else (if n == 96000 then R96 else R192))))
+
+rate_again : (rate : Rate) → rate_with (hertz rate) ≡ rate
+unfolding rate_with
+rate_again R8 = refl
+rate_again R16 = refl
+rate_again R44 = refl
+rate_again R48 = refl
+rate_again R96 = refl
+rate_again R192 = refl
+
+bits_with : ℕ → Bits
+bits_with n = if n == 16 then B16 else (if n == 24 then B24 else B32)
+
+bits_again : (bits : Bits) → bits_with (bits_of bits) ≡ bits
+unfolding bits_with
+bits_again B16 = refl
+bits_again B24 = refl
+bits_again B32 = refl
+
+same_format : (one other : Format) → hertz other.rate ≡ hertz one.rate → bits_of other.bits ≡ bits_of one.bits → other.channels ≡ one.channels → other ≡ one
+same_format one other rates bits channels =
+    let rate_is : other.rate ≡ one.rate = sym (rate_again other.rate) ∙ ap rate_with rates ∙ rate_again one.rate in
+    let bits_is : other.bits ≡ one.bits = sym (bits_again other.bits) ∙ ap bits_with bits ∙ bits_again one.bits in
+    let first : layout other ≡ record (layout other) { rate = one.rate } = ap (λ (r : Rate). record (layout other) { rate = r }) rate_is in
+    let second : record (layout other) { rate = one.rate } ≡ record (layout other) { rate = one.rate; bits = one.bits } = ap (λ (b : Bits). record (layout other) { rate = one.rate; bits = b }) bits_is in
+    let third : record (layout other) { rate = one.rate; bits = one.bits } ≡ layout one = ap (λ (n : ℕ). record (layout other) { rate = one.rate; bits = one.bits; channels = n }) channels in
+    one_format one other (first ∙ second ∙ third)
+
+route_of_words : (told : Option Files) (failed : List ℕ → Type 0) (words : List (List ℕ)) (name : List ℕ) (format : Format) (meant : Meant) → IsRouteOf words name format
+    → IsMeant told failed words meant → RouteAnswers told failed name format meant
+route_of_words told failed words name format meant routes (inl refused) =
+    let bad : None ≡ Some (route name (hertz format.rate) (bits_of format.bits) format.channels) = sym refused.0 ∙ routes in cc
+route_of_words told failed words name format meant routes (inr (inl (first, other, asks, answers))) =
+    let same : route first (hertz other.rate) (bits_of other.bits) other.channels ≡ route name (hertz format.rate) (bits_of format.bits) format.channels = same_asked words _ _ asks routes in
+    let name_is : first ≡ name = cc in
+    let rates : hertz other.rate ≡ hertz format.rate = cc in
+    let bits : bits_of other.bits ≡ bits_of format.bits = cc in
+    let channels : other.channels ≡ format.channels = cc in
+    subst (λ (f : Format). RouteAnswers told failed name f meant) (same_format format other rates bits channels) (subst (λ (n : List ℕ). RouteAnswers told failed n other meant) name_is answers)
+route_of_words told failed words name format meant routes (inr (inr (inl (codec, schedule, asks, answers)))) = absurd (not_route_and_walk words name format codec schedule routes asks)
+route_of_words told failed words name format meant routes (inr (inr (inr (codec, wav, schedule, most, units, asks, answers)))) =
+    absurd (not_route_and_play words name format codec wav schedule most units routes asks)
 
 walk_of_words : (told : Option Files) (failed : List ℕ → Type 0) (words : List (List ℕ)) (codec name : List ℕ) (meant : Meant) → IsWalkOf words codec name
     → IsMeant told failed words meant → WalkAnswers told failed codec name meant
@@ -190,7 +266,18 @@ module _ (before after : Option (List ℕ)) (sink_failed : Type 0) (given : Opti
   ended_run CanMean IsOf run (inl answered) = written_run IsOf answered.meant (run answered.meant answered.is) answered.written
   ended_run CanMean IsOf run (inr memory) = inr memory.0
 
+  written_done : (meant : Meant) → IsDone meant → HasWritten before after sink_failed meant status → HasRoutes status
+  written_done meant is (inl whole) = inl (whole.0 ∙ is)
+  written_done meant is (inr (inl sink)) = absurd (sink_good sink.1)
+  written_done meant is (inr (inr memory)) = inr memory.0
+
   module _ (told : Option Files) (failed : List ℕ → Type 0) where
+    pub route_complete : (words : List (List ℕ)) (name : List ℕ) (format : Format) → IsRouteOf words name format → CanRoute told failed name format
+        → HasEnded told failed words before after sink_failed given status → HasRoutes status
+    route_complete words name format routes can (inl answered) =
+        written_done answered.meant (route_meant told failed name format can answered.meant (route_of_words told failed words name format answered.meant routes answered.is)) answered.written
+    route_complete words name format routes can (inr memory) = inr memory.0
+
     pub files_complete : (codec wav name : List ℕ) (periods period : ℕ) → CanPlay told failed codec wav name periods period
         → HasEndedPlay told failed codec wav name periods period before after sink_failed given status → HasPlayedOn status
     files_complete codec wav name periods period can ended =

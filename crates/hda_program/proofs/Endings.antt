@@ -12,7 +12,8 @@ use Rattle.sound_report.specs.declared.status.Status.TheVariants.{Done, WordsRef
 use Rattle.sound_report.specs.Statuses.{number_of}
 use Rattle.hda_program.specs.Answers.{HasEnded, HasEndedWith, HasWritten, IsMeant}
 use Rattle.hda_program.specs.Asks.{IsNoCommand, IsPlayOf, IsRouteOf, IsWalkOf}
-use Rattle.hda_program.specs.Causes.{HasBadCodecFile, HasBadRing, HasBadSchedule, HasBadWav, HasPlanned, HasReported, HasRun, HasUnreadFile, IsOfPlay, IsOfWalk, IsRunless}
+use Rattle.hda_program.specs.Causes.{HasBadCodecFile, HasBadRing, HasBadSchedule, HasBadWav, HasPlanned, HasUnreadFile, IsOfPlay, IsOfWalk, IsRunless}
+use Rattle.hda_program.specs.Promises.{HasRun, KeepsPromise}
 use Rattle.hda_program.specs.Meanings.{Meant, of_run, status_of, telling}
 use Rattle.hda_program.proofs.Cases.{Case, Cause as CauseOf, IsRouted, WordsCase, cases, ran, said}
 
@@ -202,17 +203,9 @@ module _ (Cause : Status → Type 0) (Run : Played → Type 0) (before after : O
   given P (inl answered) holds = of_given P answered.meant answered.is answered.given (λ played run e. holds answered.meant played run e answered.written)
   given P (inr memory) holds = subst (λ (o : Option Played). IfSome o P) (sym memory.1) tt
 
-  pub given_is : Ends → IfSome play Run
-  given_is ended = given Run ended (λ meant played run e written. run)
-
-  reported_as : (played : Played) → HasWritten before after sink_failed (of_run played) status → HasReported before after played status
-  reported_as played (inl whole) = inl whole
-  reported_as played (inr (inl sink)) = inr (inl sink.0, sink.2)
-  reported_as played (inr (inr memory)) = inr (inr memory.0, memory.1)
-
-  pub given_reported : Ends → IfSome play (λ played. HasReported before after played status)
-  given_reported ended = given (λ played. HasReported before after played status) ended (λ meant played run e written.
-      reported_as played (subst (λ (m : Meant). HasWritten before after sink_failed m status) e written))
+  pub promise_kept : Ends → IfSome play (KeepsPromise Run before after sink_failed status)
+  promise_kept ended = given (KeepsPromise Run before after sink_failed status) ended (λ meant played run e written.
+      record { run = run; text = subst (λ (m : Meant). HasWritten before after sink_failed m status) e written })
 
   none_given : (o : Option Played) → IfSome o (λ played. ⊥) → IsNone o
   none_given None holds = refl
@@ -300,11 +293,8 @@ module _ (told : Option Files) (failed : List ℕ → Type 0) (words : List (Lis
   pub sink_faulted : HasEnded told failed words before after sink_failed play status → status ≡ 4 → sink_failed
   sink_faulted ended four = sink_at_fault CauseHere RunHere before after sink_failed play status (λ none. none) (by_words ended) four
 
-  pub run_given : HasEnded told failed words before after sink_failed play status → IfSome play (HasRun told words)
-  run_given ended = given_is CauseHere RunHere before after sink_failed play status (by_words ended)
-
-  pub run_reported : HasEnded told failed words before after sink_failed play status → IfSome play (λ played. HasReported before after played status)
-  run_reported ended = given_reported CauseHere RunHere before after sink_failed play status (by_words ended)
+  pub run_promised : HasEnded told failed words before after sink_failed play status → IfSome play (KeepsPromise (HasRun told words) before after sink_failed status)
+  run_promised ended = promise_kept CauseHere RunHere before after sink_failed play status (by_words ended)
 
   pub runless : HasEnded told failed words before after sink_failed play status → IsRunless status → IsNone play
   runless ended is = none_at CauseHere RunHere before after sink_failed play status (by_words ended) is

@@ -1,4 +1,5 @@
 mod ReadLemmas
+mod WriteLemmas
 mod WalkLemmas
 mod PlayLemmas
 mod Cases

@@ -93,7 +93,7 @@ format_as format l same =
     subst (λ (l : Layout). (even : l.channels % 2 ≡ 0) (some : 2 ≤ l.channels) (few : l.channels ≤ 8) → format ≡ made l even some few) same
     (λ even some few. made_once (layout format) format.even even format.some some format.few few)
 
-one_format : (one other : Format) → layout other ≡ layout one → other ≡ one
+pub one_format : (one other : Format) → layout other ≡ layout one → other ≡ one
 unfolding made
 one_format one other same = format_as other (layout one) same one.even one.some one.few
 

@@ -10,7 +10,7 @@ use Rattle.sound_report.specs.declared.status.Status.{Status}
 use Rattle.sound_report.specs.declared.status.Status.TheVariants.{Done, WordsRefused, ShelfFailed, SinkFailed, CodecRefused, WavRefused, ScheduleRefused, NothingRouted, Unanswered, Late, ScheduleEnded, OutOfMemory, GeometryRefused}
 use Rattle.machine_tasks.specs.Tasks.{HavePlans}
 use Rattle.hda_program.specs.Answers.{MachinePlays, PlansPlay, PlayAnswers, SchedulePlays, SoundPlays}
-use Rattle.hda_program.specs.Causes.{HasPlayedFiles}
+use Rattle.hda_program.specs.Promises.{HasPlayedFiles}
 use Rattle.hda_program.specs.Files.{IsMachineOf, IsScheduleOf, IsWavOf}
 use Rattle.hda_program.specs.Meanings.{Meant}
 use Rattle.hda_program.specs.Rings.{IsRingOf}

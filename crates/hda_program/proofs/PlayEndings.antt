@@ -4,9 +4,10 @@ use Rattle.std.specs.Prelude.{IfSome, IsNone, IsSome}
 use Rattle.hda_outside.specs.Shelf.{Files}
 use Rattle.sound_report.specs.declared.played.Played.{Played}
 use Rattle.hda_program.specs.Answers.{HasEndedPlay, HasEndedWith, PlayAnswers}
-use Rattle.hda_program.specs.Causes.{HasPlayedFiles, HasReported, IsOfPlay, IsRunless}
+use Rattle.hda_program.specs.Causes.{IsOfPlay, IsRunless}
+use Rattle.hda_program.specs.Promises.{HasPlayedFiles, KeepsPromise}
 use Rattle.hda_program.proofs.Cases.{Case}
-use Rattle.hda_program.proofs.Endings.{by_cases, given_is, given_reported, none_at, some_at}
+use Rattle.hda_program.proofs.Endings.{by_cases, none_at, promise_kept, some_at}
 use Rattle.hda_program.proofs.PlayCases.{IsRefusal, play_cases}
 
 module _ (told : Option Files) (failed : List ℕ → Type 0) (codec wav name : List ℕ) (periods period : ℕ) (before after : Option (List ℕ)) (sink_failed : Type 0) (play : Option Played) (status : ℕ) where
@@ -20,11 +21,8 @@ module _ (told : Option Files) (failed : List ℕ → Type 0) (codec wav name : 
   by_files ended =
       by_cases (PlayAnswers told failed codec wav name periods period) (Case IsRefusal Run) before after sink_failed play status (play_cases told failed codec wav name periods period) ended
 
-  pub files_run : HasEndedHere → IfSome play (HasPlayedFiles told codec wav name periods period)
-  files_run ended = given_is IsRefusal Run before after sink_failed play status (by_files ended)
-
-  pub files_reported : HasEndedHere → IfSome play (λ played. HasReported before after played status)
-  files_reported ended = given_reported IsRefusal Run before after sink_failed play status (by_files ended)
+  pub files_promised : HasEndedHere → IfSome play (KeepsPromise (HasPlayedFiles told codec wav name periods period) before after sink_failed status)
+  files_promised ended = promise_kept IsRefusal Run before after sink_failed play status (by_files ended)
 
   pub files_runless : HasEndedHere → IsRunless status → IsNone play
   files_runless ended is = none_at IsRefusal Run before after sink_failed play status (by_files ended) is

@@ -1,24 +1,18 @@
--- The causes of single statuses, and what the run that is given is. This project's own.
-use Rattle.std.specs.Prelude.{◌≡◌, ◌⊎◌, ℕ, Bool, true, List, Option}
+-- The causes of single statuses, and when a run is given. This project's own.
+use Rattle.std.specs.Prelude.{◌≡◌, ◌⊎◌, ℕ, Bool, List, Option}
 use Rattle.stream_format.specs.declared.format.Format.{Format}
 use Rattle.route_planner.specs.declared.routes.Plan.{Plan}
 use Rattle.hda_files.specs.declared.machine.Machine.{Machine}
 use Rattle.hda_outside.specs.Shelf.{Files}
-use Rattle.hda_outside.specs.Sink.{taken_with, TookFront}
 use Rattle.hda_schedule.specs.declared.schedule.Schedule.{Schedule}
-use Rattle.period_writer.specs.declared.geometry.Geometry.{Geometry}
 use Rattle.period_writer.specs.declared.geometry.GeometryFault.{GeometryFault}
 use Rattle.wav_reader.specs.declared.wav.Wav.{Wav}
-use Rattle.sound_report.specs.declared.played.Played.{Played}
-use Rattle.sound_report.specs.declared.status.Status.TheVariants.{Done, WordsRefused, ShelfFailed, SinkFailed, CodecRefused, WavRefused, ScheduleRefused, NothingRouted, Unanswered, Late, ScheduleEnded, OutOfMemory, GeometryRefused}
+use Rattle.sound_report.specs.declared.status.Status.TheVariants.{Done, WordsRefused, ShelfFailed, CodecRefused, WavRefused, ScheduleRefused, NothingRouted, Unanswered, Late, ScheduleEnded, GeometryRefused}
 use Rattle.sound_report.specs.Statuses.{number_of}
-use Rattle.sound_report.specs.Texts.{text_of}
 use Rattle.hda_program.specs.Asks.{Names, NamesCodecFile, IsRouteOf, IsWalkOf, IsPlayOf}
-use Rattle.scheduled_runs.specs.Walks.{walk_format, IsWalked}
-use Rattle.scheduled_runs.specs.Plays.{IsPlayed}
+use Rattle.scheduled_runs.specs.Walks.{walk_format}
 use Rattle.hda_program.specs.Files.{IsMachineOf, IsWavOf, IsScheduleOf, IsCodecRefused, IsWavRefused, IsScheduleRefused}
-use Rattle.hda_program.specs.Rings.{IsRingOf, IsBadRing}
-use Rattle.hda_program.specs.Meanings.{status_of}
+use Rattle.hda_program.specs.Rings.{IsBadRing}
 use Rattle.machine_tasks.specs.Tasks.{HavePlans}
 use Rattle.hda_program.specs.Plans.{have_route}
 
@@ -100,57 +94,6 @@ pub record HasPlanned (told : Option Files) (words : List (List ℕ)) (some : Bo
   pub file : IsMachineOf told name machine
   pub planned : HavePlans format machine.codecs plans
   pub routed : have_route plans ≡ some
-
--- the run is that for which the words ask: of the machine that their codec file reads as, with its plans, by their schedule
-pub record HasWalked (told : Option Files) (words : List (List ℕ)) (played : Played) : Type 0 where
-  pub codec : List ℕ
-  pub name : List ℕ
-  pub machine : Machine
-  pub plans : List Plan
-  pub schedule : Schedule
-  pub asks : IsWalkOf words codec name
-  pub file : IsMachineOf told codec machine
-  pub steps : IsScheduleOf told name schedule
-  pub planned : HavePlans walk_format machine.codecs plans
-  pub routed : have_route plans ≡ true
-  pub run : IsWalked machine plans schedule played
-
--- the run is that of the sound that the WAV file of the second name reads as, through the machine that the codec file of the first reads as
--- and a ring of these numbers, with the plans for that sound, by the schedule of the third
-pub record HasPlayedFiles (told : Option Files) (codec wav name : List ℕ) (periods period : ℕ) (played : Played) : Type 0 where
-  pub machine : Machine
-  pub sound : Wav
-  pub geometry : Geometry
-  pub schedule : Schedule
-  pub plans : List Plan
-  pub file : IsMachineOf told codec machine
-  pub sound_file : IsWavOf told wav sound
-  pub steps : IsScheduleOf told name schedule
-  pub geometry_is : IsRingOf periods period machine sound geometry
-  pub planned : HavePlans sound.format machine.codecs plans
-  pub routed : have_route plans ≡ true
-  pub run : IsPlayed machine plans sound geometry schedule played
-
--- the run is that for which the words ask: of the files that they name, and the ring of their numbers
-pub record HasPlayed (told : Option Files) (words : List (List ℕ)) (played : Played) : Type 0 where
-  pub codec : List ℕ
-  pub wav : List ℕ
-  pub name : List ℕ
-  pub periods : ℕ
-  pub period : ℕ
-  pub asks : IsPlayOf words codec wav name periods period
-  pub files : HasPlayedFiles told codec wav name periods period played
-
--- the run is the walk for which the words ask, or the play
-abbrev pub HasRun : Option Files → List (List ℕ) → Played → Type 0
-HasRun told words played = HasWalked told words played ⊎ HasPlayed told words played
-
--- the report of the run was written whole, and the status is that of its end; or its front was, and the sink failed or memory was
--- wanting
-abbrev pub HasReported : Option (List ℕ) → Option (List ℕ) → Played → ℕ → Type 0
-HasReported before after played status =
-    ((status ≡ number_of (status_of played.fault)) × (after ≡ taken_with before (text_of played)))
-    ⊎ (((status ≡ number_of SinkFailed) ⊎ (status ≡ number_of OutOfMemory)) × TookFront before after (text_of played))
 
 -- a status at which no run was made
 abbrev pub IsRunless : ℕ → Type 0

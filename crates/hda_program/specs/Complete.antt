@@ -1,12 +1,13 @@
--- When a command finds nothing to refuse, so that it comes to its run. This project's own.
+-- When a command finds nothing to refuse, so that it comes to its routes or its run. This project's own.
 use Rattle.std.specs.Prelude.{◌≡◌, ◌⊎◌, ℕ, true, List, Option, Some, None}
+use Rattle.stream_format.specs.declared.format.Format.{Format}
 use Rattle.route_planner.specs.declared.routes.Plan.{Plan}
 use Rattle.hda_outside.specs.Shelf.{Files}
 use Rattle.hda_files.specs.declared.machine.Machine.{Machine}
 use Rattle.hda_schedule.specs.declared.schedule.Schedule.{Schedule}
 use Rattle.period_writer.specs.Rings.{fault_of}
 use Rattle.wav_reader.specs.declared.wav.Wav.{Wav}
-use Rattle.sound_report.specs.declared.status.Status.TheVariants.{OutOfMemory}
+use Rattle.sound_report.specs.declared.status.Status.TheVariants.{Done, OutOfMemory}
 use Rattle.sound_report.specs.Statuses.{number_of}
 use Rattle.scheduled_runs.specs.Walks.{walk_format}
 use Rattle.machine_tasks.specs.Tasks.{HavePlans}
@@ -33,6 +34,17 @@ pub record CanPlay (told : Option Files) (failed : List ℕ → Type 0) (codec w
   pub planned : HavePlans sound.format machine.codecs plans
   pub routed : have_route plans ≡ true
 
+-- the shelf tells its files and did not fail under this name, whose file reads as a machine, and some pin has a route for the format
+pub record CanRoute (told : Option Files) (failed : List ℕ → Type 0) (name : List ℕ) (format : Format) : Type 0 where
+  pub files : Files
+  pub machine : Machine
+  pub plans : List Plan
+  pub tells : told ≡ Some files
+  pub given : failed name → ⊥
+  pub file : IsMachineOf (Some files) name machine
+  pub planned : HavePlans format machine.codecs plans
+  pub routed : have_route plans ≡ true
+
 -- the shelf tells its files and failed under neither name, whose files read as a machine and a schedule, and some pin has a route for the
 -- format of walks
 pub record CanWalk (told : Option Files) (failed : List ℕ → Type 0) (codec name : List ℕ) : Type 0 where
@@ -55,3 +67,7 @@ HasPlayedOn status = IsOfPlay status ⊎ (status ≡ number_of OutOfMemory)
 -- the status is that of a walk that was run, or memory was wanting
 abbrev pub HasWalkedOn : ℕ → Type 0
 HasWalkedOn status = IsOfWalk status ⊎ (status ≡ number_of OutOfMemory)
+
+-- the status is that of routes, or memory was wanting
+abbrev pub HasRoutes : ℕ → Type 0
+HasRoutes status = (status ≡ number_of Done) ⊎ (status ≡ number_of OutOfMemory)

@@ -7,4 +7,5 @@ pub mod Files
 pub mod Rings
 pub mod Answers
 pub mod Causes
+pub mod Promises
 pub mod Complete

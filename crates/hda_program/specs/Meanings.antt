@@ -1,12 +1,14 @@
 -- What a command comes to: a status and a text, and the run of the driver that it made, if it made one. This project's own.
-use Rattle.std.specs.Prelude.{ℕ, List, ◌++◌, string_bytes, Option, Some, None}
+use Rattle.std.specs.Prelude.{ℕ, List, ◌++◌, string_bytes, Option, Some, None, Result, Ok, Err}
 use Rattle.route_planner.specs.declared.routes.Plan.{Plan}
 use Rattle.hda_files.specs.declared.machine.CodecFile.{CodecFile}
+use Rattle.hda_outside.specs.declared.fault.Fault.{Fault}
+use Rattle.hda_outside.specs.declared.fault.Fault.TheVariants as outside
 use Rattle.sound_report.specs.declared.played.Played.{Played}
 use Rattle.sound_report.specs.declared.played.PlayFault.{PlayFault}
 use Rattle.sound_report.specs.declared.played.PlayFault.TheVariants as fault
 use Rattle.sound_report.specs.declared.status.Status.{Status}
-use Rattle.sound_report.specs.declared.status.Status.TheVariants.{Done, NothingRouted, Unanswered, Late, ScheduleEnded}
+use Rattle.sound_report.specs.declared.status.Status.TheVariants.{Done, SinkFailed, NothingRouted, Unanswered, Late, ScheduleEnded, OutOfMemory}
 use Rattle.sound_report.specs.PlanLines.{plans_lines}
 use Rattle.sound_report.specs.Texts.{text_of}
 use Rattle.hda_program.specs.declared.message.Message.{Message}
@@ -30,6 +32,12 @@ status_of (Some (fault.Unanswered codec command issued noticed)) = Unanswered
 status_of (Some (fault.Late from to limit)) = Late
 status_of (Some (fault.CommandsLeft sent of)) = ScheduleEnded
 status_of (Some (fault.FramesLeft written heard of)) = ScheduleEnded
+
+-- what the status of a text comes to once it was written: its own, or that of the fault
+abbrev pub written_status : Result (Unit {0}) Fault → Status → Status
+written_status (Ok done) status = status
+written_status (Err outside.Failed) status = SinkFailed
+written_status (Err outside.OutOfMemory) status = OutOfMemory
 
 -- a run, with its report for a text
 abbrev pub of_run : Played → Meant

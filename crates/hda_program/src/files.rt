@@ -3,7 +3,8 @@ ghost use Rattle.std.specs.Prelude.{◌≡◌, ◌≢◌, ◌≤◌, ℕ, List, 
 ghost use Rattle.hda_outside.specs.Counts.{Rose};
 ghost use Rattle.hda_words.specs.Asked.{IsRingInRange};
 ghost use Rattle.hda_program.specs.Answers.{HasEndedPlay};
-ghost use Rattle.hda_program.specs.Causes.{HasPlayedFiles, HasReported, IsOfPlay, IsRunless};
+ghost use Rattle.hda_program.specs.Causes.{IsOfPlay, IsRunless};
+ghost use Rattle.hda_program.specs.Promises.{HasPlayedFiles, KeepsPromise};
 ghost use Rattle.hda_program.specs.Complete.{CanPlay, HasPlayedOn};
 
 use crate::play::answer_play;
@@ -13,9 +14,10 @@ use sound_report::Status;
 use std::alloc::Global;
 
 /// Plays the sound of the WAV file through the machine of the codec file, by the schedule, and writes its text, as `play` does with
-/// these names. The ring has so many periods of so many units.
+/// these names. The ring has 2 to 32 periods of 1 to 128 units, each of 384 bytes.
 ///
-/// It ends with 0 where all frames of sound were played, and gives its run of the driver also where its text could not be written.
+/// It ends with a status of [`Status`]: 0 where all frames of sound were played. Its run of the driver is given also where its text could
+/// not be written.
 pub fn play_files<S: Shelf, K: Sink>(
     alloc: Global,
     shelf: &mut S,
@@ -32,9 +34,9 @@ pub fn play_files<S: Shelf, K: Sink>(
     ensures ended { HasEndedPlay (S.told shelf.old) (λ name. Rose (S.faults shelf.old name) (S.faults shelf.new name))
         codec.now wav.now schedule.now periods period (K.taken out.old) (K.taken out.new) (Rose (K.faults out.old) (K.faults out.new)) result.play result.status }
 
-    // The run that is given is that of these files and this ring, and its report was written.
-    ensures run_is { IfSome result.play (HasPlayedFiles (S.told shelf.old) codec.now wav.now schedule.now periods period) }
-    ensures reported { IfSome result.play (λ played. HasReported (K.taken out.old) (K.taken out.new) played result.status) }
+    // The promise of `play`: the run that is given is that of these files and this ring, and its report was written.
+    ensures promise { IfSome result.play (KeepsPromise (HasPlayedFiles (S.told shelf.old) codec.now wav.now schedule.now periods period)
+        (K.taken out.old) (K.taken out.new) (Rose (K.faults out.old) (K.faults out.new)) result.status) }
 
     // When a run is given.
     ensures runless { IsRunless result.status → IsNone result.play }

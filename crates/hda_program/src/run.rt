@@ -5,13 +5,14 @@ ghost use Rattle.hda_outside.specs.Counts.{Rose};
 ghost use Rattle.sound_report.specs.Statuses.{number_of};
 ghost use Rattle.hda_program.specs.Answers.{HasEnded, HasWritten};
 ghost use Rattle.hda_program.specs.Asks.{AsksForItsFiles, IsNoCommand, IsPlayOf, IsRouteOf, IsWalkOf};
-ghost use Rattle.hda_program.specs.Causes.{HasBadCodecFile, HasBadRing, HasBadSchedule, HasBadWav, HasPlanned, HasReported, HasRun, HasUnreadFile, IsOfPlay, IsOfWalk, IsRunless};
-ghost use Rattle.hda_program.specs.Complete.{CanPlay, CanWalk, HasPlayedOn, HasWalkedOn};
-ghost use Rattle.hda_program.specs.Meanings.{answer_meant, of_run, status_of, telling};
+ghost use Rattle.hda_program.specs.Causes.{HasBadCodecFile, HasBadRing, HasBadSchedule, HasBadWav, HasPlanned, HasUnreadFile, IsOfPlay, IsOfWalk, IsRunless};
+ghost use Rattle.hda_program.specs.Promises.{HasRun, KeepsPromise};
+ghost use Rattle.hda_program.specs.Complete.{CanPlay, CanRoute, CanWalk, HasPlayedOn, HasRoutes, HasWalkedOn};
+ghost use Rattle.hda_program.specs.Meanings.{answer_meant, of_run, status_of, telling, written_status};
 
 use crate::answer::{Answer, answer_words};
 use hda_outside::{Fault, Shelf, Sink, write_all};
-use sound_report::{PlayFault, Played, Status, report};
+use sound_report::{PlayFault, Played, Status, write_report};
 use std::alloc::Global;
 
 /// How the program ended. This project's own.
@@ -27,7 +28,7 @@ pub struct Ended {
 ///
 /// The statuses are those of [`Status`]. `route` ends with 0 where some pin has a route, `walk` where all codecs were set up, `play`
 /// where all frames of sound were played. `walk` and `play` give their run of the driver, also where its text could not be written. Where
-/// their files and the ring are good, some pin has a route and neither shelf nor sink fails, they refuse nothing.
+/// the files and the ring are good, some pin has a route and neither shelf nor sink fails, nothing is refused.
 pub fn hda_main<S: Shelf, K: Sink>(
     alloc: Global,
     words: &[String],
@@ -38,9 +39,9 @@ pub fn hda_main<S: Shelf, K: Sink>(
     ensures ended { HasEnded (S.told shelf.old) (λ name. Rose (S.faults shelf.old name) (S.faults shelf.new name))
         (map string_bytes words.now) (K.taken out.old) (K.taken out.new) (Rose (K.faults out.old) (K.faults out.new)) result.play result.status }
 
-    // The run that is given is the one that the words ask for, and its report was written.
-    ensures run_is { IfSome result.play (HasRun (S.told shelf.old) (map string_bytes words.now)) }
-    ensures reported { IfSome result.play (λ played. HasReported (K.taken out.old) (K.taken out.new) played result.status) }
+    // The promise of `walk` and of `play`: the run that is given is the one that the words ask for, and its report was written.
+    ensures promise { IfSome result.play (KeepsPromise (HasRun (S.told shelf.old) (map string_bytes words.now))
+        (K.taken out.old) (K.taken out.new) (Rose (K.faults out.old) (K.faults out.new)) result.status) }
 
     // When a run is given.
     ensures runless { IsRunless result.status → IsNone result.play }
@@ -62,6 +63,9 @@ pub fn hda_main<S: Shelf, K: Sink>(
     ensures unwritten { result.status ≡ number_of Status.SinkFailed → Rose (K.faults out.old) (K.faults out.new) }
 
     // Good files and a good ring are not refused.
+    ensures route_completes { (name : List ℕ) (format : Format) → IsRouteOf (map string_bytes words.now) name format
+        → CanRoute (S.told shelf.old) (λ name. Rose (S.faults shelf.old name) (S.faults shelf.new name)) name format
+        → (Rose (K.faults out.old) (K.faults out.new) → ⊥) → HasRoutes result.status }
     ensures walk_completes { (codec schedule : List ℕ) → IsWalkOf (map string_bytes words.now) codec schedule
         → CanWalk (S.told shelf.old) (λ name. Rose (S.faults shelf.old name) (S.faults shelf.new name)) codec schedule
         → (Rose (K.faults out.old) (K.faults out.new) → ⊥) → HasWalkedOn result.status }
@@ -98,7 +102,7 @@ pub fn write_answer<K: Sink>(alloc: Global, out: &mut K, answer: Answer) -> Ende
             play: None,
         },
         Answer::Run(played) => Ended {
-            status: write_report(alloc, out, &played).number(),
+            status: write_run(alloc, out, &played).number(),
             play: Some(played),
         },
     }
@@ -109,21 +113,25 @@ fn write_text<K: Sink>(alloc: Global, out: &mut K, text: &[u8], status: Status) 
     ensures written { HasWritten (K.taken out.old) (K.taken out.new) (Rose (K.faults out.old) (K.faults out.new)) (telling status text.now) (number_of result) }
     ensures later { K.faults out.old ≤ K.faults out.new }
 {
-    match write_all(alloc, out, text) {
-        Ok(()) => status,
-        Err(Fault::Failed) => Status::SinkFailed,
-        Err(Fault::OutOfMemory) => Status::OutOfMemory,
-    }
+    written_status(write_all(alloc, out, text), status)
 }
 
 /// Writes the report of a run, and gives the status of its end, or that of the fault.
-fn write_report<K: Sink>(alloc: Global, out: &mut K, played: &Played) -> Status
+fn write_run<K: Sink>(alloc: Global, out: &mut K, played: &Played) -> Status
     ensures written { HasWritten (K.taken out.old) (K.taken out.new) (Rose (K.faults out.old) (K.faults out.new)) (of_run played.now) (number_of result) }
     ensures later { K.faults out.old ≤ K.faults out.new }
 {
-    match report(alloc, played) {
-        Ok(text) => write_text(alloc, out, text.as_slice(), status_of(played.fault)),
-        Err(_) => Status::OutOfMemory,
+    written_status(write_report(alloc, out, played), status_of(played.fault))
+}
+
+/// The status of a text that was written so: its own, or that of the fault.
+fn written_status(written: Result<(), Fault>, status: Status) -> Status
+    ensures { result ≡ written_status written status }
+{
+    match written {
+        Ok(()) => status,
+        Err(Fault::Failed) => Status::SinkFailed,
+        Err(Fault::OutOfMemory) => Status::OutOfMemory,
     }
 }
 

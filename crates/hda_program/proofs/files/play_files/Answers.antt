@@ -2,17 +2,11 @@ use Rattle.std.proofs.Common.{inl}
 use Rattle.hda_outside.specs.Counts.{Rose}
 use Rattle.hda_program.specs.Meanings.{answer_meant}
 use Rattle.hda_program.proofs.Complete.{files_complete}
-use Rattle.hda_program.proofs.PlayEndings.{files_reported, files_run, files_runless, files_runs}
+use Rattle.hda_program.proofs.PlayEndings.{files_promised, files_runless, files_runs}
 use Rattle.hda_program.proofs.files.play_files.Goals as goal
 
-pub returns-in-Ok-clause-run_is : goal.returns-in-Ok-clause-run_is
-returns-in-Ok-clause-run_is g c = files_run (g.S.Shelf.told c.args.shelf.now) (λ name. Rose (g.S.Shelf.faults c.args.shelf.now name) (g.S.Shelf.faults c.answer_play.new.shelf name))
-    c.args.codec.now c.args.wav.now c.args.schedule.now c.args.periods c.args.period (g.K.Sink.taken c.args.out.now) (g.K.Sink.taken c.write_answer.new.out)
-    (Rose (g.K.Sink.faults c.args.out.now) (g.K.Sink.faults c.write_answer.new.out)) c.write_answer.result.play c.write_answer.result.status
-    (inl (record { meant = answer_meant c.in-Ok.answer; is = c.in-Ok.ensures.answers; given = c.write_answer.ensures.play; written = c.write_answer.ensures.written }))
-
-pub returns-in-Ok-clause-reported : goal.returns-in-Ok-clause-reported
-returns-in-Ok-clause-reported g c = files_reported (g.S.Shelf.told c.args.shelf.now) (λ name. Rose (g.S.Shelf.faults c.args.shelf.now name) (g.S.Shelf.faults c.answer_play.new.shelf name))
+pub returns-in-Ok-clause-promise : goal.returns-in-Ok-clause-promise
+returns-in-Ok-clause-promise g c = files_promised (g.S.Shelf.told c.args.shelf.now) (λ name. Rose (g.S.Shelf.faults c.args.shelf.now name) (g.S.Shelf.faults c.answer_play.new.shelf name))
     c.args.codec.now c.args.wav.now c.args.schedule.now c.args.periods c.args.period (g.K.Sink.taken c.args.out.now) (g.K.Sink.taken c.write_answer.new.out)
     (Rose (g.K.Sink.faults c.args.out.now) (g.K.Sink.faults c.write_answer.new.out)) c.write_answer.result.play c.write_answer.result.status
     (inl (record { meant = answer_meant c.in-Ok.answer; is = c.in-Ok.ensures.answers; given = c.write_answer.ensures.play; written = c.write_answer.ensures.written }))

@@ -1,18 +1,12 @@
 use Rattle.std.proofs.Common.{map, string_bytes, inl}
 use Rattle.hda_outside.specs.Counts.{Rose}
 use Rattle.hda_program.specs.Meanings.{answer_meant}
-use Rattle.hda_program.proofs.Complete.{play_complete, walk_complete}
-use Rattle.hda_program.proofs.Endings.{refused_words, sink_faulted, run_given, run_reported, runless, route_runless, walk_runs, play_runs, shelf_failed, refused_codec, refused_wav, refused_schedule, refused_geometry, was_routed, was_unrouted}
+use Rattle.hda_program.proofs.Complete.{play_complete, route_complete, walk_complete}
+use Rattle.hda_program.proofs.Endings.{refused_words, sink_faulted, run_promised, runless, route_runless, walk_runs, play_runs, shelf_failed, refused_codec, refused_wav, refused_schedule, refused_geometry, was_routed, was_unrouted}
 use Rattle.hda_program.proofs.run.hda_main.Goals as goal
 
-pub returns-in-Ok-clause-run_is : goal.returns-in-Ok-clause-run_is
-returns-in-Ok-clause-run_is g c = run_given (g.S.Shelf.told c.args.shelf.now) (λ name. Rose (g.S.Shelf.faults c.args.shelf.now name) (g.S.Shelf.faults c.answer_words.new.shelf name))
-    (map string_bytes c.args.words.now) (g.K.Sink.taken c.args.out.now) (g.K.Sink.taken c.write_answer.new.out) (Rose (g.K.Sink.faults c.args.out.now) (g.K.Sink.faults c.write_answer.new.out))
-    c.write_answer.result.play c.write_answer.result.status
-    (inl (record { meant = answer_meant c.in-Ok.answer; is = c.in-Ok.ensures.meant; given = c.write_answer.ensures.play; written = c.write_answer.ensures.written }))
-
-pub returns-in-Ok-clause-reported : goal.returns-in-Ok-clause-reported
-returns-in-Ok-clause-reported g c = run_reported (g.S.Shelf.told c.args.shelf.now) (λ name. Rose (g.S.Shelf.faults c.args.shelf.now name) (g.S.Shelf.faults c.answer_words.new.shelf name))
+pub returns-in-Ok-clause-promise : goal.returns-in-Ok-clause-promise
+returns-in-Ok-clause-promise g c = run_promised (g.S.Shelf.told c.args.shelf.now) (λ name. Rose (g.S.Shelf.faults c.args.shelf.now name) (g.S.Shelf.faults c.answer_words.new.shelf name))
     (map string_bytes c.args.words.now) (g.K.Sink.taken c.args.out.now) (g.K.Sink.taken c.write_answer.new.out) (Rose (g.K.Sink.faults c.args.out.now) (g.K.Sink.faults c.write_answer.new.out))
     c.write_answer.result.play c.write_answer.result.status
     (inl (record { meant = answer_meant c.in-Ok.answer; is = c.in-Ok.ensures.meant; given = c.write_answer.ensures.play; written = c.write_answer.ensures.written }))
@@ -93,6 +87,13 @@ pub returns-in-Ok-clause-unwritten : goal.returns-in-Ok-clause-unwritten
 returns-in-Ok-clause-unwritten g c = sink_faulted (g.S.Shelf.told c.args.shelf.now) (λ name. Rose (g.S.Shelf.faults c.args.shelf.now name) (g.S.Shelf.faults c.answer_words.new.shelf name))
     (map string_bytes c.args.words.now) (g.K.Sink.taken c.args.out.now) (g.K.Sink.taken c.write_answer.new.out) (Rose (g.K.Sink.faults c.args.out.now) (g.K.Sink.faults c.write_answer.new.out))
     c.write_answer.result.play c.write_answer.result.status
+    (inl (record { meant = answer_meant c.in-Ok.answer; is = c.in-Ok.ensures.meant; given = c.write_answer.ensures.play; written = c.write_answer.ensures.written }))
+
+pub returns-in-Ok-clause-route_completes : goal.returns-in-Ok-clause-route_completes
+returns-in-Ok-clause-route_completes g c = λ name format routes can sink. route_complete (g.K.Sink.taken c.args.out.now) (g.K.Sink.taken c.write_answer.new.out)
+    (Rose (g.K.Sink.faults c.args.out.now) (g.K.Sink.faults c.write_answer.new.out)) c.write_answer.result.play c.write_answer.result.status sink
+    (g.S.Shelf.told c.args.shelf.now) (λ name. Rose (g.S.Shelf.faults c.args.shelf.now name) (g.S.Shelf.faults c.answer_words.new.shelf name))
+    (map string_bytes c.args.words.now) name format routes can
     (inl (record { meant = answer_meant c.in-Ok.answer; is = c.in-Ok.ensures.meant; given = c.write_answer.ensures.play; written = c.write_answer.ensures.written }))
 
 pub returns-in-Ok-clause-walk_completes : goal.returns-in-Ok-clause-walk_completes

@@ -1,0 +1,72 @@
+-- The promises of `walk` and of `play`: what the run is that is given, part by part, and the text that was written of it. This project's own.
+use Rattle.std.specs.Prelude.{◌≡◌, ◌⊎◌, ℕ, true, List, Option}
+use Rattle.route_planner.specs.declared.routes.Plan.{Plan}
+use Rattle.hda_files.specs.declared.machine.Machine.{Machine}
+use Rattle.hda_outside.specs.Shelf.{Files}
+use Rattle.hda_schedule.specs.declared.schedule.Schedule.{Schedule}
+use Rattle.period_writer.specs.declared.geometry.Geometry.{Geometry}
+use Rattle.wav_reader.specs.declared.wav.Wav.{Wav}
+use Rattle.sound_report.specs.declared.played.Played.{Played}
+use Rattle.hda_program.specs.Asks.{IsWalkOf, IsPlayOf}
+use Rattle.scheduled_runs.specs.Walks.{walk_format, IsWalked}
+use Rattle.scheduled_runs.specs.Plays.{IsPlayed}
+use Rattle.hda_program.specs.Files.{IsMachineOf, IsWavOf, IsScheduleOf}
+use Rattle.hda_program.specs.Rings.{IsRingOf}
+use Rattle.hda_program.specs.Answers.{HasWritten}
+use Rattle.hda_program.specs.Meanings.{of_run}
+use Rattle.machine_tasks.specs.Tasks.{HavePlans}
+use Rattle.hda_program.specs.Plans.{have_route}
+
+-- the run is that for which the words ask: of the machine that their codec file reads as, with its plans, by their schedule
+pub record HasWalked (told : Option Files) (words : List (List ℕ)) (played : Played) : Type 0 where
+  pub codec : List ℕ
+  pub name : List ℕ
+  pub machine : Machine
+  pub schedule : Schedule
+  pub plans : List Plan
+  pub asks : IsWalkOf words codec name
+  -- the input: what the two files read as, and the plans of the machine's codecs, of which some has a route
+  pub file : IsMachineOf told codec machine
+  pub steps : IsScheduleOf told name schedule
+  pub planned : HavePlans walk_format machine.codecs plans
+  pub routed : have_route plans ≡ true
+  -- one history, progress, open routes, and how it ended
+  pub run : IsWalked machine plans schedule played
+
+-- the run is that of the sound that the WAV file of the second name reads as, through the machine that the codec file of the first reads as
+-- and a ring of these numbers, with the plans for that sound, by the schedule of the third
+pub record HasPlayedFiles (told : Option Files) (codec wav name : List ℕ) (periods period : ℕ) (played : Played) : Type 0 where
+  pub machine : Machine
+  pub sound : Wav
+  pub schedule : Schedule
+  pub geometry : Geometry
+  pub plans : List Plan
+  -- the input: what the three files read as, the ring, and the plans of the machine's codecs, of which some has a route
+  pub file : IsMachineOf told codec machine
+  pub sound_file : IsWavOf told wav sound
+  pub steps : IsScheduleOf told name schedule
+  pub geometry_is : IsRingOf periods period machine sound geometry
+  pub planned : HavePlans sound.format machine.codecs plans
+  pub routed : have_route plans ≡ true
+  -- one history, progress, open routes, the runs of the ring, what was heard, and how it ended
+  pub run : IsPlayed machine plans sound geometry schedule played
+
+-- the run is that for which the words ask: of the files that they name, and the ring of their numbers
+pub record HasPlayed (told : Option Files) (words : List (List ℕ)) (played : Played) : Type 0 where
+  pub codec : List ℕ
+  pub wav : List ℕ
+  pub name : List ℕ
+  pub periods : ℕ
+  pub period : ℕ
+  pub asks : IsPlayOf words codec wav name periods period
+  pub files : HasPlayedFiles told codec wav name periods period played
+
+-- the run is the walk for which the words ask, or the play
+abbrev pub HasRun : Option Files → List (List ℕ) → Played → Type 0
+HasRun told words played = HasWalked told words played ⊎ HasPlayed told words played
+
+-- the promise of a run: it is the one that was asked for, and its report was written whole, with the status of its end, or its front at the status of
+-- a fault of the sink or of want of memory
+pub record KeepsPromise (IsRun : Played → Type 0) (before after : Option (List ℕ)) (sink_failed : Type 0) (status : ℕ) (played : Played) : Type 0 where
+  pub run : IsRun played
+  pub text : HasWritten before after sink_failed (of_run played) status
