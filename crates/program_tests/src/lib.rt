@@ -8,6 +8,8 @@ mod graphs;
 #[cfg(test)]
 mod jacks;
 #[cfg(test)]
+mod play_outside;
+#[cfg(test)]
 mod play_refusals;
 #[cfg(test)]
 mod playing;
@@ -17,6 +19,8 @@ mod refusals;
 mod routes;
 #[cfg(test)]
 mod schedules;
+#[cfg(test)]
+mod sounds;
 #[cfg(test)]
 mod test_files;
 #[cfg(test)]

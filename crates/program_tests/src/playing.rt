@@ -6,7 +6,8 @@ use hda_program::Status;
 use std::alloc::{AllocError, Global};
 use std::process::Abort;
 
-const SMALL_RING: [&str; 8] = [
+/// Words for the small ring.
+pub const SMALL_RING: [&str; 8] = [
     "play",
     "codec.toml",
     "T.wav",
@@ -18,7 +19,7 @@ const SMALL_RING: [&str; 8] = [
 ];
 
 /// Two frames: 1 and 2, 3 and -1.
-const FRAMES: &[u8] = b"\x01\0\x02\0\x03\0\xff\xff";
+pub const FRAMES: &[u8] = b"\x01\0\x02\0\x03\0\xff\xff";
 
 /// The bytes of a frame.
 const FRAME_BYTES: usize = 4;
@@ -30,15 +31,15 @@ const LINE_BYTES: usize = 64;
 const HEARS: &str = "pin 0 14\n";
 
 /// What the pin hears of [`FRAMES`] and of two blocks of silence after them.
-const HEARD: &str = "sound 010002000300ffff0000000000000000\n";
+pub const HEARD: &str = "sound 010002000300ffff0000000000000000\n";
 
 /// A schedule that sets the least codec up, and then has these lines.
-fn after_set_up(alloc: Global, lines: &str) -> Result<String, AllocError> {
+pub fn after_set_up(alloc: Global, lines: &str) -> Result<String, AllocError> {
     format!(in alloc; "{RESET}repeat 44\nrun 0\ncorb\nanswer 0\nrirb\nend\nrun 0\n{lines}")
 }
 
 /// So many frames, of which no two are the same.
-fn frames(alloc: Global, count: u8) -> Result<Vec<u8>, AllocError> {
+pub fn frames(alloc: Global, count: u8) -> Result<Vec<u8>, AllocError> {
     let mut sound = Vec::new(alloc);
     for number in 0..count {
         sound.extend_from_slice(&[number, 1, number, 2])?;
@@ -47,7 +48,7 @@ fn frames(alloc: Global, count: u8) -> Result<Vec<u8>, AllocError> {
 }
 
 /// The lines in which a report has this sound.
-fn sound_lines(alloc: Global, sound: &[u8]) -> Result<String, AllocError> {
+pub fn sound_lines(alloc: Global, sound: &[u8]) -> Result<String, AllocError> {
     let mut text = String::new(alloc);
     for line in sound.chunks(LINE_BYTES) {
         text.push_str("sound ")?;
@@ -139,7 +140,7 @@ fn plays_through_four_periods(rt: HostRuntime) -> Result<(), AllocError> {
     Ok(())
 }
 
-/// The frames of one ring are fetched three times and sent.
+/// Three quarters of the ring are fetched and sent, one after the other.
 const THREE_PARTS: &str = "repeat 3\nfetch 1 192\nlink 48\nend\n";
 
 #[test]
@@ -214,10 +215,25 @@ fn ends_where_the_schedule_does(rt: HostRuntime) -> Result<(), AllocError> {
         let end = (Status::ScheduleEnded, want.as_str());
         expect_played(&rt, alloc, sound.as_slice(), steps.as_str(), end)?;
     }
-    let steps = format!(in alloc; "{RESET}repeat 40\nrun 0\ncorb\nanswer 0\nrirb\nend\n")?;
-    let want = format!(in alloc; "{HEARS}schedule ended: commands 40 of 44\n")?;
-    let end = (Status::ScheduleEnded, want.as_str());
-    expect_played(&rt, alloc, FRAMES, steps.as_str(), end)
+    // Before any call, in the reset, before the first command, within the walk, and within the set-up.
+    for (lines, sent) in [
+        ("", 0),
+        ("run 0\n", 0),
+        ("run 0\nlink 25\nrun 0\n", 0),
+        (
+            "run 0\nlink 25\nrun 0\nrepeat 20\nrun 0\ncorb\nanswer 0\nrirb\nend\n",
+            20,
+        ),
+        (
+            "run 0\nlink 25\nrun 0\nrepeat 40\nrun 0\ncorb\nanswer 0\nrirb\nend\n",
+            40,
+        ),
+    ] {
+        let want = format!(in alloc; "{HEARS}schedule ended: commands {sent} of 44\n")?;
+        let end = (Status::ScheduleEnded, want.as_str());
+        expect_played(&rt, alloc, FRAMES, lines, end)?;
+    }
+    Ok(())
 }
 
 #[test]
@@ -255,22 +271,18 @@ fn writes_nothing_without_an_interrupt(rt: HostRuntime) -> Result<(), AllocError
 }
 
 #[test]
-fn ends_at_an_empty_schedule(rt: HostRuntime) -> Result<(), AllocError> {
-    let alloc = rt.alloc();
-    let want = format!(in alloc; "{HEARS}schedule ended: commands 0 of 44\n")?;
-    let end = (Status::ScheduleEnded, want.as_str());
-    expect_played(&rt, alloc, FRAMES, "", end)
-}
-
-#[test]
 fn writes_no_part_of_a_frame(rt: HostRuntime) -> Result<(), AllocError> {
     let alloc = rt.alloc();
-    let steps = after_set_up(alloc, "run 3\n")?;
-    let want = format!(in alloc;
-        "run 0 12500 12500 3 0\nrun 0 12500 12500 0 0\nsilence 0 768\n{HEARS}schedule ended: frames 0 written 0 heard of 2\n"
-    )?;
-    let end = (Status::ScheduleEnded, want.as_str());
-    expect_played(&rt, alloc, FRAMES, steps.as_str(), end)
+    for budget in [0, 1, 3] {
+        let lines = format!(in alloc; "run {budget}\n")?;
+        let steps = after_set_up(alloc, lines.as_str())?;
+        let want = format!(in alloc;
+            "run 0 12500 12500 {budget} 0\nrun 0 12500 12500 0 0\nsilence 0 768\n{HEARS}schedule ended: frames 0 written 0 heard of 2\n"
+        )?;
+        let end = (Status::ScheduleEnded, want.as_str());
+        expect_played(&rt, alloc, FRAMES, steps.as_str(), end)?;
+    }
+    Ok(())
 }
 
 #[test]

@@ -6,7 +6,7 @@ use std::alloc::AllocError;
 
 const WALK: [&str; 3] = ["walk", "codec.toml", "steps"];
 
-/// A pin 14 that leads to a selector of nothing, so that no path is there.
+/// A pin 14 that leads to an input converter, so that no path is there.
 pub const NO_PATH: &str =
     "{nid = 2, caps = 1}, {nid = 0x14, caps = 0x0040010D, pin_caps = 0x10, default = 0x01014010, list = [0x15]},
     {nid = 0x15, caps = 0x00100001}";

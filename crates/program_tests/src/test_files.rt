@@ -78,10 +78,22 @@ pub fn files(alloc: Global, named: &[(&str, &str)]) -> Result<Vec<(String, Vec<u
 
 /// A file of two channels of 16 bits, with so many frames in a second and these frames.
 pub fn wav_file(alloc: Global, hertz: u32, sound: &[u8]) -> Result<Vec<u8>, AllocError> {
+    wav_file_of(alloc, 2, hertz, sound)
+}
+
+/// A file of so many channels of 16 bits, with so many frames in a second and these frames.
+pub fn wav_file_of(
+    alloc: Global,
+    channels: u8,
+    hertz: u32,
+    sound: &[u8],
+) -> Result<Vec<u8>, AllocError> {
     let size = u32::try_from(sound.len()).unwrap_or(u32::MAX);
-    let mut bytes = Vec::from_slice(alloc, b"RIFF\0\0\0\0WAVEfmt \x10\0\0\0\x01\0\x02\0")?;
+    let mut bytes = Vec::from_slice(alloc, b"RIFF\0\0\0\0WAVEfmt \x10\0\0\0\x01\0")?;
+    bytes.extend_from_slice(&[channels, 0])?;
     bytes.extend_from_slice(&hertz.to_le_bytes())?;
-    bytes.extend_from_slice(b"\0\0\0\0\x04\0\x10\0data")?;
+    bytes.extend_from_slice(&[0, 0, 0, 0, channels.saturating_mul(2), 0])?;
+    bytes.extend_from_slice(b"\x10\0data")?;
     bytes.extend_from_slice(&size.to_le_bytes())?;
     bytes.extend_from_slice(sound)?;
     Ok(bytes)
