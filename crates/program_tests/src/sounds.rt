@@ -8,6 +8,18 @@ use hda_program::Status;
 use std::alloc::{AllocError, Global};
 use std::process::Abort;
 
+/// The status and the text of a play of a WAV file over this machine by this schedule.
+fn played(
+    alloc: Global,
+    machine: &str,
+    wav: Vec<u8>,
+    steps: &str,
+) -> Result<(u8, String), AllocError> {
+    let mut named = files(alloc, &[("codec.toml", machine), ("steps", steps)])?;
+    named.push((String::from_str(alloc, "T.wav")?, wav))?;
+    told_over(alloc, &SMALL_RING, named)
+}
+
 /// Fails the test unless all of a WAV file is played over these codecs by this schedule, and this is written.
 fn expect_sound(
     rt: &impl Abort,
@@ -17,9 +29,7 @@ fn expect_sound(
     (steps, want): (&str, &str),
 ) -> Result<(), AllocError> {
     let machine = format!(in alloc; "fifo = 192\n{codecs}")?;
-    let mut named = files(alloc, &[("codec.toml", machine.as_str()), ("steps", steps)])?;
-    named.push((String::from_str(alloc, "T.wav")?, wav))?;
-    let (ended, text) = told_over(alloc, &SMALL_RING, named)?;
+    let (ended, text) = played(alloc, machine.as_str(), wav, steps)?;
     assert_eq!(rt; ended, Status::Done.number(), "{text}");
     assert!(rt; text.as_str() == want, "{text}");
     Ok(())
