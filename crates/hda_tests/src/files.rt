@@ -170,60 +170,63 @@ fn fault_of(alloc: Global, text: &str) -> Option<FileFault> {
     read_machine(alloc, text.as_bytes()).err()
 }
 
+/// Files, each with its first fault.
+const FIRST_FAULTS: [(&str, FileFault); 14] = [
+    ("rirb = 8", FileFault::OutOfRange(Place::Top, Key::Rirb)),
+    (
+        "codec = [{}, {}, 1]",
+        FileFault::WrongType(Place::Top, Key::Codec),
+    ),
+    ("codec = []", FileFault::OutOfRange(Place::Top, Key::Codec)),
+    (
+        "codec = [{}, {}, {}, {}, {}]",
+        FileFault::OutOfRange(Place::Top, Key::Codec),
+    ),
+    (
+        "codec = [{}, {}, {}, {}]",
+        FileFault::MissingKey(Place::Codec(0), Key::Address),
+    ),
+    (
+        "codec = [{vendor = 1.5}]",
+        FileFault::MissingKey(Place::Codec(0), Key::Address),
+    ),
+    (
+        "codec = [{address = 15}]",
+        FileFault::OutOfRange(Place::Codec(0), Key::Address),
+    ),
+    (
+        "codec = [{address = 0, vendor = -1}]",
+        FileFault::OutOfRange(Place::Codec(0), Key::Vendor),
+    ),
+    (
+        "codec = [{address = 0, vendor = 1.0}]",
+        FileFault::WrongType(Place::Codec(0), Key::Vendor),
+    ),
+    (
+        "codec = [{address = 0, vendor = 1, group = 0, pcm = ''}]",
+        FileFault::OutOfRange(Place::Codec(0), Key::Group),
+    ),
+    (
+        "codec = [{address = 0, vendor = 1}]",
+        FileFault::MissingKey(Place::Codec(0), Key::Node),
+    ),
+    (
+        "codec = [{address = 0, vendor = 1, node = []}]",
+        FileFault::OutOfRange(Place::Codec(0), Key::Node),
+    ),
+    (
+        "codec = [{address = 3, vendor = 1, group_type = 2, node = [{nid = 2, caps = 1}]}]",
+        FileFault::Graph(3, GraphFault::NoAudioGroup(1)),
+    ),
+    (
+        "codec = [{address = 3, vendor = 1, first = 2, node = [{nid = 3, caps = 1}]}]",
+        FileFault::Graph(3, GraphFault::BadCount(0)),
+    ),
+];
+
 #[test]
 fn refuses_by_the_first_fault(rt: HostRuntime) -> Result<(), Fail> {
-    let top = Place::Top;
-    let codec = Place::Codec(0);
-    let cases = [
-        ("rirb = 8", FileFault::OutOfRange(top, Key::Rirb)),
-        ("codec = [{}, {}, 1]", FileFault::WrongType(top, Key::Codec)),
-        ("codec = []", FileFault::OutOfRange(top, Key::Codec)),
-        (
-            "codec = [{}, {}, {}, {}, {}]",
-            FileFault::OutOfRange(top, Key::Codec),
-        ),
-        (
-            "codec = [{}, {}, {}, {}]",
-            FileFault::MissingKey(codec, Key::Address),
-        ),
-        (
-            "codec = [{vendor = 1.5}]",
-            FileFault::MissingKey(codec, Key::Address),
-        ),
-        (
-            "codec = [{address = 15}]",
-            FileFault::OutOfRange(codec, Key::Address),
-        ),
-        (
-            "codec = [{address = 0, vendor = -1}]",
-            FileFault::OutOfRange(codec, Key::Vendor),
-        ),
-        (
-            "codec = [{address = 0, vendor = 1.0}]",
-            FileFault::WrongType(codec, Key::Vendor),
-        ),
-        (
-            "codec = [{address = 0, vendor = 1, group = 0, pcm = ''}]",
-            FileFault::OutOfRange(codec, Key::Group),
-        ),
-        (
-            "codec = [{address = 0, vendor = 1}]",
-            FileFault::MissingKey(codec, Key::Node),
-        ),
-        (
-            "codec = [{address = 0, vendor = 1, node = []}]",
-            FileFault::OutOfRange(codec, Key::Node),
-        ),
-        (
-            "codec = [{address = 3, vendor = 1, group_type = 2, node = [{nid = 2, caps = 1}]}]",
-            FileFault::Graph(3, GraphFault::NoAudioGroup(1)),
-        ),
-        (
-            "codec = [{address = 3, vendor = 1, first = 2, node = [{nid = 3, caps = 1}]}]",
-            FileFault::Graph(3, GraphFault::BadCount(0)),
-        ),
-    ];
-    for (text, fault) in cases {
+    for (text, fault) in FIRST_FAULTS {
         assert_eq!(rt; fault_of(rt.alloc(), text), Some(fault), "{text}");
     }
     assert_eq!(rt;
@@ -262,93 +265,98 @@ const BAD_LIST: &str = "vendor = 1, node = [{nid = 2, caps = 0x100, list = [0]}]
 
 const BAD_GRAPH: &str = "vendor = 1, group_type = 2, node = [{nid = 2, caps = 0}]";
 
+/// What stands beside the address of the first codec, the address of the second, what follows it there, and the fault of the file.
+const SECOND_CODECS: [(&str, &str, &str, FileFault); 14] = [
+    (
+        GOOD,
+        "",
+        "",
+        FileFault::MissingKey(Place::Codec(1), Key::Address),
+    ),
+    (
+        GOOD,
+        "address = '4'",
+        "",
+        FileFault::WrongType(Place::Codec(1), Key::Address),
+    ),
+    (
+        GOOD,
+        "address = 15",
+        "",
+        FileFault::OutOfRange(Place::Codec(1), Key::Address),
+    ),
+    (
+        GOOD,
+        "address = 5",
+        "",
+        FileFault::Doubled(Place::Codec(1), Key::Address),
+    ),
+    (
+        GOOD,
+        "address = 4",
+        "",
+        FileFault::MissingKey(Place::Codec(1), Key::Vendor),
+    ),
+    (
+        GOOD,
+        "address = 4, ",
+        "vendor = 1, node = [{nid = 2, caps = 0}, {nid = 2}]",
+        FileFault::Doubled(Place::Node(1, 1), Key::Nid),
+    ),
+    (
+        GOOD,
+        "address = 4, ",
+        BAD_LIST,
+        FileFault::List(4, 2, ListFault::Zero),
+    ),
+    (
+        GOOD,
+        "address = 6, ",
+        BAD_GRAPH,
+        FileFault::Graph(6, GraphFault::NoAudioGroup(1)),
+    ),
+    (
+        "vendor = 1, node = [{nid = 2}]",
+        "",
+        "",
+        FileFault::MissingKey(Place::Node(0, 0), Key::Caps),
+    ),
+    (
+        BAD_LIST,
+        "address = 5",
+        "",
+        FileFault::Doubled(Place::Codec(1), Key::Address),
+    ),
+    (
+        BAD_LIST,
+        "address = 4, ",
+        BAD_GRAPH,
+        FileFault::Graph(4, GraphFault::NoAudioGroup(1)),
+    ),
+    (
+        BAD_GRAPH,
+        "address = 4, ",
+        BAD_LIST,
+        FileFault::List(4, 2, ListFault::Zero),
+    ),
+    (
+        BAD_LIST,
+        "address = 6, ",
+        BAD_GRAPH,
+        FileFault::List(5, 2, ListFault::Zero),
+    ),
+    (
+        BAD_GRAPH,
+        "address = 6, ",
+        BAD_LIST,
+        FileFault::Graph(5, GraphFault::NoAudioGroup(1)),
+    ),
+];
+
 #[test]
 fn refuses_the_second_codec_in_its_turn(rt: HostRuntime) -> Result<(), Fail> {
     let alloc = rt.alloc();
-    let second = Place::Codec(1);
-    let no_group = GraphFault::NoAudioGroup(1);
-    let cases = [
-        (GOOD, "", "", FileFault::MissingKey(second, Key::Address)),
-        (
-            GOOD,
-            "address = '4'",
-            "",
-            FileFault::WrongType(second, Key::Address),
-        ),
-        (
-            GOOD,
-            "address = 15",
-            "",
-            FileFault::OutOfRange(second, Key::Address),
-        ),
-        (
-            GOOD,
-            "address = 5",
-            "",
-            FileFault::Doubled(second, Key::Address),
-        ),
-        (
-            GOOD,
-            "address = 4",
-            "",
-            FileFault::MissingKey(second, Key::Vendor),
-        ),
-        (
-            GOOD,
-            "address = 4, ",
-            "vendor = 1, node = [{nid = 2, caps = 0}, {nid = 2}]",
-            FileFault::Doubled(Place::Node(1, 1), Key::Nid),
-        ),
-        (
-            GOOD,
-            "address = 4, ",
-            BAD_LIST,
-            FileFault::List(4, 2, ListFault::Zero),
-        ),
-        (
-            GOOD,
-            "address = 6, ",
-            BAD_GRAPH,
-            FileFault::Graph(6, no_group),
-        ),
-        (
-            "vendor = 1, node = [{nid = 2}]",
-            "",
-            "",
-            FileFault::MissingKey(Place::Node(0, 0), Key::Caps),
-        ),
-        (
-            BAD_LIST,
-            "address = 5",
-            "",
-            FileFault::Doubled(second, Key::Address),
-        ),
-        (
-            BAD_LIST,
-            "address = 4, ",
-            BAD_GRAPH,
-            FileFault::Graph(4, no_group),
-        ),
-        (
-            BAD_GRAPH,
-            "address = 4, ",
-            BAD_LIST,
-            FileFault::List(4, 2, ListFault::Zero),
-        ),
-        (
-            BAD_LIST,
-            "address = 6, ",
-            BAD_GRAPH,
-            FileFault::List(5, 2, ListFault::Zero),
-        ),
-        (
-            BAD_GRAPH,
-            "address = 6, ",
-            BAD_LIST,
-            FileFault::Graph(5, no_group),
-        ),
-    ];
-    for (first, address, rest, fault) in cases {
+    for (first, address, rest, fault) in SECOND_CODECS {
         let text = format!(in alloc; "codec = [{{address = 5, {first}}}, {{{address}{rest}}}]")?;
         assert_eq!(rt; fault_of(alloc, text.as_str()), Some(fault), "{text}");
     }

@@ -98,6 +98,49 @@ fn answers_from_the_entries(rt: HostRuntime) -> Result<(), Fail> {
     Ok(())
 }
 
+/// Words in turn, each with its answer.
+const SET_WORDS: [(u32, u32); 33] = [
+    // the root, the function group and the pin's amplifier
+    (0x000F_0000, 0x10EC_0889),
+    (0x000F_0004, 0x0001_0001),
+    (0x001F_0004, 0x0002_0013),
+    (0x001F_000F, 0x0000_000F),
+    (0x014F_0012, 0x8000_0000),
+    (0x014F_0003, 0),
+    // both inputs of the mixer are muted, then input 0 is not
+    (0x00CB_0001, 0x80),
+    (0x00C3_7000, 0),
+    (0x00CB_0000, 0),
+    (0x00CB_2000, 0),
+    (0x00CB_0001, 0x80),
+    (0x00CB_0002, 0),
+    // the mixer has no select, the pin's list has one connection
+    (0x00C7_0101, 0),
+    (0x00CF_0100, 0),
+    (0x0147_0101, 0),
+    (0x014F_0100, 0),
+    // power state 3 of the group, and what is left of 7
+    (0x0017_0507, 0),
+    (0x001F_0500, 0x33),
+    (0x014F_0500, 0),
+    // the converter's stream and format
+    (0x0027_0610, 0),
+    (0x002F_0600, 0x10),
+    (0x0022_0011, 0),
+    (0x002A_0000, 0x11),
+    (0x002F_0D00, 0),
+    // the pin's control, responses, external amplifier, presence and configuration default
+    (0x0147_07FF, 0),
+    (0x014F_0700, 0xE0),
+    (0x0147_08FF, 0),
+    (0x014F_0800, 0xBF),
+    (0x0147_0CFF, 0),
+    (0x014F_0C00, 0x02),
+    (0x014F_0900, 0x8000_0000),
+    (0x0147_1E55, 0),
+    (0x014F_1C00, 0x0155_4010),
+];
+
 #[test]
 fn keeps_what_is_set(rt: HostRuntime) -> Result<(), Fail> {
     let codec = read_codec(rt.alloc(), SMALL)?;
@@ -106,49 +149,7 @@ fn keeps_what_is_set(rt: HostRuntime) -> Result<(), Fail> {
     let mut present = Presence::none();
     present.set(0x14, true);
     let present = present.copy();
-    // Words in turn, each with its answer.
-    let cases = [
-        // the root, the function group and the pin's amplifier
-        (0x000F_0000, 0x10EC_0889),
-        (0x000F_0004, 0x0001_0001),
-        (0x001F_0004, 0x0002_0013),
-        (0x001F_000F, 0x0000_000F),
-        (0x014F_0012, 0x8000_0000),
-        (0x014F_0003, 0),
-        // both inputs of the mixer are muted, then input 0 is not
-        (0x00CB_0001, 0x80),
-        (0x00C3_7000, 0),
-        (0x00CB_0000, 0),
-        (0x00CB_2000, 0),
-        (0x00CB_0001, 0x80),
-        (0x00CB_0002, 0),
-        // the mixer has no select, the pin's list has one connection
-        (0x00C7_0101, 0),
-        (0x00CF_0100, 0),
-        (0x0147_0101, 0),
-        (0x014F_0100, 0),
-        // power state 3 of the group, and what is left of 7
-        (0x0017_0507, 0),
-        (0x001F_0500, 0x33),
-        (0x014F_0500, 0),
-        // the converter's stream and format
-        (0x0027_0610, 0),
-        (0x002F_0600, 0x10),
-        (0x0022_0011, 0),
-        (0x002A_0000, 0x11),
-        (0x002F_0D00, 0),
-        // the pin's control, responses, external amplifier, presence and configuration default
-        (0x0147_07FF, 0),
-        (0x014F_0700, 0xE0),
-        (0x0147_08FF, 0),
-        (0x014F_0800, 0xBF),
-        (0x0147_0CFF, 0),
-        (0x014F_0C00, 0x02),
-        (0x014F_0900, 0x8000_0000),
-        (0x0147_1E55, 0),
-        (0x014F_1C00, 0x0155_4010),
-    ];
-    let wrong = first_wrong(&graph, &mut settings, &present, &cases);
+    let wrong = first_wrong(&graph, &mut settings, &present, &SET_WORDS);
     assert!(rt; wrong == None, "{wrong:?}");
     assert!(rt; settings.get(0x0C, Control::InLeft(0)) == Some(0));
     assert!(rt; settings.get(0x0C, Control::InRight(1)) == Some(0x80));

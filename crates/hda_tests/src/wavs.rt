@@ -87,50 +87,52 @@ fn reads_every_front(rt: HostRuntime) -> Result<(), Fail> {
     Ok(())
 }
 
+/// Changes of the file of two frames, each with its place, and what the file then means.
+const CHANGES: [(usize, &[u8], Result<u64, WavFault>); 38] = [
+    (0, b"RIFX", Err(WavFault::NotRiff)),
+    (0, b"riff", Err(WavFault::NotRiff)),
+    (8, b"WAVX", Err(WavFault::NotRiff)),
+    (4, b"\xff\xff\xff\xff", Ok(2)),
+    (12, b"FMT ", Err(WavFault::NoFormat)),
+    (16, b"\x0f\0\0\0", Err(WavFault::NoFormat)),
+    (16, b"\x20\0\0\0", Err(WavFault::NoData)),
+    (16, b"\x21\0\0\0", Err(WavFault::Truncated(52))),
+    (16, b"\xff\xff\xff\xff", Err(WavFault::Truncated(52))),
+    (16, b"\x21\0\0\0\x03\0", Err(WavFault::Truncated(52))),
+    (16, b"\0\0\0\x10", Err(WavFault::Truncated(52))),
+    (20, b"\0\0", Err(WavFault::Tag(0))),
+    (20, b"\x03\0", Err(WavFault::Tag(3))),
+    (20, b"\xfe\xff", Err(WavFault::Tag(65_534))),
+    (20, b"\x03\0\0\0", Err(WavFault::Tag(3))),
+    (22, b"\0\0", Err(WavFault::Channels(0))),
+    (22, b"\x03\0", Err(WavFault::Channels(3))),
+    (22, b"\xff\xff", Err(WavFault::Channels(65_535))),
+    (22, b"\0\0\0\0\0\0", Err(WavFault::Channels(0))),
+    (22, b"\x01\0", Err(WavFault::BlockAlign)),
+    (24, b"\0\0\0\0", Err(WavFault::Rate(0))),
+    (24, b"\x11\x2b\0\0", Err(WavFault::Rate(11_025))),
+    (24, b"\x22\x56\0\0", Err(WavFault::Rate(22_050))),
+    (24, b"\0\x7d\0\0", Err(WavFault::Rate(32_000))),
+    (24, b"\x88\x58\x01\0", Err(WavFault::Rate(88_200))),
+    (24, b"\x10\xb1\x02\0", Err(WavFault::Rate(176_400))),
+    (24, b"\0\xdc\x05\0", Err(WavFault::Rate(384_000))),
+    (24, b"\0\0\0\0\0\0\0\0\x04\0\x08\0", Err(WavFault::Rate(0))),
+    (28, b"\0\0\0\0", Ok(2)),
+    (32, b"\x03\0", Err(WavFault::BlockAlign)),
+    (32, b"\x08\0", Err(WavFault::BlockAlign)),
+    (32, b"\x08\0\x08\0", Err(WavFault::Bits(8))),
+    (34, b"\x14\0", Err(WavFault::Bits(20))),
+    (34, b"\x18\0", Err(WavFault::Bits(24))),
+    (40, b"\x09\0\0\0", Err(WavFault::Truncated(52))),
+    (40, b"\x07\0\0\0", Ok(1)),
+    (40, b"\0\0\0\0", Ok(0)),
+    (40, b"\xff\xff\xff\xff", Ok(2)),
+];
+
 #[test]
 fn checks_fields(rt: HostRuntime) -> Result<(), Fail> {
     let alloc = rt.alloc();
-    let table: [(usize, &[u8], Result<u64, WavFault>); 38] = [
-        (0, b"RIFX", Err(WavFault::NotRiff)),
-        (0, b"riff", Err(WavFault::NotRiff)),
-        (8, b"WAVX", Err(WavFault::NotRiff)),
-        (4, b"\xff\xff\xff\xff", Ok(2)),
-        (12, b"FMT ", Err(WavFault::NoFormat)),
-        (16, b"\x0f\0\0\0", Err(WavFault::NoFormat)),
-        (16, b"\x20\0\0\0", Err(WavFault::NoData)),
-        (16, b"\x21\0\0\0", Err(WavFault::Truncated(52))),
-        (16, b"\xff\xff\xff\xff", Err(WavFault::Truncated(52))),
-        (16, b"\x21\0\0\0\x03\0", Err(WavFault::Truncated(52))),
-        (16, b"\0\0\0\x10", Err(WavFault::Truncated(52))),
-        (20, b"\0\0", Err(WavFault::Tag(0))),
-        (20, b"\x03\0", Err(WavFault::Tag(3))),
-        (20, b"\xfe\xff", Err(WavFault::Tag(65_534))),
-        (20, b"\x03\0\0\0", Err(WavFault::Tag(3))),
-        (22, b"\0\0", Err(WavFault::Channels(0))),
-        (22, b"\x03\0", Err(WavFault::Channels(3))),
-        (22, b"\xff\xff", Err(WavFault::Channels(65_535))),
-        (22, b"\0\0\0\0\0\0", Err(WavFault::Channels(0))),
-        (22, b"\x01\0", Err(WavFault::BlockAlign)),
-        (24, b"\0\0\0\0", Err(WavFault::Rate(0))),
-        (24, b"\x11\x2b\0\0", Err(WavFault::Rate(11_025))),
-        (24, b"\x22\x56\0\0", Err(WavFault::Rate(22_050))),
-        (24, b"\0\x7d\0\0", Err(WavFault::Rate(32_000))),
-        (24, b"\x88\x58\x01\0", Err(WavFault::Rate(88_200))),
-        (24, b"\x10\xb1\x02\0", Err(WavFault::Rate(176_400))),
-        (24, b"\0\xdc\x05\0", Err(WavFault::Rate(384_000))),
-        (24, b"\0\0\0\0\0\0\0\0\x04\0\x08\0", Err(WavFault::Rate(0))),
-        (28, b"\0\0\0\0", Ok(2)),
-        (32, b"\x03\0", Err(WavFault::BlockAlign)),
-        (32, b"\x08\0", Err(WavFault::BlockAlign)),
-        (32, b"\x08\0\x08\0", Err(WavFault::Bits(8))),
-        (34, b"\x14\0", Err(WavFault::Bits(20))),
-        (34, b"\x18\0", Err(WavFault::Bits(24))),
-        (40, b"\x09\0\0\0", Err(WavFault::Truncated(52))),
-        (40, b"\x07\0\0\0", Ok(1)),
-        (40, b"\0\0\0\0", Ok(0)),
-        (40, b"\xff\xff\xff\xff", Ok(2)),
-    ];
-    for (place, change, want) in table {
+    for (place, change, want) in CHANGES {
         let got = outcome(&read_wav(alloc, &changed(alloc, place, change)?));
         assert_eq!(rt; got, want, "{place} {change:?}");
     }
@@ -155,10 +157,15 @@ fn reads_six_rates(rt: HostRuntime) -> Result<(), Fail> {
     Ok(())
 }
 
+/// What a file of these parts means.
+fn read_parts(alloc: Global, parts: &[&[u8]]) -> Result<Result<u64, WavFault>, AllocError> {
+    Ok(outcome(&read_wav(alloc, &joined(alloc, parts)?)))
+}
+
 #[test]
 fn reads_chunks_in_order(rt: HostRuntime) -> Result<(), Fail> {
     let alloc = rt.alloc();
-    let table: [(&[&[u8]], Result<u64, WavFault>); 30] = [
+    let table: [(&[&[u8]], Result<u64, WavFault>); 15] = [
         (&[RIFF], Err(WavFault::NoData)),
         (&[RIFF, STEREO, b"1"], Err(WavFault::Truncated(37))),
         (&[RIFF, STEREO, b"data\0\0\0"], Err(WavFault::Truncated(43))),
@@ -186,6 +193,18 @@ fn reads_chunks_in_order(rt: HostRuntime) -> Result<(), Fail> {
         (&[RIFF, FLOAT, b"1"], Err(WavFault::Tag(3))),
         (&[RIFF, STEREO, SOUND, b"junk\xff\xff\xff\xff"], Ok(2)),
         (&[RIFF, STEREO, SOUND, SOUND], Ok(2)),
+    ];
+    for (parts, want) in table {
+        let got = read_parts(alloc, parts)?;
+        assert_eq!(rt; got, want, "{parts:?}");
+    }
+    Ok(())
+}
+
+#[test]
+fn reads_longer_formats(rt: HostRuntime) -> Result<(), Fail> {
+    let alloc = rt.alloc();
+    let table: [(&[&[u8]], Result<u64, WavFault>); 4] = [
         (&[RIFF, b"fmt \x11\0\0\0", FIELDS, b"\xee\0", SOUND], Ok(2)),
         (
             &[RIFF, b"fmt \x12\0\0\0", FIELDS, b"\xee\xee", SOUND],
@@ -199,6 +218,18 @@ fn reads_chunks_in_order(rt: HostRuntime) -> Result<(), Fail> {
             &[RIFF, b"fmt \x28\0\0\0", FIELDS, b"12345678", FIELDS, SOUND],
             Ok(2),
         ),
+    ];
+    for (parts, want) in table {
+        let got = read_parts(alloc, parts)?;
+        assert_eq!(rt; got, want, "{parts:?}");
+    }
+    Ok(())
+}
+
+#[test]
+fn passes_over_other_chunks(rt: HostRuntime) -> Result<(), Fail> {
+    let alloc = rt.alloc();
+    let table: [(&[&[u8]], Result<u64, WavFault>); 7] = [
         (&[RIFF, b"LIST\x01\0\0\0a\0", STEREO, SOUND], Ok(2)),
         (&[RIFF, STEREO, b"LIST\x01\0\0\0aL", SOUND], Ok(2)),
         (
@@ -218,13 +249,25 @@ fn reads_chunks_in_order(rt: HostRuntime) -> Result<(), Fail> {
             &[RIFF, STEREO, b"LIST\x10\0\0\0", SOUND],
             Err(WavFault::NoData),
         ),
+    ];
+    for (parts, want) in table {
+        let got = read_parts(alloc, parts)?;
+        assert_eq!(rt; got, want, "{parts:?}");
+    }
+    Ok(())
+}
+
+#[test]
+fn reads_whole_frames(rt: HostRuntime) -> Result<(), Fail> {
+    let alloc = rt.alloc();
+    let table: [(&[&[u8]], Result<u64, WavFault>); 4] = [
         (&[RIFF, STEREO, b"data\x05\0\0\0", b"12345"], Ok(1)),
         (&[RIFF, STEREO, b"data\xff\xff\xff\xff", b"1234567"], Ok(1)),
         (&[RIFF, MONO, b"data\x05\0\0\0", b"12345"], Ok(2)),
         (&[RIFF, MONO, b"data\x01\0\0\0", b"1"], Ok(0)),
     ];
     for (parts, want) in table {
-        let got = outcome(&read_wav(alloc, &joined(alloc, parts)?));
+        let got = read_parts(alloc, parts)?;
         assert_eq!(rt; got, want, "{parts:?}");
     }
     Ok(())

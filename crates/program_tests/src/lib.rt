@@ -4,24 +4,24 @@
 #![tactic(auto)]
 
 #[cfg(test)]
-mod graphs;
+mod graph_refusals;
 #[cfg(test)]
 mod jacks;
 #[cfg(test)]
-mod play_outside;
+mod key_refusals;
 #[cfg(test)]
 mod play_refusals;
 #[cfg(test)]
+mod play_sinks;
+#[cfg(test)]
 mod playing;
 #[cfg(test)]
-mod refusals;
-#[cfg(test)]
 mod routes;
-#[cfg(test)]
-mod schedules;
 #[cfg(test)]
 mod sounds;
 #[cfg(test)]
 mod test_files;
+#[cfg(test)]
+mod walk_refusals;
 #[cfg(test)]
 mod walks;

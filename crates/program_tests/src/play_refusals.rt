@@ -1,27 +1,10 @@
 //! Words of `play` with files of which one is refused or cannot be read, with a ring that is no good, or whose pins have no route.
-use crate::schedules::{CAPS_MISSING, NO_CAPS, NO_PATH, UNROUTED};
-use crate::test_files::{USAGE, codec, files, strings, told_over, wav_file};
+use crate::test_files::{FRAMES, PLAY, USAGE, codec, strings, three_files, told_over, wav_file};
+use crate::walk_refusals::{CAPS_MISSING, NO_CAPS, NO_PATH, UNROUTED};
 use hda_outside::{MemShelf, MemSink};
 use hda_program::{Status, hda_main};
 use std::alloc::{AllocError, Global};
 use std::process::Abort;
-
-const PLAY: [&str; 4] = ["play", "codec.toml", "T.wav", "steps"];
-
-/// Two frames of two channels of 16 bits.
-const FRAMES: &[u8] = b"\x01\0\x02\0\x03\0\xff\xff";
-
-/// The files of a play: the codec file, the WAV file and the schedule.
-fn three_files(
-    alloc: Global,
-    codec: &str,
-    wav: Vec<u8>,
-    steps: &str,
-) -> Result<Vec<(String, Vec<u8>)>, AllocError> {
-    let mut named = files(alloc, &[("codec.toml", codec), ("steps", steps)])?;
-    named.push((String::from_str(alloc, "T.wav")?, wav))?;
-    Ok(named)
-}
 
 /// Fails the test unless the program ends with this status over these files, and writes this text.
 fn expect_play(

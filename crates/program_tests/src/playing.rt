@@ -1,6 +1,8 @@
 //! Plays over files in memory: how the program ends, and what it writes. Most go through a ring of two periods of one unit: 768 bytes, of
 //! which a FIFO of 192 bytes leaves 144 link frames.
-use crate::test_files::{ONE_ROUTE, PIN, files, least_codecs, told_over, wav_file};
+use crate::test_files::{
+    FRAMES, ONE_ROUTE, PIN, PLAY, least_codecs, three_files, told_over, wav_file,
+};
 use crate::walks::{RESET, losing};
 use hda_program::Status;
 use std::alloc::{AllocError, Global};
@@ -17,9 +19,6 @@ pub const SMALL_RING: [&str; 8] = [
     "--period",
     "1",
 ];
-
-/// Two frames: 1 and 2, 3 and -1.
-pub const FRAMES: &[u8] = b"\x01\0\x02\0\x03\0\xff\xff";
 
 /// The bytes of a frame.
 const FRAME_BYTES: usize = 4;
@@ -68,12 +67,8 @@ fn played(
     sound: &[u8],
     steps: &str,
 ) -> Result<(u8, String), AllocError> {
-    let mut named = files(alloc, &[("codec.toml", codec), ("steps", steps)])?;
-    named.push((
-        String::from_str(alloc, "T.wav")?,
-        wav_file(alloc, 48_000, sound)?,
-    ))?;
-    told_over(alloc, words, named)
+    let wav = wav_file(alloc, 48_000, sound)?;
+    told_over(alloc, words, three_files(alloc, codec, wav, steps)?)
 }
 
 /// Fails the test unless a play through the small ring ends so, and writes the route and then this.
@@ -130,8 +125,7 @@ fn plays_through_four_periods(rt: HostRuntime) -> Result<(), AllocError> {
     let alloc = rt.alloc();
     let codec = least_codecs(alloc, &[0], PIN)?;
     let steps = after_set_up(alloc, "run 8\nfetch 1 16\nlink 4\nrun 0\n")?;
-    let words = ["play", "codec.toml", "T.wav", "steps"];
-    let (ended, text) = played(alloc, &words, codec.as_str(), FRAMES, steps.as_str())?;
+    let (ended, text) = played(alloc, &PLAY, codec.as_str(), FRAMES, steps.as_str())?;
     let want = format!(in alloc;
         "{ONE_ROUTE}run 0 12500 12500 8 8\nrun 16 14500 14500 0 0\nsilence 8 12304\n{HEARS}{HEARD}played 2\n"
     )?;

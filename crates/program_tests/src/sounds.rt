@@ -1,24 +1,13 @@
 //! Sounds of each rate and of one channel, and machines with more than one pin, played through the ring of 768 bytes.
-use crate::playing::{FRAMES, HEARD, SMALL_RING, after_set_up, frames, sound_lines};
+use crate::playing::{HEARD, SMALL_RING, after_set_up, frames, sound_lines};
 use crate::test_files::{
-    ONE_ROUTE, PIN, PIN_WITH_JACK, files, least_codecs, told_over, wav_file, wav_file_of,
+    FRAMES, ONE_ROUTE, PIN, PIN_WITH_JACK, least_codecs, three_files, told_over, wav_file,
+    wav_file_of,
 };
 use crate::walks::RESET;
 use hda_program::Status;
 use std::alloc::{AllocError, Global};
 use std::process::Abort;
-
-/// The status and the text of a play of a WAV file over this machine by this schedule.
-fn played(
-    alloc: Global,
-    machine: &str,
-    wav: Vec<u8>,
-    steps: &str,
-) -> Result<(u8, String), AllocError> {
-    let mut named = files(alloc, &[("codec.toml", machine), ("steps", steps)])?;
-    named.push((String::from_str(alloc, "T.wav")?, wav))?;
-    told_over(alloc, &SMALL_RING, named)
-}
 
 /// Fails the test unless all of a WAV file is played over these codecs by this schedule, and this is written.
 fn expect_sound(
@@ -29,7 +18,8 @@ fn expect_sound(
     (steps, want): (&str, &str),
 ) -> Result<(), AllocError> {
     let machine = format!(in alloc; "fifo = 192\n{codecs}")?;
-    let (ended, text) = played(alloc, machine.as_str(), wav, steps)?;
+    let named = three_files(alloc, machine.as_str(), wav, steps)?;
+    let (ended, text) = told_over(alloc, &SMALL_RING, named)?;
     assert_eq!(rt; ended, Status::Done.number(), "{text}");
     assert!(rt; text.as_str() == want, "{text}");
     Ok(())
@@ -182,11 +172,7 @@ fn writes_more_than_a_page(rt: HostRuntime) -> Result<(), AllocError> {
     let want = format!(in alloc;
         "{ONE_ROUTE}run 0 12500 12500 32000 32000\nrun 32064 4020500 4020500 0 0\nsilence 32000 81216\npin 0 14\n{heard}played 8000\n"
     )?;
-    let mut named = files(
-        alloc,
-        &[("codec.toml", codec.as_str()), ("steps", steps.as_str())],
-    )?;
-    named.push((String::from_str(alloc, "T.wav")?, wav))?;
+    let named = three_files(alloc, codec.as_str(), wav, steps.as_str())?;
     let (ended, text) = told_over(alloc, &LONG_RING, named)?;
     assert_eq!(rt; ended, Status::Done.number());
     assert!(rt; text.as_str() == want.as_str());

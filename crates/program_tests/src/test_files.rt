@@ -40,6 +40,12 @@ pub const ONE_ROUTE: &str = "route 0 14 pair 0 via 14.0 0c.0 02\n";
 pub const USAGE: &str =
     "usage: hda_play route CODEC [--rate R] [--channels C] | walk CODEC SCHEDULE | play CODEC WAV SCHEDULE [--periods K] [--period M] | make N\n";
 
+/// The words of a play.
+pub const PLAY: [&str; 4] = ["play", "codec.toml", "T.wav", "steps"];
+
+/// Two frames of two channels of 16 bits: 1 and 2, 3 and -1.
+pub const FRAMES: &[u8] = b"\x01\0\x02\0\x03\0\xff\xff";
+
 /// A file of the least codec, once at each of these addresses, whose pin has these capabilities.
 pub fn least_codecs(alloc: Global, addresses: &[u8], pin: &str) -> Result<String, AllocError> {
     let mut text = String::new(alloc);
@@ -97,6 +103,18 @@ pub fn wav_file_of(
     bytes.extend_from_slice(&size.to_le_bytes())?;
     bytes.extend_from_slice(sound)?;
     Ok(bytes)
+}
+
+/// The files of a play: the codec file, the WAV file and the schedule.
+pub fn three_files(
+    alloc: Global,
+    codec: &str,
+    wav: Vec<u8>,
+    steps: &str,
+) -> Result<Vec<(String, Vec<u8>)>, AllocError> {
+    let mut named = files(alloc, &[("codec.toml", codec), ("steps", steps)])?;
+    named.push((String::from_str(alloc, "T.wav")?, wav))?;
+    Ok(named)
 }
 
 /// The status and the text with which the program ends over these files.

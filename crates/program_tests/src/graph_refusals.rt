@@ -112,11 +112,11 @@ fn refuses_lists_by_their_first_faulty_entry(rt: HostRuntime) -> Result<(), Allo
 
 /// Nodes of a codec with a faulty graph, and its fault.
 const GRAPHS: [(&str, &str); 7] = [
-    // An amplifier's offset stands in the low bits, its steps above.
     (
         "{nid = 2, caps = 0x300101, list = [9]}",
         "ConnectionOutside at 3/02",
     ),
+    // An amplifier's offset stands in the low bits, its steps above.
     (
         "{nid = 2, caps = 0xB, amp_in = 1}, {nid = 3, caps = 0x300101, list = [9]}",
         "AmpOffset at 3/02",

@@ -1,6 +1,6 @@
 //! Plays whose sink fails, and plays that are called without words.
-use crate::playing::{FRAMES, HEARD, SMALL_RING, after_set_up};
-use crate::test_files::{ONE_ROUTE, PIN, files, least_codecs, strings, wav_file};
+use crate::playing::{HEARD, SMALL_RING, after_set_up};
+use crate::test_files::{FRAMES, ONE_ROUTE, PIN, least_codecs, strings, three_files, wav_file};
 use hda_outside::{MemSink, SureShelf, SureSink};
 use hda_program::{Status, hda_main, play_files};
 use sound_report::report;
@@ -11,15 +11,8 @@ fn play_of_two_frames(alloc: Global) -> Result<Vec<(String, Vec<u8>)>, AllocErro
     let least = least_codecs(alloc, &[0], PIN)?;
     let codec = format!(in alloc; "fifo = 192\n{least}")?;
     let steps = after_set_up(alloc, "run 8\nfetch 1 16\nlink 4\nrun 0\n")?;
-    let mut named = files(
-        alloc,
-        &[("codec.toml", codec.as_str()), ("steps", steps.as_str())],
-    )?;
-    named.push((
-        String::from_str(alloc, "T.wav")?,
-        wav_file(alloc, 48_000, FRAMES)?,
-    ))?;
-    Ok(named)
+    let wav = wav_file(alloc, 48_000, FRAMES)?;
+    three_files(alloc, codec.as_str(), wav, steps.as_str())
 }
 
 /// Its text.
@@ -69,7 +62,8 @@ fn plays_files_without_words(rt: HostRuntime) -> Result<(), AllocError> {
     assert_eq!(rt; ended.status, Status::Done.number());
     assert!(rt; out.bytes() == text.as_bytes());
     let Some(played) = ended.play else {
-        return Err(AllocError);
+        assert!(rt; false, "a run is given");
+        return Ok(());
     };
     let whole = report(alloc, &played)?;
     assert!(rt; whole.as_slice() == text.as_bytes());
