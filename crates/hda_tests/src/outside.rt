@@ -1,5 +1,5 @@
 //! Shelves and sinks: those in memory, those of the machine, and two that keep account of what they are asked.
-ghost use Rattle.std.specs.Prelude.{None};
+ghost use Rattle.std.specs.Prelude.{◌≡◌, ◌≢◌, ℕ, List, None, bytes_eq, if◌then◌else◌};
 
 use hda_outside::{
     Fault, FileShelf, MemShelf, MemSink, OutSink, ReadAll, Shelf, Sink, SureShelf, SureSink,
@@ -132,12 +132,27 @@ fn writes_pieces(rt: HostRuntime) -> Result<(), Fail> {
     Ok(())
 }
 
-/// A shelf that has one file of so many zeroes under every name, and notes the names under which it is asked.
+/// A shelf that has one file of so many zeroes under every name. It notes the names under which it is asked, and counts how often
+/// that is its own.
 #[derive(Drop)]
 struct NameShelf {
+    own: &'static str,
+    times: u64,
     left: usize,
     given: u64,
     names: String,
+}
+
+/// How often a shelf was asked under its own name, once it is asked under this one.
+#[tactic(auto, using(crate::proofs::NameLemmas::name_tells))]
+fn times_with(own: &str, times: u64, name: &str) -> u64
+    ensures asked { (other : List ℕ) → other ≢ name.now →
+        (if bytes_eq own.now other then result else 0) ≡ (if bytes_eq own.now other then times else 0) }
+{
+    if own == name {
+        return times.saturating_add(1);
+    }
+    times
 }
 
 impl Shelf for NameShelf {
@@ -147,7 +162,7 @@ impl Shelf for NameShelf {
 
     ghost given = { λ shelf. shelf.given };
 
-    ghost asked = { λ _ _. 0 };
+    ghost asked = { λ shelf name. if bytes_eq shelf.own.now name then shelf.times else 0 };
 
     fn read_at(
         &mut self,
@@ -156,6 +171,7 @@ impl Shelf for NameShelf {
         _from: u64,
         buf: &mut [u8],
     ) -> Result<usize, Fault> {
+        self.times = times_with(self.own, self.times, name);
         self.names.push_str(name)?;
         self.names.push_str(";")?;
         let n = buf.len().min(self.left);
@@ -169,6 +185,8 @@ impl Shelf for NameShelf {
 fn asks_under_one_name(rt: HostRuntime) -> Result<(), Fail> {
     let alloc = rt.alloc();
     let mut shelf = NameShelf {
+        own: "asked",
+        times: 0,
         left: 70_000,
         given: 0,
         names: String::new(alloc),
@@ -176,7 +194,11 @@ fn asks_under_one_name(rt: HostRuntime) -> Result<(), Fail> {
     let got = read_all(alloc, &mut shelf, "asked", 100_000);
     assert_eq!(rt; outcome(&got), Ok(70_000));
     assert_eq!(rt; shelf.given, 70_000);
-    assert_eq!(rt; shelf.names.as_str(), "asked;asked;asked;");
+    assert_eq!(rt; shelf.times, 3);
+    let got = read_all(alloc, &mut shelf, "other", 100_000);
+    assert_eq!(rt; outcome(&got), Ok(0));
+    assert_eq!(rt; shelf.times, 3);
+    assert_eq!(rt; shelf.names.as_str(), "asked;asked;asked;other;");
     Ok(())
 }
 
