@@ -1,17 +1,18 @@
 -- What a driver keeps from call to call.
-use Rattle.std.proofs.Common.{◌≡◌, ◌≤◌, ◌+◌, List, [], ◌∷◌, length, length-append, Bool, true, false, refl, sym, ap, ◌∙◌, arith}
+use Rattle.std.proofs.Common.{◌≡◌, ◌≤◌, ◌+◌, ℕ, List, [], ◌∷◌, length, length-append, Bool, true, false, refl, sym, ap, ◌∙◌, arith}
 use Rattle.std.specs.Prelude.{◌&&◌, not}
 use Rattle.period_writer.specs.declared.course.Course.{Course}
+use Rattle.period_writer.specs.declared.course.Ran.{Ran}
 use Rattle.period_writer.specs.declared.course.Run.{Run}
 use Rattle.period_writer.specs.declared.course.Span.{Span}
 use Rattle.period_writer.specs.declared.writer.Writer.{Writer}
 use Rattle.period_writer.specs.Runs.{Measures, RunFacts, Tally, run_of, is_late, tally_if, tally_after, course_opened, tally_opened}
-use Rattle.period_writer.specs.Writers.{tally_of}
+use Rattle.period_writer.specs.Writers.{tally_of, measures_of}
 use Rattle.driver_progress.specs.declared.phase.Phase.{Phase}
 use Rattle.driver_progress.specs.declared.phase.Phase.TheVariants.{Reset, Settling, Walking, SettingUp, Ready, Playing, Drained, NothingRouted, Unanswered, Late, Malformed, Failed}
-use Rattle.driver_progress.specs.Phases.{is_ready}
+use Rattle.driver_progress.specs.Phases.{is_asking, is_ready}
 use Rattle.codec_bring_up.specs.declared.bringing.BringUp.{BringUp}
-use Rattle.audio_driver.specs.States.{plays_now, is_open}
+use Rattle.audio_driver.specs.States.{is_open, phase_if, phase_of, plays_now}
 
 -- ---- the phase
 
@@ -86,3 +87,15 @@ must_be false not_off = absurd (not_off refl)
 pub over_started : (writer : Writer) → (writer.course.started ≡ false → tally_of writer ≡ tally_opened) → is_open writer.course.ran ≡ false → writer.course.started ≡ true
 over_started writer fresh over =
     must_be writer.course.started (λ off. never (sym over ∙ ap (λ (tally : Tally). is_open tally.course.ran) (fresh off)))
+
+-- ---- want of memory
+
+asking_if : (started : Bool) (phase : Phase) (was : Ran) (limit : ℕ) → (started ≡ true → is_ready phase ≡ true) → is_asking phase ≡ true → is_asking (phase_if started phase was limit) ≡ true
+asking_if true phase was limit ready asks = absurd (never (sym (ap is_asking (ready_is phase (ready refl))) ∙ asks))
+asking_if false phase was limit ready asks = asks
+
+-- where the bring-up sends commands the driver does
+pub asking_in : (play : Bool) (bring_up : BringUp) (writer : Writer) → (writer.course.started ≡ true → plays_now play bring_up ≡ true)
+    → is_asking bring_up.phase ≡ true → is_asking (phase_of bring_up writer) ≡ true
+asking_in play bring_up writer begun asks =
+    asking_if writer.course.started bring_up.phase writer.course.ran (measures_of writer).limit (λ started. plays_ready play bring_up (begun started)) asks

@@ -8,6 +8,7 @@ ghost use Rattle.period_writer.specs.Blocks.{addresses_of};
 ghost use Rattle.driver_progress.specs.Phases.{is_asking};
 ghost use Rattle.codec_bring_up.specs.Told.{IsShut};
 ghost use Rattle.audio_driver.specs.Opening.{Opens};
+ghost use Rattle.audio_driver.specs.States as states;
 ghost use Rattle.audio_driver.specs.Closing as spec;
 
 use super::Driver;
@@ -66,14 +67,15 @@ impl<T: Setter + Drop> Driver<T> {
     /// go back to the pool.
     ///
     /// # Errors
-    /// Want of memory, while commands are sent. The controller is left in reset also then, and the pool is let go.
+    /// Want of memory, while commands are sent, and so in no phase from `Ready` on. The controller is left in reset also then, and the pool is
+    /// let go.
     pub fn close<P: Platform>(self, platform: &mut P) -> Result<Closed, AllocError>
         requires room { 400 ≤ P.spare_accesses platform.old }
         requires bytes_room { ring_bytes self.writer.geometry.periods self.writer.geometry.period + 8192 ≤ P.spare_bytes platform.old }
         ensures closes { IfOk result (λ closed. spec.Closes (λ graph. T.IsPlanBy self.setter graph self.bring_up.agenda.format) (λ graph plan. T.verbs_by self.setter graph plan self.bring_up.agenda.format TAG) self.play self.bring_up self.writer self.supply closed (P.told platform.old) (P.told platform.new)) }
         ensures gives { IfOk result (λ closed. spec.GivesBack self.writer.geometry self.pool self.bring_up.engine.corb.address self.bring_up.engine.rirb.address self.writer.list.address (addresses_of self.writer.periods.items) closed.pool) }
         ensures pool { IfOk result (λ closed. (before : PoolState) → Opens self.writer.geometry before self.bring_up.engine.corb.address self.bring_up.engine.rirb.address self.writer.list.address (addresses_of self.writer.periods.items) self.pool → closed.pool ≡ before) }
-        ensures cause { OnErr result (is_asking self.bring_up.phase ≡ true) }
+        ensures cause { OnErr result (is_asking (states.phase_of self.bring_up self.writer) ≡ true) }
         ensures shut { OnErr result (IsShut (P.told platform.new)) }
         ensures fixed { P.fixed platform.new ≡ P.fixed platform.old }
         ensures accesses { P.spare_accesses platform.old ≤ P.spare_accesses platform.new + 298 }

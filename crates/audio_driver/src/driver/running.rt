@@ -22,7 +22,8 @@ impl<T: Setter> Driver<T> {
     /// to be played once all codecs are set up.
     ///
     /// # Errors
-    /// Want of memory, in the phases where codecs are found and answers come. Then it is over, in the phase `Failed`.
+    /// Want of memory, in the phases where codecs are found and answers come, and so in none from `Ready` on. Then it is over, in the phase
+    /// `Failed`.
     pub fn run<P: Platform>(&mut self, platform: &mut P, budget: u32) -> Result<Phase, AllocError>
         requires few { self.old.calls < self.old.runs }
         requires room { 400 ≤ P.spare_accesses platform.old }
@@ -32,7 +33,7 @@ impl<T: Setter> Driver<T> {
         ensures phase { IfOk result (λ phase. phase ≡ states.phase_of self.new.bring_up self.new.writer) }
         ensures kept { calls.IsKept self.old.bring_up self.new.bring_up }
         ensures failed { OnErr result (self.new.bring_up.phase ≡ phases.Failed) }
-        ensures cause { OnErr result (calls.takes_memory self.old.bring_up.phase ≡ true) }
+        ensures cause { OnErr result (calls.takes_memory (states.phase_of self.old.bring_up self.old.writer) ≡ true) }
         ensures writer { states.plays_now self.old.play self.old.bring_up ≡ false → self.new.writer ≡ self.old.writer }
         ensures supply { states.plays_now self.old.play self.old.bring_up ≡ false → self.new.supply ≡ self.old.supply }
         ensures geometry { self.new.writer.geometry ≡ self.old.writer.geometry }
@@ -58,7 +59,8 @@ impl<T: Setter> Driver<T> {
     /// interrupts are not looked for.
     ///
     /// # Errors
-    /// Want of memory, in the phases where codecs are found and answers come. Then it is over, in the phase `Failed`.
+    /// Want of memory, in the phases where codecs are found and answers come, and so in none from `Ready` on. Then it is over, in the phase
+    /// `Failed`.
     pub fn irq<P: Platform>(&mut self, platform: &mut P, budget: u32) -> Result<Phase, AllocError>
         requires few { self.old.calls < self.old.runs }
         requires room { 400 ≤ P.spare_accesses platform.old }
@@ -68,7 +70,7 @@ impl<T: Setter> Driver<T> {
         ensures phase { IfOk result (λ phase. phase ≡ states.phase_of self.new.bring_up self.new.writer) }
         ensures kept { calls.IsKept self.old.bring_up self.new.bring_up }
         ensures failed { OnErr result (self.new.bring_up.phase ≡ phases.Failed) }
-        ensures cause { OnErr result (calls.takes_memory self.old.bring_up.phase ≡ true) }
+        ensures cause { OnErr result (calls.takes_memory (states.phase_of self.old.bring_up self.old.writer) ≡ true) }
         ensures writer { states.plays_now self.old.play self.old.bring_up ≡ false → self.new.writer ≡ self.old.writer }
         ensures supply { states.plays_now self.old.play self.old.bring_up ≡ false → self.new.supply ≡ self.old.supply }
         ensures geometry { self.new.writer.geometry ≡ self.old.writer.geometry }

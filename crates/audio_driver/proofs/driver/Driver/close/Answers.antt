@@ -10,6 +10,7 @@ use Rattle.period_writer.specs.Blocks.{addresses_of}
 use Rattle.period_writer.specs.Runs.{measures}
 use Rattle.period_writer.specs.Writers.{tally_of}
 use Rattle.audio_driver.specs.States.{phase_with}
+use Rattle.audio_driver.proofs.Kept.{asking_in}
 use Rattle.audio_driver.proofs.Taken.{of_taken, of_all_taken}
 use Rattle.audio_driver.proofs.Back.{as_before, gives_at}
 use Rattle.audio_driver.proofs.driver.Driver.close.Goals as goal
@@ -80,3 +81,6 @@ returns-in-Ok-clause-closes g c =
       runs = ap (λ runs. runs.items) c.give_back-runs.ensures.runs;
       silences = ap (λ silences. silences.items) c.give_back-runs.ensures.silences;
     }
+
+pub returns-clause-cause : goal.returns-clause-cause
+returns-clause-cause g c = asking_in c.args.self.play c.args.self.bring_up c.args.self.writer c.args.self.begun c.in-Err.ensures.cause
