@@ -147,6 +147,11 @@ ends_stopped ran.Playing ring pcm tally tally' facts world recorded is ends = en
 ends_stopped ran.Drained ring pcm tally tally' facts world recorded is ends = drained_stopped ring pcm tally' world ends
 ends_stopped (ran.Late from to) ring pcm tally tally' facts world recorded is ends = late_records ring pcm tally tally' facts from to world recorded is ends
 
+-- a run leaves the stream set going in its tally
+still_going : (late : Bool) (m : Measures) (tally : Tally) (facts : RunFacts) → tally.course.started ≡ true → (tally_if late m tally facts).course.started ≡ true
+still_going true m tally facts is = is
+still_going false m tally facts is = refl
+
 -- the clock that it reads last, where the device makes no step
 clock_read : (bytes : ℕ) (periods : List ℕ) (from to : ℕ) (written : List ℕ) (xs : List ℕ) (clock : ℕ) (later : List Event) (world : World)
     → AreHonest (map (piece_write bytes periods from to written) xs ++ (Read WALCLK Four clock ∷ later)) world → clock ≡ value_at world.registers WALCLK Four
@@ -215,7 +220,7 @@ module _ (on : Laws) (laws : HearLaws) (codecs : List CodecState) (pcm : List �
   tally = tally_of writer
 
   abbrev Ends : Type 0
-  Ends = HasStopped after × (All IsNoStep last → HearTheLine codecs writer.geometry.format pcm tally' (world_of after).carried)
+  Ends = (tally'.course.started ≡ true) × HasStopped after × (All IsNoStep last → HearTheLine codecs writer.geometry.format pcm tally' (world_of after).carried)
 
   -- no link frame passes where the device makes no step
   same_carried : All IsNoStep last → (world_of after).carried ≡ (world_of before).carried
@@ -225,6 +230,7 @@ module _ (on : Laws) (laws : HearLaws) (codecs : List CodecState) (pcm : List �
   shuts_end : ShutsAlone old ended writer tally' made → Makes made before after → Ends
   shuts_end shuts makes =
       let over : is_open writer.course.ran ≡ false = sym (ap (λ (started : Bool). started && is_open writer.course.ran) sounds.started) ∙ shuts.still in (
+        ap (λ (tally : Tally). tally.course.started) shuts.tally_is ∙ sounds.started,
         shut_stopped ring pcm tally before after (subst (λ (made : List Event). Makes made before after) shuts.made_is makes) (over_stopped writer.course.ran ring pcm tally (world_of before) over sounds.stream)
             (subst (λ (open' : Bool). Lives open' before) over sounds.lives),
         λ alone. subst (λ (tally : Tally). HearTheLine codecs writer.geometry.format pcm tally (world_of after).carried) (sym shuts.tally_is)
@@ -285,6 +291,9 @@ module _ (on : Laws) (laws : HearLaws) (codecs : List CodecState) (pcm : List �
     going = subst (λ (was : Ran). Lives (is_open was) begins) plays here.lives
 
     module _ (answer : Ran) (is : answer ≡ tally'.course.ran) (run : FinishTells ring pcm tally answer tally' begins ends) where
+      set_going : tally'.course.started ≡ true
+      set_going = ap (λ (tally : Tally). tally.course.started) run.recorded ∙ still_going (is_late (measures ring.geometry) tally.course run.facts) (measures ring.geometry) tally run.facts sounds.started
+
       stopped : WasStopped ring pcm tally' (world_of ends)
       stopped = ends_stopped answer ring pcm tally tally' run.facts (world_of ends) run.recorded is run.ends
 
@@ -321,18 +330,21 @@ module _ (on : Laws) (laws : HearLaws) (codecs : List CodecState) (pcm : List �
 
     ends_by : (answer : Ran) → answer ≡ tally'.course.ran → FinishTells ring pcm tally answer tally' begins ends → Ends
     ends_by ran.Playing is run = (
+      set_going ran.Playing is run,
       has_stopped ran.Playing is run,
       λ alone. hear laws codecs ring pcm tally' (world_of begins) here.heard (world_of after).carried (carried_begins alone)
           (playing_heard laws codecs ring pcm tally tally' (vec_len writer.runs) writer.course_is begins ends playing here.heard small_begins run is ran_on.events ran_on.went (all_back IsNoStep polled.events ran_on.events (alone_ends alone)))
           (λ drained. absurd (never_drained ran.Playing refl (is ∙ drained))),
     )
     ends_by ran.Drained is run = (
+      set_going ran.Drained is run,
       has_stopped ran.Drained is run,
       λ alone. hear laws codecs ring pcm tally' (world_of ends) (hears_ends ran.Drained is run) (world_of after).carried (carried_ends alone)
           (subst HeardAt is (over_heard laws codecs ring pcm tally' (world_of ends) (hears_ends ran.Drained is run) ran.Drained refl run.ends))
           (λ drained. run.ends.sent),
     )
     ends_by (ran.Late from to) is run = (
+      set_going (ran.Late from to) is run,
       has_stopped (ran.Late from to) is run,
       λ alone. hear laws codecs ring pcm tally' (world_of ends) (hears_ends (ran.Late from to) is run) (world_of after).carried (carried_ends alone)
           (subst HeardAt is (over_heard laws codecs ring pcm tally' (world_of ends) (hears_ends (ran.Late from to) is run) (ran.Late from to) refl (stopped (ran.Late from to) is run)))

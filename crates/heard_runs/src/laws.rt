@@ -1,5 +1,5 @@
 //! Laws of runs that are told, each the contract of a function that does nothing.
-ghost use Rattle.std.specs.Prelude.{◌≡◌, ℕ, Bool, List, All, Some, map};
+ghost use Rattle.std.specs.Prelude.{◌≡◌, true, ℕ, Bool, List, All, Some, map};
 ghost use Rattle.codec_graph.specs.CodecStates.{CodecState};
 ghost use Rattle.device_steps.specs.declared.Step.{Step};
 ghost use Rattle.hda_world.specs.Worlds.{World};
@@ -67,13 +67,13 @@ pub fn a_first_run_is_heard()
     accesses_beside_keep_it_steady();
 }
 
-/// After the last call the stream is stopped. Where the device made no step in that call, each pin heard the line by how the last run ended.
-/// WALCLK has not wrapped at any moment of the call.
+/// After the last call the stream is stopped, and its tally is one of a stream that was set going. Where the device made no step in that call,
+/// each pin heard the line by how the last run ended. WALCLK has not wrapped at any moment of the call.
 pub fn the_last_run_is_heard()
     ensures { (codecs : List CodecState) (pcm : List ℕ) (old ended : BringUp) (writer : Writer) (tally : Tally) (supply : List ℕ) (made last : List Event) (before after : Telling)
         → EndTells old ended writer tally supply made before after → Makes made before after → Went before after last → Along HasNotWrapped last (world_of before) → IsLeft pcm writer.course supply
         → Sounds codecs (ring_of writer) pcm (tally_of writer) before
-        → HasStopped after × (All IsNoStep last → HearTheLine codecs writer.geometry.format pcm tally (world_of after).carried) }
+        → (tally.course.started ≡ true) × HasStopped after × (All IsNoStep last → HearTheLine codecs writer.geometry.format pcm tally (world_of after).carried) }
 {
     steps_keep_the_ring();
     events_between_runs_keep_the_ring();

@@ -13,4 +13,5 @@ pub mod Hearing
 pub mod Listed
 pub mod Written
 pub mod Recorded
+pub mod LineRecorded
 pub mod Played

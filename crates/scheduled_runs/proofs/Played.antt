@@ -15,16 +15,17 @@ use Rattle.hda_world.specs.declared.world.TheConstants.{REGION_BYTES}
 use Rattle.hda_world.specs.Events.{Event}
 use Rattle.hda_world.specs.Worlds.{CarriedFrame}
 use Rattle.hda_world.specs.Tellings.{Telling, world_of}
-use Rattle.heard_runs.specs.Lives.{HasStopped}
 use Rattle.driver_progress.specs.States.{State}
+use Rattle.period_writer.specs.declared.course.Course.{Course}
 use Rattle.period_writer.specs.declared.course.Ran.{Ran}
 use Rattle.period_writer.specs.declared.course.Ran.TheVariants as ran
 use Rattle.period_writer.specs.declared.geometry.Geometry.{Geometry}
-use Rattle.period_writer.specs.Runs.{Tally, tally_opened, measures}
+use Rattle.period_writer.specs.Lines.{IsLine}
+use Rattle.period_writer.specs.Runs.{Tally, tally_opened, measures, tally_of_stretches}
 use Rattle.audio_driver.specs.States.{phase_if, played_as}
 use Rattle.audio_driver.specs.declared.driver.closing.Closed.{Closed}
 use Rattle.driver_progress.specs.declared.phase.Phase.{Phase}
-use Rattle.driver_progress.specs.declared.phase.Phase.TheVariants.{Ready}
+use Rattle.driver_progress.specs.declared.phase.Phase.TheVariants.{Reset, Settling, Walking, SettingUp, Ready, Playing, Drained, NothingRouted, Unanswered, Late, Malformed, Failed}
 use Rattle.driver_progress.specs.Tasks.{Task, Blocks}
 use Rattle.heard_runs.specs.Ending.{HearTheLine}
 use Rattle.told_bring_up.specs.Standing.{AreWalked, WalkedIn}
@@ -38,10 +39,12 @@ use Rattle.scheduled_runs.specs.Going.{plan_by, open_by}
 use Rattle.scheduled_runs.specs.Ends.{can_end}
 use Rattle.scheduled_runs.specs.Histories.{MakesProgress, StaysOpen, journal_of, told_by, walked_all}
 use Rattle.scheduled_runs.specs.FrameCounts.{written_by}
-use Rattle.scheduled_runs.specs.Hearing.{HasPlayedAll, HearTheirs, WasSilent, lists_heard}
-use Rattle.scheduled_runs.specs.Plays.{AreRecorded, IsHeard, IsPlayFault, played_task}
+use Rattle.scheduled_runs.specs.Hearing.{HasPlayedAll, HearTheirs, lists_heard}
+use Rattle.scheduled_runs.specs.Stretches.{stretches_of}
+use Rattle.scheduled_runs.specs.Plays.{AreRecorded, HasRun, IsHeard, IsPlayFault, Lived, played_task}
 use Rattle.scheduled_runs.proofs.Gone.{analog, Gone, phase_left, played_phase, unplayed_ends}
 use Rattle.scheduled_runs.proofs.Hearing.{all_hear, none_hear}
+use Rattle.scheduled_runs.proofs.LineRecorded.{RunLaws, recorded_line}
 use Rattle.scheduled_runs.proofs.Recorded.{recorded_is}
 use Rattle.scheduled_runs.proofs.WalkedIn.{walked_in}
 use Rattle.scheduled_runs.proofs.Written.{drained_whole, written_within}
@@ -67,13 +70,38 @@ all_walked_if : (started : Bool) (phase : Phase) (was : Ran) (limit : ℕ) (all 
 all_walked_if true phase was limit all ready by is = walked_in Ready all refl (subst (λ (phase : Phase). WalkedIn phase all) (ready refl) by)
 all_walked_if false phase was limit all ready by is = walked_in phase all is by
 
+-- it tells how the last run ended
+has_run_as : (course : Course) (was : Ran) → course.ran ≡ was → course.started ≡ true → (limit : ℕ) → HasRun (played_as was limit) course
+has_run_as course ran.Playing is started limit = (started, is)
+has_run_as course ran.Drained is started limit = (started, is)
+has_run_as course (ran.Late from to) is started limit = (started, is)
+
+-- or that there was none
+has_no_run : (course : Course) → course.started ≡ false → (phase : Phase) (all : Type 0) → WalkedIn phase all → HasRun phase course
+has_no_run course none Reset all walked = none
+has_no_run course none Settling all walked = none
+has_no_run course none Walking all walked = none
+has_no_run course none SettingUp all walked = none
+has_no_run course none Ready all walked = none
+has_no_run course none Playing all walked = absurd walked
+has_no_run course none Drained all walked = absurd walked
+has_no_run course none NothingRouted all walked = none
+has_no_run course none (Unanswered codec command issued noticed) all walked = none
+has_no_run course none (Late from to limit) all walked = absurd walked
+has_no_run course none (Malformed codec fault) all walked = none
+has_no_run course none Failed all walked = none
+
+has_run : (course : Course) (started : Bool) → course.started ≡ started → (phase : Phase) (limit : ℕ) (all : Type 0) → WalkedIn phase all → HasRun (phase_if started phase course.ran limit) course
+has_run course true is phase limit all walked = has_run_as course course.ran refl is limit
+has_run course false is phase limit all walked = has_no_run course is phase all walked
+
 -- ---- the run
 
 -- what is told of a run is that of the state to which its journal leads
 pub record IsDriven (machine : Machine) (plans : List Plan) (wav : Wav) (schedule : Schedule) (task : Task) (state : State) (telling : Telling) (played : Played) : Type 0 where
   pub progress : MakesProgress machine schedule task state telling played.graphs
   pub opened : StaysOpen wav.format machine schedule task telling
-  pub runs : AreRecorded schedule task state.tally telling played
+  pub runs : AreRecorded schedule task state.phase state.tally telling played
   pub heard : IsHeard machine plans wav state.tally (world_of telling).carried played.heard
   pub ended : IsPlayFault state.phase state.sent played.commands (block_bytes wav.format) played.total state.tally.runs state.tally.silences played.fault
 
@@ -107,9 +135,10 @@ module _ (machine : Machine) (plans : List Plan) (wav : Wav) (geometry : Geometr
   abbrev Heard : Type 0
   Heard = ((gone.tally ≡ tally_opened) × WasNeverHeard telling) ⊎ WasHeard (plan_by analog wav.format) (open_by analog wav.format) (graphs_of machine.codecs) task gone.tally gone.last telling
 
-  streamed : Heard → WasSilent gone.tally telling ⊎ HasStopped telling
-  streamed (inl (none, never)) = inl (record { none = none; stopped = never.stopped; carried = never.none })
-  streamed (inr was) = inr was.lived
+  streamed : Heard → Lived gone.tally.course.started gone.tally telling
+  streamed (inl (none, never)) =
+      subst (λ (started : Bool). Lived started gone.tally telling) (sym (ap (λ (tally : Tally). tally.course.started) none)) (record { none = none; stopped = never.stopped; carried = never.none })
+  streamed (inr was) = subst (λ (started : Bool). Lived started gone.tally telling) (sym was.started) was.lived
 
   hears_by : HavePlans wav.format machine.codecs plans → geometry.format ≡ wav.format → Heard → AllZip (HearTheirs wav.format wav.pcm gone.tally carried) machine.codecs plans
   hears_by planned same (inl (none, never)) =
@@ -120,11 +149,11 @@ module _ (machine : Machine) (plans : List Plan) (wav : Wav) (geometry : Geometr
       all_hear wav.format wav.pcm gone.tally carried was.codecs hear machine.codecs plans planned (λ file has. was.set_up file.graph (graph_among machine.codecs file has))
 
   -- what is told of it is that of the run that is kept
-  pub driven : (played : Played) → journal_of played ≡ journal → geometry ≡ old.writer.geometry → geometry.format ≡ wav.format → HavePlans wav.format machine.codecs plans → played.graphs ≡ closed.graphs.items
+  pub driven : RunLaws → (played : Played) → journal_of played ≡ journal → geometry ≡ old.writer.geometry → geometry.format ≡ wav.format → HavePlans wav.format machine.codecs plans → played.graphs ≡ closed.graphs.items
       → played.runs ≡ closed.runs.items → played.silences ≡ closed.silences.items → played.heard ≡ lists_heard carried machine.codecs plans
       → IsPlayFault closed.phase closed.sent played.commands (block_bytes wav.format) played.total closed.runs.items closed.silences.items played.fault
       → IsDriven machine plans wav schedule task (state_left task gone.ended gone.tally) (told_by machine played) played
-  driven played told ring format planned graphs runs silences heard fault =
+  driven laws played told ring format planned graphs runs silences heard fault =
       subst (λ (events : List Event). IsDriven machine plans wav schedule task (state_left task gone.ended gone.tally) (telling_from REGION_BYTES machine events) played) (sym told) (record {
         progress = record {
           progress = gone.has.progress;
@@ -136,9 +165,11 @@ module _ (machine : Machine) (plans : List Plan) (wav : Wav) (geometry : Geometr
         };
         opened = gone.has.set_up;
         runs = record {
-          recorded = ap (λ state. state.tally) (sym gone.has.state_is) ∙ recorded_is task (lines_of schedule) telling;
+          recorded = recorded;
           runs = runs ∙ gone.leaves.runs;
           silences = silences ∙ gone.leaves.silences;
+          line = subst IsLine (sym recorded) (recorded_line laws geometry (length wav.pcm) (stretches_of (lines_of schedule) journal));
+          ran = has_run gone.tally.course gone.tally.course.started refl gone.ended.phase _ _ gone.has.ended_is.by_phase;
           stream = streamed gone.has.heard;
         };
         heard = record {
@@ -149,6 +180,9 @@ module _ (machine : Machine) (plans : List Plan) (wav : Wav) (geometry : Geometr
         ended = fault_left;
       })
     where
+      recorded : gone.tally ≡ tally_of_stretches (measures geometry) (length wav.pcm) (stretches_of (lines_of schedule) journal)
+      recorded = ap (λ state. state.tally) (sym gone.has.state_is) ∙ recorded_is task (lines_of schedule) telling
+
       walked : played.graphs ≡ gone.ended.agenda.graphs.items
       walked = graphs ∙ ap (λ graphs. graphs.items) gone.leaves.graphs
 

@@ -1,6 +1,6 @@
 -- What comes of playing a sound over a machine by a schedule. This project's own.
 use Rattle.std.specs.List.{AllZip}
-use Rattle.std.specs.Prelude.{◌≡◌, ◌⊎◌, ℕ, true, false, List, length, Option, Some, None}
+use Rattle.std.specs.Prelude.{◌≡◌, ℕ, Bool, true, false, List, length, Option, Some, None}
 use Rattle.stream_format.specs.Cadence.{block_bytes}
 use Rattle.route_planner.specs.declared.routes.Plan.{Plan}
 use Rattle.wav_reader.specs.declared.wav.Wav.{Wav}
@@ -10,11 +10,13 @@ use Rattle.hda_world.specs.Worlds.{CarriedFrame}
 use Rattle.hda_world.specs.Tellings.{Telling, world_of}
 use Rattle.heard_lists.specs.declared.pin_list.PinHeard.{PinHeard}
 use Rattle.heard_runs.specs.Lives.{HasStopped}
+use Rattle.period_writer.specs.declared.course.Course.{Course}
 use Rattle.period_writer.specs.declared.course.Run.{Run}
 use Rattle.period_writer.specs.declared.course.Span.{Span}
 use Rattle.period_writer.specs.declared.course.Ran.TheVariants as ran
 use Rattle.period_writer.specs.declared.geometry.Geometry.{Geometry}
 use Rattle.period_writer.specs.Runs.{Tally, measures, tally_of_stretches}
+use Rattle.period_writer.specs.Lines.{IsLine}
 use Rattle.driver_progress.specs.declared.phase.Phase.{Phase}
 use Rattle.driver_progress.specs.declared.phase.Phase.TheVariants.{Reset, Settling, Walking, SettingUp, Ready, Playing, Drained, NothingRouted, Unanswered, Late, Malformed, Failed}
 use Rattle.driver_progress.specs.Tasks.{Task, Blocks}
@@ -57,13 +59,34 @@ IsPlayFault Failed sent of block total runs silences fault = ⊥
 abbrev pub played_task : Machine → List Plan → Wav → Geometry → Blocks → Task
 played_task machine plans wav geometry blocks = task_of wav.format machine plans geometry true wav.pcm blocks
 
--- runs and silences are those of the journal's stretches; the stream was never set going, or it was once, and ran without an error until it was
--- stopped once
-pub record AreRecorded (schedule : Schedule) (task : Task) (tally : Tally) (telling : Telling) (played : Played) : Type 0 where
+-- by its phase the driver made no run, or this is how its last one ended
+abbrev pub HasRun : Phase → Course → Type 0
+HasRun Reset course = course.started ≡ false
+HasRun Settling course = course.started ≡ false
+HasRun Walking course = course.started ≡ false
+HasRun SettingUp course = course.started ≡ false
+HasRun Ready course = course.started ≡ false
+HasRun Playing course = (course.started ≡ true) × (course.ran ≡ ran.Playing)
+HasRun Drained course = (course.started ≡ true) × (course.ran ≡ ran.Drained)
+HasRun NothingRouted course = course.started ≡ false
+HasRun (Unanswered codec command issued noticed) course = course.started ≡ false
+HasRun (Late from to limit) course = (course.started ≡ true) × (course.ran ≡ ran.Late from to)
+HasRun (Malformed codec fault) course = course.started ≡ false
+HasRun Failed course = course.started ≡ false
+
+-- without a run the stream was never set going; else it was once, and ran without an error until it was stopped once
+abbrev pub Lived : (started : Bool) → Tally → Telling → Type 0
+Lived false tally telling = WasSilent tally telling
+Lived true tally telling = HasStopped telling
+
+-- runs and silences are those of the journal's stretches: no two silences of the line touch, and all else of it is sound
+pub record AreRecorded (schedule : Schedule) (task : Task) (phase : Phase) (tally : Tally) (telling : Telling) (played : Played) : Type 0 where
   pub recorded : tally ≡ tally_of_stretches (measures task.geometry) (length task.pcm) (stretches_of (lines_of schedule) telling.journal)
   pub runs : played.runs ≡ tally.runs
   pub silences : played.silences ≡ tally.silences
-  pub stream : WasSilent tally telling ⊎ HasStopped telling
+  pub line : IsLine tally
+  pub ran : HasRun phase tally.course
+  pub stream : Lived tally.course.started tally telling
 
 -- what was heard is what the link frames carried, as each candidate pin hears it: the line by its plan. Where the line has drained, that was all sound
 pub record IsHeard (machine : Machine) (plans : List Plan) (wav : Wav) (tally : Tally) (carried : List CarriedFrame) (lists : List PinHeard) : Type 0 where
@@ -81,7 +104,7 @@ pub record IsPlayed (machine : Machine) (plans : List Plan) (wav : Wav) (geometr
   pub history : IsHistory machine schedule (journal_of played)
   pub progress : MakesProgress machine schedule (played_task machine plans wav geometry blocks) state (told_by machine played) played.graphs
   pub opened : StaysOpen wav.format machine schedule (played_task machine plans wav geometry blocks) (told_by machine played)
-  pub runs : AreRecorded schedule (played_task machine plans wav geometry blocks) state.tally (told_by machine played) played
+  pub runs : AreRecorded schedule (played_task machine plans wav geometry blocks) state.phase state.tally (told_by machine played) played
   pub heard : IsHeard machine plans wav state.tally (world_of (told_by machine played)).carried played.heard
   -- jacks count what was read of RIRB that came unasked
   pub jacks : Counts (told_in (journal_of played)) played.jacks

@@ -11,7 +11,7 @@ ghost use Rattle.scheduled_runs.specs.Ends.{can_end};
 ghost use Rattle.scheduled_runs.specs.Plays as spec;
 ghost use Rattle.scheduled_runs.specs.FrameCounts as counts;
 
-use crate::driving::drive;
+use crate::driving::{BYTES_BESIDE_RING, drive};
 use crate::frame_counts::{frames_below, frames_written, last_at};
 use crate::lines::line_count;
 use crate::opening::open_driver;
@@ -25,7 +25,7 @@ use machine_tasks::{
     command_count, machines_have_tasks, machines_rest, opened_drivers_can_begin,
     read_machines_are_whole,
 };
-use period_writer::Geometry;
+use period_writer::{Geometry, runs_append_to_the_line, runs_keep_the_course};
 use rig::Rig;
 use route_planner::{Plan, one_order};
 use route_setup::Analog;
@@ -98,6 +98,8 @@ pub fn play(
     opened_drivers_can_begin();
     drivers_keep_to_progress::<Analog>();
     one_order();
+    runs_keep_the_course();
+    runs_append_to_the_line();
     let format = wav.format;
     let total = wav.frames;
     let _bytes = wav.pcm.len();
@@ -110,7 +112,12 @@ pub fn play(
         line_count(schedule),
         true,
     )?;
-    let closed = drive(&mut rig, driver, schedule, geometry.ring() + 8192)?;
+    let closed = drive(
+        &mut rig,
+        driver,
+        schedule,
+        geometry.ring() + BYTES_BESIDE_RING,
+    )?;
     let (machine, heard, journal) = rig.parts();
     let fault = play_fault(&closed, commands, format.block_bytes(), total);
     Ok(Played {

@@ -10,7 +10,7 @@ ghost use Rattle.scheduled_runs.specs.Ends.{can_end};
 ghost use Rattle.scheduled_runs.specs.Openings.{IsFresh};
 ghost use Rattle.scheduled_runs.specs.Walks as spec;
 
-use crate::driving::drive;
+use crate::driving::{BYTES_BESIDE_RING, drive};
 use crate::lines::line_count;
 use crate::opening::open_driver;
 use audio_driver::Driver;
@@ -38,8 +38,8 @@ const PERIODS: u8 = 4;
 /// The units of each of them.
 const PERIOD: u8 = 8;
 
-/// Room for the pieces of memory of a call: the bytes of that ring, and 8,192.
-const CALL_BYTES: u32 = 20_480;
+/// The bytes of that ring.
+const RING_BYTES: u32 = 12_288;
 
 /// The format for which a walk sets codecs up: 48 kHz, 16 bits, 2 channels.
 pub fn walk_format() -> Format
@@ -145,7 +145,7 @@ pub fn walk(
     let fifo = machine.fifo;
     let mut rig = Rig::new(alloc, machine)?;
     let driver = silent_driver(alloc, fifo, line_count(schedule))?;
-    let closed = drive(&mut rig, driver, schedule, CALL_BYTES)?;
+    let closed = drive(&mut rig, driver, schedule, RING_BYTES + BYTES_BESIDE_RING)?;
     let (machine, _, journal) = rig.parts();
     Ok(Played {
         machine,

@@ -181,14 +181,15 @@ module _ (IsPlanBy : RawCodec → Plan → Type 0) (verbs_by : RawCodec → Plan
       heard_end =
           let began = laws.heard.begin was.codecs (ring_in old) task.pcm (tally_in old) before begun begins was.by in
           let stops = laws.heard.last was.codecs task.pcm old.bring_up ended old.writer tally old.supply call.made calling.events begun made call.tells.is call.by.is calling.went small_then task_is.sound began in
-          let over = laws.heard.over made after ends stops.0 in
+          let over = laws.heard.over made after ends stops.1 in
           gone_by ended_played
           (ended_ready graphs task ended (call.phase ∙ was.ready) (ap (λ (agenda : Agenda). agenda.graphs.items) call.agenda ∙ was.walked))
           (call.phase ∙ was.ready)
           (inr (record {
+            started = stops.0;
             lived = over.0;
             codecs = was.codecs;
             set_up = was.set_up;
             hear = λ alone. subst (λ (format : Format). HearTheLine was.codecs format task.pcm tally (world_of after).carried) (sym (ap (λ (geometry : Geometry). geometry.format) task_is.geometry))
-                (subst (HearTheLine was.codecs old.writer.geometry.format task.pcm tally) (sym over.1) (stops.1 (alone_then alone)));
+                (subst (HearTheLine was.codecs old.writer.geometry.format task.pcm tally) (sym over.1) (stops.2 (alone_then alone)));
           }))

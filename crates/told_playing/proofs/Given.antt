@@ -1,5 +1,5 @@
 -- The laws that a driver that plays goes by, as they are handed in.
-use Rattle.std.specs.Prelude.{◌≡◌, ℕ, Bool, List, All, Some, map}
+use Rattle.std.specs.Prelude.{◌≡◌, true, ℕ, Bool, List, All, Some, map}
 use Rattle.verb_codes.specs.declared.verbs.Command.{Command}
 use Rattle.codec_graph.specs.declared.raw.RawCodec.{RawCodec}
 use Rattle.codec_graph.specs.CodecStates.{CodecState}
@@ -43,7 +43,7 @@ pub record HeardLaws : Type 0 where
       → HasNotWrapped (world_of after) → Sounds (world_of before).codecs (ring_of writer') pcm (tally_of writer') after
   pub last : (codecs : List CodecState) (pcm : List ℕ) (old ended : BringUp) (writer : Writer) (tally : Tally) (supply : List ℕ) (made last : List Event) (before after : Telling)
       → EndTells old ended writer tally supply made before after → Makes made before after → Went before after last → Along HasNotWrapped last (world_of before) → IsLeft pcm writer.course supply
-      → Sounds codecs (ring_of writer) pcm (tally_of writer) before → HasStopped after × (All IsNoStep last → HearTheLine codecs writer.geometry.format pcm tally (world_of after).carried)
+      → Sounds codecs (ring_of writer) pcm (tally_of writer) before → (tally.course.started ≡ true) × HasStopped after × (All IsNoStep last → HearTheLine codecs writer.geometry.format pcm tally (world_of after).carried)
   pub over : (old new : Telling) → Accessed old new End → HasStopped old → HasStopped new × ((world_of new).carried ≡ (world_of old).carried)
 
 pub record Given (IsPlanBy : RawCodec → Plan → Type 0) (verbs_by : RawCodec → Plan → List Command) (verbs : RawCodec → List Command) (IsOpenBy : RawCodec → Entries → Plan → Type 0) (graphs : List RawCodec) (task : Task) : Type 0 where

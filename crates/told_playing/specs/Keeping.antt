@@ -71,6 +71,7 @@ pub record WasNeverHeard (telling : Telling) : Type 0 where
 -- it was set going once and stopped, and codecs that were set up heard the line, where the device made no step in the last stretch, of which
 -- these are the events
 pub record WasHeard (IsPlanBy : RawCodec → Plan → Type 0) (IsOpenBy : RawCodec → Entries → Plan → Type 0) (graphs : List RawCodec) (task : Task) (tally : Tally) (last : List Event) (telling : Telling) : Type 0 where
+  pub started : tally.course.started ≡ true
   pub lived : HasStopped telling
   pub codecs : List CodecState
   pub set_up : AreSetUpIn IsPlanBy IsOpenBy graphs codecs

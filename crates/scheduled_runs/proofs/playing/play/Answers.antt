@@ -23,6 +23,7 @@ use Rattle.scheduled_runs.specs.Plays.{IsPlayFault, played_task}
 use Rattle.scheduled_runs.proofs.Counting.{few_lines}
 use Rattle.scheduled_runs.proofs.Gone.{CanGo, Gone, gone, opened_can_go}
 use Rattle.scheduled_runs.proofs.Listed.{lists_are}
+use Rattle.scheduled_runs.proofs.LineRecorded.{RunLaws}
 use Rattle.scheduled_runs.proofs.Played.{driven, playing_ends, written_few}
 use Rattle.scheduled_runs.proofs.playing.play.Goals as goal
 
@@ -105,8 +106,15 @@ returns c =
       walk = false;
       fault = c.play_fault-fault.result;
     } in
+    let laws : RunLaws = record {
+      opened = c.runs_keep_the_course.ensures.opened;
+      kept = c.runs_keep_the_course.ensures.kept;
+      late = c.runs_keep_the_course.ensures.late;
+      line_opened = c.runs_append_to_the_line.ensures.opened;
+      line_kept = c.runs_append_to_the_line.ensures.kept;
+    } in
     let by = driven machine c.args.plans.items wav c.args.geometry (blocks_for earlier) c.args.schedule.now (opened earlier) c.in_ok-closed.closed (telling_of c.drive.new.rig).journal gone
-    played told (sym c.in_ok-driver.ensures.opened.geometry_is) c.requires.format c.requires.plans c.from_vec-2.ensures c.from_vec-3.ensures c.from_vec-4.ensures
+    laws played told (sym c.in_ok-driver.ensures.opened.geometry_is) c.requires.format c.requires.plans c.from_vec-2.ensures c.from_vec-3.ensures c.from_vec-4.ensures
     (c.from_vec-5.ensures ∙ c.into_lists.ensures ∙ heard_is earlier)
     (subst (λ (block : ℕ). IsPlayFault c.in_ok-closed.closed.phase c.in_ok-closed.closed.sent c.in_ok-commands.commands block wav.frames c.in_ok-closed.closed.runs.items c.in_ok-closed.closed.silences.items c.play_fault-fault.result)
     c.block_bytes.ensures c.play_fault-fault.ensures) in
