@@ -68,7 +68,7 @@ module _ (told : Option Files) (failed : List ℕ → Type 0) (words : List (Lis
       → ScheduleStops told failed name meant → WordsCase told failed words meant
   schedule_stop codec name machine meant wants names file (inl stop) = said ShelfFailed (name, names, stop.0) _ stop.1
   schedule_stop codec name machine meant wants names file (inr stop) =
-      said ScheduleRefused (record { codec = codec; name = name; machine = machine; text = stop.0; wants = wants; file = file; refused = stop.1 }) _ stop.2
+      said ScheduleRefused (record { codec_name = codec; schedule_name = name; machine = machine; text = stop.0; wants = wants; codec_file = file; refused = stop.1 }) _ stop.2
 
   -- ---- `route`
 
@@ -76,9 +76,9 @@ module _ (told : Option Files) (failed : List ℕ → Type 0) (words : List (Lis
       → HavePlans format machine.codecs plans → (some : Bool) → have_route plans ≡ some
       → meant ≡ (if some then telling Done (plans_lines machine.codecs plans) else unrouted machine.codecs plans) → WordsCase told failed words meant
   route_plans name format machine plans meant is file planned true some e =
-      said Done (name, format, is, record { name = name; format = format; machine = machine; plans = plans; wants = inl is; file = file; planned = planned; routed = some }) _ e
+      said Done (name, format, is, record { codec_name = name; format = format; machine = machine; plans = plans; wants = inl is; codec_file = file; planned = planned; routed = some }) _ e
   route_plans name format machine plans meant is file planned false some e =
-      said NothingRouted (record { name = name; format = format; machine = machine; plans = plans; wants = inl is; file = file; planned = planned; routed = some }) _ e
+      said NothingRouted (record { codec_name = name; format = format; machine = machine; plans = plans; wants = inl is; codec_file = file; planned = planned; routed = some }) _ e
 
   route_cases : (name : List ℕ) (format : Format) (meant : Meant) → IsRouteOf words name format → RouteAnswers told failed name format meant → WordsCase told failed words meant
   route_cases name format meant is (inl stop) =
@@ -92,25 +92,25 @@ module _ (told : Option Files) (failed : List ℕ → Type 0) (words : List (Lis
       → IsScheduleOf told name schedule → HavePlans walk_format machine.codecs plans → PlansWalk machine schedule plans meant → WordsCase told failed words meant
   walk_plans codec name machine schedule plans meant is file steps planned (inl none) =
       said NothingRouted (record {
-        name = codec;
+        codec_name = codec;
         format = walk_format;
         machine = machine;
         plans = plans;
         wants = inr (inl (name, is, refl));
-        file = file;
+        codec_file = file;
         planned = planned;
         routed = none.0;
       }) _ none.1
   walk_plans codec name machine schedule plans meant is file steps planned (inr run) =
       ran run.0 (inl (record {
-        codec = codec;
-        name = name;
+        codec_name = codec;
+        schedule_name = name;
         machine = machine;
         plans = plans;
         schedule = schedule;
         asks = is;
-        file = file;
-        steps = steps;
+        codec_file = file;
+        schedule_file = steps;
         planned = planned;
         routed = run.1;
         run = run.2;
@@ -131,27 +131,27 @@ module _ (told : Option Files) (failed : List ℕ → Type 0) (words : List (Lis
 
   module _ (codec wav name : List ℕ) (periods period : ℕ) (meant : Meant) (is : IsPlayOf words codec wav name periods period) where
     play_wants : (sound : Wav) → IsWavOf told wav sound → WantsSound told words codec name sound
-    play_wants sound file = record { wav = wav; periods = periods; period = period; asks = is; file = file }
+    play_wants sound file = record { wav_name = wav; periods = periods; period = period; asks = is; wav_file = file }
 
     play_plans : (machine : Machine) (sound : Wav) (schedule : Schedule) (geometry : Geometry) (plans : List Plan) → IsMachineOf told codec machine → IsWavOf told wav sound
         → IsScheduleOf told name schedule → IsRingOf periods period machine sound geometry → HavePlans sound.format machine.codecs plans
         → PlansPlay machine sound geometry schedule plans meant → WordsCase told failed words meant
     play_plans machine sound schedule geometry plans file sound_file steps ring planned (inl none) =
         said NothingRouted (record {
-          name = codec;
+          codec_name = codec;
           format = sound.format;
           machine = machine;
           plans = plans;
           wants = inr (inr (name, sound, play_wants sound sound_file, refl));
-          file = file;
+          codec_file = file;
           planned = planned;
           routed = none.0;
         }) _ none.1
     play_plans machine sound schedule geometry plans file sound_file steps ring planned (inr run) =
         ran run.0 (inr (record {
-          codec = codec;
-          wav = wav;
-          name = name;
+          codec_name = codec;
+          wav_name = wav;
+          schedule_name = name;
           periods = periods;
           period = period;
           asks = is;
@@ -161,10 +161,10 @@ module _ (told : Option Files) (failed : List ℕ → Type 0) (words : List (Lis
             geometry = geometry;
             schedule = schedule;
             plans = plans;
-            file = file;
-            sound_file = sound_file;
-            steps = steps;
-            geometry_is = ring;
+            codec_file = file;
+            wav_file = sound_file;
+            schedule_file = steps;
+            ring = ring;
             planned = planned;
             routed = run.1;
             run = run.2;
@@ -175,9 +175,9 @@ module _ (told : Option Files) (failed : List ℕ → Type 0) (words : List (Lis
         → SchedulePlays periods period machine sound schedule meant → WordsCase told failed words meant
     play_schedule machine sound schedule file sound_file steps (inl stop) =
         said GeometryRefused (record {
-          codec = codec;
-          wav = wav;
-          name = name;
+          codec_name = codec;
+          wav_name = wav;
+          schedule_name = name;
           periods = periods;
           period = period;
           machine = machine;
@@ -185,9 +185,9 @@ module _ (told : Option Files) (failed : List ℕ → Type 0) (words : List (Lis
           schedule = schedule;
           fault = stop.0;
           asks = is;
-          file = file;
-          sound_file = sound_file;
-          steps = steps;
+          codec_file = file;
+          wav_file = sound_file;
+          schedule_file = steps;
           refused = stop.1;
         }) _ stop.2
     play_schedule machine sound schedule file sound_file steps (inr answers) =
@@ -203,15 +203,15 @@ module _ (told : Option Files) (failed : List ℕ → Type 0) (words : List (Lis
     play_machine machine file (inl (inl stop)) = said ShelfFailed (wav, names_of (play codec wav name periods period) wav is (1, omega arith, refl), stop.0) _ stop.1
     play_machine machine file (inl (inr stop)) =
         said WavRefused (record {
-          codec = codec;
-          wav = wav;
-          name = name;
+          codec_name = codec;
+          wav_name = wav;
+          schedule_name = name;
           periods = periods;
           period = period;
           machine = machine;
           text = stop.0;
           asks = is;
-          file = file;
+          codec_file = file;
           refused = stop.1;
         }) _ stop.2
     play_machine machine file (inr answers) = play_sound machine answers.0 file answers.1 answers.2

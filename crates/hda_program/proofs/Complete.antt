@@ -1,10 +1,8 @@
 -- Where nothing is refused, `play` and `walk` come to their runs.
 use Rattle.std.proofs.Common.{◌≡◌, ◌∙◌, ℕ, List, true, false, inl, inr, Option, Some, None, refl, sym, ap, subst}
-use Rattle.std.specs.Prelude.{◌⊎◌, ◌==◌, if◌then◌else◌, Bool}
+use Rattle.std.specs.Prelude.{◌⊎◌, if◌then◌else◌, Bool}
 use Rattle.stream_format.specs.declared.format.Rate.{Rate}
-use Rattle.stream_format.specs.declared.format.Rate.TheVariants.{R8, R16, R44, R48, R96, R192}
 use Rattle.stream_format.specs.declared.format.Bits.{Bits}
-use Rattle.stream_format.specs.declared.format.Bits.TheVariants.{B16, B24, B32}
 use Rattle.stream_format.specs.Layouts.{layout}
 use Rattle.sound_report.specs.PlanLines.{plans_lines}
 use Rattle.stream_format.specs.declared.format.Format.{Format}
@@ -13,6 +11,7 @@ use Rattle.hda_outside.specs.Shelf.{Files}
 use Rattle.hda_files.specs.declared.machine.Machine.{Machine}
 use Rattle.hda_schedule.specs.declared.schedule.Schedule.{Schedule}
 use Rattle.hda_words.specs.Asked.{Asked, bits_of, hertz, play, route, walk}
+use Rattle.hda_words.proofs.Callers.{bits_of-same, hertz-same}
 use Rattle.period_writer.specs.declared.geometry.Geometry.{Geometry}
 use Rattle.period_writer.specs.declared.geometry.GeometryFault.{GeometryFault}
 use Rattle.period_writer.specs.Rings.{fault_of}
@@ -107,18 +106,18 @@ module _ (told : Option Files) (failed : List ℕ → Type 0) (codec wav name : 
   play_sound : (machine : Machine) (sound : Wav) → can.machine ≡ machine → can.sound.format ≡ sound.format → SoundPlays Here failed periods period machine sound name meant
       → IsRunOf IsOfPlay meant
   play_sound machine sound same format (inl (inl stop)) = absurd (can.schedule_given stop.0)
-  play_sound machine sound same format (inl (inr stop)) = absurd (schedule_unrefused can.files name stop.0 can.schedule can.steps stop.1)
+  play_sound machine sound same format (inl (inr stop)) = absurd (schedule_unrefused can.files name stop.0 can.schedule can.schedule_file stop.1)
   play_sound machine sound same format (inr answers) = play_schedule machine sound answers.0 same format answers.2
 
   play_machine : (machine : Machine) → can.machine ≡ machine → MachinePlays Here failed periods period machine wav name meant → IsRunOf IsOfPlay meant
   play_machine machine same (inl (inl stop)) = absurd (can.wav_given stop.0)
-  play_machine machine same (inl (inr stop)) = absurd (wav_unrefused can.files wav stop.0 can.sound can.sound_file stop.1)
-  play_machine machine same (inr answers) = play_sound machine answers.0 same (one_wav_format can.files wav answers.0 can.sound answers.1 can.sound_file) answers.2
+  play_machine machine same (inl (inr stop)) = absurd (wav_unrefused can.files wav stop.0 can.sound can.wav_file stop.1)
+  play_machine machine same (inr answers) = play_sound machine answers.0 same (one_wav_format can.files wav answers.0 can.sound answers.1 can.wav_file) answers.2
 
   play_files : PlayAnswers Here failed codec wav name periods period meant → IsRunOf IsOfPlay meant
   play_files (inl (inl stop)) = absurd (can.codec_given stop.0)
-  play_files (inl (inr stop)) = absurd (codec_unrefused can.files codec stop.0 can.machine can.file stop.1)
-  play_files (inr answers) = play_machine answers.0 (one_machine can.files codec answers.0 can.machine answers.1 can.file) answers.2
+  play_files (inl (inr stop)) = absurd (codec_unrefused can.files codec stop.0 can.machine can.codec_file stop.1)
+  play_files (inr answers) = play_machine answers.0 (one_machine can.files codec answers.0 can.machine answers.1 can.codec_file) answers.2
 
   play_meant : PlayAnswers told failed codec wav name periods period meant → IsRunOf IsOfPlay meant
   play_meant answers =
@@ -139,13 +138,13 @@ module _ (told : Option Files) (failed : List ℕ → Type 0) (codec name : List
 
   walk_machine : (machine : Machine) → can.machine ≡ machine → MachineWalks HereWalk failed machine name meant → IsRunOf IsOfWalk meant
   walk_machine machine same (inl (inl stop)) = absurd (can.schedule_given stop.0)
-  walk_machine machine same (inl (inr stop)) = absurd (schedule_unrefused can.files name stop.0 can.schedule can.steps stop.1)
+  walk_machine machine same (inl (inr stop)) = absurd (schedule_unrefused can.files name stop.0 can.schedule can.schedule_file stop.1)
   walk_machine machine same (inr (schedule, steps, (plans, planned, walks))) = walk_plans machine schedule plans same planned walks
 
   walk_files : WalkAnswers HereWalk failed codec name meant → IsRunOf IsOfWalk meant
   walk_files (inl (inl stop)) = absurd (can.codec_given stop.0)
-  walk_files (inl (inr stop)) = absurd (codec_unrefused can.files codec stop.0 can.machine can.file stop.1)
-  walk_files (inr answers) = walk_machine answers.0 (one_machine can.files codec answers.0 can.machine answers.1 can.file) answers.2
+  walk_files (inl (inr stop)) = absurd (codec_unrefused can.files codec stop.0 can.machine can.codec_file stop.1)
+  walk_files (inr answers) = walk_machine answers.0 (one_machine can.files codec answers.0 can.machine answers.1 can.codec_file) answers.2
 
   walk_meant : WalkAnswers told failed codec name meant → IsRunOf IsOfWalk meant
   walk_meant answers = let P : Option Files → Type 0 = λ t. WalkAnswers t failed codec name meant in walk_files (subst P can.tells answers)
@@ -167,9 +166,9 @@ module _ (told : Option Files) (failed : List ℕ → Type 0) (name : List ℕ) 
       let Q : Machine → Type 0 = λ m. HavePlans format m.codecs can.plans in absurd (same_routes format machine can.plans plans (subst Q same can.planned) planned can.routed routed)
 
   route_file : RouteAnswers HereRoute failed name format meant → IsDone meant
-  route_file (inl (inl stop)) = absurd (can.given stop.0)
-  route_file (inl (inr stop)) = absurd (codec_unrefused can.files name stop.0 can.machine can.file stop.1)
-  route_file (inr (machine, file, (plans, planned, is))) = route_done machine plans (one_machine can.files name machine can.machine file can.file) planned (have_route plans) refl is
+  route_file (inl (inl stop)) = absurd (can.codec_given stop.0)
+  route_file (inl (inr stop)) = absurd (codec_unrefused can.files name stop.0 can.machine can.codec_file stop.1)
+  route_file (inr (machine, file, (plans, planned, is))) = route_done machine plans (one_machine can.files name machine can.machine file can.codec_file) planned (have_route plans) refl is
 
   route_meant : RouteAnswers told failed name format meant → IsDone meant
   route_meant answers = let P : Option Files → Type 0 = λ t. RouteAnswers t failed name format meant in route_file (subst P can.tells answers)
@@ -177,31 +176,10 @@ module _ (told : Option Files) (failed : List ℕ → Type 0) (name : List ℕ) 
 -- ---- the words ask for one thing
 
 -- a format is that of its numbers
-rate_with : ℕ → Rate
-rate_with n = if n == 8000 then R8 else (if n == 16000 then R16 else (if n == 44100 then R44 else (if n == 48000 then R48 else (if n == 96000 then R96 else R192))))
-
-rate_again : (rate : Rate) → rate_with (hertz rate) ≡ rate
-unfolding rate_with
-rate_again R8 = refl
-rate_again R16 = refl
-rate_again R44 = refl
-rate_again R48 = refl
-rate_again R96 = refl
-rate_again R192 = refl
-
-bits_with : ℕ → Bits
-bits_with n = if n == 16 then B16 else (if n == 24 then B24 else B32)
-
-bits_again : (bits : Bits) → bits_with (bits_of bits) ≡ bits
-unfolding bits_with
-bits_again B16 = refl
-bits_again B24 = refl
-bits_again B32 = refl
-
 same_format : (one other : Format) → hertz other.rate ≡ hertz one.rate → bits_of other.bits ≡ bits_of one.bits → other.channels ≡ one.channels → other ≡ one
 same_format one other rates bits channels =
-    let rate_is : other.rate ≡ one.rate = sym (rate_again other.rate) ∙ ap rate_with rates ∙ rate_again one.rate in
-    let bits_is : other.bits ≡ one.bits = sym (bits_again other.bits) ∙ ap bits_with bits ∙ bits_again one.bits in
+    let rate_is : other.rate ≡ one.rate = hertz-same other.rate one.rate rates in
+    let bits_is : other.bits ≡ one.bits = bits_of-same other.bits one.bits bits in
     let first : layout other ≡ record (layout other) { rate = one.rate } = ap (λ (r : Rate). record (layout other) { rate = r }) rate_is in
     let second : record (layout other) { rate = one.rate } ≡ record (layout other) { rate = one.rate; bits = one.bits } = ap (λ (b : Bits). record (layout other) { rate = one.rate; bits = b }) bits_is in
     let third : record (layout other) { rate = one.rate; bits = one.bits } ≡ layout one = ap (λ (n : ℕ). record (layout other) { rate = one.rate; bits = one.bits; channels = n }) channels in

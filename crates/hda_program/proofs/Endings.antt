@@ -96,36 +96,36 @@ not_route_and_play words name format codec wav schedule periods period routes pl
 
 -- no route makes a run
 no_run_of_route : (told : Option Files) (words : List (List ℕ)) (name : List ℕ) (format : Format) (played : Played) → IsRouteOf words name format → HasRun told words played → ⊥
-no_run_of_route told words name format played routes (inl walked) = not_route_and_walk words name format walked.codec walked.name routes walked.asks
+no_run_of_route told words name format played routes (inl walked) = not_route_and_walk words name format walked.codec_name walked.schedule_name routes walked.asks
 no_run_of_route told words name format played routes (inr sounded) =
-    not_route_and_play words name format sounded.codec sounded.wav sounded.name sounded.periods sounded.period routes sounded.asks
+    not_route_and_play words name format sounded.codec_name sounded.wav_name sounded.schedule_name sounded.periods sounded.period routes sounded.asks
 
 -- ---- the causes
 
 -- plans of a run have a route
 was_planned : {told : Option Files} {words : List (List ℕ)} {played : Played} → HasRun told words played → HasPlanned told words true
 was_planned (inl walked) = record {
-  name = walked.codec;
+  codec_name = walked.codec_name;
   format = _;
   machine = walked.machine;
   plans = walked.plans;
-  wants = inr (inl (walked.name, walked.asks, refl));
-  file = walked.file;
+  wants = inr (inl (walked.schedule_name, walked.asks, refl));
+  codec_file = walked.codec_file;
   planned = walked.planned;
   routed = walked.routed;
 }
 was_planned (inr sounded) = record {
-  name = sounded.codec;
+  codec_name = sounded.codec_name;
   format = sounded.files.sound.format;
   machine = sounded.files.machine;
   plans = sounded.files.plans;
   wants = inr (inr (
-    sounded.name,
+    sounded.schedule_name,
     sounded.files.sound,
-    record { wav = sounded.wav; periods = sounded.periods; period = sounded.period; asks = sounded.asks; file = sounded.files.sound_file },
+    record { wav_name = sounded.wav_name; periods = sounded.periods; period = sounded.period; asks = sounded.asks; wav_file = sounded.files.wav_file },
     refl,
   ));
-  file = sounded.files.file;
+  codec_file = sounded.files.codec_file;
   planned = sounded.files.planned;
   routed = sounded.files.routed;
 }

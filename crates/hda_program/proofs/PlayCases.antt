@@ -47,10 +47,10 @@ module _ (told : Option Files) (failed : List ℕ → Type 0) (codec wav name : 
         geometry = geometry;
         schedule = schedule;
         plans = plans;
-        file = file;
-        sound_file = sound_file;
-        steps = steps;
-        geometry_is = ring;
+        codec_file = file;
+        wav_file = sound_file;
+        schedule_file = steps;
+        ring = ring;
         planned = planned;
         routed = run.1;
         run = run.2;

@@ -25,73 +25,73 @@ abbrev pub HasBadCodecFile : Option Files → List (List ℕ) → Type 0
 HasBadCodecFile told words = (name : List ℕ) × (text : List ℕ) × NamesCodecFile words name × IsCodecRefused told name text
 
 -- the words ask for a sound by the schedule of the second name, and their WAV file reads as this one
-pub record WantsSound (told : Option Files) (words : List (List ℕ)) (codec name : List ℕ) (sound : Wav) : Type 0 where
-  pub wav : List ℕ
+pub record WantsSound (told : Option Files) (words : List (List ℕ)) (codec_name schedule_name : List ℕ) (sound : Wav) : Type 0 where
+  pub wav_name : List ℕ
   pub periods : ℕ
   pub period : ℕ
-  pub asks : IsPlayOf words codec wav name periods period
-  pub file : IsWavOf told wav sound
+  pub asks : IsPlayOf words codec_name wav_name schedule_name periods period
+  pub wav_file : IsWavOf told wav_name sound
 
 -- the words want a run by the schedule of the second name: a walk, or a sound
-abbrev pub WantsRun : Option Files → List (List ℕ) → (codec name : List ℕ) → Type 0
-WantsRun told words codec name = IsWalkOf words codec name ⊎ ((sound : Wav) × WantsSound told words codec name sound)
+abbrev pub WantsRun : Option Files → List (List ℕ) → (codec_name schedule_name : List ℕ) → Type 0
+WantsRun told words codec_name schedule_name = IsWalkOf words codec_name schedule_name ⊎ ((sound : Wav) × WantsSound told words codec_name schedule_name sound)
 
 -- the words want plans of the codec file of this name, for this format: a sound for its own
-abbrev pub WantsPlans : Option Files → List (List ℕ) → List ℕ → Format → Type 0
-WantsPlans told words codec format =
-    IsRouteOf words codec format
-    ⊎ (((name : List ℕ) × IsWalkOf words codec name × (format ≡ walk_format))
-    ⊎ ((name : List ℕ) × (sound : Wav) × WantsSound told words codec name sound × (format ≡ sound.format)))
+abbrev pub WantsPlans : Option Files → List (List ℕ) → (codec_name : List ℕ) → Format → Type 0
+WantsPlans told words codec_name format =
+    IsRouteOf words codec_name format
+    ⊎ (((schedule_name : List ℕ) × IsWalkOf words codec_name schedule_name × (format ≡ walk_format))
+    ⊎ ((schedule_name : List ℕ) × (sound : Wav) × WantsSound told words codec_name schedule_name sound × (format ≡ sound.format)))
 
 -- the words name a codec file that reads as a machine, and a WAV file that is too long, or whose bytes read as a fault
 pub record HasBadWav (told : Option Files) (words : List (List ℕ)) : Type 0 where
-  pub codec : List ℕ
-  pub wav : List ℕ
-  pub name : List ℕ
+  pub codec_name : List ℕ
+  pub wav_name : List ℕ
+  pub schedule_name : List ℕ
   pub periods : ℕ
   pub period : ℕ
   pub machine : Machine
   pub text : List ℕ
-  pub asks : IsPlayOf words codec wav name periods period
-  pub file : IsMachineOf told codec machine
-  pub refused : IsWavRefused told wav text
+  pub asks : IsPlayOf words codec_name wav_name schedule_name periods period
+  pub codec_file : IsMachineOf told codec_name machine
+  pub refused : IsWavRefused told wav_name text
 
 -- the words name a codec file that reads as a machine, for a sound a WAV file that reads as one, and a schedule that is too long, or
 -- whose bytes read as a fault
 pub record HasBadSchedule (told : Option Files) (words : List (List ℕ)) : Type 0 where
-  pub codec : List ℕ
-  pub name : List ℕ
+  pub codec_name : List ℕ
+  pub schedule_name : List ℕ
   pub machine : Machine
   pub text : List ℕ
-  pub wants : WantsRun told words codec name
-  pub file : IsMachineOf told codec machine
-  pub refused : IsScheduleRefused told name text
+  pub wants : WantsRun told words codec_name schedule_name
+  pub codec_file : IsMachineOf told codec_name machine
+  pub refused : IsScheduleRefused told schedule_name text
 
 -- the words name three files that read as a machine, a sound and a schedule, and the ring of their numbers has a fault
 pub record HasBadRing (told : Option Files) (words : List (List ℕ)) : Type 0 where
-  pub codec : List ℕ
-  pub wav : List ℕ
-  pub name : List ℕ
+  pub codec_name : List ℕ
+  pub wav_name : List ℕ
+  pub schedule_name : List ℕ
   pub periods : ℕ
   pub period : ℕ
   pub machine : Machine
   pub sound : Wav
   pub schedule : Schedule
   pub fault : GeometryFault
-  pub asks : IsPlayOf words codec wav name periods period
-  pub file : IsMachineOf told codec machine
-  pub sound_file : IsWavOf told wav sound
-  pub steps : IsScheduleOf told name schedule
+  pub asks : IsPlayOf words codec_name wav_name schedule_name periods period
+  pub codec_file : IsMachineOf told codec_name machine
+  pub wav_file : IsWavOf told wav_name sound
+  pub schedule_file : IsScheduleOf told schedule_name schedule
   pub refused : IsBadRing periods period machine sound fault
 
 -- the words name a codec file that reads as a machine, of whose plans some has a route, or none
 pub record HasPlanned (told : Option Files) (words : List (List ℕ)) (some : Bool) : Type 0 where
-  pub name : List ℕ
+  pub codec_name : List ℕ
   pub format : Format
   pub machine : Machine
   pub plans : List Plan
-  pub wants : WantsPlans told words name format
-  pub file : IsMachineOf told name machine
+  pub wants : WantsPlans told words codec_name format
+  pub codec_file : IsMachineOf told codec_name machine
   pub planned : HavePlans format machine.codecs plans
   pub routed : have_route plans ≡ some
 

@@ -17,46 +17,46 @@ use Rattle.hda_program.specs.Plans.{have_route}
 
 -- the shelf tells its files and failed under none of the three names, whose files read as a machine, a sound and a schedule; the ring of
 -- these numbers has no fault, and some pin has a route for the sound's format
-pub record CanPlay (told : Option Files) (failed : List ℕ → Type 0) (codec wav name : List ℕ) (periods period : ℕ) : Type 0 where
+pub record CanPlay (told : Option Files) (failed : List ℕ → Type 0) (codec_name wav_name schedule_name : List ℕ) (periods period : ℕ) : Type 0 where
   pub files : Files
   pub machine : Machine
   pub sound : Wav
   pub schedule : Schedule
   pub plans : List Plan
   pub tells : told ≡ Some files
-  pub codec_given : failed codec → ⊥
-  pub wav_given : failed wav → ⊥
-  pub schedule_given : failed name → ⊥
-  pub file : IsMachineOf (Some files) codec machine
-  pub sound_file : IsWavOf (Some files) wav sound
-  pub steps : IsScheduleOf (Some files) name schedule
+  pub codec_given : failed codec_name → ⊥
+  pub wav_given : failed wav_name → ⊥
+  pub schedule_given : failed schedule_name → ⊥
+  pub codec_file : IsMachineOf (Some files) codec_name machine
+  pub wav_file : IsWavOf (Some files) wav_name sound
+  pub schedule_file : IsScheduleOf (Some files) schedule_name schedule
   pub good_ring : fault_of periods period machine.fifo sound.format ≡ None
   pub planned : HavePlans sound.format machine.codecs plans
   pub routed : have_route plans ≡ true
 
 -- the shelf tells its files and did not fail under this name, whose file reads as a machine, and some pin has a route for the format
-pub record CanRoute (told : Option Files) (failed : List ℕ → Type 0) (name : List ℕ) (format : Format) : Type 0 where
+pub record CanRoute (told : Option Files) (failed : List ℕ → Type 0) (codec_name : List ℕ) (format : Format) : Type 0 where
   pub files : Files
   pub machine : Machine
   pub plans : List Plan
   pub tells : told ≡ Some files
-  pub given : failed name → ⊥
-  pub file : IsMachineOf (Some files) name machine
+  pub codec_given : failed codec_name → ⊥
+  pub codec_file : IsMachineOf (Some files) codec_name machine
   pub planned : HavePlans format machine.codecs plans
   pub routed : have_route plans ≡ true
 
 -- the shelf tells its files and failed under neither name, whose files read as a machine and a schedule, and some pin has a route for the
 -- format of walks
-pub record CanWalk (told : Option Files) (failed : List ℕ → Type 0) (codec name : List ℕ) : Type 0 where
+pub record CanWalk (told : Option Files) (failed : List ℕ → Type 0) (codec_name schedule_name : List ℕ) : Type 0 where
   pub files : Files
   pub machine : Machine
   pub schedule : Schedule
   pub plans : List Plan
   pub tells : told ≡ Some files
-  pub codec_given : failed codec → ⊥
-  pub schedule_given : failed name → ⊥
-  pub file : IsMachineOf (Some files) codec machine
-  pub steps : IsScheduleOf (Some files) name schedule
+  pub codec_given : failed codec_name → ⊥
+  pub schedule_given : failed schedule_name → ⊥
+  pub codec_file : IsMachineOf (Some files) codec_name machine
+  pub schedule_file : IsScheduleOf (Some files) schedule_name schedule
   pub planned : HavePlans walk_format machine.codecs plans
   pub routed : have_route plans ≡ true
 

@@ -1,5 +1,6 @@
 -- What the files that the words name come to. This project's own.
 use Rattle.std.specs.Prelude.{◌≡◌, ◌≢◌, ◌⊎◌, ◌<◌, ◌≤◌, ◌*◌, ℕ, List, length, Option, Some, None, Result, Ok, Err, codes}
+use Rattle.hda_outside.specs.Counts.{Rose}
 use Rattle.hda_outside.specs.Shelf.{Files, file_of}
 use Rattle.hda_files.specs.declared.machine.Machine.{Machine}
 use Rattle.hda_files.specs.declared.fault.FileFault.{FileFault}
@@ -14,6 +15,7 @@ use Rattle.wav_reader.specs.declared.fault.WavFault.{WavFault}
 use Rattle.wav_reader.specs.declared.fault.WavFault.TheVariants as wav
 use Rattle.wav_reader.specs.declared.wav.Wav.{Wav}
 use Rattle.wav_reader.specs.Wavs as wavs
+use Rattle.sound_report.specs.declared.status.Status.{Status}
 use Rattle.sound_report.specs.declared.status.Status.TheVariants.{ShelfFailed, CodecRefused, WavRefused, ScheduleRefused}
 use Rattle.hda_program.specs.declared.message.Message.{Message}
 use Rattle.hda_program.specs.Meanings.{Meant, telling, message_meant}
@@ -44,9 +46,24 @@ pub record IsShortFile (most : ℕ) (told : Option Files) (name bytes : List ℕ
   pub file : IsFile told name bytes
   pub short : length bytes ≤ most
 
+-- under these names the shelf failed between two counts of its faults
+abbrev pub FailedUnder : (before after : List ℕ → ℕ) → List ℕ → Type 0
+FailedUnder before after name = Rose (before name) (after name)
+
 -- the shelf failed under the name, and the text says so
 abbrev pub IsUnread : (List ℕ → Type 0) → List ℕ → Meant → Type 0
 IsUnread failed name meant = failed name × (meant ≡ telling ShelfFailed (unreadable_line name))
+
+-- a file of at most so many bytes is refused: it is too long, or its bytes read as a fault; the text says which
+abbrev pub IsRefused : (most : ℕ) → (IsFault : (bytes text : List ℕ) → Type 0) → Option Files → (name text : List ℕ) → Type 0
+IsRefused most IsFault told name text =
+    (IsLonger most told name × (text ≡ codes "TooLong"))
+    ⊎ ((bytes : List ℕ) × IsShortFile most told name bytes × IsFault bytes text)
+
+-- a command ends at such a file: the shelf failed, or the file is refused, with this status and a line of this kind
+abbrev pub StopsAt : (most : ℕ) → (IsFault : (bytes text : List ℕ) → Type 0) → Status → (line : List ℕ → List ℕ) → Option Files → (List ℕ → Type 0) → (name : List ℕ) → Meant → Type 0
+StopsAt most IsFault status line told failed name meant =
+    IsUnread failed name meant ⊎ ((text : List ℕ) × IsRefused most IsFault told name text × (meant ≡ telling status (line text)))
 
 -- ---- the codec file
 
@@ -63,17 +80,11 @@ pub record IsCodecFault (bytes text : List ℕ) : Type 0 where
   pub reads : Reads bytes (Err fault)
   pub says : text ≡ fault_text fault
 
--- the file is too long, or its bytes read as a fault; the text says which
-abbrev pub IsCodecRefused : Option Files → List ℕ → List ℕ → Type 0
-IsCodecRefused told name text =
-    (IsLonger most_codec_bytes told name × (text ≡ codes "TooLong"))
-    ⊎ ((bytes : List ℕ) × IsShortFile most_codec_bytes told name bytes × IsCodecFault bytes text)
+abbrev pub IsCodecRefused : Option Files → (name text : List ℕ) → Type 0
+IsCodecRefused told name text = IsRefused most_codec_bytes IsCodecFault told name text
 
--- a command ends at its codec file: the shelf failed, or the file is refused
-abbrev pub CodecStops : Option Files → (List ℕ → Type 0) → List ℕ → Meant → Type 0
-CodecStops told failed name meant =
-    IsUnread failed name meant
-    ⊎ ((text : List ℕ) × IsCodecRefused told name text × (meant ≡ telling CodecRefused (codec_refused_line text)))
+abbrev pub CodecStops : Option Files → (List ℕ → Type 0) → (name : List ℕ) → Meant → Type 0
+CodecStops told failed name meant = StopsAt most_codec_bytes IsCodecFault CodecRefused codec_refused_line told failed name meant
 
 -- what reading the codec file gives: a sound machine, or the end of the command
 abbrev pub IsCodecRead : Option Files → (List ℕ → Type 0) → List ℕ → Result Machine Message → Type 0
@@ -100,17 +111,11 @@ pub record IsWavFault (bytes text : List ℕ) : Type 0 where
   pub reads : wavs.Reads bytes (Err fault)
   pub says : text ≡ wav_fault_text fault
 
--- the file is too long, or its bytes read as a fault; the text says which
-abbrev pub IsWavRefused : Option Files → List ℕ → List ℕ → Type 0
-IsWavRefused told name text =
-    (IsLonger most_wav_bytes told name × (text ≡ codes "TooLong"))
-    ⊎ ((bytes : List ℕ) × IsShortFile most_wav_bytes told name bytes × IsWavFault bytes text)
+abbrev pub IsWavRefused : Option Files → (name text : List ℕ) → Type 0
+IsWavRefused told name text = IsRefused most_wav_bytes IsWavFault told name text
 
--- a command ends at its WAV file: the shelf failed, or the file is refused
-abbrev pub WavStops : Option Files → (List ℕ → Type 0) → List ℕ → Meant → Type 0
-WavStops told failed name meant =
-    IsUnread failed name meant
-    ⊎ ((text : List ℕ) × IsWavRefused told name text × (meant ≡ telling WavRefused (wav_refused_line text)))
+abbrev pub WavStops : Option Files → (List ℕ → Type 0) → (name : List ℕ) → Meant → Type 0
+WavStops told failed name meant = StopsAt most_wav_bytes IsWavFault WavRefused wav_refused_line told failed name meant
 
 -- a sound has whole blocks, one for each frame
 abbrev pub HasWholeBlocks : Wav → Type 0
@@ -140,17 +145,11 @@ pub record IsScheduleFault (bytes text : List ℕ) : Type 0 where
   pub reads : schedule_of bytes ≡ Err fault
   pub says : text ≡ schedule_fault_text fault
 
--- the file is too long, or its bytes read as a fault; the text says which
-abbrev pub IsScheduleRefused : Option Files → List ℕ → List ℕ → Type 0
-IsScheduleRefused told name text =
-    (IsLonger most_schedule_bytes told name × (text ≡ codes "TooLong"))
-    ⊎ ((bytes : List ℕ) × IsShortFile most_schedule_bytes told name bytes × IsScheduleFault bytes text)
+abbrev pub IsScheduleRefused : Option Files → (name text : List ℕ) → Type 0
+IsScheduleRefused told name text = IsRefused most_schedule_bytes IsScheduleFault told name text
 
--- a command ends at its schedule: the shelf failed, or the file is refused
-abbrev pub ScheduleStops : Option Files → (List ℕ → Type 0) → List ℕ → Meant → Type 0
-ScheduleStops told failed name meant =
-    IsUnread failed name meant
-    ⊎ ((text : List ℕ) × IsScheduleRefused told name text × (meant ≡ telling ScheduleRefused (schedule_refused_line text)))
+abbrev pub ScheduleStops : Option Files → (List ℕ → Type 0) → (name : List ℕ) → Meant → Type 0
+ScheduleStops told failed name meant = StopsAt most_schedule_bytes IsScheduleFault ScheduleRefused schedule_refused_line told failed name meant
 
 -- a schedule as it is read keeps its ranges and limits
 pub record IsGoodSchedule (schedule : Schedule) : Type 0 where

@@ -19,15 +19,15 @@ use Rattle.hda_program.specs.Plans.{have_route}
 
 -- the run is that for which the words ask: of the machine that their codec file reads as, with its plans, by their schedule
 pub record HasWalked (told : Option Files) (words : List (List ℕ)) (played : Played) : Type 0 where
-  pub codec : List ℕ
-  pub name : List ℕ
+  pub codec_name : List ℕ
+  pub schedule_name : List ℕ
   pub machine : Machine
   pub schedule : Schedule
   pub plans : List Plan
-  pub asks : IsWalkOf words codec name
+  pub asks : IsWalkOf words codec_name schedule_name
   -- the input: what the two files read as, and the plans of the machine's codecs, of which some has a route
-  pub file : IsMachineOf told codec machine
-  pub steps : IsScheduleOf told name schedule
+  pub codec_file : IsMachineOf told codec_name machine
+  pub schedule_file : IsScheduleOf told schedule_name schedule
   pub planned : HavePlans walk_format machine.codecs plans
   pub routed : have_route plans ≡ true
   -- one history, progress, open routes, and how it ended
@@ -35,17 +35,17 @@ pub record HasWalked (told : Option Files) (words : List (List ℕ)) (played : P
 
 -- the run is that of the sound that the WAV file of the second name reads as, through the machine that the codec file of the first reads as
 -- and a ring of these numbers, with the plans for that sound, by the schedule of the third
-pub record HasPlayedFiles (told : Option Files) (codec wav name : List ℕ) (periods period : ℕ) (played : Played) : Type 0 where
+pub record HasPlayedFiles (told : Option Files) (codec_name wav_name schedule_name : List ℕ) (periods period : ℕ) (played : Played) : Type 0 where
   pub machine : Machine
   pub sound : Wav
   pub schedule : Schedule
   pub geometry : Geometry
   pub plans : List Plan
   -- the input: what the three files read as, the ring, and the plans of the machine's codecs, of which some has a route
-  pub file : IsMachineOf told codec machine
-  pub sound_file : IsWavOf told wav sound
-  pub steps : IsScheduleOf told name schedule
-  pub geometry_is : IsRingOf periods period machine sound geometry
+  pub codec_file : IsMachineOf told codec_name machine
+  pub wav_file : IsWavOf told wav_name sound
+  pub schedule_file : IsScheduleOf told schedule_name schedule
+  pub ring : IsRingOf periods period machine sound geometry
   pub planned : HavePlans sound.format machine.codecs plans
   pub routed : have_route plans ≡ true
   -- one history, progress, open routes, the runs of the ring, what was heard, and how it ended
@@ -53,13 +53,13 @@ pub record HasPlayedFiles (told : Option Files) (codec wav name : List ℕ) (per
 
 -- the run is that for which the words ask: of the files that they name, and the ring of their numbers
 pub record HasPlayed (told : Option Files) (words : List (List ℕ)) (played : Played) : Type 0 where
-  pub codec : List ℕ
-  pub wav : List ℕ
-  pub name : List ℕ
+  pub codec_name : List ℕ
+  pub wav_name : List ℕ
+  pub schedule_name : List ℕ
   pub periods : ℕ
   pub period : ℕ
-  pub asks : IsPlayOf words codec wav name periods period
-  pub files : HasPlayedFiles told codec wav name periods period played
+  pub asks : IsPlayOf words codec_name wav_name schedule_name periods period
+  pub files : HasPlayedFiles told codec_name wav_name schedule_name periods period played
 
 -- the run is the walk for which the words ask, or the play
 abbrev pub HasRun : Option Files → List (List ℕ) → Played → Type 0

@@ -96,17 +96,20 @@ geometry_fault_text FifoTooSmall = codes "FifoTooSmall"
 geometry_fault_text RingTooSmall = codes "RingTooSmall"
 
 -- the last lines of the program
+abbrev pub refused_line : (what fault : List ℕ) → List ℕ
+refused_line what fault = what ++ codes " refused: " ++ fault ++ newline
+
 abbrev pub codec_refused_line : List ℕ → List ℕ
-codec_refused_line fault = codes "codec refused: " ++ fault ++ newline
+codec_refused_line fault = refused_line (codes "codec") fault
 
 abbrev pub schedule_refused_line : List ℕ → List ℕ
-schedule_refused_line fault = codes "schedule refused: " ++ fault ++ newline
+schedule_refused_line fault = refused_line (codes "schedule") fault
 
 abbrev pub wav_refused_line : List ℕ → List ℕ
-wav_refused_line fault = codes "wav refused: " ++ fault ++ newline
+wav_refused_line fault = refused_line (codes "wav") fault
 
 abbrev pub geometry_refused_line : List ℕ → List ℕ
-geometry_refused_line fault = codes "geometry refused: " ++ fault ++ newline
+geometry_refused_line fault = refused_line (codes "geometry") fault
 
 abbrev pub unreadable_line : List ℕ → List ℕ
 unreadable_line name = codes "cannot read: " ++ name ++ newline

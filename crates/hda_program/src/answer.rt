@@ -1,10 +1,10 @@
 //! What the program answers to its words, before anything is written.
 ghost use Rattle.std.specs.Prelude.{◌≡◌, ◌≤◌, ℕ, List, Contains, map, string_bytes, IfOk};
-ghost use Rattle.hda_outside.specs.Counts.{Rose};
 ghost use Rattle.hda_words.specs.Asked.{asked_by, IsInRange};
 ghost use Rattle.hda_program.specs.Answers.{IsMeant, RequestAnswers};
 ghost use Rattle.hda_program.specs.Asks.{AsksForItsFiles, files_of};
 ghost use Rattle.hda_program.specs.Meanings.{answer_meant};
+ghost use Rattle.hda_program.specs.Files.{FailedUnder};
 
 use crate::message::{Message, words_refused};
 use crate::play::answer_play;
@@ -17,7 +17,7 @@ use std::alloc::{AllocError, Global};
 
 /// What a command comes to.
 #[derive(Drop)]
-pub enum Answer {
+pub(crate) enum Answer {
     /// A text, and no run of the driver.
     Message(Message),
     /// A run of the driver, whose report is the text.
@@ -28,12 +28,12 @@ pub enum Answer {
 ///
 /// # Errors
 /// Want of memory.
-pub fn answer_words<S: Shelf>(
+pub(crate) fn answer_words<S: Shelf>(
     alloc: Global,
     words: &[String],
     shelf: &mut S,
 ) -> Result<Answer, AllocError>
-    ensures meant { IfOk result (λ answer. IsMeant (S.told shelf.old) (λ name. Rose (S.faults shelf.old name) (S.faults shelf.new name))
+    ensures meant { IfOk result (λ answer. IsMeant (S.told shelf.old) (FailedUnder (S.faults shelf.old) (S.faults shelf.new))
         (map string_bytes words.now) (answer_meant answer)) }
     ensures asked { AsksForItsFiles (map string_bytes words.now) (S.asked shelf.old) (S.asked shelf.new) }
     ensures told { S.told shelf.new ≡ S.told shelf.old }
@@ -56,7 +56,7 @@ fn answer_request<S: Shelf>(
     request: Request<'_>,
 ) -> Result<Answer, AllocError>
     requires ranges { IsInRange request }
-    ensures answers { IfOk result (λ answer. RequestAnswers (S.told shelf.old) (λ name. Rose (S.faults shelf.old name) (S.faults shelf.new name))
+    ensures answers { IfOk result (λ answer. RequestAnswers (S.told shelf.old) (FailedUnder (S.faults shelf.old) (S.faults shelf.new))
         request.entry (answer_meant answer)) }
     ensures asked { (other : List ℕ) → (Contains (files_of (asked_by request.entry)) other → ⊥) → S.asked shelf.new other ≡ S.asked shelf.old other }
     ensures told { S.told shelf.new ≡ S.told shelf.old }

@@ -1,7 +1,6 @@
 //! The codec file of a command.
 ghost use Rattle.std.specs.Prelude.{◌≡◌, ◌≢◌, ◌≤◌, ℕ, List, IfOk};
-ghost use Rattle.hda_outside.specs.Counts.{Rose};
-ghost use Rattle.hda_program.specs.Files.{IsCodecRead, AreCodecBytesRead};
+ghost use Rattle.hda_program.specs.Files.{AreCodecBytesRead, FailedUnder, IsCodecRead};
 
 use crate::message::{Message, codec_refused, unreadable};
 use crate::text::push_fault;
@@ -16,12 +15,12 @@ const MOST_CODEC_BYTES: u64 = 262_144;
 ///
 /// # Errors
 /// Want of memory.
-pub fn read_codec<S: Shelf>(
+pub(crate) fn read_codec_file<S: Shelf>(
     alloc: Global,
     shelf: &mut S,
     name: &str,
 ) -> Result<Result<Machine, Message>, AllocError>
-    ensures read { IfOk result (IsCodecRead (S.told shelf.old) (λ name. Rose (S.faults shelf.old name) (S.faults shelf.new name)) name.now) }
+    ensures read { IfOk result (IsCodecRead (S.told shelf.old) (FailedUnder (S.faults shelf.old) (S.faults shelf.new)) name.now) }
     ensures asked { (other : List ℕ) → other ≢ name.now → S.asked shelf.new other ≡ S.asked shelf.old other }
     ensures told { S.told shelf.new ≡ S.told shelf.old }
     ensures later { (other : List ℕ) → S.faults shelf.old other ≤ S.faults shelf.new other }

@@ -6,6 +6,7 @@ ghost use Rattle.hda_program.specs.Answers.{HasEndedPlay};
 ghost use Rattle.hda_program.specs.Causes.{IsOfPlay, IsRunless};
 ghost use Rattle.hda_program.specs.Promises.{HasPlayedFiles, KeepsPromise};
 ghost use Rattle.hda_program.specs.Complete.{CanPlay, HasPlayedOn};
+ghost use Rattle.hda_program.specs.Files.{FailedUnder};
 
 use crate::play::answer_play;
 use crate::run::{Ended, write_answer};
@@ -31,7 +32,7 @@ pub fn play_files<S: Shelf, K: Sink>(
     requires ring { IsRingInRange periods period }
 
     // The meant text was written whole, or its front at a fault of the sink or at want of memory.
-    ensures ended { HasEndedPlay (S.told shelf.old) (λ name. Rose (S.faults shelf.old name) (S.faults shelf.new name))
+    ensures ended { HasEndedPlay (S.told shelf.old) (FailedUnder (S.faults shelf.old) (S.faults shelf.new))
         codec.now wav.now schedule.now periods period (K.taken out.old) (K.taken out.new) (Rose (K.faults out.old) (K.faults out.new)) result.play result.status }
 
     // The promise of `play`: the run that is given is that of these files and this ring, and its report was written.
@@ -43,7 +44,7 @@ pub fn play_files<S: Shelf, K: Sink>(
     ensures runs { IsOfPlay result.status → IsSome result.play }
 
     // Good files and a good ring are not refused.
-    ensures completes { CanPlay (S.told shelf.old) (λ name. Rose (S.faults shelf.old name) (S.faults shelf.new name)) codec.now wav.now schedule.now periods period
+    ensures completes { CanPlay (S.told shelf.old) (FailedUnder (S.faults shelf.old) (S.faults shelf.new)) codec.now wav.now schedule.now periods period
         → (Rose (K.faults out.old) (K.faults out.new) → ⊥) → HasPlayedOn result.status }
 
     // The shelf is asked under the three names alone.

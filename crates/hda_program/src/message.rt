@@ -1,7 +1,7 @@
 //! Texts with a status, and the lines of refusals.
 ghost use Rattle.std.specs.Prelude.{◌≡◌, IfOk, string_bytes};
 ghost use Rattle.hda_program.specs.Meanings.{telling, message_meant};
-ghost use Rattle.hda_program.specs.Text.{codec_refused_line, geometry_refused_line, schedule_refused_line, unreadable_line, usage_line, wav_refused_line};
+ghost use Rattle.hda_program.specs.Text.{codec_refused_line, geometry_refused_line, refused_line, schedule_refused_line, unreadable_line, usage_line, wav_refused_line};
 
 use crate::text::USAGE;
 use sound_report::Status;
@@ -9,7 +9,7 @@ use std::alloc::{AllocError, Global};
 
 /// A text, and the status with which the program ends that writes it.
 #[derive(Drop)]
-pub struct Message {
+pub(crate) struct Message {
     /// The status of the program's end, where the text is written whole.
     pub status: Status,
     /// All that is written.
@@ -20,7 +20,7 @@ pub struct Message {
 ///
 /// # Errors
 /// Want of memory.
-pub fn words_refused(alloc: Global) -> Result<Message, AllocError>
+pub(crate) fn words_refused(alloc: Global) -> Result<Message, AllocError>
     ensures { IfOk result (λ message. message_meant message ≡ telling Status.WordsRefused usage_line) }
 {
     Ok(Message {
@@ -33,7 +33,7 @@ pub fn words_refused(alloc: Global) -> Result<Message, AllocError>
 ///
 /// # Errors
 /// Want of memory.
-pub fn unreadable(alloc: Global, name: &str) -> Result<Message, AllocError>
+pub(crate) fn unreadable(alloc: Global, name: &str) -> Result<Message, AllocError>
     ensures { IfOk result (λ message. message_meant message ≡ telling Status.ShelfFailed (unreadable_line name.now)) }
 {
     Ok(Message {
@@ -42,54 +42,52 @@ pub fn unreadable(alloc: Global, name: &str) -> Result<Message, AllocError>
     })
 }
 
+/// What was read is refused for this fault.
+fn refused(alloc: Global, status: Status, what: &str, fault: &str) -> Result<Message, AllocError>
+    ensures { IfOk result (λ message. message_meant message ≡ telling status (refused_line what.now fault.now)) }
+{
+    Ok(Message {
+        status,
+        text: format!(in alloc; "{what} refused: {fault}\n")?,
+    })
+}
+
 /// The codec file is refused for this fault.
 ///
 /// # Errors
 /// Want of memory.
-pub fn codec_refused(alloc: Global, fault: &str) -> Result<Message, AllocError>
+pub(crate) fn codec_refused(alloc: Global, fault: &str) -> Result<Message, AllocError>
     ensures { IfOk result (λ message. message_meant message ≡ telling Status.CodecRefused (codec_refused_line fault.now)) }
 {
-    Ok(Message {
-        status: Status::CodecRefused,
-        text: format!(in alloc; "codec refused: {fault}\n")?,
-    })
+    refused(alloc, Status::CodecRefused, "codec", fault)
 }
 
 /// The WAV file is refused for this fault.
 ///
 /// # Errors
 /// Want of memory.
-pub fn wav_refused(alloc: Global, fault: &str) -> Result<Message, AllocError>
+pub(crate) fn wav_refused(alloc: Global, fault: &str) -> Result<Message, AllocError>
     ensures { IfOk result (λ message. message_meant message ≡ telling Status.WavRefused (wav_refused_line fault.now)) }
 {
-    Ok(Message {
-        status: Status::WavRefused,
-        text: format!(in alloc; "wav refused: {fault}\n")?,
-    })
+    refused(alloc, Status::WavRefused, "wav", fault)
 }
 
 /// The schedule is refused for this fault.
 ///
 /// # Errors
 /// Want of memory.
-pub fn schedule_refused(alloc: Global, fault: &str) -> Result<Message, AllocError>
+pub(crate) fn schedule_refused(alloc: Global, fault: &str) -> Result<Message, AllocError>
     ensures { IfOk result (λ message. message_meant message ≡ telling Status.ScheduleRefused (schedule_refused_line fault.now)) }
 {
-    Ok(Message {
-        status: Status::ScheduleRefused,
-        text: format!(in alloc; "schedule refused: {fault}\n")?,
-    })
+    refused(alloc, Status::ScheduleRefused, "schedule", fault)
 }
 
 /// The ring of sound is refused for this fault.
 ///
 /// # Errors
 /// Want of memory.
-pub fn geometry_refused(alloc: Global, fault: &str) -> Result<Message, AllocError>
+pub(crate) fn geometry_refused(alloc: Global, fault: &str) -> Result<Message, AllocError>
     ensures { IfOk result (λ message. message_meant message ≡ telling Status.GeometryRefused (geometry_refused_line fault.now)) }
 {
-    Ok(Message {
-        status: Status::GeometryRefused,
-        text: format!(in alloc; "geometry refused: {fault}\n")?,
-    })
+    refused(alloc, Status::GeometryRefused, "geometry", fault)
 }

@@ -16,7 +16,7 @@ use std::alloc::{AllocError, Global};
 ///
 /// # Errors
 /// Want of memory.
-pub fn plans_of(
+pub(crate) fn plans_of(
     alloc: Global,
     codecs: &[CodecFile],
     format: Format,
@@ -31,7 +31,7 @@ pub fn plans_of(
 }
 
 /// Whether some pin of some plan has a route.
-pub fn have_route(plans: &[Plan]) -> bool
+pub(crate) fn have_route(plans: &[Plan]) -> bool
     ensures { result ≡ have_route plans.now }
 {
     plans.iter().any(has_route)
@@ -58,7 +58,11 @@ fn is_route(outcome: &Outcome) -> bool
 ///
 /// # Errors
 /// Want of memory.
-pub fn routed(alloc: Global, codecs: &[CodecFile], plans: &[Plan]) -> Result<Message, AllocError>
+pub(crate) fn routed(
+    alloc: Global,
+    codecs: &[CodecFile],
+    plans: &[Plan],
+) -> Result<Message, AllocError>
     ensures { IfOk result (λ message. message_meant message ≡ telling Status.Done (plans_lines codecs.now plans.now)) }
 {
     let mut text = String::new(alloc);
@@ -73,7 +77,7 @@ pub fn routed(alloc: Global, codecs: &[CodecFile], plans: &[Plan]) -> Result<Mes
 ///
 /// # Errors
 /// Want of memory.
-pub fn nothing_routed(
+pub(crate) fn nothing_routed(
     alloc: Global,
     codecs: &[CodecFile],
     plans: &[Plan],

@@ -1,20 +1,19 @@
 //! What `play` answers.
 ghost use Rattle.std.specs.Prelude.{◌≡◌, ◌≢◌, ◌≤◌, ℕ, List, IfOk};
 ghost use Rattle.hda_files.specs.Machines.{IsSound};
-ghost use Rattle.hda_outside.specs.Counts.{Rose};
 ghost use Rattle.hda_words.specs.Asked.{IsRingInRange};
 ghost use Rattle.hda_program.specs.Answers.{MachinePlays, PlayAnswers, RingPlays, SchedulePlays, SoundPlays};
 ghost use Rattle.machine_tasks.specs.Reading.{IsRead};
-ghost use Rattle.hda_program.specs.Files.{HasWholeBlocks, IsGoodSchedule};
+ghost use Rattle.hda_program.specs.Files.{FailedUnder, HasWholeBlocks, IsGoodSchedule};
 ghost use Rattle.hda_program.specs.Meanings.{answer_meant};
 
 use crate::answer::Answer;
-use crate::codec::read_codec;
+use crate::codec::read_codec_file;
 use crate::message::geometry_refused;
 use crate::plans::{have_route, nothing_routed, plans_of};
-use crate::schedule::read_steps;
+use crate::schedule::read_schedule_file;
 use crate::text::geometry_fault_name;
-use crate::wav::read_sound;
+use crate::wav::read_wav_file;
 use hda_files::Machine;
 use hda_outside::Shelf;
 use hda_schedule::Schedule;
@@ -27,7 +26,7 @@ use wav_reader::Wav;
 ///
 /// # Errors
 /// Want of memory.
-pub fn answer_play<S: Shelf>(
+pub(crate) fn answer_play<S: Shelf>(
     alloc: Global,
     shelf: &mut S,
     codec: &str,
@@ -37,13 +36,13 @@ pub fn answer_play<S: Shelf>(
     period: u8,
 ) -> Result<Answer, AllocError>
     requires ring { IsRingInRange periods period }
-    ensures answers { IfOk result (λ answer. PlayAnswers (S.told shelf.old) (λ name. Rose (S.faults shelf.old name) (S.faults shelf.new name))
+    ensures answers { IfOk result (λ answer. PlayAnswers (S.told shelf.old) (FailedUnder (S.faults shelf.old) (S.faults shelf.new))
         codec.now wav.now schedule.now periods period (answer_meant answer)) }
     ensures asked { (other : List ℕ) → other ≢ codec.now → other ≢ wav.now → other ≢ schedule.now → S.asked shelf.new other ≡ S.asked shelf.old other }
     ensures told { S.told shelf.new ≡ S.told shelf.old }
     ensures later { (other : List ℕ) → S.faults shelf.old other ≤ S.faults shelf.new other }
 {
-    match read_codec(alloc, shelf, codec)? {
+    match read_codec_file(alloc, shelf, codec)? {
         Ok(machine) => play_machine(alloc, shelf, machine, wav, schedule, periods, period),
         Err(message) => Ok(Answer::Message(message)),
     }
@@ -65,13 +64,13 @@ fn play_machine<S: Shelf>(
     requires sound { IsSound machine }
     requires read { IsRead machine }
     requires ring { IsRingInRange periods period }
-    ensures answers { IfOk result (λ answer. MachinePlays (S.told shelf.old) (λ name. Rose (S.faults shelf.old name) (S.faults shelf.new name))
+    ensures answers { IfOk result (λ answer. MachinePlays (S.told shelf.old) (FailedUnder (S.faults shelf.old) (S.faults shelf.new))
         periods period machine wav.now schedule.now (answer_meant answer)) }
     ensures asked { (other : List ℕ) → other ≢ wav.now → other ≢ schedule.now → S.asked shelf.new other ≡ S.asked shelf.old other }
     ensures told { S.told shelf.new ≡ S.told shelf.old }
     ensures later { (other : List ℕ) → S.faults shelf.old other ≤ S.faults shelf.new other }
 {
-    match read_sound(alloc, shelf, wav)? {
+    match read_wav_file(alloc, shelf, wav)? {
         Ok(sound) => play_sound(alloc, shelf, machine, sound, schedule, periods, period),
         Err(message) => Ok(Answer::Message(message)),
     }
@@ -94,13 +93,13 @@ fn play_sound<S: Shelf>(
     requires read { IsRead machine }
     requires whole { HasWholeBlocks sound }
     requires ring { IsRingInRange periods period }
-    ensures answers { IfOk result (λ answer. SoundPlays (S.told shelf.old) (λ name. Rose (S.faults shelf.old name) (S.faults shelf.new name))
+    ensures answers { IfOk result (λ answer. SoundPlays (S.told shelf.old) (FailedUnder (S.faults shelf.old) (S.faults shelf.new))
         periods period machine sound schedule.now (answer_meant answer)) }
     ensures asked { (other : List ℕ) → other ≢ schedule.now → S.asked shelf.new other ≡ S.asked shelf.old other }
     ensures told { S.told shelf.new ≡ S.told shelf.old }
     ensures later { (other : List ℕ) → S.faults shelf.old other ≤ S.faults shelf.new other }
 {
-    match read_steps(alloc, shelf, schedule)? {
+    match read_schedule_file(alloc, shelf, schedule)? {
         Ok(steps) => play_schedule(alloc, machine, sound, &steps, periods, period),
         Err(message) => Ok(Answer::Message(message)),
     }

@@ -1,10 +1,10 @@
 //! What `route` answers.
 ghost use Rattle.std.specs.Prelude.{◌≡◌, ◌≢◌, ◌≤◌, ℕ, List, IfOk};
-ghost use Rattle.hda_outside.specs.Counts.{Rose};
 ghost use Rattle.hda_program.specs.Answers.{MachineAnswers, RouteAnswers};
 ghost use Rattle.hda_program.specs.Meanings.{message_meant};
+ghost use Rattle.hda_program.specs.Files.{FailedUnder};
 
-use crate::codec::read_codec;
+use crate::codec::read_codec_file;
 use crate::message::Message;
 use crate::plans::{have_route, nothing_routed, plans_of, routed};
 use hda_files::Machine;
@@ -16,19 +16,19 @@ use std::alloc::{AllocError, Global};
 ///
 /// # Errors
 /// Want of memory.
-pub fn answer_route<S: Shelf>(
+pub(crate) fn answer_route<S: Shelf>(
     alloc: Global,
     shelf: &mut S,
     name: &str,
     format: Format,
 ) -> Result<Message, AllocError>
-    ensures answers { IfOk result (λ message. RouteAnswers (S.told shelf.old) (λ name. Rose (S.faults shelf.old name) (S.faults shelf.new name))
+    ensures answers { IfOk result (λ message. RouteAnswers (S.told shelf.old) (FailedUnder (S.faults shelf.old) (S.faults shelf.new))
         name.now format (message_meant message)) }
     ensures asked { (other : List ℕ) → other ≢ name.now → S.asked shelf.new other ≡ S.asked shelf.old other }
     ensures told { S.told shelf.new ≡ S.told shelf.old }
     ensures later { (other : List ℕ) → S.faults shelf.old other ≤ S.faults shelf.new other }
 {
-    match read_codec(alloc, shelf, name)? {
+    match read_codec_file(alloc, shelf, name)? {
         Ok(machine) => answer_machine(alloc, &machine, format),
         Err(message) => Ok(message),
     }

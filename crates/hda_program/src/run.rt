@@ -9,6 +9,7 @@ ghost use Rattle.hda_program.specs.Causes.{HasBadCodecFile, HasBadRing, HasBadSc
 ghost use Rattle.hda_program.specs.Promises.{HasRun, KeepsPromise};
 ghost use Rattle.hda_program.specs.Complete.{CanPlay, CanRoute, CanWalk, HasPlayedOn, HasRoutes, HasWalkedOn};
 ghost use Rattle.hda_program.specs.Meanings.{answer_meant, of_run, status_of, telling, written_status};
+ghost use Rattle.hda_program.specs.Files.{FailedUnder};
 
 use crate::answer::{Answer, answer_words};
 use hda_outside::{Fault, Shelf, Sink, write_all};
@@ -36,7 +37,7 @@ pub fn hda_main<S: Shelf, K: Sink>(
     out: &mut K,
 ) -> Ended
     // The meant text was written whole, or its front at a fault of the sink or at want of memory.
-    ensures ended { HasEnded (S.told shelf.old) (λ name. Rose (S.faults shelf.old name) (S.faults shelf.new name))
+    ensures ended { HasEnded (S.told shelf.old) (FailedUnder (S.faults shelf.old) (S.faults shelf.new))
         (map string_bytes words.now) (K.taken out.old) (K.taken out.new) (Rose (K.faults out.old) (K.faults out.new)) result.play result.status }
 
     // The promise of `walk` and of `play`: the run that is given is the one that the words ask for, and its report was written.
@@ -53,7 +54,7 @@ pub fn hda_main<S: Shelf, K: Sink>(
     // The causes of single statuses.
     ensures refused_words { result.status ≡ number_of Status.WordsRefused → IsNoCommand (map string_bytes words.now) }
     ensures unread { result.status ≡ number_of Status.ShelfFailed
-        → HasUnreadFile (λ name. Rose (S.faults shelf.old name) (S.faults shelf.new name)) (map string_bytes words.now) }
+        → HasUnreadFile (FailedUnder (S.faults shelf.old) (S.faults shelf.new)) (map string_bytes words.now) }
     ensures refused_codec { result.status ≡ number_of Status.CodecRefused → HasBadCodecFile (S.told shelf.old) (map string_bytes words.now) }
     ensures refused_wav { result.status ≡ number_of Status.WavRefused → HasBadWav (S.told shelf.old) (map string_bytes words.now) }
     ensures refused_schedule { result.status ≡ number_of Status.ScheduleRefused → HasBadSchedule (S.told shelf.old) (map string_bytes words.now) }
@@ -64,13 +65,13 @@ pub fn hda_main<S: Shelf, K: Sink>(
 
     // Good files and a good ring are not refused.
     ensures route_completes { (name : List ℕ) (format : Format) → IsRouteOf (map string_bytes words.now) name format
-        → CanRoute (S.told shelf.old) (λ name. Rose (S.faults shelf.old name) (S.faults shelf.new name)) name format
+        → CanRoute (S.told shelf.old) (FailedUnder (S.faults shelf.old) (S.faults shelf.new)) name format
         → (Rose (K.faults out.old) (K.faults out.new) → ⊥) → HasRoutes result.status }
     ensures walk_completes { (codec schedule : List ℕ) → IsWalkOf (map string_bytes words.now) codec schedule
-        → CanWalk (S.told shelf.old) (λ name. Rose (S.faults shelf.old name) (S.faults shelf.new name)) codec schedule
+        → CanWalk (S.told shelf.old) (FailedUnder (S.faults shelf.old) (S.faults shelf.new)) codec schedule
         → (Rose (K.faults out.old) (K.faults out.new) → ⊥) → HasWalkedOn result.status }
     ensures play_completes { (codec wav schedule : List ℕ) (periods period : ℕ) → IsPlayOf (map string_bytes words.now) codec wav schedule periods period
-        → CanPlay (S.told shelf.old) (λ name. Rose (S.faults shelf.old name) (S.faults shelf.new name)) codec wav schedule periods period
+        → CanPlay (S.told shelf.old) (FailedUnder (S.faults shelf.old) (S.faults shelf.new)) codec wav schedule periods period
         → (Rose (K.faults out.old) (K.faults out.new) → ⊥) → HasPlayedOn result.status }
 
     // The shelf is asked under the names of the words alone.
@@ -91,7 +92,7 @@ pub fn hda_main<S: Shelf, K: Sink>(
 }
 
 /// Writes the text of an answer, and gives its status and its run.
-pub fn write_answer<K: Sink>(alloc: Global, out: &mut K, answer: Answer) -> Ended
+pub(crate) fn write_answer<K: Sink>(alloc: Global, out: &mut K, answer: Answer) -> Ended
     ensures written { HasWritten (K.taken out.old) (K.taken out.new) (Rose (K.faults out.old) (K.faults out.new)) (answer_meant answer) result.status }
     ensures play { result.play ≡ (answer_meant answer).play }
     ensures later { K.faults out.old ≤ K.faults out.new }

@@ -1,7 +1,6 @@
 //! The schedule of a command.
 ghost use Rattle.std.specs.Prelude.{◌≡◌, ◌≢◌, ◌≤◌, ℕ, List, IfOk, length};
-ghost use Rattle.hda_outside.specs.Counts.{Rose};
-ghost use Rattle.hda_program.specs.Files.{IsScheduleRead, AreScheduleBytesRead};
+ghost use Rattle.hda_program.specs.Files.{AreScheduleBytesRead, FailedUnder, IsScheduleRead};
 
 use crate::message::{Message, schedule_refused, unreadable};
 use crate::text::push_schedule_fault;
@@ -13,12 +12,12 @@ use std::alloc::{AllocError, Global};
 ///
 /// # Errors
 /// Want of memory.
-pub fn read_steps<S: Shelf>(
+pub(crate) fn read_schedule_file<S: Shelf>(
     alloc: Global,
     shelf: &mut S,
     name: &str,
 ) -> Result<Result<Schedule, Message>, AllocError>
-    ensures read { IfOk result (IsScheduleRead (S.told shelf.old) (λ name. Rose (S.faults shelf.old name) (S.faults shelf.new name)) name.now) }
+    ensures read { IfOk result (IsScheduleRead (S.told shelf.old) (FailedUnder (S.faults shelf.old) (S.faults shelf.new)) name.now) }
     ensures asked { (other : List ℕ) → other ≢ name.now → S.asked shelf.new other ≡ S.asked shelf.old other }
     ensures told { S.told shelf.new ≡ S.told shelf.old }
     ensures later { (other : List ℕ) → S.faults shelf.old other ≤ S.faults shelf.new other }

@@ -12,7 +12,7 @@ use verb_codes::ListFault;
 use wav_reader::WavFault;
 
 /// The line for words that are no command.
-pub const USAGE: &str =
+pub(crate) const USAGE: &str =
     "usage: hda_play route CODEC [--rate R] [--channels C] | walk CODEC SCHEDULE | play CODEC WAV SCHEDULE [--periods K] [--period M] | make N\n";
 
 /// A table of the codec file.
@@ -83,7 +83,7 @@ fn push_graph_fault(out: &mut String, address: u8, fault: GraphFault) -> Result<
 }
 
 /// The fault of a codec file.
-pub fn push_fault(out: &mut String, fault: FileFault) -> Result<(), AllocError>
+pub(crate) fn push_fault(out: &mut String, fault: FileFault) -> Result<(), AllocError>
     ensures { OnOk result (string_bytes out.new ≡ string_bytes out.old ++ text.fault_text fault) }
 {
     match fault {
@@ -100,7 +100,7 @@ pub fn push_fault(out: &mut String, fault: FileFault) -> Result<(), AllocError>
 }
 
 /// The fault of a schedule.
-pub fn push_schedule_fault(out: &mut String, fault: SchedFault) -> Result<(), AllocError>
+pub(crate) fn push_schedule_fault(out: &mut String, fault: SchedFault) -> Result<(), AllocError>
     ensures { OnOk result (string_bytes out.new ≡ string_bytes out.old ++ text.schedule_fault_text fault) }
 {
     match fault {
@@ -114,7 +114,7 @@ pub fn push_schedule_fault(out: &mut String, fault: SchedFault) -> Result<(), Al
 }
 
 /// The fault of a WAV file.
-pub fn push_wav_fault(out: &mut String, fault: WavFault) -> Result<(), AllocError>
+pub(crate) fn push_wav_fault(out: &mut String, fault: WavFault) -> Result<(), AllocError>
     ensures { OnOk result (string_bytes out.new ≡ string_bytes out.old ++ text.wav_fault_text fault) }
 {
     match fault {
@@ -132,7 +132,7 @@ pub fn push_wav_fault(out: &mut String, fault: WavFault) -> Result<(), AllocErro
 }
 
 /// The fault of a ring of sound.
-pub fn geometry_fault_name(fault: GeometryFault) -> &'static str
+pub(crate) fn geometry_fault_name(fault: GeometryFault) -> &'static str
     ensures { result.now ≡ text.geometry_fault_text fault }
 {
     match fault {

@@ -1,16 +1,15 @@
 //! What `walk` answers.
 ghost use Rattle.std.specs.Prelude.{◌≡◌, ◌≢◌, ◌≤◌, ℕ, List, IfOk};
 ghost use Rattle.hda_files.specs.Machines.{IsSound};
-ghost use Rattle.hda_outside.specs.Counts.{Rose};
 ghost use Rattle.hda_program.specs.Answers.{MachineWalks, ScheduleAnswers, WalkAnswers};
 ghost use Rattle.machine_tasks.specs.Reading.{IsRead};
-ghost use Rattle.hda_program.specs.Files.{IsGoodSchedule};
+ghost use Rattle.hda_program.specs.Files.{FailedUnder, IsGoodSchedule};
 ghost use Rattle.hda_program.specs.Meanings.{answer_meant};
 
 use crate::answer::Answer;
-use crate::codec::read_codec;
+use crate::codec::read_codec_file;
 use crate::plans::{have_route, nothing_routed, plans_of};
-use crate::schedule::read_steps;
+use crate::schedule::read_schedule_file;
 use hda_files::Machine;
 use hda_outside::Shelf;
 use hda_schedule::Schedule;
@@ -21,19 +20,19 @@ use std::alloc::{AllocError, Global};
 ///
 /// # Errors
 /// Want of memory.
-pub fn answer_walk<S: Shelf>(
+pub(crate) fn answer_walk<S: Shelf>(
     alloc: Global,
     shelf: &mut S,
     codec: &str,
     schedule: &str,
 ) -> Result<Answer, AllocError>
-    ensures answers { IfOk result (λ answer. WalkAnswers (S.told shelf.old) (λ name. Rose (S.faults shelf.old name) (S.faults shelf.new name))
+    ensures answers { IfOk result (λ answer. WalkAnswers (S.told shelf.old) (FailedUnder (S.faults shelf.old) (S.faults shelf.new))
         codec.now schedule.now (answer_meant answer)) }
     ensures asked { (other : List ℕ) → other ≢ codec.now → other ≢ schedule.now → S.asked shelf.new other ≡ S.asked shelf.old other }
     ensures told { S.told shelf.new ≡ S.told shelf.old }
     ensures later { (other : List ℕ) → S.faults shelf.old other ≤ S.faults shelf.new other }
 {
-    match read_codec(alloc, shelf, codec)? {
+    match read_codec_file(alloc, shelf, codec)? {
         Ok(machine) => walk_machine(alloc, shelf, machine, schedule),
         Err(message) => Ok(Answer::Message(message)),
     }
@@ -51,13 +50,13 @@ fn walk_machine<S: Shelf>(
 ) -> Result<Answer, AllocError>
     requires sound { IsSound machine }
     requires read { IsRead machine }
-    ensures answers { IfOk result (λ answer. MachineWalks (S.told shelf.old) (λ name. Rose (S.faults shelf.old name) (S.faults shelf.new name))
+    ensures answers { IfOk result (λ answer. MachineWalks (S.told shelf.old) (FailedUnder (S.faults shelf.old) (S.faults shelf.new))
         machine name.now (answer_meant answer)) }
     ensures asked { (other : List ℕ) → other ≢ name.now → S.asked shelf.new other ≡ S.asked shelf.old other }
     ensures told { S.told shelf.new ≡ S.told shelf.old }
     ensures later { (other : List ℕ) → S.faults shelf.old other ≤ S.faults shelf.new other }
 {
-    match read_steps(alloc, shelf, name)? {
+    match read_schedule_file(alloc, shelf, name)? {
         Ok(schedule) => walk_schedule(alloc, machine, &schedule),
         Err(message) => Ok(Answer::Message(message)),
     }

@@ -15,16 +15,16 @@ pub returns-in-Ok-clause-answers : goal.returns-in-Ok-clause-answers
 returns-in-Ok-clause-answers g c =
     let told = g.S.Shelf.told c.args.shelf.now in
     let faults = g.S.Shelf.faults in
-    let later : List ℕ → Type 0 = λ name. Rose (faults c.read_codec.new.shelf name) (faults c.walk_machine.new.shelf name) in
+    let later : List ℕ → Type 0 = λ name. Rose (faults c.read_codec_file.new.shelf name) (faults c.walk_machine.new.shelf name) in
     let failed : List ℕ → Type 0 = λ name. Rose (faults c.args.shelf.now name) (faults c.walk_machine.new.shelf name) in
-    let early : List ℕ → Type 0 = λ name. Rose (faults c.args.shelf.now name) (faults c.read_codec.new.shelf name) in
+    let early : List ℕ → Type 0 = λ name. Rose (faults c.args.shelf.now name) (faults c.read_codec_file.new.shelf name) in
     let read = subst (λ (r : Result Machine Message). IsCodecRead told early c.args.codec.now r) c.in-Ok.is c.in_ok-machine.ensures.read in
     IfOk-weaker c.walk_machine.result
-    (λ answer. MachineWalks (g.S.Shelf.told c.read_codec.new.shelf) later c.in-Ok.machine c.args.schedule.now (answer_meant answer))
+    (λ answer. MachineWalks (g.S.Shelf.told c.read_codec_file.new.shelf) later c.in-Ok.machine c.args.schedule.now (answer_meant answer))
     (λ answer. WalkAnswers told failed c.args.codec.now c.args.schedule.now (answer_meant answer))
     (λ answer h. inr (
       c.in-Ok.machine,
       read.0,
-      MachineWalks-both told (g.S.Shelf.told c.read_codec.new.shelf) later failed c.in-Ok.machine c.args.schedule.now (answer_meant answer) c.read_codec.ensures.told
-          (λ name rose. Rose-longer (faults c.args.shelf.now name) (faults c.read_codec.new.shelf name) (faults c.walk_machine.new.shelf name) (faults c.walk_machine.new.shelf name) (c.read_codec.ensures.later name) rose (le_refl (faults c.walk_machine.new.shelf name))) h,
+      MachineWalks-both told (g.S.Shelf.told c.read_codec_file.new.shelf) later failed c.in-Ok.machine c.args.schedule.now (answer_meant answer) c.read_codec_file.ensures.told
+          (λ name rose. Rose-longer (faults c.args.shelf.now name) (faults c.read_codec_file.new.shelf name) (faults c.walk_machine.new.shelf name) (faults c.walk_machine.new.shelf name) (c.read_codec_file.ensures.later name) rose (le_refl (faults c.walk_machine.new.shelf name))) h,
     )) c.walk_machine.ensures.answers

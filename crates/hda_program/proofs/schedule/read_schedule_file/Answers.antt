@@ -4,7 +4,7 @@ use Rattle.std.proofs.lemmas.Result.{IfOk-weaker}
 use Rattle.hda_outside.specs.Counts.{Rose}
 use Rattle.hda_program.specs.Files.{AreScheduleBytesRead, IsScheduleRead, IsFile, IsLonger, most_schedule_bytes}
 use Rattle.hda_program.proofs.ReadLemmas.{schedule_read}
-use Rattle.hda_program.proofs.schedule.read_steps.Goals as goal
+use Rattle.hda_program.proofs.schedule.read_schedule_file.Goals as goal
 
 pub returns-in-Ok-clause-read : goal.returns-in-Ok-clause-read
 returns-in-Ok-clause-read g c =

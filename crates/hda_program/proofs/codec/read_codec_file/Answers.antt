@@ -4,7 +4,7 @@ use Rattle.std.proofs.lemmas.Result.{IfOk-weaker}
 use Rattle.hda_outside.specs.Counts.{Rose}
 use Rattle.hda_program.specs.Files.{AreCodecBytesRead, IsCodecRead, IsFile, IsLonger, most_codec_bytes}
 use Rattle.hda_program.proofs.ReadLemmas.{codec_read}
-use Rattle.hda_program.proofs.codec.read_codec.Goals as goal
+use Rattle.hda_program.proofs.codec.read_codec_file.Goals as goal
 
 pub returns-in-Ok-clause-read : goal.returns-in-Ok-clause-read
 returns-in-Ok-clause-read g c =

@@ -4,7 +4,7 @@ use Rattle.std.proofs.lemmas.Result.{IfOk-weaker}
 use Rattle.hda_outside.specs.Counts.{Rose}
 use Rattle.hda_program.specs.Files.{AreWavBytesRead, IsWavRead, IsFile, IsLonger, most_wav_bytes}
 use Rattle.hda_program.proofs.ReadLemmas.{wav_read}
-use Rattle.hda_program.proofs.wav.read_sound.Goals as goal
+use Rattle.hda_program.proofs.wav.read_wav_file.Goals as goal
 
 pub returns-in-Ok-clause-read : goal.returns-in-Ok-clause-read
 returns-in-Ok-clause-read g c =
