@@ -1,6 +1,5 @@
 -- Where an agenda stands, and where an answer leads it. This project's own.
 use Rattle.std.specs.Prelude.{◌≡◌, ◌<◌, ◌≤◌, ℕ, ◌+◌, true, false, List, [], ◌∷◌, ◌++◌, length, slice_get, slice_index, Option, Some, None}
-use Rattle.std.specs.List.{list_any}
 use Rattle.verb_codes.specs.declared.verbs.Command.{Command}
 use Rattle.codec_graph.specs.declared.raw.RawCodec.{RawCodec}
 use Rattle.route_planner.specs.declared.routes.Plan.{Plan}
@@ -11,7 +10,7 @@ use Rattle.codec_walk.specs.Walks.{walk}
 use Rattle.codec_walk.specs.Outcomes.{IsGood, IsFaultOf}
 use Rattle.codec_walk.specs.Remaining.{remaining}
 use Rattle.codec_agenda.specs.declared.agenda.Agenda.{Agenda}
-use Rattle.codec_agenda.specs.Planned.{ArePlansBy, verbs_for, has_route}
+use Rattle.codec_agenda.specs.Planned.{ArePlansBy, verbs_for, have_route}
 
 -- the command that comes next: the question of the walk that is under way, or the verb after those that were answered
 abbrev pub next_of : Option Walk → (verbs : List Command) → (answered : ℕ) → Option Command
@@ -30,7 +29,7 @@ pub record BeginsVerbs (IsPlanBy : RawCodec → Plan → Type 0) (verbs_by : Raw
   pub no_walk : agenda.walk ≡ None
   pub graphs_are : agenda.graphs.items ≡ graphs
   pub plans : ArePlansBy IsPlanBy graphs agenda.plans.items
-  pub routed : list_any has_route agenda.plans.items ≡ true
+  pub routed : have_route agenda.plans.items ≡ true
   pub verbs : agenda.verbs.items ≡ verbs_for verbs_by graphs agenda.plans.items
   pub none : agenda.answered ≡ 0
 
@@ -38,7 +37,7 @@ pub record BeginsVerbs (IsPlanBy : RawCodec → Plan → Type 0) (verbs_by : Raw
 pub record RoutesNothing (IsPlanBy : RawCodec → Plan → Type 0) (graphs : List RawCodec) (agenda : Agenda) : Type 0 where
   pub graphs_are : agenda.graphs.items ≡ graphs
   pub plans : ArePlansBy IsPlanBy graphs agenda.plans.items
-  pub none : list_any has_route agenda.plans.items ≡ false
+  pub none : have_route agenda.plans.items ≡ false
 
 -- what comes once these codecs were walked: the walk over the next codec, or where none is left the verbs
 abbrev pub GoesOn : (RawCodec → Plan → Type 0) → (RawCodec → Plan → List Command) → (addresses : List ℕ) → List RawCodec → Agenda → Type 0

@@ -1,7 +1,7 @@
 -- How an agenda follows the commands of some codecs: their walks, one after the other, and then the verbs that set each of them up.
 -- This project's own.
 use Rattle.std.specs.Prelude.{◌≡◌, ◌<◌, ℕ, ◌+◌, true, List, ◌∷◌, ◌++◌, length, map, All, Contains, Option, Some, None}
-use Rattle.std.specs.List.{flat_map, list_any}
+use Rattle.std.specs.List.{flat_map}
 use Rattle.verb_codes.specs.declared.verbs.Command.{Command}
 use Rattle.codec_graph.specs.declared.raw.RawCodec.{RawCodec}
 use Rattle.codec_graph.specs.Cycles.{IsWellFormed}
@@ -13,7 +13,7 @@ use Rattle.codec_walk.specs.Commands.{walk_commands}
 use Rattle.codec_walk.specs.Replies.{CanAnswer, AreReplies}
 use Rattle.codec_walk.specs.Remaining.{remaining}
 use Rattle.codec_agenda.specs.declared.agenda.Agenda.{Agenda}
-use Rattle.codec_agenda.specs.Planned.{ArePlansBy, has_route}
+use Rattle.codec_agenda.specs.Planned.{ArePlansBy, have_route}
 
 -- the commands of codecs with these graphs, where a graph's verbs are these
 abbrev pub commands_of : (verbs : RawCodec → List Command) → List RawCodec → List Command
@@ -23,7 +23,7 @@ commands_of verbs graphs = flat_map walk_commands graphs ++ flat_map verbs graph
 pub record AreRight (IsPlanBy : RawCodec → Plan → Type 0) (verbs_by : RawCodec → Plan → List Command) (verbs : RawCodec → List Command) (graphs : List RawCodec) : Type 0 where
   pub well_formed : All IsWellFormed graphs
   pub verbs_are : All (λ (graph : RawCodec). (plan : Plan) → IsPlanBy graph plan → verbs graph ≡ verbs_by graph plan) graphs
-  pub routed : (plans : List Plan) → ArePlansBy IsPlanBy graphs plans → list_any has_route plans ≡ true
+  pub routed : (plans : List Plan) → ArePlansBy IsPlanBy graphs plans → have_route plans ≡ true
 
 -- so many commands were answered, the last of them in the walk over a codec, which is not at its end
 pub record FollowsWalk (graphs : List RawCodec) (count : ℕ) (agenda : Agenda) (under_way : Walk) : Type 0 where

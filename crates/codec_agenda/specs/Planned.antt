@@ -29,3 +29,7 @@ is_route outcome.NoPath = false
 -- whether a pin of the plan has a route
 abbrev pub has_route : Plan → Bool
 has_route plan = list_any (λ (entry : PinPlan). is_route entry.outcome) plan.pins
+
+-- whether a pin of some plan has one
+abbrev pub have_route : List Plan → Bool
+have_route plans = list_any has_route plans

@@ -10,3 +10,4 @@ mod plans;
 pub use agenda::Agenda;
 pub use fault::AgendaFault;
 pub use laws::{agendas_ask_in_order, agendas_follow};
+pub use plans::have_route;

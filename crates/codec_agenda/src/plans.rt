@@ -1,8 +1,7 @@
 //! The plans of graphs, and the verbs for them.
 ghost use Rattle.std.specs.Prelude.{◌≡◌, ◌≤◌, All, IfOk, length};
-ghost use Rattle.std.specs.List.{list_any};
 ghost use Rattle.verb_codes.specs.Verbs.{IsInRange};
-ghost use Rattle.codec_agenda.specs.Planned.{ArePlansBy, verbs_for, is_route, has_route};
+ghost use Rattle.codec_agenda.specs.Planned.{ArePlansBy, verbs_for, is_route, has_route, have_route};
 
 use codec_graph::Graph;
 use route_planner::{Outcome, Plan};
@@ -70,9 +69,9 @@ pub(crate) fn verbs_of<T: Setter>(
     Ok(all)
 }
 
-/// Whether some pin of some plan has a route.
-pub(crate) fn have_route(plans: &[Plan]) -> bool
-    ensures { result ≡ list_any has_route plans.now }
+/// Whether some pin of some plan has a route. This project's own.
+pub fn have_route(plans: &[Plan]) -> bool
+    ensures { result ≡ have_route plans.now }
 {
     plans.iter().any(has_route)
 }

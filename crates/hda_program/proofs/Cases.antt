@@ -23,7 +23,7 @@ use Rattle.hda_program.specs.Files.{CodecStops, IsMachineOf, IsScheduleOf, IsWav
 use Rattle.hda_program.specs.Meanings.{Meant, of_run, telling, unrouted}
 use Rattle.hda_program.specs.Rings.{IsRingOf}
 use Rattle.machine_tasks.specs.Tasks.{HavePlans}
-use Rattle.hda_program.specs.Plans.{have_route}
+use Rattle.codec_agenda.specs.Planned.{have_route}
 
 -- a route was asked for, and there is one
 abbrev pub IsRouted : Option Files → List (List ℕ) → Type 0

@@ -30,7 +30,7 @@ use Rattle.hda_program.specs.Asks.{IsPlayOf, IsRouteOf, IsWalkOf}
 use Rattle.hda_program.specs.Causes.{IsOfPlay, IsOfWalk}
 use Rattle.hda_program.specs.Complete.{CanPlay, CanRoute, CanWalk, HasPlayedOn, HasRoutes, HasWalkedOn}
 use Rattle.hda_program.specs.Meanings.{Meant, of_run, status_of, telling, unrouted}
-use Rattle.hda_program.specs.Plans.{have_route}
+use Rattle.codec_agenda.specs.Planned.{have_route}
 use Rattle.hda_program.proofs.Endings.{not_route_and_play, not_route_and_walk, same_asked}
 use Rattle.hda_program.proofs.OneReading.{codec_unrefused, one_format, one_machine, one_plans, one_wav_format, schedule_unrefused, wav_unrefused}
 

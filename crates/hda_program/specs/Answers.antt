@@ -22,7 +22,7 @@ use Rattle.hda_program.specs.Files.{IsMachineOf, IsWavOf, IsScheduleOf, CodecSto
 use Rattle.hda_program.specs.Rings.{IsRingOf, RingStops}
 use Rattle.hda_program.specs.Meanings.{Meant, telling, unrouted, of_run}
 use Rattle.machine_tasks.specs.Tasks.{HavePlans}
-use Rattle.hda_program.specs.Plans.{have_route}
+use Rattle.codec_agenda.specs.Planned.{have_route}
 use Rattle.hda_program.specs.Text.{usage_line}
 
 -- ---- `route`

@@ -14,7 +14,7 @@ use Rattle.scheduled_runs.specs.Walks.{walk_format}
 use Rattle.hda_program.specs.Files.{IsMachineOf, IsWavOf, IsScheduleOf, IsCodecRefused, IsWavRefused, IsScheduleRefused}
 use Rattle.hda_program.specs.Rings.{IsBadRing}
 use Rattle.machine_tasks.specs.Tasks.{HavePlans}
-use Rattle.hda_program.specs.Plans.{have_route}
+use Rattle.codec_agenda.specs.Planned.{have_route}
 
 -- the shelf failed under a name of the words
 abbrev pub HasUnreadFile : (List ℕ → Type 0) → List (List ℕ) → Type 0

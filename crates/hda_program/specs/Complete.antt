@@ -13,7 +13,7 @@ use Rattle.scheduled_runs.specs.Walks.{walk_format}
 use Rattle.machine_tasks.specs.Tasks.{HavePlans}
 use Rattle.hda_program.specs.Causes.{IsOfPlay, IsOfWalk}
 use Rattle.hda_program.specs.Files.{IsMachineOf, IsScheduleOf, IsWavOf}
-use Rattle.hda_program.specs.Plans.{have_route}
+use Rattle.codec_agenda.specs.Planned.{have_route}
 
 -- the shelf tells its files and failed under none of the three names, whose files read as a machine, a sound and a schedule; the ring of
 -- these numbers has no fault, and some pin has a route for the sound's format

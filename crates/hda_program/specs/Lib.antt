@@ -1,6 +1,5 @@
 pub mod Text
 pub mod Asks
-pub mod Plans
 pub mod Meanings
 -- what the files come to, and what private functions promise one another of them
 pub mod Files

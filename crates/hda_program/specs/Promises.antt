@@ -15,7 +15,7 @@ use Rattle.hda_program.specs.Rings.{IsRingOf}
 use Rattle.hda_program.specs.Answers.{HasWritten}
 use Rattle.hda_program.specs.Meanings.{of_run}
 use Rattle.machine_tasks.specs.Tasks.{HavePlans}
-use Rattle.hda_program.specs.Plans.{have_route}
+use Rattle.codec_agenda.specs.Planned.{have_route}
 
 -- the run is that for which the words ask: of the machine that their codec file reads as, with its plans, by their schedule
 pub record HasWalked (told : Option Files) (words : List (List ℕ)) (played : Played) : Type 0 where

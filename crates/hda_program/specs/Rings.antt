@@ -6,15 +6,13 @@ use Rattle.period_writer.specs.declared.geometry.GeometryFault.{GeometryFault}
 use Rattle.period_writer.specs.Rings.{fault_of}
 use Rattle.wav_reader.specs.declared.wav.Wav.{Wav}
 use Rattle.sound_report.specs.declared.status.Status.TheVariants.{GeometryRefused}
+use Rattle.scheduled_runs.specs.Shapes.{HasShape}
 use Rattle.hda_program.specs.Meanings.{Meant, telling}
 use Rattle.hda_program.specs.Text.{geometry_fault_text, geometry_refused_line}
 
 -- the ring has the numbers of the words, and is for the machine's FIFO and the sound's format
-pub record IsRingOf (periods period : ℕ) (machine : Machine) (sound : Wav) (geometry : Geometry) : Type 0 where
-  pub periods_are : geometry.periods ≡ periods
-  pub period_is : geometry.period ≡ period
-  pub fifo_is : geometry.fifo ≡ machine.fifo
-  pub format_is : geometry.format ≡ sound.format
+abbrev pub IsRingOf : (periods period : ℕ) → Machine → Wav → Geometry → Type 0
+IsRingOf periods period machine sound geometry = HasShape periods period machine.fifo sound.format geometry
 
 -- such a ring has this fault
 abbrev pub IsBadRing : (periods period : ℕ) → Machine → Wav → GeometryFault → Type 0

@@ -1,14 +1,13 @@
 //! The plans of a machine's codecs, and what is said of them.
 ghost use Rattle.std.specs.Prelude.{◌≡◌, IfOk};
 ghost use Rattle.hda_program.specs.Meanings.{message_meant, telling, unrouted};
-ghost use Rattle.codec_agenda.specs.Planned.{has_route, is_route};
 ghost use Rattle.machine_tasks.specs.Tasks.{HavePlans};
-ghost use Rattle.hda_program.specs.Plans.{have_route};
+ghost use Rattle.codec_agenda.specs.Planned.{have_route};
 ghost use Rattle.sound_report.specs.PlanLines.{plans_lines};
 
 use crate::message::Message;
 use hda_files::CodecFile;
-use route_planner::{Format, Outcome, Plan, plan};
+use route_planner::{Format, Plan, plan};
 use sound_report::{Status, push_plans};
 use std::alloc::{AllocError, Global};
 
@@ -28,30 +27,6 @@ pub(crate) fn plans_of(
         plans.push(plan(alloc, &codec.graph, format)?)?;
     }
     Ok(plans)
-}
-
-/// Whether some pin of some plan has a route.
-pub(crate) fn have_route(plans: &[Plan]) -> bool
-    ensures { result ≡ have_route plans.now }
-{
-    plans.iter().any(has_route)
-}
-
-/// Whether some pin of the plan has a route.
-fn has_route(plan: &Plan) -> bool
-    ensures { result ≡ has_route plan.now }
-{
-    plan.pins
-        .as_slice()
-        .iter()
-        .any(|entry| is_route(&entry.outcome))
-}
-
-/// Whether the pin has a route.
-fn is_route(outcome: &Outcome) -> bool
-    ensures { result ≡ is_route outcome.now }
-{
-    matches!(outcome, Outcome::Route(_))
 }
 
 /// The lines of plans of which some has a route.

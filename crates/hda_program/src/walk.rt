@@ -8,8 +8,9 @@ ghost use Rattle.hda_program.specs.Meanings.{answer_meant};
 
 use crate::answer::Answer;
 use crate::codec::read_codec_file;
-use crate::plans::{have_route, nothing_routed, plans_of};
+use crate::plans::{nothing_routed, plans_of};
 use crate::schedule::read_schedule_file;
+use codec_agenda::have_route;
 use hda_files::Machine;
 use hda_outside::Shelf;
 use hda_schedule::Schedule;

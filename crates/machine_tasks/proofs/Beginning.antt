@@ -31,7 +31,8 @@ use Rattle.codec_histories.specs.Readings.{KeepsDefaults}
 use Rattle.std.specs.Prelude.{All}
 use Rattle.audio_driver.specs.Opening.{IsOpened}
 use Rattle.told_bring_up.specs.Standing.{CanBegin, StandsIn, IsBroughtUp}
-use Rattle.machine_tasks.specs.Tasks.{graphs_of, verbs_in, task_of, blocks_of}
+use Rattle.heard_lists.specs.Listings.{graphs_in as graphs_of}
+use Rattle.machine_tasks.specs.Tasks.{verbs_in, task_of, blocks_of}
 use Rattle.machine_tasks.specs.Reading.{IsWhole}
 use Rattle.machine_tasks.specs.Starting.{BeginsAt}
 use Rattle.machine_tasks.proofs.Tasked.{stand_by_address}

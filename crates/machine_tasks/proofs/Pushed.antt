@@ -10,26 +10,27 @@ use Rattle.codec_agenda.specs.Planned.{verbs_for}
 use Rattle.codec_walk.specs.Commands.{walk_commands}
 use Rattle.hda_files.specs.declared.machine.CodecFile.{CodecFile}
 use Rattle.driver_progress.specs.Tasks.{walks_over}
-use Rattle.machine_tasks.specs.Tasks.{graphs_of, HavePlans, verbs_by, commands_of}
+use Rattle.heard_lists.specs.Listings.{graphs_in}
+use Rattle.machine_tasks.specs.Tasks.{HavePlans, verbs_by, commands_of}
 
 -- the commands of one codec more
-walks_push : (files : List CodecFile) (file : CodecFile) → length (walks_over (graphs_of (files ++ file ∷ []))) ≡ length (walks_over (graphs_of files)) + length (walk_commands file.graph)
+walks_push : (files : List CodecFile) (file : CodecFile) → length (walks_over (graphs_in (files ++ file ∷ []))) ≡ length (walks_over (graphs_in files)) + length (walk_commands file.graph)
 walks_push [] file = (let one = length-append (walk_commands file.graph) [] in omega (arith, one))
 walks_push (first ∷ files) file =
     let rest = walks_push files file in
-    let new = length-append (walk_commands first.graph) (walks_over (graphs_of (files ++ file ∷ []))) in
-    let old = length-append (walk_commands first.graph) (walks_over (graphs_of files)) in
+    let new = length-append (walk_commands first.graph) (walks_over (graphs_in (files ++ file ∷ []))) in
+    let old = length-append (walk_commands first.graph) (walks_over (graphs_in files)) in
     omega (arith, rest, new, old)
 
 verbs_push : (format : Format) (files : List CodecFile) (plans : List Plan) (file : CodecFile) (plan : Plan) → length plans ≡ length files
-    → length (verbs_for (verbs_by format) (graphs_of (files ++ file ∷ [])) (plans ++ plan ∷ [])) ≡ length (verbs_for (verbs_by format) (graphs_of files) plans) + length (verbs_by format file.graph plan)
+    → length (verbs_for (verbs_by format) (graphs_in (files ++ file ∷ [])) (plans ++ plan ∷ [])) ≡ length (verbs_for (verbs_by format) (graphs_in files) plans) + length (verbs_by format file.graph plan)
 verbs_push format [] [] file plan same = (let one = length-append (verbs_by format file.graph plan) [] in omega (arith, one))
 verbs_push format [] (other ∷ plans) file plan same = absurd (omega (arith, same))
 verbs_push format (first ∷ files) [] file plan same = absurd (omega (arith, same))
 verbs_push format (first ∷ files) (other ∷ plans) file plan same =
     let rest = verbs_push format files plans file plan (omega (arith, same)) in
-    let new = length-append (verbs_by format first.graph other) (verbs_for (verbs_by format) (graphs_of (files ++ file ∷ [])) (plans ++ plan ∷ [])) in
-    let old = length-append (verbs_by format first.graph other) (verbs_for (verbs_by format) (graphs_of files) plans) in
+    let new = length-append (verbs_by format first.graph other) (verbs_for (verbs_by format) (graphs_in (files ++ file ∷ [])) (plans ++ plan ∷ [])) in
+    let old = length-append (verbs_by format first.graph other) (verbs_for (verbs_by format) (graphs_in files) plans) in
     omega (arith, rest, new, old)
 
 pub commands_push : (format : Format) (files : List CodecFile) (plans : List Plan) (file : CodecFile) (plan : Plan) → length plans ≡ length files
@@ -37,8 +38,8 @@ pub commands_push : (format : Format) (files : List CodecFile) (plans : List Pla
 commands_push format files plans file plan same =
     let walks = walks_push files file in
     let verbs = verbs_push format files plans file plan same in
-    let new = length-append (walks_over (graphs_of (files ++ file ∷ []))) (verbs_for (verbs_by format) (graphs_of (files ++ file ∷ [])) (plans ++ plan ∷ [])) in
-    let old = length-append (walks_over (graphs_of files)) (verbs_for (verbs_by format) (graphs_of files) plans) in
+    let new = length-append (walks_over (graphs_in (files ++ file ∷ []))) (verbs_for (verbs_by format) (graphs_in (files ++ file ∷ [])) (plans ++ plan ∷ [])) in
+    let old = length-append (walks_over (graphs_in files)) (verbs_for (verbs_by format) (graphs_in files) plans) in
     omega (arith, walks, verbs, new, old)
 
 -- ---- at a place

@@ -19,7 +19,8 @@ use Rattle.period_writer.specs.declared.geometry.Geometry.{Geometry}
 use Rattle.command_engine.specs.Courses.{AscendFrom}
 use Rattle.driver_progress.specs.Tasks.{Blocks, order_of, walks_over}
 use Rattle.told_bring_up.specs.Standing.{IsTaskOfCodecs}
-use Rattle.machine_tasks.specs.Tasks.{graphs_of, HavePlans, verbs_by, verbs_in, task_of}
+use Rattle.heard_lists.specs.Listings.{graphs_in}
+use Rattle.machine_tasks.specs.Tasks.{HavePlans, verbs_by, verbs_in, task_of}
 use Rattle.machine_tasks.specs.Reading.{IsWhole}
 
 -- ---- addresses
@@ -34,7 +35,7 @@ increasing-tail address addresses increasing k within =
 
 -- the codecs of a sound machine stand by address
 pub stand_by_address : (low : ℕ) (files : List CodecFile) → IsStrictlyIncreasing (addresses_in files) → All IsSoundCodec files
-    → (0 < length files → low ≤ get_or (addresses_in files) 0 0) → AscendFrom low (graphs_of files)
+    → (0 < length files → low ≤ get_or (addresses_in files) 0 0) → AscendFrom low (graphs_in files)
 stand_by_address low [] increasing sound above = tt
 stand_by_address low (file ∷ files) increasing sound above = (
   above (omega arith),
@@ -72,32 +73,32 @@ own_verbs format file files plan plans = by (file.graph.address == file.graph.ad
   by true is = refl
   by false is = absurd (grind (arith, nat_tests))
 
-pub all_have_verbs : (format : Format) (low : ℕ) (files : List CodecFile) (plans : List Plan) → HavePlans format files plans → AscendFrom low (graphs_of files)
-    → All (HasVerbs format (verbs_in format files plans)) (graphs_of files)
+pub all_have_verbs : (format : Format) (low : ℕ) (files : List CodecFile) (plans : List Plan) → HavePlans format files plans → AscendFrom low (graphs_in files)
+    → All (HasVerbs format (verbs_in format files plans)) (graphs_in files)
 all_have_verbs format low [] plans have ascend = All-nil (HasVerbs format (verbs_in format [] plans))
 all_have_verbs format low (file ∷ files) [] have ascend = absurd have
 all_have_verbs format low (file ∷ files) (plan ∷ plans) have ascend =
     let rest = all_have_verbs format (file.graph.address + 1) files plans have.1 ascend.2 in
-    let above = above_low (file.graph.address + 1) (graphs_of files) ascend.2 in
-    All-cons (HasVerbs format (verbs_in format (file ∷ files) (plan ∷ plans))) file.graph (graphs_of files)
+    let above = above_low (file.graph.address + 1) (graphs_in files) ascend.2 in
+    All-cons (HasVerbs format (verbs_in format (file ∷ files) (plan ∷ plans))) file.graph (graphs_in files)
     (λ other is. own_verbs format file files plan plans ∙ ap (verbs_by format file.graph) (one_plan_of file.graph format other plan is have.0))
-    (λ k graph within other is. later_verbs format file files plan plans (get_or (graphs_of files) k graph) (above k graph within) ∙ rest k graph within other is)
+    (λ k graph within other is. later_verbs format file files plan plans (get_or (graphs_in files) k graph) (above k graph within) ∙ rest k graph within other is)
 
 -- so all verbs are those of each
 pub verbs_joined : (format : Format) (verbs : RawCodec → List Command) (files : List CodecFile) (plans : List Plan) → HavePlans format files plans
-    → All (HasVerbs format verbs) (graphs_of files) → verbs_for (verbs_by format) (graphs_of files) plans ≡ flat_map verbs (graphs_of files)
+    → All (HasVerbs format verbs) (graphs_in files) → verbs_for (verbs_by format) (graphs_in files) plans ≡ flat_map verbs (graphs_in files)
 verbs_joined format verbs [] plans have own = refl
 verbs_joined format verbs (file ∷ files) [] have own = absurd have
 verbs_joined format verbs (file ∷ files) (plan ∷ plans) have own =
-    let first : verbs file.graph ≡ verbs_by format file.graph plan = All-head (HasVerbs format verbs) file.graph (graphs_of files) own plan have.0 in
-    let rest = verbs_joined format verbs files plans have.1 (All-tail (HasVerbs format verbs) file.graph (graphs_of files) own) in
-    ap (λ (commands : List Command). commands ++ verbs_for (verbs_by format) (graphs_of files) plans) (sym first) ∙ ap (λ (commands : List Command). verbs file.graph ++ commands) rest
+    let first : verbs file.graph ≡ verbs_by format file.graph plan = All-head (HasVerbs format verbs) file.graph (graphs_in files) own plan have.0 in
+    let rest = verbs_joined format verbs files plans have.1 (All-tail (HasVerbs format verbs) file.graph (graphs_in files) own) in
+    ap (λ (commands : List Command). commands ++ verbs_for (verbs_by format) (graphs_in files) plans) (sym first) ∙ ap (λ (commands : List Command). verbs file.graph ++ commands) rest
 
 -- ---- plans
 
 -- codecs have one list of plans
 same_plans : (format : Format) (files : List CodecFile) (plans others : List Plan) → HavePlans format files plans
-    → ArePlansBy (λ (graph : RawCodec). IsPlan graph format) (graphs_of files) others → others ≡ plans
+    → ArePlansBy (λ (graph : RawCodec). IsPlan graph format) (graphs_in files) others → others ≡ plans
 same_plans format [] [] [] have are = refl
 same_plans format [] [] (other ∷ others) have are = absurd are
 same_plans format [] (plan ∷ plans) others have are = absurd have
@@ -109,7 +110,7 @@ same_plans format (file ∷ files) (plan ∷ plans) (other ∷ others) have are 
     ap (λ (one : Plan). one ∷ others) first ∙ ap (λ (list : List Plan). plan ∷ list) rest
 
 -- where some pin has a route there is some codec
-some_graph : (format : Format) (files : List CodecFile) (plans : List Plan) → HavePlans format files plans → list_any has_route plans ≡ true → graphs_of files ≢ []
+some_graph : (format : Format) (files : List CodecFile) (plans : List Plan) → HavePlans format files plans → list_any has_route plans ≡ true → graphs_in files ≢ []
 some_graph format [] [] have routed none = (let never : false ≡ true = routed in cc)
 some_graph format [] (plan ∷ plans) have routed none = have
 some_graph format (file ∷ files) plans have routed none = cc
@@ -118,7 +119,7 @@ some_graph format (file ∷ files) plans have routed none = cc
 
 pub tasked : (format : Format) (machine : Machine) (plans : List Plan) (geometry : Geometry) (plays : Bool) (pcm : List ℕ) (blocks : Blocks) → IsSound machine → IsWhole machine → HavePlans format machine.codecs plans
     → list_any has_route plans ≡ true
-    → IsTaskOfCodecs (λ (graph : RawCodec). IsPlan graph format) (verbs_by format) (verbs_in format machine.codecs plans) (graphs_of machine.codecs) (task_of format machine plans geometry plays pcm blocks)
+    → IsTaskOfCodecs (λ (graph : RawCodec). IsPlan graph format) (verbs_by format) (verbs_in format machine.codecs plans) (graphs_in machine.codecs) (task_of format machine plans geometry plays pcm blocks)
 tasked format machine plans geometry plays pcm blocks sound whole have routed =
     let ascend = stand_by_address 0 machine.codecs sound.ascending sound.each (λ some. omega arith) in
     let own = all_have_verbs format 0 machine.codecs plans have ascend in
@@ -130,7 +131,7 @@ tasked format machine plans geometry plays pcm blocks sound whole have routed =
         routed = λ others are. ap (λ (list : List Plan). list_any has_route list) (same_plans format machine.codecs plans others have are) ∙ routed;
       };
       is_for = record {
-        orders = ap (λ (commands : List Command). map order_of (walks_over (graphs_of machine.codecs) ++ commands)) joined;
+        orders = ap (λ (commands : List Command). map order_of (walks_over (graphs_in machine.codecs) ++ commands)) joined;
         walks = refl;
       };
       some = some_graph format machine.codecs plans have routed;

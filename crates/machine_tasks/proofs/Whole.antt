@@ -14,7 +14,7 @@ use Rattle.hda_files.specs.declared.fault.FileFault.{FileFault}
 use Rattle.hda_files.specs.Tops.{machine_table_of}
 use Rattle.hda_files.specs.Machines.{codec_file, IsGoodCodec, IsJudgedMachine, IsJudged, IsReadingOf, IsReadingOfBytes, IsSoundCodec, IsSound, by_address}
 use Rattle.hda_controller.specs.Openings.{codec_in, codecs_in}
-use Rattle.machine_tasks.specs.Tasks.{graphs_of}
+use Rattle.heard_lists.specs.Listings.{graphs_in}
 use Rattle.machine_tasks.specs.Reading.{IsRead, IsWhole}
 use Rattle.machine_tasks.proofs.Few.{few_in_table, by_address-short}
 use Rattle.machine_tasks.proofs.Fifo.{IsWithin, fifo_in_table}
@@ -22,10 +22,10 @@ use Rattle.machine_tasks.proofs.Defaults.{start_has_defaults}
 
 -- ---- its codecs
 
-all_well_formed : (tables : _) → All IsGoodCodec tables → All IsWellFormed (graphs_of (map codec_file tables))
+all_well_formed : (tables : _) → All IsGoodCodec tables → All IsWellFormed (graphs_in (map codec_file tables))
 all_well_formed [] good = All-nil IsWellFormed
 all_well_formed (table ∷ tables) good =
-    All-cons IsWellFormed (codec_file table).graph (graphs_of (map codec_file tables)) (All-head IsGoodCodec table tables good).graph (all_well_formed tables (All-tail IsGoodCodec table tables good))
+    All-cons IsWellFormed (codec_file table).graph (graphs_in (map codec_file tables)) (All-head IsGoodCodec table tables good).graph (all_well_formed tables (All-tail IsGoodCodec table tables good))
 
 all_keep_defaults : (tables : _) → All IsGoodCodec tables → All IsSoundCodec (map codec_file tables) → All KeepsDefaults (codecs_in (map codec_file tables))
 all_keep_defaults [] good sound = All-nil KeepsDefaults
@@ -48,7 +48,7 @@ judged_whole table machine judged few fifo sound =
     record {
       some_fifo = omega (arith, same, fifo.0);
       small_fifo = omega (arith, same, fifo.1);
-      well_formed = subst (λ (files : List CodecFile). All IsWellFormed (graphs_of files)) (sym codecs) (all_well_formed (by_address table.codecs) judged.1);
+      well_formed = subst (λ (files : List CodecFile). All IsWellFormed (graphs_in files)) (sym codecs) (all_well_formed (by_address table.codecs) judged.1);
       few = subst (λ (files : List CodecFile). length files ≤ 4) (sym codecs) (few_files table.codecs few);
       defaults = subst (λ (files : List CodecFile). All KeepsDefaults (codecs_in files)) (sym codecs)
           (all_keep_defaults (by_address table.codecs) judged.1 (subst (λ (files : List CodecFile). All IsSoundCodec files) codecs sound.each));

@@ -14,11 +14,12 @@ use Rattle.driver_progress.specs.States.{state_opened}
 use Rattle.codec_bring_up.specs.declared.bringing.BringUp.{BringUp}
 use Rattle.codec_bring_up.specs.Calls.{state_of}
 use Rattle.told_bring_up.specs.Standing.{IsBroughtUp}
-use Rattle.machine_tasks.specs.Tasks.{graphs_of, verbs_in}
+use Rattle.heard_lists.specs.Listings.{graphs_in}
+use Rattle.machine_tasks.specs.Tasks.{verbs_in}
 
 -- a bring-up for a task stands to the start of a machine, whose commands are those of these plans, and nothing was done yet
 pub record BeginsAt (format : Format) (machine : Machine) (plans : List Plan) (task : Task) (bring_up : BringUp) : Type 0 where
-  pub stands : IsBroughtUp (λ (graph : RawCodec). IsPlan graph format) (verbs_in format machine.codecs plans) (graphs_of machine.codecs) task 0 bring_up (start_of REGION_BYTES machine)
+  pub stands : IsBroughtUp (λ (graph : RawCodec). IsPlan graph format) (verbs_in format machine.codecs plans) (graphs_in machine.codecs) task 0 bring_up (start_of REGION_BYTES machine)
   pub state : state_of bring_up ≡ state_opened
 
 -- the whole region is free

@@ -9,16 +9,13 @@ use Rattle.route_planner.specs.Plans.{IsPlan}
 use Rattle.setup_verbs.specs.VerbList.{setup_verbs}
 use Rattle.codec_agenda.specs.Planned.{verbs_for}
 use Rattle.hda_files.specs.declared.machine.CodecFile.{CodecFile}
+use Rattle.heard_lists.specs.Listings.{graphs_in}
 use Rattle.hda_files.specs.declared.machine.Machine.{Machine}
 use Rattle.period_writer.specs.declared.geometry.Geometry.{Geometry}
 use Rattle.period_writer.specs.declared.writer.Writer.{Writer}
 use Rattle.period_writer.specs.Blocks.{addresses_of}
 use Rattle.driver_progress.specs.Tasks.{Task, Blocks, order_of, walks_over}
 use Rattle.codec_bring_up.specs.declared.bringing.BringUp.{BringUp}
-
--- the graphs of a file's codecs, in order
-abbrev pub graphs_of : List CodecFile → List RawCodec
-graphs_of files = map (λ (file : CodecFile). file.graph) files
 
 -- each codec of the file has its plan, in order
 abbrev pub HavePlans : Format → List CodecFile → List Plan → Type 0
@@ -41,13 +38,13 @@ verbs_in format (file ∷ files) (plan ∷ plans) graph =
 
 -- all commands: the walks over the codecs, and then the verbs of each codec by its plan
 abbrev pub commands_of : Format → List CodecFile → List Plan → List Command
-commands_of format files plans = walks_over (graphs_of files) ++ verbs_for (verbs_by format) (graphs_of files) plans
+commands_of format files plans = walks_over (graphs_in files) ++ verbs_for (verbs_by format) (graphs_in files) plans
 
 -- what is to be done with these blocks: these commands, and this sound to play where it plays
 abbrev pub task_of : Format → Machine → List Plan → Geometry → (plays : Bool) → (pcm : List ℕ) → Blocks → Task
 task_of format machine plans geometry plays pcm blocks = record {
   orders = map order_of (commands_of format machine.codecs plans);
-  walks = length (walks_over (graphs_of machine.codecs));
+  walks = length (walks_over (graphs_in machine.codecs));
   geometry = geometry;
   pcm = pcm;
   plays = plays;

@@ -39,6 +39,9 @@ pub fn command_count(
     Ok(count)
 }
 
+/// The commands of a walk to the codec's root and its audio function group.
+const FIRST_COMMANDS: u32 = 10;
+
 /// How many of them go to one codec.
 fn codec_count(alloc: Global, graph: &Graph, plan: &Plan, format: Format) -> Result<u32, AllocError>
     requires { IsPlan graph.now format plan.now }
@@ -55,7 +58,7 @@ fn walk_count(graph: &Graph) -> u32
     ensures few { result ≤ 10000 }
 {
     counts_the_commands();
-    let mut count = 10;
+    let mut count = FIRST_COMMANDS;
     for node in graph.raw().nodes.as_slice() {
         count += node_count(node);
     }

@@ -8,12 +8,11 @@ ghost use Rattle.codec_histories.specs.Readings.{KeepsDefaults};
 ghost use Rattle.driver_progress.specs.States.{state_opened};
 ghost use Rattle.driver_stretches.specs.Beginning.{HasOnly};
 ghost use Rattle.codec_bring_up.specs.Calls.{state_of, IsTaskOf};
-ghost use Rattle.std.specs.List.{list_any};
 ghost use Rattle.codec_graph.specs.declared.raw.RawCodec.{RawCodec};
 ghost use Rattle.stream_format.specs.declared.format.Format.{Format};
 ghost use Rattle.route_planner.specs.declared.routes.Plan.{Plan};
 ghost use Rattle.route_planner.specs.Plans.{IsPlan};
-ghost use Rattle.codec_agenda.specs.Planned.{has_route};
+ghost use Rattle.codec_agenda.specs.Planned.{have_route};
 ghost use Rattle.dma_pool.specs.Pools.{PoolState};
 ghost use Rattle.hda_files.specs.declared.machine.Machine.{Machine};
 ghost use Rattle.hda_files.specs.Machines.{IsSound};
@@ -26,7 +25,8 @@ ghost use Rattle.period_writer.specs.Writers.{periods_of, ring_of};
 ghost use Rattle.rig.specs.Replays.{start_of};
 ghost use Rattle.stream_rest.specs.Resting.{Rests, AreApartFrom};
 ghost use Rattle.told_bring_up.specs.Standing.{IsTaskOfCodecs, IsBroughtUp};
-ghost use Rattle.machine_tasks.specs.Tasks.{HavePlans, graphs_of, verbs_by, verbs_in, task_of, blocks_of};
+ghost use Rattle.heard_lists.specs.Listings.{graphs_in as graphs_of};
+ghost use Rattle.machine_tasks.specs.Tasks.{HavePlans, verbs_by, verbs_in, task_of, blocks_of};
 ghost use Rattle.machine_tasks.specs.Reading.{IsRead, IsWhole};
 ghost use Rattle.machine_tasks.specs.Starting.{BeginsAt, IsAllFree};
 
@@ -42,7 +42,7 @@ pub fn read_machines_are_whole()
 /// walks over them, and then the set-up verbs of each by its plan.
 pub fn machines_have_tasks()
     ensures { (format : Format) (machine : Machine) (plans : List Plan) (geometry : Geometry) (plays : Bool) (pcm : List ℕ) (blocks : Blocks)
-        → IsSound machine → IsRead machine → HavePlans format machine.codecs plans → list_any has_route plans ≡ true
+        → IsSound machine → IsRead machine → HavePlans format machine.codecs plans → have_route plans ≡ true
         → IsTaskOfCodecs (λ (graph : RawCodec). IsPlan graph format) (verbs_by format) (verbs_in format machine.codecs plans) (graphs_of machine.codecs) (task_of format machine plans geometry plays pcm blocks) }
 {}
 

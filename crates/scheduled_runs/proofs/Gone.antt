@@ -36,7 +36,8 @@ use Rattle.told_playing.specs.Sounding.{Parts, ring_in, tally_in}
 use Rattle.told_playing.specs.Keeping.{HasGone, state_left}
 use Rattle.rig.specs.Follows.{Follows}
 use Rattle.rig.specs.Replays.{start_of, telling_from}
-use Rattle.machine_tasks.specs.Tasks.{graphs_of, verbs_by, verbs_in, task_of, blocks_of}
+use Rattle.heard_lists.specs.Listings.{graphs_in}
+use Rattle.machine_tasks.specs.Tasks.{verbs_by, verbs_in, task_of, blocks_of}
 use Rattle.machine_tasks.specs.Starting.{BeginsAt}
 use Rattle.scheduled_runs.specs.Lines.{lines_of}
 use Rattle.scheduled_runs.specs.Events.{told_in}
@@ -56,7 +57,7 @@ some_same {A} {one} {other} same = cc
 
 -- a driver that was just opened can begin its task over a machine
 pub record CanGo (machine : Machine) (format : Format) (plans : List Plan) (play : Bool) (task : Task) (parts : Parts) : Type 0 where
-  pub is : IsTask analog format play (verbs_in format machine.codecs plans) (graphs_of machine.codecs) task
+  pub is : IsTask analog format play (verbs_in format machine.codecs plans) (graphs_in machine.codecs) task
   pub begins : BeginsAt format machine plans task parts.bring_up
   pub sound : task.plays ≡ true → IsTaskOf parts.bring_up parts.writer parts.supply task
   pub fresh : tally_in parts ≡ tally_opened
@@ -71,7 +72,7 @@ pub record Gone (machine : Machine) (format : Format) (play : Bool) (task : Task
   pub tally : Tally
   pub last : List Event
   pub no_steps : All IsNoStep last
-  pub has : HasGone (plan_by analog format) (open_by analog format) (graphs_of machine.codecs) task (lines_of schedule) ended tally last (telling_from REGION_BYTES machine journal)
+  pub has : HasGone (plan_by analog format) (open_by analog format) (graphs_in machine.codecs) task (lines_of schedule) ended tally last (telling_from REGION_BYTES machine journal)
   pub leaves : Leaves play old ended tally closed
   -- the journal replays from the machine's start, and follows the schedule
   pub replays : AreHonest journal (start_of REGION_BYTES machine)
@@ -94,7 +95,7 @@ opened_tally geometry most bring_up writer opened =
 -- it can begin its task
 pub opened_can_go : (machine : Machine) (format : Format) (plans : List Plan) (geometry : Geometry) (most : ℕ) (play plays : Bool) (pcm : List ℕ) (bring_up : BringUp) (writer : Writer) (supply : List ℕ) → play ≡ plays
     → (plays ≡ true → supply ≡ pcm) → IsOpened geometry most bring_up writer → AreApartFrom (ring_of writer) bring_up.engine.rirb.address → geometry.fifo ≡ machine.fifo → geometry.format ≡ format
-    → IsTaskOfCodecs (λ (graph : RawCodec). IsPlan graph format) (verbs_by format) (verbs_in format machine.codecs plans) (graphs_of machine.codecs) (task_of format machine plans geometry plays pcm (blocks_of bring_up writer))
+    → IsTaskOfCodecs (λ (graph : RawCodec). IsPlan graph format) (verbs_by format) (verbs_in format machine.codecs plans) (graphs_in machine.codecs) (task_of format machine plans geometry plays pcm (blocks_of bring_up writer))
     → BeginsAt format machine plans (task_of format machine plans geometry plays pcm (blocks_of bring_up writer)) bring_up → Rests machine.fifo (start_of REGION_BYTES machine)
     → CanGo machine format plans play (task_of format machine plans geometry plays pcm (blocks_of bring_up writer)) (parts_of bring_up writer supply)
 opened_can_go machine format plans geometry most play plays pcm bring_up writer supply same sound opened apart fifo format_is of_codecs begins rests = record {
@@ -131,8 +132,8 @@ gone keeps machine format plans play task schedule old closed before after journ
   tally = driven.tally;
   last = driven.last;
   no_steps = driven.no_steps;
-  has = subst (λ (telling : Telling). HasGone (plan_by analog format) (open_by analog format) (graphs_of machine.codecs) task (lines_of schedule) driven.ended driven.tally driven.last telling) ends
-      (driven.over (verbs_in format machine.codecs plans) (graphs_of machine.codecs) task (lines_of schedule) can.is
+  has = subst (λ (telling : Telling). HasGone (plan_by analog format) (open_by analog format) (graphs_in machine.codecs) task (lines_of schedule) driven.ended driven.tally driven.last telling) ends
+      (driven.over (verbs_in format machine.codecs plans) (graphs_in machine.codecs) task (lines_of schedule) can.is
       (subst IsShort (sym ends) (short_from machine schedule journal follows limited)) under_way);
   leaves = driven.leaves;
   replays = subst (λ (events : List Event). AreHonest events (start_of REGION_BYTES machine)) whole (subst (λ (telling : Telling). AreHonest driven.events (world_of telling)) start driven.went.honest);
@@ -157,13 +158,13 @@ gone keeps machine format plans play task schedule old closed before after journ
   follows : Follows schedule journal
   follows = subst (Follows schedule) whole driven.follows
 
-  first : UnderWay analog format (verbs_in format machine.codecs plans) (graphs_of machine.codecs) task (lines_of schedule) (lines_of schedule) old (telling_from REGION_BYTES machine [])
+  first : UnderWay analog format (verbs_in format machine.codecs plans) (graphs_in machine.codecs) task (lines_of schedule) (lines_of schedule) old (telling_from REGION_BYTES machine [])
   first =
-      (keeps format (verbs_in format machine.codecs plans) (graphs_of machine.codecs) task can.is.of_codecs).begins (lines_of schedule) old (telling_from REGION_BYTES machine []) refl can.begins.state can.begins.stands
+      (keeps format (verbs_in format machine.codecs plans) (graphs_in machine.codecs) task can.is.of_codecs).begins (lines_of schedule) old (telling_from REGION_BYTES machine []) refl can.begins.state can.begins.stands
       can.fresh can.sound can.apart can.rests
 
-  under_way : UnderWay analog format (verbs_in format machine.codecs plans) (graphs_of machine.codecs) task (lines_of schedule) (lines_of schedule) old before
-  under_way = subst (λ (telling : Telling). UnderWay analog format (verbs_in format machine.codecs plans) (graphs_of machine.codecs) task (lines_of schedule) (lines_of schedule) old telling) (sym start) first
+  under_way : UnderWay analog format (verbs_in format machine.codecs plans) (graphs_in machine.codecs) task (lines_of schedule) (lines_of schedule) old before
+  under_way = subst (λ (telling : Telling). UnderWay analog format (verbs_in format machine.codecs plans) (graphs_in machine.codecs) task (lines_of schedule) (lines_of schedule) old telling) (sym start) first
 
 -- ---- in which phase it ends
 
@@ -192,16 +193,16 @@ module _ (machine : Machine) (format : Format) (play : Bool) (task : Task) (sche
       let well = ended_well course.within task course (course_well task telling.journal telling.start (course_opened (lines_of schedule)) refl) in
       let left : is_failed (state_left task gone.ended gone.tally).phase ≡ false = ap (λ state. is_failed state.phase) (sym gone.has.state_is) ∙ well in
       let own = failed_if gone.tally.course.started gone.ended.phase gone.tally (measures task.geometry).limit none left in
-      ap (can_end walk) (unplayed_phase none) ∙ ends walk gone.ended.phase (gone.ended.agenda.graphs.items ≡ graphs_of machine.codecs) own gone.has.ended_is.by_phase
+      ap (can_end walk) (unplayed_phase none) ∙ ends walk gone.ended.phase (gone.ended.agenda.graphs.items ≡ graphs_in machine.codecs) own gone.has.ended_is.by_phase
 
   -- ---- which graphs were walked
 
-  pub graphs_walked : AreWalked (graphs_of machine.codecs) closed.graphs.items task.walks closed.sent
+  pub graphs_walked : AreWalked (graphs_in machine.codecs) closed.graphs.items task.walks closed.sent
   graphs_walked =
-      subst (λ (walked : List RawCodec). AreWalked (graphs_of machine.codecs) walked task.walks closed.sent) (sym (ap (λ graphs. graphs.items) gone.leaves.graphs))
-      (subst (λ (sent : ℕ). AreWalked (graphs_of machine.codecs) gone.ended.agenda.graphs.items task.walks sent) (sym gone.leaves.sent) gone.has.ended_is.walked)
+      subst (λ (walked : List RawCodec). AreWalked (graphs_in machine.codecs) walked task.walks closed.sent) (sym (ap (λ graphs. graphs.items) gone.leaves.graphs))
+      (subst (λ (sent : ℕ). AreWalked (graphs_in machine.codecs) gone.ended.agenda.graphs.items task.walks sent) (sym gone.leaves.sent) gone.has.ended_is.walked)
 
   -- by the phase of the bring-up, all of them
-  pub graphs_by_phase : WalkedIn gone.ended.phase (closed.graphs.items ≡ graphs_of machine.codecs)
+  pub graphs_by_phase : WalkedIn gone.ended.phase (closed.graphs.items ≡ graphs_in machine.codecs)
   graphs_by_phase =
-      subst (λ (walked : List RawCodec). WalkedIn gone.ended.phase (walked ≡ graphs_of machine.codecs)) (sym (ap (λ graphs. graphs.items) gone.leaves.graphs)) gone.has.ended_is.by_phase
+      subst (λ (walked : List RawCodec). WalkedIn gone.ended.phase (walked ≡ graphs_in machine.codecs)) (sym (ap (λ graphs. graphs.items) gone.leaves.graphs)) gone.has.ended_is.by_phase

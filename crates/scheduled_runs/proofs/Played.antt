@@ -33,7 +33,8 @@ use Rattle.told_playing.specs.Sounding.{Parts}
 use Rattle.told_playing.specs.Keeping.{WasHeard, WasNeverHeard, state_left}
 use Rattle.sound_report.specs.declared.played.Played.{Played}
 use Rattle.rig.specs.Replays.{telling_from}
-use Rattle.machine_tasks.specs.Tasks.{HavePlans, graphs_of}
+use Rattle.heard_lists.specs.Listings.{graphs_in}
+use Rattle.machine_tasks.specs.Tasks.{HavePlans}
 use Rattle.scheduled_runs.specs.Lines.{lines_of}
 use Rattle.scheduled_runs.specs.Going.{plan_by, open_by}
 use Rattle.scheduled_runs.specs.Ends.{can_end}
@@ -54,7 +55,7 @@ use Rattle.scheduled_runs.proofs.Written.{drained_whole, written_within}
 abbrev graph_in : CodecFile → RawCodec
 graph_in file = file.graph
 
-graph_among : (files : List CodecFile) (file : CodecFile) → Contains files file → Contains (graphs_of files) file.graph
+graph_among : (files : List CodecFile) (file : CodecFile) → Contains files file → Contains (graphs_in files) file.graph
 graph_among files file has =
     let long = length-map files graph_in in (has.0, omega (arith, long, has.1), get_or-map graph_in files has.0 file file.graph has.1 ∙ ap graph_in has.2)
 
@@ -133,7 +134,7 @@ module _ (machine : Machine) (plans : List Plan) (wav : Wav) (geometry : Geometr
   carried = (world_of telling).carried
 
   abbrev Heard : Type 0
-  Heard = ((gone.tally ≡ tally_opened) × WasNeverHeard telling) ⊎ WasHeard (plan_by analog wav.format) (open_by analog wav.format) (graphs_of machine.codecs) task gone.tally gone.last telling
+  Heard = ((gone.tally ≡ tally_opened) × WasNeverHeard telling) ⊎ WasHeard (plan_by analog wav.format) (open_by analog wav.format) (graphs_in machine.codecs) task gone.tally gone.last telling
 
   streamed : Heard → Lived gone.tally.course.started gone.tally telling
   streamed (inl (none, never)) =
@@ -159,9 +160,9 @@ module _ (machine : Machine) (plans : List Plan) (wav : Wav) (geometry : Geometr
           progress = gone.has.progress;
           finds = gone.has.finds;
           state_is = gone.has.state_is;
-          walked = subst (λ (walked : List RawCodec). AreWalked (graphs_of machine.codecs) walked task.walks gone.ended.sent) (sym walked) gone.has.ended_is.walked;
-          all_walked = all_walked_if gone.tally.course.started gone.ended.phase gone.tally.course.ran (measures task.geometry).limit (played.graphs ≡ graphs_of machine.codecs) gone.has.ready
-              (subst (λ (walked : List RawCodec). WalkedIn gone.ended.phase (walked ≡ graphs_of machine.codecs)) (sym walked) gone.has.ended_is.by_phase);
+          walked = subst (λ (walked : List RawCodec). AreWalked (graphs_in machine.codecs) walked task.walks gone.ended.sent) (sym walked) gone.has.ended_is.walked;
+          all_walked = all_walked_if gone.tally.course.started gone.ended.phase gone.tally.course.ran (measures task.geometry).limit (played.graphs ≡ graphs_in machine.codecs) gone.has.ready
+              (subst (λ (walked : List RawCodec). WalkedIn gone.ended.phase (walked ≡ graphs_in machine.codecs)) (sym walked) gone.has.ended_is.by_phase);
         };
         opened = gone.has.set_up;
         runs = record {

@@ -17,7 +17,7 @@ use Rattle.told_playing.specs.Keeping.{state_left}
 use Rattle.audio_driver.specs.States.{phase_if}
 use Rattle.audio_driver.specs.declared.driver.closing.Closed.{Closed}
 use Rattle.rig.specs.Replays.{telling_from}
-use Rattle.machine_tasks.specs.Tasks.{graphs_of}
+use Rattle.heard_lists.specs.Listings.{graphs_in}
 use Rattle.scheduled_runs.specs.Ends.{can_end}
 use Rattle.scheduled_runs.specs.Walks.{walk_format, IsWalkFault}
 use Rattle.scheduled_runs.specs.Histories.{MakesProgress, StaysOpen, journal_of, told_by}
@@ -60,11 +60,11 @@ module _ (machine : Machine) (play : Bool) (task : Task) (schedule : Schedule) (
           progress = gone.has.progress;
           finds = gone.has.finds;
           state_is = gone.has.state_is;
-          walked = subst (λ (walked : List RawCodec). AreWalked (graphs_of machine.codecs) walked task.walks gone.ended.sent) (sym graphs)
-              (subst (λ (sent : ℕ). AreWalked (graphs_of machine.codecs) closed.graphs.items task.walks sent) gone.leaves.sent (graphs_walked machine walk_format play task schedule old closed journal gone));
-          all_walked = λ all. walked_in (state_left task gone.ended gone.tally).phase (played.graphs ≡ graphs_of machine.codecs) all
-              (subst (λ (phase : Phase). WalkedIn phase (played.graphs ≡ graphs_of machine.codecs)) left_is
-              (subst (λ (walked : List RawCodec). WalkedIn gone.ended.phase (walked ≡ graphs_of machine.codecs)) (sym graphs) (graphs_by_phase machine walk_format play task schedule old closed journal gone)));
+          walked = subst (λ (walked : List RawCodec). AreWalked (graphs_in machine.codecs) walked task.walks gone.ended.sent) (sym graphs)
+              (subst (λ (sent : ℕ). AreWalked (graphs_in machine.codecs) closed.graphs.items task.walks sent) gone.leaves.sent (graphs_walked machine walk_format play task schedule old closed journal gone));
+          all_walked = λ all. walked_in (state_left task gone.ended gone.tally).phase (played.graphs ≡ graphs_in machine.codecs) all
+              (subst (λ (phase : Phase). WalkedIn phase (played.graphs ≡ graphs_in machine.codecs)) left_is
+              (subst (λ (walked : List RawCodec). WalkedIn gone.ended.phase (walked ≡ graphs_in machine.codecs)) (sym graphs) (graphs_by_phase machine walk_format play task schedule old closed journal gone)));
         };
         opened = gone.has.set_up;
         ended = subst (λ (phase : Phase). IsWalkFault phase gone.ended.sent played.commands played.fault) phase_is

@@ -23,7 +23,8 @@ use Rattle.told_bring_up.specs.SettingUp.{StaysSetUp}
 use Rattle.sound_report.specs.declared.played.Played.{Played}
 use Rattle.rig.specs.Follows.{Follows}
 use Rattle.rig.specs.Replays.{start_of, telling_from}
-use Rattle.machine_tasks.specs.Tasks.{graphs_of, commands_of, stream_tag}
+use Rattle.heard_lists.specs.Listings.{graphs_in}
+use Rattle.machine_tasks.specs.Tasks.{commands_of, stream_tag}
 use Rattle.scheduled_runs.specs.Lines.{lines_of}
 
 -- what driver and device did, and what it tells from the machine's start on
@@ -67,14 +68,14 @@ pub record MakesProgress (machine : Machine) (schedule : Schedule) (task : Task)
   pub progress : IsProgress task (lines_of schedule) telling
   pub finds : HasFound task (lines_of schedule) telling
   pub state_is : state_of task (lines_of schedule) telling ≡ state
-  pub walked : AreWalked (graphs_of machine.codecs) graphs task.walks state.sent
-  pub all_walked : walked_all state.phase ≡ true → graphs ≡ graphs_of machine.codecs
+  pub walked : AreWalked (graphs_in machine.codecs) graphs task.walks state.sent
+  pub all_walked : walked_all state.phase ≡ true → graphs ≡ graphs_in machine.codecs
 
 -- open: from the answer to the last command on, at every moment all codecs are set up by their plans for the format
 abbrev pub StaysOpen : Format → Machine → Schedule → Task → Telling → Type 0
 StaysOpen format machine schedule task telling =
     StaysSetUp (λ (graph : RawCodec) (plan : Plan). IsPlan graph format plan) (λ (graph : RawCodec) (settings : Entries) (plan : Plan). IsSetUp graph settings plan format stream_tag)
-    (graphs_of machine.codecs) task (lines_of schedule) telling
+    (graphs_in machine.codecs) task (lines_of schedule) telling
 
 -- the number of commands that it takes to walk over the machine's codecs and to set them up
 abbrev pub commands_for : Format → Machine → List Plan → ℕ

@@ -2,6 +2,7 @@ pub mod Lines
 pub mod Events
 pub mod LinkFrames
 pub mod FirstFits
+pub mod Shapes
 pub mod Histories
 pub mod Walks
 pub mod FrameCounts

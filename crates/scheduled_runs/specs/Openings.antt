@@ -1,5 +1,5 @@
 -- Where a driver begins that plays nothing. This project's own.
-use Rattle.std.specs.Prelude.{◌≡◌, ℕ}
+use Rattle.std.specs.Prelude.{ℕ}
 use Rattle.period_writer.specs.declared.geometry.Geometry.{Geometry}
 use Rattle.period_writer.specs.declared.writer.Writer.{Writer}
 use Rattle.period_writer.specs.Writers.{ring_of}
@@ -8,16 +8,13 @@ use Rattle.audio_driver.specs.Opening.{IsOpened}
 use Rattle.stream_rest.specs.Resting.{AreApartFrom}
 use Rattle.machine_tasks.specs.Tasks.{blocks_of}
 use Rattle.scheduled_runs.specs.FirstFits.{AreFirstFits}
-use Rattle.scheduled_runs.specs.Walks.{walk_format}
+use Rattle.scheduled_runs.specs.Walks.{IsWalkRing}
 
 -- it was just opened, for a FIFO of so many bytes and so many calls
 pub record IsFresh (fifo calls : ℕ) (bring_up : BringUp) (writer : Writer) : Type 0 where
   pub geometry : Geometry
   pub opened : IsOpened geometry calls bring_up writer
-  pub format : geometry.format ≡ walk_format
-  pub periods : geometry.periods ≡ 4
-  pub period : geometry.period ≡ 8
-  pub fifo_is : geometry.fifo ≡ fifo
+  pub ring : IsWalkRing fifo geometry
   pub first_fits : AreFirstFits geometry (blocks_of bring_up writer)
   -- its ring lies apart from RIRB
   pub apart : AreApartFrom (ring_of writer) bring_up.engine.rirb.address

@@ -18,6 +18,7 @@ use Rattle.sound_report.specs.declared.played.PlayFault.{PlayFault}
 use Rattle.sound_report.specs.declared.played.PlayFault.TheVariants as faults
 use Rattle.machine_tasks.specs.Tasks.{task_of}
 use Rattle.scheduled_runs.specs.FirstFits.{AreFirstFits}
+use Rattle.scheduled_runs.specs.Shapes.{HasShape}
 use Rattle.scheduled_runs.specs.Histories.{HasInput, IsHistory, MakesProgress, StaysOpen, commands_for, journal_of, told_by}
 use Rattle.scheduled_runs.specs.Events.{told_in}
 
@@ -41,11 +42,8 @@ IsWalkFault (Malformed codec fault') sent of fault = ⊥
 IsWalkFault Failed sent of fault = ⊥
 
 -- the ring with which a walk opens its driver, though it plays nothing: four periods of eight units
-pub record IsWalkRing (machine : Machine) (geometry : Geometry) : Type 0 where
-  pub periods : geometry.periods ≡ 4
-  pub period : geometry.period ≡ 8
-  pub fifo : geometry.fifo ≡ machine.fifo
-  pub format : geometry.format ≡ walk_format
+abbrev pub IsWalkRing : (fifo : ℕ) → Geometry → Type 0
+IsWalkRing fifo geometry = HasShape 4 8 fifo walk_format geometry
 
 -- nothing was played
 pub record HasNoSound (played : Played) : Type 0 where
@@ -58,7 +56,7 @@ pub record IsWalked (machine : Machine) (plans : List Plan) (schedule : Schedule
   pub input : HasInput true walk_format 0 machine plans played
   -- the driver's blocks are first fits
   pub geometry : Geometry
-  pub ring : IsWalkRing machine geometry
+  pub ring : IsWalkRing machine.fifo geometry
   pub blocks : Blocks
   pub first_fits : AreFirstFits geometry blocks
   pub state : State

@@ -1,7 +1,6 @@
 //! Playing: the reset, the walk over all codecs, their set-up, and then the sound, by a schedule.
 ghost use Rattle.std.specs.Prelude.{◌≡◌, ◌≤◌, ◌*◌, true, false, IfOk, length};
-ghost use Rattle.std.specs.List.{list_any};
-ghost use Rattle.codec_agenda.specs.Planned.{has_route};
+ghost use Rattle.codec_agenda.specs.Planned.{have_route};
 ghost use Rattle.stream_format.specs.Cadence.{block_bytes};
 ghost use Rattle.hda_files.specs.Machines.{IsSound};
 ghost use Rattle.hda_schedule.specs.Schedules.{IsLimited};
@@ -85,7 +84,7 @@ pub fn play(
     requires sound { IsSound machine }
     requires read { IsRead machine }
     requires plans { HavePlans wav.format machine.codecs plans.items }
-    requires routed { list_any has_route plans.items ≡ true }
+    requires routed { have_route plans.items ≡ true }
     requires whole { length wav.pcm ≡ wav.frames * block_bytes wav.format }
     requires format { geometry.format ≡ wav.format }
     requires fifo { geometry.fifo ≡ machine.fifo }

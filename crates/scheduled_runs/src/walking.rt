@@ -1,7 +1,6 @@
 //! A walk: the reset, the walk over all codecs and their set-up, by a schedule.
 ghost use Rattle.std.specs.Prelude.{◌≡◌, ◌≤◌, ◌+◌, true, false, IfOk};
-ghost use Rattle.std.specs.List.{list_any};
-ghost use Rattle.codec_agenda.specs.Planned.{has_route};
+ghost use Rattle.codec_agenda.specs.Planned.{have_route};
 ghost use Rattle.hda_files.specs.Machines.{IsSound};
 ghost use Rattle.hda_schedule.specs.Schedules.{IsLimited};
 ghost use Rattle.machine_tasks.specs.Reading.{IsRead};
@@ -127,7 +126,7 @@ pub fn walk(
     requires sound { IsSound machine }
     requires read { IsRead machine }
     requires plans { HavePlans spec.walk_format machine.codecs plans.items }
-    requires routed { list_any has_route plans.items ≡ true }
+    requires routed { have_route plans.items ≡ true }
     requires limits { IsLimited schedule.now }
     ensures { IfOk result (λ played. spec.IsWalked machine plans.items schedule.now played) }
 {

@@ -52,7 +52,7 @@ impl<T: Setter + Drop> Driver<T> {
     /// run for each call, and one more. Nothing is played yet.
     ///
     /// # Errors
-    /// `NoRun`: one of these takes, in this order, meets no run.
+    /// `NoRun`: one of these takes, in this order, meets no run. `OutOfMemory`: want of memory.
     pub fn open_with(
         alloc: Global,
         setter: T,
@@ -109,7 +109,7 @@ impl Driver<Analog> {
     /// A driver that sets analog outputs up, as [`Driver::open_with`] opens it.
     ///
     /// # Errors
-    /// `NoRun`: one of the takes meets no run.
+    /// `NoRun`: one of the takes meets no run. `OutOfMemory`: want of memory.
     pub fn open(
         alloc: Global,
         pool: Pool,

@@ -1,6 +1,6 @@
 use Rattle.std.proofs.Common.{◌≡◌, true, rules, inr, refl}
 use Rattle.machine_tasks.specs.Tasks.{HavePlans}
-use Rattle.hda_program.specs.Plans.{have_route}
+use Rattle.codec_agenda.specs.Planned.{have_route}
 use Rattle.hda_program.proofs.play.play_ring.Goals as goal
 
 pub returns-in_ok-played : goal.returns-in_ok-played

@@ -5,10 +5,12 @@ pub returns-clause-fresh : goal.returns-clause-fresh
 returns-clause-fresh c = record {
   geometry = c.in-Ok.geometry;
   opened = c.in_ok-driver.ensures.opened;
-  format = c.in-Ok.ensures.format ∙ c.walk_format.ensures;
-  periods = c.in-Ok.ensures.periods;
-  period = c.in-Ok.ensures.period;
-  fifo_is = c.in-Ok.ensures.fifo;
+  ring = record {
+    periods_are = c.in-Ok.ensures.periods;
+    period_is = c.in-Ok.ensures.period;
+    fifo_is = c.in-Ok.ensures.fifo;
+    format_is = c.in-Ok.ensures.format ∙ c.walk_format.ensures;
+  };
   first_fits = c.in_ok-driver.ensures.first_fits;
   apart = c.in_ok-driver.ensures.apart;
 }

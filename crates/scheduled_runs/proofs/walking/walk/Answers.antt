@@ -41,8 +41,8 @@ can_go c =
     let driver = c.in_ok-driver.driver in
     let fresh = c.in_ok-driver.ensures.fresh in
     let blocks = blocks_of driver.bring_up driver.writer in
-    opened_can_go c.args.machine walk_format c.args.plans.items fresh.geometry _ driver.play false [] driver.bring_up driver.writer driver.supply c.in_ok-driver.ensures.play (λ plays. cc) fresh.opened fresh.apart fresh.fifo_is
-    fresh.format
+    opened_can_go c.args.machine walk_format c.args.plans.items fresh.geometry _ driver.play false [] driver.bring_up driver.writer driver.supply c.in_ok-driver.ensures.play (λ plays. cc) fresh.opened fresh.apart fresh.ring.fifo_is
+    fresh.ring.format_is
     (c.machines_have_tasks.ensures walk_format c.args.machine c.args.plans.items fresh.geometry false [] blocks c.requires.sound c.requires.read c.requires.plans c.requires.routed)
     (c.opened_drivers_can_begin.ensures walk_format c.args.machine c.args.plans.items fresh.geometry false [] _ driver.bring_up driver.writer c.requires.sound c.requires.read fresh.opened)
     (c.machines_rest.ensures c.args.machine)
@@ -93,7 +93,7 @@ returns c =
         frames_are = refl;
       };
       geometry = fresh.geometry;
-      ring = record { periods = fresh.periods; period = fresh.period; fifo = fresh.fifo_is; format = fresh.format };
+      ring = fresh.ring;
       blocks = blocks_of driver.bring_up driver.writer;
       first_fits = fresh.first_fits;
       state = state_left (task_for earlier) gone.ended gone.tally;
