@@ -42,7 +42,7 @@ use Rattle.scheduled_runs.specs.Histories.{MakesProgress, StaysOpen, journal_of,
 use Rattle.scheduled_runs.specs.FrameCounts.{written_by}
 use Rattle.scheduled_runs.specs.Hearing.{HasPlayedAll, HearTheirs, lists_heard}
 use Rattle.scheduled_runs.specs.Stretches.{stretches_of}
-use Rattle.scheduled_runs.specs.Plays.{AreRecorded, HasRun, IsHeard, IsPlayFault, Lived, played_task}
+use Rattle.scheduled_runs.specs.Plays.{AreRecorded, HasRunUpTo, IsHeard, IsPlayFault, Lived, played_task}
 use Rattle.scheduled_runs.proofs.Gone.{analog, Gone, phase_left, played_phase, unplayed_ends}
 use Rattle.scheduled_runs.proofs.Hearing.{all_hear, none_hear}
 use Rattle.scheduled_runs.proofs.LineRecorded.{RunLaws, recorded_line}
@@ -72,13 +72,13 @@ all_walked_if true phase was limit all ready by is = walked_in Ready all refl (s
 all_walked_if false phase was limit all ready by is = walked_in phase all is by
 
 -- it tells how the last run ended
-has_run_as : (course : Course) (was : Ran) → course.ran ≡ was → course.started ≡ true → (limit : ℕ) → HasRun (played_as was limit) course
+has_run_as : (course : Course) (was : Ran) → course.ran ≡ was → course.started ≡ true → (limit : ℕ) → HasRunUpTo (played_as was limit) course
 has_run_as course ran.Playing is started limit = (started, is)
 has_run_as course ran.Drained is started limit = (started, is)
 has_run_as course (ran.Late from to) is started limit = (started, is)
 
 -- or that there was none
-has_no_run : (course : Course) → course.started ≡ false → (phase : Phase) (all : Type 0) → WalkedIn phase all → HasRun phase course
+has_no_run : (course : Course) → course.started ≡ false → (phase : Phase) (all : Type 0) → WalkedIn phase all → HasRunUpTo phase course
 has_no_run course none Reset all walked = none
 has_no_run course none Settling all walked = none
 has_no_run course none Walking all walked = none
@@ -92,7 +92,7 @@ has_no_run course none (Late from to limit) all walked = absurd walked
 has_no_run course none (Malformed codec fault) all walked = none
 has_no_run course none Failed all walked = none
 
-has_run : (course : Course) (started : Bool) → course.started ≡ started → (phase : Phase) (limit : ℕ) (all : Type 0) → WalkedIn phase all → HasRun (phase_if started phase course.ran limit) course
+has_run : (course : Course) (started : Bool) → course.started ≡ started → (phase : Phase) (limit : ℕ) (all : Type 0) → WalkedIn phase all → HasRunUpTo (phase_if started phase course.ran limit) course
 has_run course true is phase limit all walked = has_run_as course course.ran refl is limit
 has_run course false is phase limit all walked = has_no_run course is phase all walked
 
@@ -170,7 +170,7 @@ module _ (machine : Machine) (plans : List Plan) (wav : Wav) (geometry : Geometr
           runs = runs ∙ gone.leaves.runs;
           silences = silences ∙ gone.leaves.silences;
           line = subst IsLine (sym recorded) (recorded_line laws geometry (length wav.pcm) (stretches_of (lines_of schedule) journal));
-          ran = has_run gone.tally.course gone.tally.course.started refl gone.ended.phase _ _ gone.has.ended_is.by_phase;
+          phase_is = has_run gone.tally.course gone.tally.course.started refl gone.ended.phase _ _ gone.has.ended_is.by_phase;
           stream = streamed gone.has.heard;
         };
         heard = record {

@@ -60,19 +60,19 @@ abbrev pub played_task : Machine → List Plan → Wav → Geometry → Blocks �
 played_task machine plans wav geometry blocks = task_of wav.format machine plans geometry true wav.pcm blocks
 
 -- by its phase the driver made no run, or this is how its last one ended
-abbrev pub HasRun : Phase → Course → Type 0
-HasRun Reset course = course.started ≡ false
-HasRun Settling course = course.started ≡ false
-HasRun Walking course = course.started ≡ false
-HasRun SettingUp course = course.started ≡ false
-HasRun Ready course = course.started ≡ false
-HasRun Playing course = (course.started ≡ true) × (course.ran ≡ ran.Playing)
-HasRun Drained course = (course.started ≡ true) × (course.ran ≡ ran.Drained)
-HasRun NothingRouted course = course.started ≡ false
-HasRun (Unanswered codec command issued noticed) course = course.started ≡ false
-HasRun (Late from to limit) course = (course.started ≡ true) × (course.ran ≡ ran.Late from to)
-HasRun (Malformed codec fault) course = course.started ≡ false
-HasRun Failed course = course.started ≡ false
+abbrev pub HasRunUpTo : Phase → Course → Type 0
+HasRunUpTo Reset course = course.started ≡ false
+HasRunUpTo Settling course = course.started ≡ false
+HasRunUpTo Walking course = course.started ≡ false
+HasRunUpTo SettingUp course = course.started ≡ false
+HasRunUpTo Ready course = course.started ≡ false
+HasRunUpTo Playing course = (course.started ≡ true) × (course.ran ≡ ran.Playing)
+HasRunUpTo Drained course = (course.started ≡ true) × (course.ran ≡ ran.Drained)
+HasRunUpTo NothingRouted course = course.started ≡ false
+HasRunUpTo (Unanswered codec command issued noticed) course = course.started ≡ false
+HasRunUpTo (Late from to limit) course = (course.started ≡ true) × (course.ran ≡ ran.Late from to)
+HasRunUpTo (Malformed codec fault) course = course.started ≡ false
+HasRunUpTo Failed course = course.started ≡ false
 
 -- without a run the stream was never set going; else it was once, and ran without an error until it was stopped once
 abbrev pub Lived : (started : Bool) → Tally → Telling → Type 0
@@ -85,7 +85,7 @@ pub record AreRecorded (schedule : Schedule) (task : Task) (phase : Phase) (tall
   pub runs : played.runs ≡ tally.runs
   pub silences : played.silences ≡ tally.silences
   pub line : IsLine tally
-  pub ran : HasRun phase tally.course
+  pub phase_is : HasRunUpTo phase tally.course
   pub stream : Lived tally.course.started tally telling
 
 -- what was heard is what the link frames carried, as each candidate pin hears it: the line by its plan. Where the line has drained, that was all sound
