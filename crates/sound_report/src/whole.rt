@@ -6,7 +6,7 @@ ghost use Rattle.sound_report.specs.Pages.{Writes};
 ghost use Rattle.sound_report.specs.Texts.{middle_lines, text_of};
 
 use crate::ends::push_last;
-use crate::lines::{write_jacks, write_runs, write_silences};
+use crate::lines::write_lines;
 use crate::pages::PAGE_LEN;
 use crate::pins::write_pins;
 use crate::plans::push_plans;
@@ -21,14 +21,14 @@ fn write_middle<K: Sink>(out: &mut K, page: &mut Vec<u8>, played: &Played) -> Re
     ensures later { K.faults out.old ≤ K.faults out.new }
     ensures failed { result ≡ Err Fault.Failed → Rose (K.faults out.old) (K.faults out.new) }
 {
-    write_runs(out, page, played.runs.as_slice())?;
-    write_silences(out, page, played.silences.as_slice())?;
-    write_jacks(out, page, played.jacks.as_slice())?;
+    write_lines(out, page, played.runs.as_slice())?;
+    write_lines(out, page, played.silences.as_slice())?;
+    write_lines(out, page, played.jacks.as_slice())?;
     write_pins(out, page, played.format.bits, played.heard.as_slice())
 }
 
 /// Writes the text of a run of the driver in pieces, in the order of its lines: the plans, the recorded runs, the silences, the jacks,
-/// what each candidate pin heard, and how it ended. Each line ends in a line feed. The text goes out in pages of some 65,536 bytes,
+/// what each candidate pin heard, and how it ended. Each line ends in a line feed. The text goes out in pages of 61,440 bytes and up to a line more,
 /// so that its length takes no memory. This project's own.
 ///
 /// # Errors
