@@ -46,7 +46,7 @@ pub record IsShortFile (most : ℕ) (told : Option Files) (name bytes : List ℕ
   pub file : IsFile told name bytes
   pub short : length bytes ≤ most
 
--- under these names the shelf failed between two counts of its faults
+-- under this name the shelf failed between two counts of its faults
 abbrev pub FailedUnder : (before after : List ℕ → ℕ) → List ℕ → Type 0
 FailedUnder before after name = Rose (before name) (after name)
 
@@ -54,7 +54,7 @@ FailedUnder before after name = Rose (before name) (after name)
 abbrev pub IsUnread : (List ℕ → Type 0) → List ℕ → Meant → Type 0
 IsUnread failed name meant = failed name × (meant ≡ telling ShelfFailed (unreadable_line name))
 
--- a file of at most so many bytes is refused: it is too long, or its bytes read as a fault; the text says which
+-- a file that may have so many bytes at most is refused: it is too long, or its bytes read as a fault; the text says which
 abbrev pub IsRefused : (most : ℕ) → (IsFault : (bytes text : List ℕ) → Type 0) → Option Files → (name text : List ℕ) → Type 0
 IsRefused most IsFault told name text =
     (IsLonger most told name × (text ≡ codes "TooLong"))

@@ -39,7 +39,7 @@ pub fn command_count(
     Ok(count)
 }
 
-/// The commands of a walk to the codec's root and its audio function group.
+/// How many commands of a walk go to the codec's root and its audio function group.
 const FIRST_COMMANDS: u32 = 10;
 
 /// How many of them go to one codec.

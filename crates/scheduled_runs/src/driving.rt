@@ -13,7 +13,7 @@ use rig::Rig;
 use route_setup::Setter;
 use std::alloc::AllocError;
 
-/// The most bytes of memory that a call of the driver reads and writes beside its ring.
+/// For how many bytes of memory a call of the driver asks room beside its ring.
 pub(crate) const BYTES_BESIDE_RING: u32 = 8192;
 
 /// Runs a schedule over a rig from first to last: its items with repeats written out, and then the last call of the driver.
