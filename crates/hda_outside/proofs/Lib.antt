@@ -1,3 +1,5 @@
 pub mod CountLemmas
 pub mod PieceLemmas
 pub mod TakenLemmas
+pub mod Lengths
+pub mod Parts

@@ -28,7 +28,7 @@ piece_in : (told : Option Files) (name buffer : List ℕ) (from n : ℕ) (files 
 piece_in told name buffer from n files here gives =
     let At : Option Files → Type 0 = λ t. GivesPiece t name from buffer n in subst At here gives
 
-piece_of : (told : Option Files) (name buffer : List ℕ) (from n : ℕ) (files : Files) → told ≡ Some files
+pub piece_of : (told : Option Files) (name buffer : List ℕ) (from n : ℕ) (files : Files) → told ≡ Some files
     → (file : List ℕ) → file_of files name ≡ Some file → GivesPiece told name from buffer n → IsPiece file from buffer n
 piece_of told name buffer from n files here file there gives =
     let At : Option (List ℕ) → Type 0 = λ o. IsSomeAnd o (λ file. IsPiece file from buffer n) in

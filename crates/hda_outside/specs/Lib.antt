@@ -3,5 +3,6 @@ pub mod Machine
 pub mod MemoryShelf
 pub mod MemorySink
 pub mod Reading
+pub mod Pieces
 pub mod Shelf
 pub mod Sink

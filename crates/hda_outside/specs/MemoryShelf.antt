@@ -2,7 +2,7 @@
 use Rattle.std.specs.Prelude.{ℕ, List, [], ◌∷◌, Vec, String, string_bytes, is_some, if◌then◌else◌, Result, Ok, Err}
 use Rattle.std.specs.declared.alloc.Global.{Global}
 use Rattle.hda_outside.specs.declared.fault.Fault.{Fault}
-use Rattle.hda_outside.specs.Counts.{count_with, counted}
+use Rattle.hda_outside.specs.Counts.{count_with, counted, empty_with}
 use Rattle.hda_outside.specs.Shelf.{Files, file_of}
 
 -- files as they stand in memory, as plain bytes
@@ -24,13 +24,14 @@ pub record PlannedShelf : Type 0 where
   -- faults under the names that are there, and under those that aren't
   pub faults : ℕ
   pub missing : ℕ
-  -- bytes given
+  -- bytes given, and answers of none
   pub given : ℕ
+  pub empties : ℕ
 
--- a planned shelf after a call under that name
-abbrev pub after_planned_read : PlannedShelf → List ℕ → Result ℕ Fault → PlannedShelf
-after_planned_read shelf name (Ok n) = record shelf { calls = counted shelf.calls; given = count_with shelf.given n }
-after_planned_read shelf name (Err _) =
+-- a planned shelf after a call under that name for so many bytes
+abbrev pub after_planned_read : PlannedShelf → List ℕ → (asked : ℕ) → Result ℕ Fault → PlannedShelf
+after_planned_read shelf name asked (Ok n) = record shelf { calls = counted shelf.calls; given = count_with shelf.given n; empties = empty_with shelf.empties asked n }
+after_planned_read shelf name asked (Err _) =
     record shelf {
       calls = counted shelf.calls;
       faults = if is_some (file_of shelf.files name) then counted shelf.faults else shelf.faults;
@@ -42,10 +43,11 @@ pub record SteadyShelf : Type 0 where
   pub files : Files
   -- faults under the names that aren't there
   pub missing : ℕ
-  -- bytes given
+  -- bytes given, and answers of none
   pub given : ℕ
+  pub empties : ℕ
 
--- a steady shelf after a call
-abbrev pub after_steady_read : SteadyShelf → Result ℕ Fault → SteadyShelf
-after_steady_read shelf (Ok n) = record shelf { given = count_with shelf.given n }
-after_steady_read shelf (Err _) = record shelf { missing = counted shelf.missing }
+-- a steady shelf after a call for so many bytes
+abbrev pub after_steady_read : SteadyShelf → (asked : ℕ) → Result ℕ Fault → SteadyShelf
+after_steady_read shelf asked (Ok n) = record shelf { given = count_with shelf.given n; empties = empty_with shelf.empties asked n }
+after_steady_read shelf asked (Err _) = record shelf { missing = counted shelf.missing }

@@ -3,7 +3,7 @@ ghost use Rattle.hda_outside.specs.Counts.{counted};
 ghost use Rattle.hda_outside.specs.Machine.{after_machine_read};
 
 use crate::fault::Fault;
-use crate::shelf::Shelf;
+use crate::shelf::{Shelf, empties_after};
 use crate::sink::Sink;
 use std::alloc::Global;
 use std::io;
@@ -20,6 +20,7 @@ pub struct FileShelf<R> {
     files: R,
     faults: u64,
     given: u64,
+    empties: u64,
 }
 
 impl<R> Model for FileShelf<R> {
@@ -27,18 +28,19 @@ impl<R> Model for FileShelf<R> {
 
     ghost Value = { MachineShelf };
 
-    ghost view = { λ s. record { faults = s.faults; given = s.given } };
+    ghost view = { λ s. record { faults = s.faults; given = s.given; empties = s.empties } };
 }
 
 impl<R> FileShelf<R> {
     /// The files that `files` reaches, as those of a runtime or of a reference to one.
     pub fn new(files: R) -> Self
-        ensures { result ≡ record { faults = 0; given = 0 } }
+        ensures { result ≡ record { faults = 0; given = 0; empties = 0 } }
     {
         FileShelf {
             files,
             faults: 0,
             given: 0,
+            empties: 0,
         }
     }
 }
@@ -52,6 +54,8 @@ impl<R: Files> Shelf for FileShelf<R> {
 
     ghost asked = { λ _ _. 0 };
 
+    ghost empties = { λ s _. s.empties };
+
     fn read_at(
         &mut self,
         _alloc: Global,
@@ -62,13 +66,15 @@ impl<R: Files> Shelf for FileShelf<R> {
         ensures bound { IfOk result (λ n. n ≤ length buf.new) }
 
         // Exactly this is counted.
-        ensures after { self.new ≡ after_machine_read self.old result }
+        ensures after { self.new ≡ after_machine_read self.old (length buf.old) result }
         ensures given_rises { self.old.given ≤ self.new.given }
+        ensures empties_rise { self.old.empties ≤ self.new.empties }
         ensures later { self.old.faults ≤ self.new.faults }
     {
         match read_piece(&self.files, name, from, buf) {
             Ok(n) => {
                 self.given = self.given.saturating_add(n as u64);
+                self.empties = empties_after(self.empties, buf.len(), n);
                 Ok(n)
             }
             Err(error) => Err(fault_of(&error, &mut self.faults)),

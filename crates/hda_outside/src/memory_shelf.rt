@@ -3,7 +3,7 @@ ghost use Rattle.hda_outside.specs.Shelf.{file_of, IsPiece};
 ghost use Rattle.hda_outside.specs.MemoryShelf.{plain_files, fault_count, after_planned_read, after_steady_read};
 
 use crate::fault::Fault;
-use crate::shelf::Shelf;
+use crate::shelf::{Shelf, empties_after};
 use std::alloc::Global;
 use std::marker::Model;
 
@@ -19,6 +19,7 @@ pub struct MemShelf {
     faults: u64,
     missing: u64,
     given: u64,
+    empties: u64,
 }
 
 impl Model for MemShelf {
@@ -33,6 +34,7 @@ impl Model for MemShelf {
       faults = s.faults;
       missing = s.missing;
       given = s.given;
+      empties = s.empties;
     } };
 }
 
@@ -47,6 +49,7 @@ impl MemShelf {
           faults = 0;
           missing = 0;
           given = 0;
+          empties = 0;
         } }
     {
         MemShelf {
@@ -56,6 +59,7 @@ impl MemShelf {
             faults: 0,
             missing: 0,
             given: 0,
+            empties: 0,
         }
     }
 }
@@ -68,6 +72,8 @@ impl Shelf for MemShelf {
     ghost given = { λ s. s.given };
 
     ghost asked = { λ _ _. 0 };
+
+    ghost empties = { λ s _. s.empties };
 
     fn read_at(
         &mut self,
@@ -87,8 +93,9 @@ impl Shelf for MemShelf {
             ¬ Contains self.old.fail self.old.calls → IsOk result }
 
         // Exactly this is counted.
-        ensures after { self.new ≡ after_planned_read self.old name.now result }
+        ensures after { self.new ≡ after_planned_read self.old name.now (length buf.old) result }
         ensures given_rises { self.old.given ≤ self.new.given }
+        ensures empties_rise { self.old.empties ≤ self.new.empties }
         ensures later { (other : List ℕ) →
             fault_count self.old.files self.old.faults self.old.missing other
             ≤ fault_count self.new.files self.new.faults self.new.missing other }
@@ -105,6 +112,7 @@ impl Shelf for MemShelf {
         }
         let n = copy_piece(file, from, buf);
         self.given = self.given.saturating_add(n as u64);
+        self.empties = empties_after(self.empties, buf.len(), n);
         Ok(n)
     }
 }
@@ -117,6 +125,7 @@ pub struct SureShelf {
     files: Vec<(String, Vec<u8>)>,
     missing: u64,
     given: u64,
+    empties: u64,
 }
 
 impl Model for SureShelf {
@@ -124,18 +133,19 @@ impl Model for SureShelf {
 
     ghost Value = { SteadyShelf };
 
-    ghost view = { λ s. record { files = plain_files s.files.items; missing = s.missing; given = s.given } };
+    ghost view = { λ s. record { files = plain_files s.files.items; missing = s.missing; given = s.given; empties = s.empties } };
 }
 
 impl SureShelf {
     /// A shelf of these files by name, of which the first of a name counts.
     pub fn new(files: Vec<(String, Vec<u8>)>) -> Self
-        ensures { result ≡ record { files = plain_files files.items; missing = 0; given = 0 } }
+        ensures { result ≡ record { files = plain_files files.items; missing = 0; given = 0; empties = 0 } }
     {
         SureShelf {
             files,
             missing: 0,
             given: 0,
+            empties: 0,
         }
     }
 }
@@ -148,6 +158,8 @@ impl Shelf for SureShelf {
     ghost given = { λ s. s.given };
 
     ghost asked = { λ _ _. 0 };
+
+    ghost empties = { λ s _. s.empties };
 
     fn read_at(
         &mut self,
@@ -165,8 +177,9 @@ impl Shelf for SureShelf {
         ensures sure { IsSome (file_of self.old.files name.now) → IsOk result }
 
         // Exactly this is counted.
-        ensures after { self.new ≡ after_steady_read self.old result }
+        ensures after { self.new ≡ after_steady_read self.old (length buf.old) result }
         ensures given_rises { self.old.given ≤ self.new.given }
+        ensures empties_rise { self.old.empties ≤ self.new.empties }
         ensures later { self.old.missing ≤ self.new.missing }
     {
         let Some(file) = find_file(&self.files, name) else {
@@ -175,6 +188,7 @@ impl Shelf for SureShelf {
         };
         let n = copy_piece(file, from, buf);
         self.given = self.given.saturating_add(n as u64);
+        self.empties = empties_after(self.empties, buf.len(), n);
         Ok(n)
     }
 }

@@ -1,5 +1,5 @@
-ghost use Rattle.std.specs.Prelude.{◌≡◌, ◌≢◌, ℕ, ◌≤◌, List, length, Option, IfSome, IsSomeAnd, IfOk, OnErr};
-ghost use Rattle.hda_outside.specs.Counts.{count_with, Rose};
+ghost use Rattle.std.specs.Prelude.{◌≡◌, ◌≢◌, ℕ, ◌<◌, ◌≤◌, List, Ok, length, Option, IfSome, IsSomeAnd, IfOk, OnErr};
+ghost use Rattle.hda_outside.specs.Counts.{count_with, empty_with, Rose};
 ghost use Rattle.hda_outside.specs.Shelf.{Files, file_of, IsPiece};
 
 use crate::fault::Fault;
@@ -18,6 +18,9 @@ pub trait Shelf {
 
     /// How often it was asked so far under a name's bytes, where it keeps account of that. Else it may be 0.
     ghost asked: { Self → List ℕ → ℕ };
+
+    /// How often so far it answered no byte for a buffer that is not empty, under a name's bytes.
+    ghost empties: { Self → List ℕ → ℕ };
 
     /// Puts bytes of the file `name` from place `from` on at the front of `buf`, and answers how many.
     /// It answers 0 only where `buf` is empty or `from` is at or past the file's end. What `buf` holds
@@ -44,10 +47,26 @@ pub trait Shelf {
         ensures not_given { OnErr result (given self.new ≡ given self.old) }
         ensures given_rises { given self.old ≤ given self.new }
 
+        // An answer of no byte is counted under the name, where the buffer is not empty, and no other answer is.
+        ensures empty { 0 < length buf.old → result ≡ Ok 0 → Rose (empties self.old name.now) (empties self.new name.now) }
+        ensures not_empty { (0 < length buf.old → result ≢ Ok 0) → empties self.new name.now ≡ empties self.old name.now }
+        ensures empties_later { (other : List ℕ) → empties self.old other ≤ empties self.new other }
+
         // It is asked under this name alone.
         ensures asked { (other : List ℕ) → other ≢ name.now → asked self.new other ≡ asked self.old other }
 
         // No count of faults falls, and a failure raises that under the name.
         ensures later { (other : List ℕ) → faults self.old other ≤ faults self.new other }
         ensures failed { result ≡ Err Fault.Failed → Rose (faults self.old name.now) (faults self.new name.now) };
+}
+
+/// The count of empty answers after an answer of n bytes to a buffer of so many.
+pub(crate) fn empties_after(empties: u64, asked: usize, n: usize) -> u64
+    ensures { result ≡ empty_with empties asked n }
+{
+    if n == 0 && asked != 0 {
+        empties.saturating_add(1)
+    } else {
+        empties
+    }
 }

@@ -140,6 +140,7 @@ struct NameShelf {
     times: u64,
     left: usize,
     given: u64,
+    empties: u64,
     names: String,
 }
 
@@ -164,6 +165,8 @@ impl Shelf for NameShelf {
 
     ghost asked = { λ shelf name. if bytes_eq shelf.own.now name then shelf.times else 0 };
 
+    ghost empties = { λ shelf _. shelf.empties };
+
     fn read_at(
         &mut self,
         _alloc: Global,
@@ -177,6 +180,9 @@ impl Shelf for NameShelf {
         let n = buf.len().min(self.left);
         self.left -= n;
         self.given = self.given.saturating_add(n as u64);
+        if n == 0 && !buf.is_empty() {
+            self.empties = self.empties.saturating_add(1);
+        }
         Ok(n)
     }
 }
@@ -189,6 +195,7 @@ fn asks_under_one_name(rt: HostRuntime) -> Result<(), Fail> {
         times: 0,
         left: 70_000,
         given: 0,
+        empties: 0,
         names: String::new(alloc),
     };
     let got = read_all(alloc, &mut shelf, "asked", 100_000);

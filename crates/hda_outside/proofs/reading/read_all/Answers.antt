@@ -23,4 +23,5 @@ loop-bytes-preserved g c =
       given_rises = search rules;
       asked = search rules;
       later = search rules;
+      empties_later = search rules;
     }

@@ -15,6 +15,7 @@ invariant-loop-bytes g l =
       given_rises : g.S.Shelf.given l.fn.shelf ≤ g.S.Shelf.given l.shelf;
       asked : (other : List ℕ) → other ≢ l.name → g.S.Shelf.asked l.shelf other ≡ g.S.Shelf.asked l.fn.shelf other;
       later : (other : List ℕ) → g.S.Shelf.faults l.fn.shelf other ≤ g.S.Shelf.faults l.shelf other;
+      empties_later : (other : List ℕ) → g.S.Shelf.empties l.fn.shelf other ≤ g.S.Shelf.empties l.shelf other;
     }
 
 abbrev pub decreases-loop-bytes : goal.decreases-loop-bytes
