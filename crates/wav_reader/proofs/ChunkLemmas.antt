@@ -17,6 +17,19 @@ pub whole_is_inside : (bytes : List ℕ) (at : ℕ) (chunk : Chunk) → chunk_at
 unfolding chunk_at
 whole_is_inside bytes at chunk e = whole_by bytes at (is_whole bytes at) chunk refl e
 
+-- and it ends in the file
+ends_by : (bytes : List ℕ) (at : ℕ) (whole : Bool) (chunk : Chunk) → whole ≡ is_whole bytes at
+    → (if whole then Some (chunk_from bytes at) else None) ≡ Some chunk → chunk.from + chunk.len ≤ length bytes
+ends_by bytes at true chunk w e =
+    let same : chunk_from bytes at ≡ chunk = cc in
+    let fits : at + 8 + (chunk_from bytes at).len ≤ length bytes = grind (arith, nat_tests) in
+    rw (← same) fits
+ends_by bytes at false chunk w e = absurd (cc)
+
+pub whole_ends : (bytes : List ℕ) (at : ℕ) (chunk : Chunk) → chunk_at bytes at ≡ Some chunk → chunk.from + chunk.len ≤ length bytes
+unfolding chunk_at
+whole_ends bytes at chunk e = ends_by bytes at (is_whole bytes at) chunk refl e
+
 -- from the end on no chunk is whole
 none_by : (bytes : List ℕ) (at : ℕ) (found : Option Chunk) → found ≡ chunk_at bytes at → length bytes ≤ at → chunk_at bytes at ≡ None
 none_by bytes at None e past = sym e
@@ -26,12 +39,12 @@ pub none_past_end : (bytes : List ℕ) (at : ℕ) → length bytes ≤ at → ch
 none_past_end bytes at past = none_by bytes at (chunk_at bytes at) refl past
 
 -- the first of them
-one_whole : (most : ℕ) (bytes : List ℕ) (at : ℕ) (chunk : Chunk) → chunk_at bytes at ≡ Some chunk
+pub one_whole : (most : ℕ) (bytes : List ℕ) (at : ℕ) (chunk : Chunk) → chunk_at bytes at ≡ Some chunk
     → chunks_from (suc most) bytes at ≡ chunk ∷ chunks_from most bytes (end_of chunk)
 unfolding chunks_from
 one_whole most bytes at chunk e = ap (followed_by (λ chunk. chunks_from most bytes (end_of chunk))) e
 
-none_whole : (most : ℕ) (bytes : List ℕ) (at : ℕ) → chunk_at bytes at ≡ None → chunks_from most bytes at ≡ []
+pub none_whole : (most : ℕ) (bytes : List ℕ) (at : ℕ) → chunk_at bytes at ≡ None → chunks_from most bytes at ≡ []
 unfolding chunks_from
 none_whole zero bytes at e = refl
 none_whole (suc most) bytes at e = ap (followed_by (λ chunk. chunks_from most bytes (end_of chunk))) e

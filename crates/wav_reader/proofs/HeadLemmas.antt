@@ -1,18 +1,20 @@
 -- Where the sound stands, chunk by chunk.
-use Rattle.std.proofs.Common.{◌≡◌, ◌≤◌, ◌<◌, ℕ, suc, ◌+◌, true, false, nat_lt, List, [], ◌∷◌, length, Option, Some, None, Result, Ok, Err, refl, ap, ◌∙◌, arith}
+use Rattle.std.proofs.Common.{◌≡◌, ◌≤◌, ◌<◌, ℕ, zero, suc, ◌+◌, ◌*◌, ◌/◌, Bool, true, false, nat_lt, List, [], ◌∷◌, length, Option, Some, None, Result, Ok, Err, refl, sym, ap, ◌∙◌, arith}
 use Rattle.std.proofs.lemmas.Bool.Decides.{nat_tests}
 use Rattle.std.specs.List.{find, before_first, position_or_len}
+use Rattle.stream_format.specs.declared.format.Rate.{Rate}
+use Rattle.stream_format.specs.declared.format.Bits.TheVariants.{B16}
 use Rattle.wav_reader.specs.declared.fault.WavFault.{WavFault}
 use Rattle.wav_reader.specs.declared.fault.WavFault.TheVariants.{NotRiff, NoData, Truncated}
 use Rattle.wav_reader.specs.declared.chunks.Kind.{Kind}
 use Rattle.wav_reader.specs.declared.chunks.Kind.TheVariants.{Format, Data, Other}
 use Rattle.wav_reader.specs.declared.chunks.Chunk.{Chunk}
 use Rattle.wav_reader.specs.declared.formats.Sound.{Sound}
-use Rattle.wav_reader.specs.Chunks.{is_riff, chunk_at, chunks_after, place_after, end_of, body_of}
+use Rattle.wav_reader.specs.Chunks.{is_riff, chunk_at, chunks_from, chunks_after, place_after, end_of, body_of}
 use Rattle.wav_reader.specs.Formats.{◌>>=◌, sound_of}
-use Rattle.wav_reader.specs.Heads.{Head, head_in, head_of, sound_by, sound_at, sound_in, is_data, is_format}
+use Rattle.wav_reader.specs.Heads.{Head, EndsWithin, frame_length, head_with, head_in, head_of, sound_by, sound_at, sound_in, is_data, is_format}
 use Rattle.wav_reader.specs.Readers.{known_after}
-use Rattle.wav_reader.proofs.ChunkLemmas.{chunks_after-whole, chunks_after-none, none_past_end}
+use Rattle.wav_reader.proofs.ChunkLemmas.{chunks_after-whole, chunks_after-none, none_past_end, none_whole, one_whole, whole_ends}
 
 -- the sound that was found, or else the one that the chunks to come say
 abbrev pub found_or : List ℕ → Option Sound → List Chunk → Result (Option Sound) WavFault
@@ -111,3 +113,57 @@ head_of-other bytes e = rw e refl
 pub head_of-riff : (bytes : List ℕ) → is_riff bytes ≡ true → head_of bytes ≡ head_in bytes
 unfolding head_of
 head_of-riff bytes e = rw e refl
+
+-- ---- the frames end in the file
+
+whole_frames : (mono : Bool) (rate : Rate) (len : ℕ)
+    → len / frame_length mono (record { rate = rate; bits = B16; channels = 2 }) * frame_length mono (record { rate = rate; bits = B16; channels = 2 }) ≤ len
+whole_frames true rate len = omega arith
+whole_frames false rate len = omega arith
+
+sound_ends : (bytes : List ℕ) (found : Option Sound) (chunk : Chunk) (head : Head) → chunk.from + chunk.len ≤ length bytes
+    → sound_in found chunk ≡ Ok head → EndsWithin bytes head
+sound_ends bytes None chunk head inside is = absurd (cc)
+sound_ends bytes (Some sound) chunk head inside is =
+    let same : head_with sound chunk ≡ head = cc in
+    let frames = whole_frames sound.mono sound.rate chunk.len in
+    let here : EndsWithin bytes (head_with sound chunk) = omega (arith, frames, inside) in
+    rw (← same) here
+
+none_ends : (bytes : List ℕ) (found : Option Sound) (at : ℕ) (head : Head) → head_from bytes found at [] ≡ Ok head → EndsWithin bytes head
+none_ends bytes found at head is = absurd (let none = head_from-none bytes found at in cc)
+
+head_ends : (most : ℕ) (bytes : List ℕ) (found : Option Sound) (at : ℕ) (head : Head)
+    → head_from bytes found at (chunks_from most bytes at) ≡ Ok head → EndsWithin bytes head
+unfolding chunks_from
+head_ends zero bytes found at head is = none_ends bytes found at head is
+head_ends (suc most) bytes found at head is =
+    by (chunk_at bytes at) refl (λ (known : Option Sound) (next : ℕ) (rest : head_from bytes known next (chunks_from most bytes next) ≡ Ok head).
+    head_ends most bytes known next head rest) where
+      go_on : (chunk : Chunk) (known : Result (Option Sound) WavFault)
+          → ((known : Option Sound) (next : ℕ) → head_from bytes known next (chunks_from most bytes next) ≡ Ok head → EndsWithin bytes head)
+          → (known >>= (λ known. head_from bytes known (end_of chunk) (chunks_from most bytes (end_of chunk)))) ≡ Ok head → EndsWithin bytes head
+      go_on chunk (Ok known) again rest = again known (end_of chunk) rest
+      go_on chunk (Err fault) again rest = absurd (cc)
+
+      at_chunk : (chunk : Chunk) (sound : Bool) → chunk_at bytes at ≡ Some chunk → is_data chunk ≡ sound
+          → ((known : Option Sound) (next : ℕ) → head_from bytes known next (chunks_from most bytes next) ≡ Ok head → EndsWithin bytes head)
+          → head_from bytes found at (chunk ∷ chunks_from most bytes (end_of chunk)) ≡ Ok head → EndsWithin bytes head
+      at_chunk chunk true here sound again rest =
+          sound_ends bytes found chunk head (whole_ends bytes at chunk here) (sym (head_from-data bytes found at chunk (chunks_from most bytes (end_of chunk)) sound) ∙ rest)
+      at_chunk chunk false here sound again rest =
+          go_on chunk (known_after bytes found chunk) again (sym (head_from-other chunk.kind bytes found at chunk (chunks_from most bytes (end_of chunk)) refl sound) ∙ rest)
+
+      by : (chunk : Option Chunk) → chunk ≡ chunk_at bytes at
+          → ((known : Option Sound) (next : ℕ) → head_from bytes known next (chunks_from most bytes next) ≡ Ok head → EndsWithin bytes head)
+          → EndsWithin bytes head
+      by None here again = none_ends bytes found at head (ap (head_from bytes found at) (sym (none_whole (suc most) bytes at (sym here))) ∙ is)
+      by (Some chunk) here again =
+          at_chunk chunk (is_data chunk) (sym here) refl again (ap (head_from bytes found at) (sym (one_whole most bytes at chunk (sym here))) ∙ is)
+
+-- what a file says of its frames is so
+pub head_of-within : (bytes : List ℕ) (head : Head) → head_of bytes ≡ Ok head → EndsWithin bytes head
+head_of-within bytes head is = by (is_riff bytes) refl where
+  by : (riff : Bool) → is_riff bytes ≡ riff → EndsWithin bytes head
+  by true riff = head_ends (length bytes) bytes None 12 head (sym (head_of-riff bytes riff) ∙ is)
+  by false riff = absurd (let other = head_of-other bytes riff in cc)

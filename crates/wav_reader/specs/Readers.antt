@@ -1,15 +1,37 @@
 -- What the readers of a file promise one another.
-use Rattle.std.specs.Prelude.{List, ℕ, true, Option, Some, None, Result, Ok, Err}
+use Rattle.std.specs.Prelude.{Bool, Err, List, None, Ok, OnErr, OnOk, Option, Result, Some, drop, if◌then◌else◌, length, nat_le, take, true, ℕ, ◌%◌, ◌*◌, ◌+◌, ◌-◌, ◌/◌, ◌≡◌, ◌≤◌, ◌<◌}
+use Rattle.circular_buffer.specs.Buffer.{Buffer}
 use Rattle.stream_format.specs.Layouts.{layout}
+use Rattle.hda_outside.specs.declared.pieces.Cut.{Cut}
+use Rattle.hda_outside.specs.declared.pieces.Cut.TheVariants as cuts
+use Rattle.hda_outside.specs.declared.reading.ReadAll.{ReadAll}
+use Rattle.hda_outside.specs.declared.reading.ReadAll.TheVariants as lengths
 use Rattle.wav_reader.specs.declared.fault.WavFault.{WavFault}
+use Rattle.wav_reader.specs.declared.fault.WavFault.TheVariants as faults
+use Rattle.wav_reader.specs.declared.fault.WavFault.TheVariants.{Truncated}
+use Rattle.wav_reader.specs.declared.opened.WavOpen.{WavOpen}
+use Rattle.wav_reader.specs.declared.opened.WavOpen.TheVariants.{Failed, TooLong, Wav, OutOfMemory}
 use Rattle.wav_reader.specs.declared.chunks.Kind.{Kind}
 use Rattle.wav_reader.specs.declared.chunks.Kind.TheVariants.{Format, Data, Other}
 use Rattle.wav_reader.specs.declared.chunks.Chunk.{Chunk}
 use Rattle.wav_reader.specs.declared.formats.Sound.{Sound}
 use Rattle.wav_reader.specs.declared.heads.Head.{Head as FoundHead}
 use Rattle.std.specs.List.{flat_map}
+use Rattle.std.specs.Option.{ok_or}
+use Rattle.wav_reader.specs.Chunks.{kind_at, size_at, body_length, chunk_at}
 use Rattle.wav_reader.specs.Heads.{Head, sound_by}
 use Rattle.wav_reader.specs.Wavs.{ring_block, pieces_of}
+
+-- the chunk with this head at a place of a file of so many bytes, if it is whole
+abbrev pub chunk_by : List ℕ → ℕ → ℕ → Chunk
+chunk_by head at file_len = record {
+  kind = kind_at head 0;
+  from = at + 8;
+  len = body_length (kind_at head 0) (size_at head 0) (file_len - (at + 8));
+}
+
+abbrev pub chunk_with : List ℕ → ℕ → ℕ → Option Chunk
+chunk_with head at file_len = if nat_le (at + 8 + (chunk_by head at file_len).len) file_len then Some (chunk_by head at file_len) else None
 
 -- the sound that is known after a chunk that is not `data`
 abbrev pub known_by_kind : Kind → List ℕ → Option Sound → Chunk → Result (Option Sound) WavFault
@@ -32,3 +54,59 @@ seen (Err fault) = Err fault
 -- the first so many samples of two bytes, each twice
 unfoldable pub doubled : List ℕ → ℕ → List ℕ
 doubled samples count = flat_map (ring_block true) (pieces_of 2 samples count)
+
+-- the chunk at a place of a file, or that the file is cut there
+abbrev pub chunk_or_cut : List ℕ → ℕ → Result Chunk WavFault
+chunk_or_cut bytes at = ok_or (chunk_at bytes at) (Truncated (length bytes))
+
+-- a reader on a shelf answers what it shall, or a fault of the shelf, or want of memory
+abbrev pub IsAnswer : {A B : Type 0} → (A → B) → Result B WavFault → Result A WavOpen → Type 0
+IsAnswer as_said said (Ok found) = said ≡ Ok (as_said found)
+IsAnswer as_said said (Err Failed) = Unit {0}
+IsAnswer as_said said (Err TooLong) = ⊥
+IsAnswer as_said said (Err (Wav fault)) = said ≡ Err fault
+IsAnswer as_said said (Err OutOfMemory) = Unit {0}
+
+-- the shelf's faults, as they are answered
+abbrev pub open_of_length : ReadAll → WavOpen
+open_of_length lengths.Failed = Failed
+open_of_length lengths.TooLong = TooLong
+open_of_length lengths.OutOfMemory = OutOfMemory
+
+abbrev pub open_of_cut : Cut → WavOpen
+open_of_cut cuts.Failed = Failed
+open_of_cut (cuts.Short place) = Wav (Truncated place)
+open_of_cut cuts.OutOfMemory = OutOfMemory
+
+-- want of memory is no fault of the file
+abbrev pub open_of_fault : WavFault → WavOpen
+open_of_fault faults.OutOfMemory = OutOfMemory
+open_of_fault fault = Wav fault
+
+-- the ring bytes of whole frames
+abbrev pub ring_part : Bool → List ℕ → List ℕ
+ring_part mono frames = if mono then doubled frames (length frames / 2) else frames
+
+-- the bytes in a file of so many frames, and how many whole frames so many bytes are
+abbrev pub file_bytes : Bool → ℕ → ℕ
+file_bytes mono frames = if mono then 2 * frames else 4 * frames
+
+abbrev pub frames_in : Bool → ℕ → ℕ
+frames_in mono bytes = if mono then bytes / 2 else bytes / 4
+
+-- the place in the file of the byte that stands at a place of the ring bytes: those of a mono frame stand twice
+abbrev pub place_of : Head → ℕ → ℕ
+place_of head at = if head.mono then head.from + at / 4 * 2 + at % 2 else head.from + at
+
+-- held bytes are the next ones of a sound, of which so many were taken
+abbrev pub IsNext : (pcm : List ℕ) (taken : ℕ) (held : List ℕ) → Type 0
+IsNext pcm taken held = held ≡ take (length held) (drop taken pcm)
+
+-- so many bytes, or fewer where the reading was cut, were put last
+pub record IsGrown (count : ℕ) (old new : Buffer ℕ) (result : Result Unit Cut) : Type 0 where
+  pub capacity : new.capacity ≡ old.capacity
+  pub kept : take (length old.items) new.items ≡ old.items
+  pub least : length old.items ≤ length new.items
+  pub most : length new.items ≤ length old.items + count
+  pub all : OnOk result (length new.items ≡ length old.items + count)
+  pub early : OnErr result (length new.items < length old.items + count)

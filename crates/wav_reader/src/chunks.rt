@@ -2,13 +2,14 @@
 ghost use Rattle.std.specs.Prelude.{◌≡◌, ◌≤◌, ◌<◌, ◌+◌, ◌^◌, length, IfSome};
 ghost use Rattle.wav_reader.specs.Chunks as spec;
 ghost use Rattle.wav_reader.specs.Chunks.{IsInside};
+ghost use Rattle.wav_reader.specs.Readers.{chunk_with};
 
 use byteorder::{ByteOrder, LittleEndian};
 
 /// The bytes of a file before its first chunk: `RIFF`, a size, `WAVE`.
 pub(crate) const FIRST_CHUNK: usize = 12;
 /// The bytes of a chunk before its body: its name and its size.
-const CHUNK_HEAD: usize = 8;
+pub(crate) const CHUNK_HEAD: usize = 8;
 /// The size of a chunk `data` whose body goes to the file's end.
 const TO_THE_END: u32 = 0xFFFF_FFFF;
 
@@ -41,15 +42,13 @@ pub(crate) fn is_riff(bytes: &[u8]) -> bool
     bytes.starts_with(b"RIFF") && bytes.len() >= 8 && bytes[8..].starts_with(b"WAVE")
 }
 
-/// What the chunk at a place is.
-fn kind_at(bytes: &[u8], at: usize) -> Kind
-    requires { at ≤ length bytes.now }
-    ensures { result ≡ spec.kind_at bytes.now at }
+/// What a chunk is by its head, which begins with its name.
+fn kind_of(head: &[u8]) -> Kind
+    ensures { result ≡ spec.kind_at head.now 0 }
 {
-    let name = &bytes[at..];
-    if name.starts_with(b"fmt ") {
+    if head.starts_with(b"fmt ") {
         Kind::Format
-    } else if name.starts_with(b"data") {
+    } else if head.starts_with(b"data") {
         Kind::Data
     } else {
         Kind::Other
@@ -66,8 +65,25 @@ fn body_len(kind: Kind, size: u32, left: usize) -> usize
     }
 }
 
+/// The chunk whose head stands at a place of a file of so many bytes. `None` where its body goes past the file's end.
+pub(crate) fn chunk_with(head: &[u8], at: usize, file_len: usize) -> Option<Chunk>
+    requires head { length head.now ≡ 8 }
+    requires inside { at + 8 ≤ file_len }
+    ensures chunk { result ≡ chunk_with head.now at file_len }
+    ensures inside { IfSome result (λ chunk. (chunk.from ≡ at + 8) × (chunk.from + chunk.len ≤ file_len)) }
+{
+    let from = at + CHUNK_HEAD;
+    let left = file_len - from;
+    let kind = kind_of(head);
+    let size = LittleEndian::read_u32(&head[4..]);
+    let len = body_len(kind, size, left);
+    if len > left {
+        return None;
+    }
+    Some(Chunk { kind, from, len })
+}
+
 /// The chunk at a place of the file. `None` where its head or its body goes past the file's end.
-#[tactic(auto, unfolding(crate::specs::Chunks::chunk_at))]
 pub(crate) fn chunk_at(bytes: &[u8], at: usize) -> Option<Chunk>
     requires { at < length bytes.now }
     ensures chunk { result ≡ spec.chunk_at bytes.now at }
@@ -76,15 +92,7 @@ pub(crate) fn chunk_at(bytes: &[u8], at: usize) -> Option<Chunk>
     if bytes.len() - at < CHUNK_HEAD {
         return None;
     }
-    let from = at + CHUNK_HEAD;
-    let left = bytes.len() - from;
-    let kind = kind_at(bytes, at);
-    let size = LittleEndian::read_u32(&bytes[at + 4..]);
-    let len = body_len(kind, size, left);
-    if len > left {
-        return None;
-    }
-    Some(Chunk { kind, from, len })
+    chunk_with(&bytes[at..at + CHUNK_HEAD], at, bytes.len())
 }
 
 impl Chunk {

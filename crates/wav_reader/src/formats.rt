@@ -7,7 +7,7 @@ use byteorder::{ByteOrder, LittleEndian};
 use stream_format::Rate;
 
 /// The bytes of a chunk `fmt ` that are read.
-const FORMAT_BYTES: usize = 16;
+pub(crate) const FORMAT_BYTES: usize = 16;
 /// The tag of samples that are whole numbers.
 const PCM: u16 = 1;
 /// The bits of a sample.

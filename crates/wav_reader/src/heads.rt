@@ -1,5 +1,6 @@
 //! What stands before a file's sound.
-ghost use Rattle.std.specs.Prelude.{◌≡◌, ◌≤◌, ℕ, ◌+◌, List, length, IfOk};
+ghost use Rattle.std.specs.Prelude.{◌≡◌, ◌≤◌, ◌+◌, length, IfOk};
+ghost use Rattle.wav_reader.specs.Fills.{end_of_sound};
 ghost use Rattle.wav_reader.specs.Heads as spec;
 ghost use Rattle.wav_reader.specs.Heads.{EndsWithin, IsRingFormat};
 ghost use Rattle.wav_reader.specs.Readers.{seen, head_seen, known_after};
@@ -46,7 +47,7 @@ fn known_after(bytes: &[u8], found: Option<Sound>, chunk: Chunk) -> Result<Optio
 }
 
 /// Whether a chunk has the sound.
-fn is_data(kind: Kind) -> bool
+pub(crate) fn is_data(kind: Kind) -> bool
     ensures { result ≡ spec.is_data_kind kind }
 {
     match kind {
@@ -56,9 +57,10 @@ fn is_data(kind: Kind) -> bool
 }
 
 /// The sound in the body of a chunk `data`.
-fn sound_in(found: Option<Sound>, chunk: Chunk) -> Result<Head, WavFault>
+pub(crate) fn sound_in(found: Option<Sound>, chunk: Chunk) -> Result<Head, WavFault>
     ensures head { seen result ≡ spec.sound_in found chunk }
-    ensures within { (bytes : List ℕ) → chunk.from + chunk.len ≤ length bytes → IfOk result (λ head. EndsWithin bytes (head_seen head)) }
+    ensures within { IfOk result (λ head. end_of_sound (head_seen head) ≤ chunk.from + chunk.len) }
+    ensures from { IfOk result (λ head. head.from ≡ chunk.from) }
     ensures format { IfOk result (λ head. IsRingFormat (head_seen head).format) }
 {
     let Some(sound) = found else {

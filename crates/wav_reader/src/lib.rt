@@ -23,10 +23,17 @@ mod fault;
 mod formats;
 mod heads;
 mod laws;
+mod opened;
+mod opening;
+mod ring_parts;
+mod sound_files;
+mod streams;
 mod supply;
 mod wav;
 
 pub use fault::WavFault;
 pub use laws::{all_chunks_are_found, written_chunks_are_read, written_sound_is_read};
+pub use opened::{MOST_WAV_BYTES, WavHead, WavOpen};
+pub use opening::open_wav;
 pub use supply::Supply;
 pub use wav::{Wav, read_wav};

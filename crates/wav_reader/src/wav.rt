@@ -25,7 +25,7 @@ pub struct Wav {
 }
 
 /// The first four samples of two bytes, each twice.
-fn four_doubled(samples: &[u8]) -> [u8; 16]
+pub(crate) fn four_doubled(samples: &[u8]) -> [u8; 16]
     requires { 8 ≤ length samples.now }
     ensures { result ≡ doubled samples.now 4 }
 {

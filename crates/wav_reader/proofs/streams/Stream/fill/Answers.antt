@@ -1,0 +1,87 @@
+use Rattle.std.proofs.Common.{◌≡◌, ◌≢◌, ◌≤◌, ◌+◌, ◌-◌, ◌*◌, ◌/◌, ℕ, Bool, true, false, min, if◌then◌else◌, List, length, take, drop, string_bytes, sym, ap, ◌∙◌, refl, arith, rules}
+use Rattle.std.specs.Result.{is_err}
+use Rattle.circular_buffer.specs.Buffer.{Buffer, buffer}
+use Rattle.wav_reader.specs.Opening.{head_in_file}
+use Rattle.wav_reader.specs.Supplies.{Supplied, block_of}
+use Rattle.wav_reader.specs.Wavs.{ring_bytes}
+use Rattle.wav_reader.proofs.StreamLemmas.{block_four, not_cut, not_cut_by, not_full_by, source_with, same_source, full_by, filled_by, cut_by, cut_filled_by, cut_length, next_front, seen_with}
+use Rattle.wav_reader.proofs.streams.Stream.fill.Goals as goal
+
+pub returns-else-is_err-clause-fills : goal.returns-else-is_err-clause-fills
+returns-else-is_err-clause-fills g c =
+    let stream = c.args.self.now in
+    let name = string_bytes c.args.self.now.file.name in
+    let said = head_in_file c.args.self.now.file.head in
+    let total = c.args.self.now.file.head.frames * 4 in
+    let held = c.args.self.now.held in
+    let taken = c.args.self.now.taken in
+    let grown = c.read_next-read.ensures.grown in
+    let left : c.left.result ≡ (if c.args.self.now.is_cut then length c.args.self.now.held.items else c.args.self.now.file.head.frames * 4 - c.args.self.now.taken) = c.left.ensures.value in
+    let room : c.capacity.result ≡ c.args.self.now.held.capacity = c.capacity.ensures.capacity in
+    let long : c.len.result ≡ length c.args.self.now.held.items = c.len.ensures.len in
+    let most : c.min-most.result ≡ min c.left.result c.capacity.result = c.min-most.ensures in
+    let some : (min (if c.args.self.now.is_cut then length c.args.self.now.held.items else c.args.self.now.file.head.frames * 4 - c.args.self.now.taken) c.args.self.now.held.capacity - length c.args.self.now.held.items) ≢ 0 =
+    rw (← left, ← room, ← long, ← most) c.if-count-eq0.false in
+    let uncut : c.args.self.now.is_cut ≡ false = not_cut c.args.self.now.is_cut (length c.args.self.now.held.items) c.args.self.now.held.capacity (c.args.self.now.file.head.frames * 4 - c.args.self.now.taken) some in
+    let left' : c.left.result ≡ c.args.self.now.file.head.frames * 4 - c.args.self.now.taken = rw uncut at left in
+    let count : c.min-most.result - c.len.result ≡ min (c.args.self.now.file.head.frames * 4 - c.args.self.now.taken) c.args.self.now.held.capacity - length c.args.self.now.held.items = cc in
+    let wants : c.min-most.result - c.len.result ≡ min c.args.self.now.held.capacity (seen_with name said total held taken c.args.self.now.is_cut).left - length c.args.self.now.held.items = rw uncut (omega (arith, count)) in
+    let within = c.requires.is_stream.within in
+    let fine : is_err c.read_next-read.result ≡ false = cc (c.is_err.ensures.value, c.if-is_err.false) in
+    record {
+      full = full_by name said total taken (c.min-most.result - c.len.result) held c.read_next-read.new.held c.args.self.now.is_cut c.read_next-read.result uncut count grown;
+      cut = not_cut_by (source_with name said held) (seen_with name said total held taken c.args.self.now.is_cut) (seen_with name said total c.read_next-read.new.held taken c.args.self.now.is_cut) c.read_next-read.result fine;
+      taken = refl;
+      source_is = same_source name said (c.min-most.result - c.len.result) held c.read_next-read.new.held c.read_next-read.result grown;
+      filled = λ _. filled_by name said total taken (c.min-most.result - c.len.result) held c.read_next-read.new.held c.args.self.now.is_cut c.read_next-read.result uncut grown;
+      idle = λ none. absurd (let none' = none in let nothing = c.if-count-eq0.false in nothing (wants ∙ none));
+      given = (let given = c.read_next-read.ensures.given in omega (arith, given, wants));
+      given_rises = c.read_next-read.ensures.given_rises;
+      failed = c.read_next-read.ensures.failed;
+      short = c.read_next-read.ensures.short;
+      not_short = c.read_next-read.ensures.not_short;
+      reads = c.read_next-read.ensures.reads;
+      never_short = c.read_next-read.ensures.never_short;
+    }
+
+pub returns-then-is_err-clause-fills : goal.returns-then-is_err-clause-fills
+returns-then-is_err-clause-fills g c =
+    let stream = c.args.self.now in
+    let name = string_bytes c.args.self.now.file.name in
+    let said = head_in_file c.args.self.now.file.head in
+    let total = c.args.self.now.file.head.frames * 4 in
+    let held = c.args.self.now.held in
+    let taken = c.args.self.now.taken in
+    let grown = c.read_next-read.ensures.grown in
+    let left : c.left.result ≡ (if c.args.self.now.is_cut then length c.args.self.now.held.items else c.args.self.now.file.head.frames * 4 - c.args.self.now.taken) = c.left.ensures.value in
+    let room : c.capacity.result ≡ c.args.self.now.held.capacity = c.capacity.ensures.capacity in
+    let long : c.len.result ≡ length c.args.self.now.held.items = c.len.ensures.len in
+    let most : c.min-most.result ≡ min c.left.result c.capacity.result = c.min-most.ensures in
+    let some : (min (if c.args.self.now.is_cut then length c.args.self.now.held.items else c.args.self.now.file.head.frames * 4 - c.args.self.now.taken) c.args.self.now.held.capacity - length c.args.self.now.held.items) ≢ 0 =
+    rw (← left, ← room, ← long, ← most) c.if-count-eq0.false in
+    let uncut : c.args.self.now.is_cut ≡ false = not_cut c.args.self.now.is_cut (length c.args.self.now.held.items) c.args.self.now.held.capacity (c.args.self.now.file.head.frames * 4 - c.args.self.now.taken) some in
+    let left' : c.left.result ≡ c.args.self.now.file.head.frames * 4 - c.args.self.now.taken = rw uncut at left in
+    let count : c.min-most.result - c.len.result ≡ min (c.args.self.now.file.head.frames * 4 - c.args.self.now.taken) c.args.self.now.held.capacity - length c.args.self.now.held.items = cc in
+    let wants : c.min-most.result - c.len.result ≡ min c.args.self.now.held.capacity (seen_with name said total held taken c.args.self.now.is_cut).left - length c.args.self.now.held.items = rw uncut (omega (arith, count)) in
+    let within = c.requires.is_stream.within in
+    let bad : is_err c.read_next-read.result ≡ true = cc (c.is_err.ensures.value, c.if-is_err.true) in
+    let four = block_four said c.args.self.now.file.head.bits c.args.self.now.file.head.channels in
+    let cut : c.truncate_back.new.self ≡ buffer (take (length c.read_next-read.new.held.items / 4 * 4) c.read_next-read.new.held.items) c.read_next-read.new.held.capacity =
+    c.truncate_back.ensures ∙ ap (λ (n : ℕ). buffer (take (n / 4 * 4) c.read_next-read.new.held.items) c.read_next-read.new.held.capacity) c.len-then-is_err.ensures.len in
+    let some' : (c.min-most.result - c.len.result) ≢ 0 = c.if-count-eq0.false in
+    rw cut
+    (record {
+      full = not_full_by (source_with name said held) (seen_with name said total held taken c.args.self.now.is_cut) (seen_with name said total (buffer (take (length c.read_next-read.new.held.items / 4 * 4) c.read_next-read.new.held.items) c.read_next-read.new.held.capacity) taken true) c.read_next-read.result bad;
+      cut = cut_by name said total taken (c.min-most.result - c.len.result) held c.read_next-read.new.held c.args.self.now.is_cut c.read_next-read.result uncut four count grown;
+      taken = refl;
+      source_is = same_source name said (c.min-most.result - c.len.result) held c.read_next-read.new.held c.read_next-read.result grown;
+      filled = λ whole. cut_filled_by name said total taken (c.min-most.result - c.len.result) held c.read_next-read.new.held c.args.self.now.is_cut c.read_next-read.result uncut four grown (omega (arith, count, within, some')) whole;
+      idle = λ none. absurd (let nothing = c.if-count-eq0.false in nothing (wants ∙ none));
+      given = (let given = c.read_next-read.ensures.given in omega (arith, given, wants));
+      given_rises = c.read_next-read.ensures.given_rises;
+      failed = c.read_next-read.ensures.failed;
+      short = c.read_next-read.ensures.short;
+      not_short = c.read_next-read.ensures.not_short;
+      reads = λ file is before. next_front (ring_bytes file said) taken c.read_next-read.new.held (c.read_next-read.ensures.reads file is before);
+      never_short = c.read_next-read.ensures.never_short;
+    })

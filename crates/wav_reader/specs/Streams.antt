@@ -1,0 +1,36 @@
+-- A file's sound that is read while it is taken.
+use Rattle.std.specs.Prelude.{◌≡◌, ◌≤◌, ℕ, ◌+◌, ◌-◌, ◌*◌, ◌%◌, drop, length, string_bytes, vec_len, Some, None, if◌then◌else◌}
+use Rattle.wav_reader.specs.declared.streams.Stream.{Stream}
+use Rattle.wav_reader.specs.declared.supply.Origin.{Origin}
+use Rattle.wav_reader.specs.declared.supply.Origin.TheVariants.{Whole, Streamed}
+use Rattle.wav_reader.specs.Opening.{head_in_file}
+use Rattle.wav_reader.specs.Supplies.{Source, Supplied}
+
+-- a block of the ring has four bytes, and pieces of the file 4,096
+pub record IsStream (stream : Stream) : Type 0 where
+  pub piece : vec_len stream.piece ≡ 4096
+  pub room : length stream.held.items ≤ stream.held.capacity
+  pub blocks : stream.held.capacity % 4 ≡ 0
+  pub within : stream.taken + length stream.held.items ≤ stream.file.head.frames * 4
+
+-- where it reads more
+abbrev pub source_of : Stream → Source
+source_of stream = record { name = string_bytes stream.file.name; head = head_in_file stream.file.head; ring = stream.held.capacity }
+
+-- what it is seen as
+abbrev pub stream_seen : Stream → Supplied
+stream_seen stream = record {
+  held = stream.held.items;
+  left = if stream.is_cut then length stream.held.items else stream.file.head.frames * 4 - stream.taken;
+  taken = stream.taken;
+  source = Some (source_of stream);
+}
+
+-- what a supply is seen as, by where its bytes come from
+abbrev pub supplied_by : Origin → Supplied
+supplied_by (Whole pcm taken) = record { held = drop taken pcm.items; left = length (drop taken pcm.items); taken = taken; source = None }
+supplied_by (Streamed stream) = stream_seen stream
+
+abbrev pub IsOrigin : Origin → Type 0
+IsOrigin (Whole pcm taken) = taken ≤ length pcm.items
+IsOrigin (Streamed stream) = IsStream stream
