@@ -1,5 +1,8 @@
 pub mod Worked
 pub mod Takes
+pub mod SameRuns
+pub mod SupplyRuns
+pub mod Accounts
 pub mod Apart
 pub mod Told
 pub mod LineSteps

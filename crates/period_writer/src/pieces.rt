@@ -1,10 +1,11 @@
 //! Writes of the line, a piece for each period.
-ghost use Rattle.std.specs.Prelude.{◌≡◌, ◌≤◌, ◌<◌, ◌+◌, ◌-◌, ◌*◌, ◌^◌, All, length, drop, min};
+ghost use Rattle.std.specs.Prelude.{◌≡◌, ◌≤◌, ◌<◌, ◌+◌, ◌-◌, ◌*◌, ◌^◌, All, length, min};
 ghost use Rattle.hda_world.specs.Tellings.{Accessed, Between, Makes};
 ghost use Rattle.hda_world.specs.Events.{DmaWrite};
 ghost use Rattle.period_writer.specs.Blocks.{addresses_of};
 ghost use Rattle.period_writer.specs.Lines.{sound_and_silence};
 ghost use Rattle.period_writer.specs.Places as spec;
+ghost use Rattle.wav_reader.specs.Supplies.{without};
 
 use crate::memory::{fill, write_piece};
 use dma_pool::Lent;
@@ -44,14 +45,14 @@ fn write_filled<P: Platform>(
     sound: usize,
 )
     requires within { sound ≤ length piece.old }
-    requires left { sound ≤ length supply.old }
+    requires left { sound ≤ length supply.old.held }
     requires begins { base ≤ from }
     requires ends { from + length piece.old ≤ base + period.old.bytes }
     requires small { base + period.old.bytes < 2 ^ 64 }
     requires room { 1 ≤ P.spare_accesses platform.old }
     requires bytes_room { length piece.old ≤ P.spare_bytes platform.old }
-    ensures told { Between (λ old new. Accessed old new (DmaWrite (period.old.address + (from - base)) (sound_and_silence sound (length piece.old) supply.old))) (P.told platform.old) (P.told platform.new) }
-    ensures supply { supply.new ≡ drop sound supply.old }
+    ensures told { Between (λ old new. Accessed old new (DmaWrite (period.old.address + (from - base)) (sound_and_silence sound (length piece.old) supply.old.held))) (P.told platform.old) (P.told platform.new) }
+    ensures supply { supply.new ≡ without sound supply.old }
     ensures same { period.new ≡ period.old }
     ensures fixed { P.fixed platform.new ≡ P.fixed platform.old }
     ensures accesses { P.spare_accesses platform.new + 1 ≡ P.spare_accesses platform.old }
@@ -104,11 +105,11 @@ fn write_step<P: Platform>(
     requires ends { piece.to ≤ length buffer.old * (piece.period + 1) }
     requires small { length buffer.old * (piece.period + 1) < 2 ^ 64 }
     requires sound { piece.sound ≤ piece.to - piece.from }
-    requires left { piece.sound ≤ length supply.old }
+    requires left { piece.sound ≤ length supply.old.held }
     requires room { 1 ≤ P.spare_accesses platform.old }
     requires bytes_room { piece.to - piece.from ≤ P.spare_bytes platform.old }
-    ensures told { Between (λ old new. Accessed old new (DmaWrite (spec.place_in (length buffer.old) (addresses_of periods.old) piece.period piece.from) (sound_and_silence piece.sound (piece.to - piece.from) supply.old))) (P.told platform.old) (P.told platform.new) }
-    ensures supply { supply.new ≡ drop piece.sound supply.old }
+    ensures told { Between (λ old new. Accessed old new (DmaWrite (spec.place_in (length buffer.old) (addresses_of periods.old) piece.period piece.from) (sound_and_silence piece.sound (piece.to - piece.from) supply.old.held))) (P.told platform.old) (P.told platform.new) }
+    ensures supply { supply.new ≡ without piece.sound supply.old }
     ensures periods { periods.new ≡ periods.old }
     ensures fixed { P.fixed platform.new ≡ P.fixed platform.old }
     ensures accesses { P.spare_accesses platform.new + 1 ≡ P.spare_accesses platform.old }
@@ -142,11 +143,11 @@ fn write_line<P: Platform>(
     requires ascends { part.from ≤ part.to }
     requires small { part.to + length buffer.old < 2 ^ 63 }
     requires sound { part.sound ≤ part.to - part.from }
-    requires left { part.sound ≤ length supply.old }
+    requires left { part.sound ≤ length supply.old.held }
     requires room { spec.touched (length buffer.old) part.from part.to ≤ P.spare_accesses platform.old }
     requires bytes_room { part.to - part.from ≤ P.spare_bytes platform.old }
-    ensures made { Between (Makes (spec.line_writes (length buffer.old) (addresses_of periods.old) part.from part.to (sound_and_silence part.sound (part.to - part.from) supply.old))) (P.told platform.old) (P.told platform.new) }
-    ensures supply { supply.new ≡ drop part.sound supply.old }
+    ensures made { Between (Makes (spec.line_writes (length buffer.old) (addresses_of periods.old) part.from part.to (sound_and_silence part.sound (part.to - part.from) supply.old.held))) (P.told platform.old) (P.told platform.new) }
+    ensures supply { supply.new ≡ without part.sound supply.old }
     ensures periods { periods.new ≡ periods.old }
     ensures fixed { P.fixed platform.new ≡ P.fixed platform.old }
     ensures accesses { P.spare_accesses platform.new + spec.touched (length buffer.old) part.from part.to ≡ P.spare_accesses platform.old }
@@ -176,11 +177,11 @@ pub(crate) fn write_part<P: Platform>(
     requires ascends { part.from ≤ part.to }
     requires small { part.to + length buffer.old.items < 2 ^ 63 }
     requires sound { part.sound ≤ part.to - part.from }
-    requires left { part.sound ≤ length supply.old }
+    requires left { part.sound ≤ length supply.old.held }
     requires room { spec.touched (length buffer.old.items) part.from part.to ≤ P.spare_accesses platform.old }
     requires bytes_room { part.to - part.from ≤ P.spare_bytes platform.old }
-    ensures made { Between (Makes (spec.line_writes (length buffer.old.items) (addresses_of periods.old.items) part.from part.to (sound_and_silence part.sound (part.to - part.from) supply.old))) (P.told platform.old) (P.told platform.new) }
-    ensures supply { supply.new ≡ drop part.sound supply.old }
+    ensures made { Between (Makes (spec.line_writes (length buffer.old.items) (addresses_of periods.old.items) part.from part.to (sound_and_silence part.sound (part.to - part.from) supply.old.held))) (P.told platform.old) (P.told platform.new) }
+    ensures supply { supply.new ≡ without part.sound supply.old }
     ensures periods { periods.new.items ≡ periods.old.items }
     ensures buffer { length buffer.new.items ≡ length buffer.old.items }
     ensures fixed { P.fixed platform.new ≡ P.fixed platform.old }

@@ -1,10 +1,12 @@
 //! How the stream plays on.
 ghost use Rattle.std.specs.Prelude.{◌≡◌, ◌≤◌, ◌<◌, ◌+◌, ℕ, List, true, drop, length, vec_len};
 ghost use Rattle.hda_world.specs.Tellings.{Between, Makes};
+ghost use Rattle.wav_reader.specs.Supplies.{Suffices, MayGive, EndsWith, IsTaken, sound_before};
 ghost use Rattle.period_writer.specs.Rings.{ring_bytes};
 ghost use Rattle.period_writer.specs.Playing.{Plays, TakesTurn, Finishes, stop_accesses};
 ghost use Rattle.period_writer.specs.Outcomes.{RunTellsOf, FinishTellsOf};
-ghost use Rattle.period_writer.specs.Writers.{tally_of, periods_of, ring_of};
+ghost use Rattle.period_writer.specs.Accounts.{Accounts};
+ghost use Rattle.period_writer.specs.Writers.{tally_of, measures_of, periods_of, ring_of};
 
 use super::Writer;
 use crate::course::Ran;
@@ -44,11 +46,18 @@ impl Writer {
     pub fn run<P: Platform>(&mut self, platform: &mut P, supply: &mut Supply, budget: u32) -> Ran
         requires started { self.old.course.started ≡ true }
         requires playing { self.old.course.ran ≡ Ran.Playing }
+        requires enough { Suffices (ring_bytes self.old.geometry.periods self.old.geometry.period) budget supply.old }
         requires free { vec_len self.old.runs < self.old.records }
         requires room { 5 + self.old.geometry.periods ≤ P.spare_accesses platform.old }
         requires bytes_room { ring_bytes self.old.geometry.periods self.old.geometry.period ≤ P.spare_bytes platform.old }
-        ensures plays { Plays self.old.geometry (periods_of self.old) budget supply.old (tally_of self.old) result (tally_of self.new) supply.new (P.told platform.old) (P.told platform.new) }
-        ensures tells { (pcm : List ℕ) → supply.old ≡ drop self.old.course.used pcm
+        ensures plays { (later : List ℕ) → MayGive supply.new later → EndsWith supply.old (sound_before supply.old supply.new later)
+            → Plays self.old.geometry (periods_of self.old) budget (sound_before supply.old supply.new later) (tally_of self.old) result (tally_of self.new) later (P.told platform.old) (P.told platform.new) }
+        ensures taken { IsTaken supply.old supply.new }
+        ensures accounts { Accounts (measures_of self.old) supply.old supply.new self.old.course self.new.course }
+        ensures few { length self.new.runs.items ≤ length self.old.runs.items + 1 }
+        ensures on { self.new.course.started ≡ true }
+        ensures tells { (later : List ℕ) → MayGive supply.new later → EndsWith supply.old (sound_before supply.old supply.new later)
+            → (pcm : List ℕ) → sound_before supply.old supply.new later ≡ drop self.old.course.used pcm
             → Between (RunTellsOf (ring_of self.old) pcm budget (tally_of self.old) result (tally_of self.new)) (P.told platform.old) (P.told platform.new) }
         ensures geometry { self.new.geometry ≡ self.old.geometry }
         ensures list { self.new.list ≡ self.old.list }
@@ -80,10 +89,12 @@ impl Writer {
         requires free { vec_len self.old.runs < self.old.records }
         requires room { 5 + self.old.geometry.periods ≤ P.spare_accesses platform.old }
         requires bytes_room { ring_bytes self.old.geometry.periods self.old.geometry.period ≤ P.spare_bytes platform.old }
-        ensures finishes { Finishes self.old.geometry (periods_of self.old) supply.old (tally_of self.old) result (tally_of self.new) (P.told platform.old) (P.told platform.new) }
-        ensures tells { (pcm : List ℕ) → supply.old ≡ drop self.old.course.used pcm
+        ensures finishes { (sound : List ℕ) → MayGive supply.old sound → EndsWith supply.old sound
+            → Finishes self.old.geometry (periods_of self.old) sound (tally_of self.old) result (tally_of self.new) (P.told platform.old) (P.told platform.new) }
+        ensures tells { (sound : List ℕ) → MayGive supply.old sound → EndsWith supply.old sound → (pcm : List ℕ) → sound ≡ drop self.old.course.used pcm
             → Between (FinishTellsOf (ring_of self.old) pcm (tally_of self.old) result (tally_of self.new)) (P.told platform.old) (P.told platform.new) }
         ensures supply { supply.new ≡ supply.old }
+        ensures grows { self.old.course.used ≤ self.new.course.used }
         ensures geometry { self.new.geometry ≡ self.old.geometry }
         ensures list { self.new.list ≡ self.old.list }
         ensures periods { self.new.periods.items ≡ self.old.periods.items }
@@ -100,10 +111,18 @@ impl Writer {
     /// A run up to its stop.
     fn take_turn<P: Platform>(&mut self, platform: &mut P, supply: &mut Supply, budget: u32) -> Ran
         requires started { self.old.course.started ≡ true }
+        requires playing { self.old.course.ran ≡ Ran.Playing }
+        requires enough { Suffices (ring_bytes self.old.geometry.periods self.old.geometry.period) budget supply.old }
         requires free { vec_len self.old.runs < self.old.records }
         requires room { 4 + self.old.geometry.periods ≤ P.spare_accesses platform.old }
         requires bytes_room { ring_bytes self.old.geometry.periods self.old.geometry.period ≤ P.spare_bytes platform.old }
-        ensures turn { TakesTurn self.old.geometry (periods_of self.old) budget supply.old (tally_of self.old) result (tally_of self.new) supply.new (P.told platform.old) (P.told platform.new) }
+        ensures turn { (later : List ℕ) → MayGive supply.new later → EndsWith supply.old (sound_before supply.old supply.new later)
+            → TakesTurn self.old.geometry (periods_of self.old) budget (sound_before supply.old supply.new later) (tally_of self.old) result (tally_of self.new) later (P.told platform.old) (P.told platform.new) }
+        ensures taken { IsTaken supply.old supply.new }
+        ensures accounts { Accounts (measures_of self.old) supply.old supply.new self.old.course self.new.course }
+        ensures none { budget ≡ 0 → supply.new ≡ supply.old }
+        ensures few { length self.new.runs.items ≤ length self.old.runs.items + 1 }
+        ensures on { self.new.course.started ≡ true }
         ensures geometry { self.new.geometry ≡ self.old.geometry }
         ensures list { self.new.list ≡ self.old.list }
         ensures periods { self.new.periods.items ≡ self.old.periods.items }

@@ -1,10 +1,11 @@
 //! What a run writes and records.
-ghost use Rattle.std.specs.Prelude.{◌≡◌, ◌≤◌, ◌<◌, ◌+◌, ◌-◌, ◌^◌, ◌==◌, if◌then◌else◌, length, drop, vec_len, vec_capacity};
+ghost use Rattle.std.specs.Prelude.{◌≡◌, ◌≤◌, ◌<◌, ◌+◌, ◌-◌, ◌^◌, ◌==◌, if◌then◌else◌, length, vec_len, vec_capacity};
 ghost use Rattle.hda_world.specs.Tellings.{Between, Makes};
 ghost use Rattle.period_writer.specs.Rings.{period_bytes, ring_bytes};
 ghost use Rattle.period_writer.specs.Lines.{sound_and_silence};
 ghost use Rattle.period_writer.specs.Places.{line_writes, touched};
 ghost use Rattle.period_writer.specs.Runs as runs;
+ghost use Rattle.wav_reader.specs.Supplies.{without};
 ghost use Rattle.period_writer.specs.Writers.{tally_of, measures_of, periods_of};
 
 use super::Writer;
@@ -27,11 +28,11 @@ impl Writer {
         requires within { turn.reach - self.old.course.reach ≤ ring_bytes self.old.geometry.periods self.old.geometry.period }
         requires small { turn.reach < 2 ^ 61 }
         requires sound { turn.sound ≤ turn.reach - self.old.course.reach }
-        requires left { turn.sound ≤ length supply.old }
+        requires left { turn.sound ≤ length supply.old.held }
         requires room { touched (period_bytes self.old.geometry.period) self.old.course.reach turn.reach ≤ P.spare_accesses platform.old }
         requires bytes_room { turn.reach - self.old.course.reach ≤ P.spare_bytes platform.old }
-        ensures made { Between (Makes (line_writes (period_bytes self.old.geometry.period) (periods_of self.old) self.old.course.reach turn.reach (sound_and_silence turn.sound (turn.reach - self.old.course.reach) supply.old))) (P.told platform.old) (P.told platform.new) }
-        ensures supply { supply.new ≡ drop turn.sound supply.old }
+        ensures made { Between (Makes (line_writes (period_bytes self.old.geometry.period) (periods_of self.old) self.old.course.reach turn.reach (sound_and_silence turn.sound (turn.reach - self.old.course.reach) supply.old.held))) (P.told platform.old) (P.told platform.new) }
+        ensures supply { supply.new ≡ without turn.sound supply.old }
         ensures geometry { self.new.geometry ≡ self.old.geometry }
         ensures list { self.new.list ≡ self.old.list }
         ensures periods { self.new.periods.items ≡ self.old.periods.items }

@@ -1,0 +1,95 @@
+-- A run that a supply suffices for is one over each sound that the supply may yet give.
+use Rattle.std.proofs.Common.{◌≡◌, ◌≤◌, ◌<◌, ◌+◌, ◌-◌, ◌*◌, ◌==◌, ◌&&◌, ◌∙◌, nat_lt, ℕ, Bool, true, false, List, [], ◌∷◌, ◌++◌, length, refl, ap, sym, subst, arith, rules, append_assoc, Option}
+use Rattle.std.specs.Prelude.{min, take, drop, replicate}
+use Rattle.std.proofs.Math.Seq.{drop-append_seam, take-length}
+use Rattle.std.proofs.lemmas.List.{length-append, length-take-le, length-drop, take-append-le, take-append-drop}
+use Rattle.wav_reader.specs.Supplies.{Supplied, MayGive, Suffices, EndsWith, IsTaken, without, sound_before}
+use Rattle.wav_reader.proofs.Callers.{with_taken, before_is, given_before, rest_after, first_of}
+use Rattle.period_writer.specs.declared.course.Course.{Course}
+use Rattle.period_writer.specs.Courses.{IsCourse}
+use Rattle.period_writer.specs.Lines.{sound_and_silence}
+use Rattle.period_writer.specs.Runs.{Measures, RunFacts, Tally, facts_of, is_late, run_of, run_room, run_sound, tally_if, tally_after, whole_blocks}
+use Rattle.period_writer.proofs.SameRuns.{tally_same, sound_same, room_if}
+
+held_most : (supply : Supplied) (sound : List ℕ) → MayGive supply sound → length supply.held ≤ length sound
+held_most supply sound may =
+    let is = ap length may.is in
+    let both = length-append supply.held may.later in omega (arith, is, both)
+
+sound_within : (block budget ring room left held : ℕ) → room ≤ ring → min budget (min ring left) ≤ held → whole_blocks block (min budget (min room left)) ≤ held
+sound_within block budget ring room left held fits enough = grind arith
+
+-- what it writes is held
+pub run_within : (m : Measures) (runs : ℕ) (course : Course) (supply : Supplied) (budget from lpib to : ℕ) → 1 ≤ m.ring → IsCourse m.ring runs course → Suffices m.ring budget supply
+    → run_sound m course (facts_of budget supply.left from lpib to) ≤ length supply.held
+run_within m runs course supply budget from lpib to some is enough =
+    sound_within m.block budget m.ring (run_room m course (facts_of budget supply.left from lpib to)) supply.left (length supply.held) (room_if course.started m.ring course.at course.reach lpib some is.reach) enough
+
+pub fits : (m : Measures) (runs : ℕ) (course : Course) (supply : Supplied) (budget left from lpib count : ℕ) → 1 ≤ m.ring → IsCourse m.ring runs course → Suffices m.ring budget supply → left ≡ supply.left
+    → count ≡ run_sound m course (facts_of budget left from lpib 0) → count ≤ length supply.held
+fits m runs course supply budget left from lpib count some is enough all counts =
+    subst (λ (number : ℕ). number ≤ length supply.held) (sym (counts ∙ ap (λ (left : ℕ). run_sound m course (facts_of budget left from lpib 0)) all)) (run_within m runs course supply budget from lpib 0 some is enough)
+
+-- with a budget of 0 none are
+pub none_taken : (m : Measures) (course : Course) (budget left from lpib : ℕ) → budget ≡ 0 → run_sound m course (facts_of budget left from lpib 0) ≡ 0
+none_taken m course budget left from lpib zero = least m.block budget (run_room m course (facts_of budget left from lpib 0)) left zero where
+  least : (block budget room left : ℕ) → budget ≡ 0 → whole_blocks block (min budget (min room left)) ≡ 0
+  least block budget room left zero = grind arith
+
+-- a budget of 0 needs nothing
+pub suffices_none : (ring : ℕ) (supply : Supplied) → Suffices ring 0 supply
+suffices_none ring supply = least (min ring supply.left) (length supply.held) where
+  least : (n held : ℕ) → min 0 n ≤ held
+  least n held = grind arith
+
+pub false_true : false ≡ true → ⊥
+false_true same = cc
+
+-- ---- all of it
+
+-- a run by the numbers of a supply that took so many bytes, with this sound after it
+pub record IsRunOver (m : Measures) (tally : Tally) (supply : Supplied) (budget from lpib to count : ℕ) (later : List ℕ) : Type 0 where
+  pub recorded : tally_after m tally (facts_of budget supply.left from lpib to) ≡ tally_after m tally (facts_of budget (length (with_taken count supply later)) from lpib to)
+  pub sound_is : count ≡ run_sound m tally.course (facts_of budget (length (with_taken count supply later)) from lpib to)
+  pub written : (room : ℕ) → sound_and_silence count room supply.held ≡ sound_and_silence count room (with_taken count supply later)
+  pub rest : later ≡ drop count (with_taken count supply later)
+
+pub run_over : (m : Measures) (runs : ℕ) (tally : Tally) (supply : Supplied) (budget from lpib to count : ℕ) (later : List ℕ) → 1 ≤ m.ring → IsCourse m.ring runs tally.course → length supply.held ≤ supply.left → Suffices m.ring budget supply
+    → count ≡ run_sound m tally.course (facts_of budget supply.left from lpib to) → MayGive (without count supply) later → (tally.course.started ≡ true → EndsWith supply (with_taken count supply later)) → IsRunOver m tally supply budget from lpib to count later
+run_over m runs tally supply budget from lpib to count later some is rule enough counts may none =
+    let within : count ≤ length supply.held = subst (λ (number : ℕ). number ≤ length supply.held) (sym counts) (run_within m runs tally.course supply budget from lpib to some is enough) in
+    let whole = given_before supply count later rule within may in
+    let held = held_most supply (with_taken count supply later) whole in
+    let least : min budget (min m.ring supply.left) ≤ length (with_taken count supply later) = omega (arith, enough, held) in record {
+      recorded = tally_same m runs tally budget supply.left (length (with_taken count supply later)) from lpib to some is whole.most least none;
+      sound_is = counts ∙ sound_same m runs tally.course budget supply.left (length (with_taken count supply later)) from lpib to some is whole.most least;
+      written = λ room. ap (λ (bytes : List ℕ). bytes ++ replicate (room - count) 0) (sym (first_of supply count later within));
+      rest = sym (rest_after supply count later within);
+    }
+
+-- ---- what is recorded of it
+
+more_by : (late : Bool) (m : Measures) (tally : Tally) (facts : RunFacts) → length (tally_if late m tally facts).runs ≤ length tally.runs + 1
+more_by true m tally facts = omega arith
+more_by false m tally facts = let long = length-append tally.runs (run_of m tally.course facts ∷ []) in omega (arith, long)
+
+-- one run at most
+pub one_more : (m : Measures) (tally tally' : Tally) (facts : RunFacts) → tally' ≡ tally_after m tally facts → length tally'.runs ≤ length tally.runs + 1
+one_more m tally tally' facts is =
+    let more = more_by (is_late m tally.course facts) m tally facts in
+    let same = ap (λ (tally : Tally). length tally.runs) is in
+    omega (arith, more, same)
+
+on_by : (late : Bool) (m : Measures) (tally : Tally) (facts : RunFacts) → tally.course.started ≡ true → (tally_if late m tally facts).course.started ≡ true
+on_by true m tally facts started = started
+on_by false m tally facts started = refl
+
+pub still_on : (m : Measures) (tally tally' : Tally) (facts : RunFacts) → tally' ≡ tally_after m tally facts → tally.course.started ≡ true → tally'.course.started ≡ true
+still_on m tally tally' facts is started = ap (λ (tally : Tally). tally.course.started) is ∙ on_by (is_late m tally.course facts) m tally facts started
+
+first_by : (started : Bool) (m : Measures) (tally : Tally) (facts : RunFacts) → started ≡ false → (tally_if (started && nat_lt (500 * m.limit) (facts.to - tally.course.from)) m tally facts).course.started ≡ true
+first_by true m tally facts fresh = cc
+first_by false m tally facts fresh = refl
+
+pub now_on : (m : Measures) (tally tally' : Tally) (facts : RunFacts) → tally' ≡ tally_after m tally facts → tally.course.started ≡ false → tally'.course.started ≡ true
+now_on m tally tally' facts is fresh = ap (λ (tally : Tally). tally.course.started) is ∙ first_by tally.course.started m tally facts fresh
