@@ -1,5 +1,5 @@
 -- How a driver is closed: the blocks that it gives back, and what is left of it. This project's own.
-use Rattle.std.specs.Prelude.{◌≡◌, true, false, ℕ, Bool, List, All, Option}
+use Rattle.std.specs.Prelude.{◌≡◌, ◌≤◌, true, false, ℕ, Bool, List, All, Option}
 use Rattle.verb_codes.specs.declared.verbs.Command.{Command}
 use Rattle.codec_graph.specs.declared.raw.RawCodec.{RawCodec}
 use Rattle.route_planner.specs.declared.routes.Plan.{Plan}
@@ -34,6 +34,7 @@ pub record Closes (IsPlanBy : RawCodec → Plan → Type 0) (verbs_by : RawCodec
   pub ends : plays_now play bring_up ≡ false → Ends IsPlanBy verbs_by bring_up ended before after
   pub recorded : plays_now play bring_up ≡ false → tally ≡ tally_of writer
   pub sounds : plays_now play bring_up ≡ true → EndsSound bring_up ended writer tally supply before after
+  pub grows : writer.course.used ≤ tally.course.used
   pub phase : closed.phase ≡ phase_with ended tally (measures_of writer).limit
   pub sent : closed.sent ≡ ended.sent
   pub graphs : closed.graphs ≡ ended.agenda.graphs

@@ -12,6 +12,7 @@ use Rattle.driver_progress.specs.Phases.{is_ready}
 use Rattle.driver_progress.specs.Tasks.{Task}
 use Rattle.driver_progress.specs.States.{State}
 use Rattle.codec_bring_up.specs.declared.bringing.BringUp.{BringUp}
+use Rattle.wav_reader.specs.Supplies.{Supplied, EndsWith}
 use Rattle.codec_bring_up.specs.Calls as bringing
 
 -- the phase: that of the bring-up until the first run, and from then on by how the last run ended
@@ -70,3 +71,7 @@ pub record IsTaskOf (bring_up : BringUp) (writer : Writer) (supply : List ℕ) (
   pub periods : task.blocks.periods ≡ periods_of writer
   pub sound : IsLeft task.pcm writer.course supply
   pub plays : task.plays ≡ true
+
+-- while the stream plays, this sound to come ends where the supply does
+abbrev pub EndsWhilePlaying : Course → Supplied → (sound : List ℕ) → Type 0
+EndsWhilePlaying course supply sound = course.started ≡ true → is_open course.ran ≡ true → EndsWith supply sound

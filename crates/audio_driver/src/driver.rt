@@ -11,6 +11,7 @@ ghost use Rattle.audio_driver.specs.States.{plays_now};
 
 mod closing;
 mod ending;
+mod filling;
 mod opening;
 mod running;
 mod sounding;

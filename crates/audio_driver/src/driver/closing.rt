@@ -1,5 +1,6 @@
 //! How a driver is closed.
-ghost use Rattle.std.specs.Prelude.{◌≡◌, ◌≤◌, ◌+◌, Contains, All, IfOk, OnErr, true};
+ghost use Rattle.std.specs.Prelude.{◌≡◌, ◌≤◌, ◌+◌, ℕ, List, Contains, All, IfOk, OnErr, true};
+ghost use Rattle.wav_reader.specs.Supplies.{MayGive, EndsWith};
 ghost use Rattle.dma_pool.specs.Blocks.{run_at};
 ghost use Rattle.dma_pool.specs.Pools.{PoolState};
 ghost use Rattle.command_engine.specs.Blocks.{corb_bytes, rirb_bytes};
@@ -72,7 +73,7 @@ impl<T: Setter + Drop> Driver<T> {
     pub fn close<P: Platform>(self, platform: &mut P) -> Result<Closed, AllocError>
         requires room { 400 ≤ P.spare_accesses platform.old }
         requires bytes_room { ring_bytes self.writer.geometry.periods self.writer.geometry.period + 8192 ≤ P.spare_bytes platform.old }
-        ensures closes { IfOk result (λ closed. spec.Closes (λ graph. T.IsPlanBy self.setter graph self.bring_up.agenda.format) (λ graph plan. T.verbs_by self.setter graph plan self.bring_up.agenda.format TAG) self.play self.bring_up self.writer self.supply closed (P.told platform.old) (P.told platform.new)) }
+        ensures closes { (sound : List ℕ) → MayGive self.supply sound → EndsWith self.supply sound → IfOk result (λ closed. spec.Closes (λ graph. T.IsPlanBy self.setter graph self.bring_up.agenda.format) (λ graph plan. T.verbs_by self.setter graph plan self.bring_up.agenda.format TAG) self.play self.bring_up self.writer sound closed (P.told platform.old) (P.told platform.new)) }
         ensures gives { IfOk result (λ closed. spec.GivesBack self.writer.geometry self.pool self.bring_up.engine.corb.address self.bring_up.engine.rirb.address self.writer.list.address (addresses_of self.writer.periods.items) closed.pool) }
         ensures pool { IfOk result (λ closed. (before : PoolState) → Opens self.writer.geometry before self.bring_up.engine.corb.address self.bring_up.engine.rirb.address self.writer.list.address (addresses_of self.writer.periods.items) self.pool → closed.pool ≡ before) }
         ensures cause { OnErr result (is_asking (states.phase_of self.bring_up self.writer) ≡ true) }

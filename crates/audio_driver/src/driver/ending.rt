@@ -1,8 +1,9 @@
 //! The last call of a driver.
-ghost use Rattle.std.specs.Prelude.{◌≡◌, ◌≤◌, ◌<◌, ◌+◌, length, true, false, OnOk, OnErr};
+ghost use Rattle.std.specs.Prelude.{◌≡◌, ◌≤◌, ◌<◌, ◌+◌, ℕ, List, length, true, false, OnOk, OnErr};
 ghost use Rattle.driver_progress.specs.Phases.{is_asking, is_ready};
 ghost use Rattle.period_writer.specs.Rings.{ring_bytes};
 ghost use Rattle.period_writer.specs.Writers.{tally_of};
+ghost use Rattle.wav_reader.specs.Supplies.{MayGive, EndsWith};
 ghost use Rattle.codec_bring_up.specs.Calls.{Ends, IsKept};
 ghost use Rattle.codec_bring_up.specs.Told.{IsShut};
 ghost use Rattle.audio_driver.specs.States as states;
@@ -36,7 +37,9 @@ pub(super) fn end_call<P: Platform, T: Setter>(
     requires bytes_room { ring_bytes writer.old.geometry.periods writer.old.geometry.period + 2040 ≤ P.spare_bytes platform.old }
     ensures ends { states.plays_now play bring_up.old ≡ false → OnOk result (Ends (λ graph. T.IsPlanBy setter.now graph bring_up.old.agenda.format) (λ graph plan. T.verbs_by setter.now graph plan bring_up.old.agenda.format TAG) bring_up.old bring_up.new (P.told platform.old) (P.told platform.new)) }
     ensures recorded { states.plays_now play bring_up.old ≡ false → tally_of writer.new ≡ tally_of writer.old }
-    ensures sounds { states.plays_now play bring_up.old ≡ true → EndsSound bring_up.old bring_up.new writer.old (tally_of writer.new) supply.old (P.told platform.old) (P.told platform.new) }
+    ensures sounds { states.plays_now play bring_up.old ≡ true → (sound : List ℕ) → MayGive supply.old sound → EndsWith supply.old sound
+        → EndsSound bring_up.old bring_up.new writer.old (tally_of writer.new) sound (P.told platform.old) (P.told platform.new) }
+    ensures grows { writer.old.course.used ≤ writer.new.course.used }
     ensures kept { IsKept bring_up.old bring_up.new }
     ensures geometry { writer.new.geometry ≡ writer.old.geometry }
     ensures list { writer.new.list ≡ writer.old.list }
@@ -67,7 +70,9 @@ fn end_sound<P: Platform>(
     requires free { length writer.old.runs.items < writer.old.records }
     requires room { 298 ≤ P.spare_accesses platform.old }
     requires bytes_room { ring_bytes writer.old.geometry.periods writer.old.geometry.period + 2040 ≤ P.spare_bytes platform.old }
-    ensures sounds { EndsSound bring_up.old bring_up.new writer.old (tally_of writer.new) supply.old (P.told platform.old) (P.told platform.new) }
+    ensures sounds { (sound : List ℕ) → MayGive supply.old sound → EndsWith supply.old sound
+        → EndsSound bring_up.old bring_up.new writer.old (tally_of writer.new) sound (P.told platform.old) (P.told platform.new) }
+    ensures grows { writer.old.course.used ≤ writer.new.course.used }
     ensures kept { IsKept bring_up.old bring_up.new }
     ensures geometry { writer.new.geometry ≡ writer.old.geometry }
     ensures list { writer.new.list ≡ writer.old.list }

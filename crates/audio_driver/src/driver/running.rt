@@ -1,7 +1,10 @@
 //! Calls of a driver.
-ghost use Rattle.std.specs.Prelude.{◌≡◌, ◌≤◌, ◌<◌, ◌+◌, true, false, nat_lt, IfOk, OnOk, OnErr};
+ghost use Rattle.std.specs.Prelude.{◌≡◌, ◌≤◌, ◌<◌, ◌+◌, ℕ, List, true, false, nat_lt, IfOk, OnOk, OnErr};
 ghost use Rattle.driver_progress.specs.declared.phase.Phase.TheVariants as phases;
 ghost use Rattle.period_writer.specs.Rings.{ring_bytes};
+ghost use Rattle.wav_reader.specs.Supplies.{Suffices, MayGive, IsTaken, sound_before};
+ghost use Rattle.period_writer.specs.Accounts.{Accounts};
+ghost use Rattle.period_writer.specs.Writers.{measures_of};
 ghost use Rattle.codec_bring_up.specs.Calls as calls;
 ghost use Rattle.audio_driver.specs.States as states;
 ghost use Rattle.audio_driver.specs.Sounding as sounding;
@@ -25,11 +28,16 @@ impl<T: Setter> Driver<T> {
     /// Want of memory, in the phases where codecs are found and answers come, and so in none from `Ready` on. Then it is over, in the phase
     /// `Failed`.
     pub fn run<P: Platform>(&mut self, platform: &mut P, budget: u32) -> Result<Phase, AllocError>
+        requires enough { states.plays_now self.old.play self.old.bring_up ≡ true → states.is_open self.old.writer.course.ran ≡ true
+            → Suffices (ring_bytes self.old.writer.geometry.periods self.old.writer.geometry.period) budget self.old.supply }
         requires few { self.old.calls < self.old.runs }
         requires room { 400 ≤ P.spare_accesses platform.old }
         requires bytes_room { ring_bytes self.old.writer.geometry.periods self.old.writer.geometry.period + 8192 ≤ P.spare_bytes platform.old }
         ensures leads { states.plays_now self.old.play self.old.bring_up ≡ false → OnOk result (calls.Leads (λ graph. T.IsPlanBy self.old.setter graph self.old.bring_up.agenda.format) (λ graph plan. T.verbs_by self.old.setter graph plan self.old.bring_up.agenda.format TAG) false self.old.bring_up self.new.bring_up (P.told platform.old) (P.told platform.new)) }
-        ensures sounds { states.plays_now self.old.play self.old.bring_up ≡ true → sounding.Sounds false budget self.old.bring_up self.new.bring_up self.old.writer self.new.writer self.old.supply self.new.supply (P.told platform.old) (P.told platform.new) }
+        ensures sounds { states.plays_now self.old.play self.old.bring_up ≡ true → (later : List ℕ) → MayGive self.new.supply later → states.EndsWhilePlaying self.old.writer.course self.old.supply (sound_before self.old.supply self.new.supply later)
+            → sounding.Sounds false budget self.old.bring_up self.new.bring_up self.old.writer self.new.writer (sound_before self.old.supply self.new.supply later) later (P.told platform.old) (P.told platform.new) }
+        ensures taken { IsTaken self.old.supply self.new.supply }
+        ensures accounts { Accounts (measures_of self.old.writer) self.old.supply self.new.supply self.old.writer.course self.new.writer.course }
         ensures phase { IfOk result (λ phase. phase ≡ states.phase_of self.new.bring_up self.new.writer) }
         ensures kept { calls.IsKept self.old.bring_up self.new.bring_up }
         ensures failed { OnErr result (self.new.bring_up.phase ≡ phases.Failed) }
@@ -62,11 +70,16 @@ impl<T: Setter> Driver<T> {
     /// Want of memory, in the phases where codecs are found and answers come, and so in none from `Ready` on. Then it is over, in the phase
     /// `Failed`.
     pub fn irq<P: Platform>(&mut self, platform: &mut P, budget: u32) -> Result<Phase, AllocError>
+        requires enough { states.plays_now self.old.play self.old.bring_up ≡ true → states.is_open self.old.writer.course.ran ≡ true
+            → Suffices (ring_bytes self.old.writer.geometry.periods self.old.writer.geometry.period) budget self.old.supply }
         requires few { self.old.calls < self.old.runs }
         requires room { 400 ≤ P.spare_accesses platform.old }
         requires bytes_room { ring_bytes self.old.writer.geometry.periods self.old.writer.geometry.period + 8192 ≤ P.spare_bytes platform.old }
         ensures leads { states.plays_now self.old.play self.old.bring_up ≡ false → OnOk result (calls.Leads (λ graph. T.IsPlanBy self.old.setter graph self.old.bring_up.agenda.format) (λ graph plan. T.verbs_by self.old.setter graph plan self.old.bring_up.agenda.format TAG) true self.old.bring_up self.new.bring_up (P.told platform.old) (P.told platform.new)) }
-        ensures sounds { states.plays_now self.old.play self.old.bring_up ≡ true → sounding.Sounds true budget self.old.bring_up self.new.bring_up self.old.writer self.new.writer self.old.supply self.new.supply (P.told platform.old) (P.told platform.new) }
+        ensures sounds { states.plays_now self.old.play self.old.bring_up ≡ true → (later : List ℕ) → MayGive self.new.supply later → states.EndsWhilePlaying self.old.writer.course self.old.supply (sound_before self.old.supply self.new.supply later)
+            → sounding.Sounds true budget self.old.bring_up self.new.bring_up self.old.writer self.new.writer (sound_before self.old.supply self.new.supply later) later (P.told platform.old) (P.told platform.new) }
+        ensures taken { IsTaken self.old.supply self.new.supply }
+        ensures accounts { Accounts (measures_of self.old.writer) self.old.supply self.new.supply self.old.writer.course self.new.writer.course }
         ensures phase { IfOk result (λ phase. phase ≡ states.phase_of self.new.bring_up self.new.writer) }
         ensures kept { calls.IsKept self.old.bring_up self.new.bring_up }
         ensures failed { OnErr result (self.new.bring_up.phase ≡ phases.Failed) }

@@ -1,6 +1,9 @@
 //! How a driver plays.
-ghost use Rattle.std.specs.Prelude.{◌≡◌, ◌≤◌, ◌<◌, ◌+◌, length, true, false};
+ghost use Rattle.std.specs.Prelude.{◌≡◌, ◌≤◌, ◌<◌, ◌+◌, ℕ, List, length, true, false};
 ghost use Rattle.period_writer.specs.Rings.{ring_bytes};
+ghost use Rattle.wav_reader.specs.Supplies.{Suffices, MayGive, IsTaken, sound_before};
+ghost use Rattle.period_writer.specs.Accounts.{Accounts};
+ghost use Rattle.period_writer.specs.Writers.{measures_of};
 ghost use Rattle.codec_bring_up.specs.Calls.{IsKept};
 ghost use Rattle.audio_driver.specs.States as states;
 ghost use Rattle.audio_driver.specs.Sounding.{Sounds};
@@ -51,11 +54,16 @@ impl<T: Setter> Driver<T> {
     /// run was late, or all sound was played.
     pub(super) fn play_on<P: Platform>(&mut self, platform: &mut P, budget: u32)
         requires plays { states.plays_now self.old.play self.old.bring_up ≡ true }
+        requires enough { states.is_open self.old.writer.course.ran ≡ true → Suffices (ring_bytes self.old.writer.geometry.periods self.old.writer.geometry.period) budget self.old.supply }
         requires few { self.old.bring_up.looks < self.old.calls }
         requires free { length self.old.writer.runs.items < self.old.calls }
         requires room { 295 ≤ P.spare_accesses platform.old }
         requires bytes_room { ring_bytes self.old.writer.geometry.periods self.old.writer.geometry.period + 2044 ≤ P.spare_bytes platform.old }
-        ensures sounds { Sounds false budget self.old.bring_up self.new.bring_up self.old.writer self.new.writer self.old.supply self.new.supply (P.told platform.old) (P.told platform.new) }
+        ensures sounds { (later : List ℕ) → MayGive self.new.supply later → states.EndsWhilePlaying self.old.writer.course self.old.supply (sound_before self.old.supply self.new.supply later)
+            → Sounds false budget self.old.bring_up self.new.bring_up self.old.writer self.new.writer (sound_before self.old.supply self.new.supply later) later (P.told platform.old) (P.told platform.new) }
+        ensures taken { IsTaken self.old.supply self.new.supply }
+        ensures accounts { Accounts (measures_of self.old.writer) self.old.supply self.new.supply self.old.writer.course self.new.writer.course }
+        ensures geometry { self.new.writer.geometry ≡ self.old.writer.geometry }
         ensures kept { IsKept self.old.bring_up self.new.bring_up }
         ensures pool { self.new.pool ≡ self.old.pool }
         ensures setter { self.new.setter ≡ self.old.setter }
@@ -80,11 +88,16 @@ impl<T: Setter> Driver<T> {
     /// for.
     pub(super) fn play_if_interrupted<P: Platform>(&mut self, platform: &mut P, budget: u32)
         requires plays { states.plays_now self.old.play self.old.bring_up ≡ true }
+        requires enough { states.is_open self.old.writer.course.ran ≡ true → Suffices (ring_bytes self.old.writer.geometry.periods self.old.writer.geometry.period) budget self.old.supply }
         requires few { self.old.bring_up.looks < self.old.calls }
         requires free { length self.old.writer.runs.items < self.old.calls }
         requires room { 298 ≤ P.spare_accesses platform.old }
         requires bytes_room { ring_bytes self.old.writer.geometry.periods self.old.writer.geometry.period + 2044 ≤ P.spare_bytes platform.old }
-        ensures sounds { Sounds true budget self.old.bring_up self.new.bring_up self.old.writer self.new.writer self.old.supply self.new.supply (P.told platform.old) (P.told platform.new) }
+        ensures sounds { (later : List ℕ) → MayGive self.new.supply later → states.EndsWhilePlaying self.old.writer.course self.old.supply (sound_before self.old.supply self.new.supply later)
+            → Sounds true budget self.old.bring_up self.new.bring_up self.old.writer self.new.writer (sound_before self.old.supply self.new.supply later) later (P.told platform.old) (P.told platform.new) }
+        ensures taken { IsTaken self.old.supply self.new.supply }
+        ensures accounts { Accounts (measures_of self.old.writer) self.old.supply self.new.supply self.old.writer.course self.new.writer.course }
+        ensures geometry { self.new.writer.geometry ≡ self.old.writer.geometry }
         ensures kept { IsKept self.old.bring_up self.new.bring_up }
         ensures pool { self.new.pool ≡ self.old.pool }
         ensures setter { self.new.setter ≡ self.old.setter }

@@ -65,14 +65,15 @@ returns-in-Ok-clause-pool g c = λ before opens.
     as_before writer.geometry before c.args.self.pool c.give_back-runs.new.pool c.args.self.bring_up.engine.corb.address c.args.self.bring_up.engine.rirb.address writer.list.address (addresses_of writer.periods.items) opens (returns-in-Ok-clause-gives g c)
 
 pub returns-in-Ok-clause-closes : goal.returns-in-Ok-clause-closes
-returns-in-Ok-clause-closes g c =
+returns-in-Ok-clause-closes g c sound may last =
     let ended = c.end_call-ended.new.bring_up in
     let after = c.end_call-ended.new.writer in record {
       ended = ended;
       tally = tally_of after;
       ends = c.in-Ok.ensures.ends;
       recorded = c.end_call-ended.ensures.recorded;
-      sounds = c.end_call-ended.ensures.sounds;
+      sounds = λ plays. c.end_call-ended.ensures.sounds plays sound may last;
+      grows = c.end_call-ended.ensures.grows;
       phase = c.phase_of-phase.ensures ∙ ap (λ (geometry : Geometry). phase_with ended (tally_of after) (measures geometry).limit) c.end_call-ended.ensures.geometry;
       sent = c.sent-sent.ensures;
       graphs = c.parts-engine.ensures.graphs;

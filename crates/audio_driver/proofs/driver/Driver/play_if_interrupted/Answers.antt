@@ -1,25 +1,44 @@
-use Rattle.std.proofs.Common.{sym, ◌∙◌}
+use Rattle.std.proofs.Common.{List, ℕ, true, refl, sym, subst, ◌∙◌}
+use Rattle.wav_reader.specs.Supplies.{sound_before}
+use Rattle.wav_reader.proofs.Callers.{same_before, none_now}
+use Rattle.period_writer.specs.Writers.{measures_of}
+use Rattle.period_writer.proofs.Callers.{accounts_none}
+use Rattle.audio_driver.specs.Sounding.{Sounds}
 use Rattle.audio_driver.proofs.Kept.{ready_is, plays_ready, over_started}
 use Rattle.audio_driver.proofs.Sounded.{over_sounds_irq, quiet_sounds, irq_sounds}
 use Rattle.audio_driver.proofs.driver.Driver.play_if_interrupted.Goals as goal
 
 pub returns-then-has_interrupt-clause-sounds : goal.returns-then-has_interrupt-clause-sounds
-returns-then-has_interrupt-clause-sounds g c =
+returns-then-has_interrupt-clause-sounds g c later may ends =
     let old = c.args.self.now in
     let new = c.play_on.new.self in
     let looks = c.has_interrupt.ensures.looks in
-    irq_sounds old.bring_up new.bring_up old.writer new.writer old.supply new.supply c.args.budget looks.interrupts looks.stream (g.P.Platform.told c.args.platform.now) (g.P.Platform.told c.has_interrupt.new.platform) (g.P.Platform.told c.play_on.new.platform)
-    (ready_is old.bring_up.phase (plays_ready old.play old.bring_up c.requires.plays)) (sym c.is_open.ensures ∙ c.if-not-is_open.false) (sym looks.answer_is ∙ c.if-has_interrupt.true) looks.made c.play_on.ensures.sounds
+    irq_sounds old.bring_up new.bring_up old.writer new.writer (sound_before old.supply new.supply later) later c.args.budget looks.interrupts looks.stream (g.P.Platform.told c.args.platform.now) (g.P.Platform.told c.has_interrupt.new.platform) (g.P.Platform.told c.play_on.new.platform)
+    (ready_is old.bring_up.phase (plays_ready old.play old.bring_up c.requires.plays)) (sym c.is_open.ensures ∙ c.if-not-is_open.false) (sym looks.answer_is ∙ c.if-has_interrupt.true) looks.made (c.play_on.ensures.sounds later may ends)
 
 pub returns-else-has_interrupt-clause-sounds : goal.returns-else-has_interrupt-clause-sounds
-returns-else-has_interrupt-clause-sounds g c =
+returns-else-has_interrupt-clause-sounds g c later may ends =
     let old = c.args.self.now in
     let looks = c.has_interrupt.ensures.looks in
-    quiet_sounds old.bring_up old.writer old.supply c.args.budget looks.interrupts looks.stream (g.P.Platform.told c.args.platform.now) (g.P.Platform.told c.has_interrupt.new.platform)
-    (ready_is old.bring_up.phase (plays_ready old.play old.bring_up c.requires.plays)) (sym c.is_open.ensures ∙ c.if-not-is_open.false) (sym looks.answer_is ∙ c.if-has_interrupt.false) looks.made
+    subst (λ (sound : List ℕ). Sounds true c.args.budget old.bring_up old.bring_up old.writer old.writer sound later (g.P.Platform.told c.args.platform.now) (g.P.Platform.told c.has_interrupt.new.platform)) (sym (same_before old.supply old.supply later refl))
+    (quiet_sounds old.bring_up old.writer later c.args.budget looks.interrupts looks.stream (g.P.Platform.told c.args.platform.now) (g.P.Platform.told c.has_interrupt.new.platform)
+    (ready_is old.bring_up.phase (plays_ready old.play old.bring_up c.requires.plays)) (sym c.is_open.ensures ∙ c.if-not-is_open.false) (sym looks.answer_is ∙ c.if-has_interrupt.false) looks.made)
+
+pub returns-else-has_interrupt-clause-taken : goal.returns-else-has_interrupt-clause-taken
+returns-else-has_interrupt-clause-taken g c = none_now c.args.self.now.supply
+
+pub returns-then-not-is_open-clause-taken : goal.returns-then-not-is_open-clause-taken
+returns-then-not-is_open-clause-taken g c = none_now c.args.self.now.supply
 
 pub returns-then-not-is_open-clause-sounds : goal.returns-then-not-is_open-clause-sounds
-returns-then-not-is_open-clause-sounds g c =
+returns-then-not-is_open-clause-sounds g c later may ends =
     let old = c.args.self.now in
     let over = sym c.is_open.ensures ∙ c.if-not-is_open.true in
-    over_sounds_irq old.bring_up old.writer old.supply c.args.budget (g.P.Platform.told c.args.platform.now) (over_started old.writer old.fresh over) over
+    subst (λ (sound : List ℕ). Sounds true c.args.budget old.bring_up old.bring_up old.writer old.writer sound later (g.P.Platform.told c.args.platform.now) (g.P.Platform.told c.args.platform.now)) (sym (same_before old.supply old.supply later refl))
+    (over_sounds_irq old.bring_up old.writer later c.args.budget (g.P.Platform.told c.args.platform.now) (over_started old.writer old.fresh over) over)
+
+pub returns-else-has_interrupt-clause-accounts : goal.returns-else-has_interrupt-clause-accounts
+returns-else-has_interrupt-clause-accounts g c = accounts_none (measures_of c.args.self.now.writer) c.args.self.now.supply c.args.self.now.writer.course
+
+pub returns-then-not-is_open-clause-accounts : goal.returns-then-not-is_open-clause-accounts
+returns-then-not-is_open-clause-accounts g c = accounts_none (measures_of c.args.self.now.writer) c.args.self.now.supply c.args.self.now.writer.course

@@ -1,8 +1,13 @@
-use Rattle.std.proofs.Common.{◌≡◌, List, length, true, false, ap, sym, subst, ◌∙◌, arith}
+use Rattle.std.proofs.Common.{◌≡◌, refl, ℕ, List, length, true, false, ap, sym, subst, ◌∙◌, arith}
 use Rattle.std.specs.Prelude.{All}
 use Rattle.dma_pool.specs.declared.blocks.Lent.{Lent}
 use Rattle.dma_pool.specs.Blocks.{run_at}
 use Rattle.command_engine.specs.Blocks.{corb_bytes, rirb_bytes}
+use Rattle.wav_reader.specs.Supplies.{sound_before}
+use Rattle.wav_reader.proofs.Callers.{same_before, none_now}
+use Rattle.period_writer.specs.Accounts.{Accounts}
+use Rattle.period_writer.proofs.Callers.{accounts_none}
+use Rattle.audio_driver.specs.Sounding.{Sounds}
 use Rattle.period_writer.specs.declared.course.Course.{Course}
 use Rattle.period_writer.specs.declared.geometry.Geometry.{Geometry}
 use Rattle.period_writer.specs.Rings.{period_bytes, list_bytes}
@@ -15,27 +20,32 @@ use Rattle.audio_driver.proofs.Sounded.{over_sounds, start_sounds, play_sounds}
 use Rattle.audio_driver.proofs.driver.Driver.play_on.Goals as goal
 
 pub returns-then-not-course-clause-sounds : goal.returns-then-not-course-clause-sounds
-returns-then-not-course-clause-sounds g c =
+returns-then-not-course-clause-sounds g c later may ends =
     let old = c.args.self.now in
     let fresh : old.writer.course.started ≡ false = sym (ap (λ (course : Course). course.started) c.course.ensures) ∙ was_not c.course.result.started c.if-not-course.true in
-    start_sounds old.bring_up old.writer c.start.new.self old.supply c.start.new.supply c.args.budget (g.P.Platform.told c.args.platform.now) (g.P.Platform.told c.start.new.platform)
-    (ready_is old.bring_up.phase (plays_ready old.play old.bring_up c.requires.plays)) fresh (old.fresh fresh) c.start.ensures.starts c.start.ensures.tells
+    start_sounds old.bring_up old.writer c.start.new.self (sound_before old.supply c.start.new.supply later) later c.args.budget (g.P.Platform.told c.args.platform.now) (g.P.Platform.told c.start.new.platform)
+    (ready_is old.bring_up.phase (plays_ready old.play old.bring_up c.requires.plays)) fresh (old.fresh fresh) (c.start.ensures.starts later may) (c.start.ensures.tells later may)
     (record { geometry = c.start.ensures.geometry; list = c.start.ensures.list; periods = c.start.ensures.periods; records = c.start.ensures.records })
 
 pub returns-then-is_open-clause-sounds : goal.returns-then-is_open-clause-sounds
-returns-then-is_open-clause-sounds g c =
+returns-then-is_open-clause-sounds g c later may ends =
     let old = c.args.self.now in
     let started : old.writer.course.started ≡ true = sym (ap (λ (course : Course). course.started) c.course.ensures) ∙ was_so c.course.result.started c.if-not-course.false in
-    play_sounds old.bring_up c.listen.new.self old.writer c.run-ran.new.self old.supply c.run-ran.new.supply c.args.budget c.run-ran.result
+    let plays_on = sym c.is_open.ensures ∙ c.if-is_open.true in
+    play_sounds old.bring_up c.listen.new.self old.writer c.run-ran.new.self (sound_before old.supply c.run-ran.new.supply later) later c.args.budget c.run-ran.result
     (g.P.Platform.told c.args.platform.now) (g.P.Platform.told c.listen.new.platform) (g.P.Platform.told c.run-ran.new.platform) started (sym c.is_open.ensures ∙ c.if-is_open.true)
-    c.listen.ensures.listens c.listen.ensures.kept c.run-ran.ensures.plays c.run-ran.ensures.tells
+    c.listen.ensures.listens c.listen.ensures.kept (c.run-ran.ensures.plays later may (ends started plays_on)) (c.run-ran.ensures.tells later may (ends started plays_on))
     (record { geometry = c.run-ran.ensures.geometry; list = c.run-ran.ensures.list; periods = c.run-ran.ensures.periods; records = c.run-ran.ensures.records })
 
 pub returns-else-is_open-clause-sounds : goal.returns-else-is_open-clause-sounds
-returns-else-is_open-clause-sounds g c =
+returns-else-is_open-clause-sounds g c later may ends =
     let old = c.args.self.now in
     let started : old.writer.course.started ≡ true = sym (ap (λ (course : Course). course.started) c.course.ensures) ∙ was_so c.course.result.started c.if-not-course.false in
-    over_sounds old.bring_up old.writer old.supply c.args.budget (g.P.Platform.told c.args.platform.now) started (sym c.is_open.ensures ∙ c.if-is_open.false)
+    subst (λ (sound : List ℕ). Sounds false c.args.budget old.bring_up old.bring_up old.writer old.writer sound later (g.P.Platform.told c.args.platform.now) (g.P.Platform.told c.args.platform.now)) (sym (same_before old.supply old.supply later refl))
+    (over_sounds old.bring_up old.writer later c.args.budget (g.P.Platform.told c.args.platform.now) started (sym c.is_open.ensures ∙ c.if-is_open.false))
+
+pub returns-else-is_open-clause-taken : goal.returns-else-is_open-clause-taken
+returns-else-is_open-clause-taken g c = none_now c.args.self.now.supply
 
 -- ---- what the driver keeps, after a later run
 
@@ -69,22 +79,22 @@ invariant_of-self-then-is_open-clause-formats g c =
 
 pub invariant_of-self-then-is_open-clause-few_recorded : goal.invariant_of-self-then-is_open-clause-few_recorded
 invariant_of-self-then-is_open-clause-few_recorded g c =
-    let old = c.args.self.now in
-    let plays = c.run-ran.ensures.plays in
-    let more = one_more (measures_of old.writer) (tally_of old.writer) (tally_of c.run-ran.new.self) (facts_of c.args.budget (length old.supply) plays.from plays.lpib plays.to) plays.tally_is in
+    let more = c.run-ran.ensures.few in
     let free = c.requires.free in
     omega arith
 
 pub invariant_of-self-then-is_open-clause-fresh : goal.invariant_of-self-then-is_open-clause-fresh
-invariant_of-self-then-is_open-clause-fresh g c = λ fresh.
-    let old = c.args.self.now in
-    let plays = c.run-ran.ensures.plays in
-    let facts = facts_of c.args.budget (length old.supply) plays.from plays.lpib plays.to in
-    let started : old.writer.course.started ≡ true = sym (ap (λ (course : Course). course.started) c.course.ensures) ∙ was_so c.course.result.started c.if-not-course.false in
-    let stays : c.run-ran.new.self.course.started ≡ true =
-    ap (λ (tally : Tally). tally.course.started) plays.tally_is ∙ started_by (is_late (measures_of old.writer) old.writer.course facts) (measures_of old.writer) (tally_of old.writer) facts started in
-    absurd (not_both c.run-ran.new.self.course.started fresh stays)
+invariant_of-self-then-is_open-clause-fresh g c = λ fresh. absurd (not_both c.run-ran.new.self.course.started fresh c.run-ran.ensures.on)
 
 pub invariant_of-self-then-is_open-clause-begun : goal.invariant_of-self-then-is_open-clause-begun
 invariant_of-self-then-is_open-clause-begun g c = λ started.
     plays_same c.args.self.now.play c.args.self.now.bring_up c.listen.new.self c.listen.ensures.listens.phase c.requires.plays
+
+pub returns-then-not-course-clause-accounts : goal.returns-then-not-course-clause-accounts
+returns-then-not-course-clause-accounts g c =
+    let old = c.args.self.now in
+    let fresh : old.writer.course.started ≡ false = sym (ap (λ (course : Course). course.started) c.course.ensures) ∙ was_not c.course.result.started c.if-not-course.true in
+    subst (λ (course : Course). Accounts (measures_of old.writer) old.supply c.start.new.supply course c.start.new.self.course) (sym (ap (λ (tally : Tally). tally.course) (old.fresh fresh))) c.start.ensures.accounts
+
+pub returns-else-is_open-clause-accounts : goal.returns-else-is_open-clause-accounts
+returns-else-is_open-clause-accounts g c = accounts_none (measures_of c.args.self.now.writer) c.args.self.now.supply c.args.self.now.writer.course

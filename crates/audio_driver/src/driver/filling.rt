@@ -1,0 +1,44 @@
+//! How a driver reads its sound.
+ghost use Rattle.std.specs.Prelude.{◌≡◌, ◌≤◌, ◌+◌, ℕ, List, length, None};
+ghost use Rattle.wav_reader.specs.Fills.{FillsBy, IsBeside};
+ghost use Rattle.wav_reader.specs.Shelves.{seen_as};
+
+use super::Driver;
+use hda_outside::{Cut, Shelf};
+use route_setup::Setter;
+use std::alloc::Global;
+
+impl<T: Setter> Driver<T> {
+    /// Reads more of the sound, as [`Supply::fill`](wav_reader::Supply::fill) does: in pieces of at most 4,096 bytes, until as many bytes are held as
+    /// the ring has or as are left. Memory is taken in the shelf's calls alone.
+    ///
+    /// # Errors
+    /// `Failed` where the shelf failed, `Short` with the place in the file at which it answered that there was no byte more, and `OutOfMemory` where the
+    /// shelf answered that. From then on nothing more is read: what is held is all that is left.
+    pub fn fill<S: Shelf>(&mut self, alloc: Global, shelf: &mut S) -> Result<(), Cut>
+        ensures fills { FillsBy self.old.supply.source self.old.supply self.new.supply
+            (λ name. seen_as (S.told shelf.old) (S.faults shelf.old name) (S.empties shelf.old name) (S.given shelf.old))
+            (λ name. seen_as (S.told shelf.new) (S.faults shelf.new name) (S.empties shelf.new name) (S.given shelf.new)) result }
+        ensures whole { self.old.supply.source ≡ None → shelf.new ≡ shelf.old }
+        ensures told { S.told shelf.new ≡ S.told shelf.old }
+        ensures asked { (other : List ℕ) → IsBeside self.old.supply.source other → S.asked shelf.new other ≡ S.asked shelf.old other }
+        ensures later { (other : List ℕ) → S.faults shelf.old other ≤ S.faults shelf.new other }
+        ensures empties_later { (other : List ℕ) → S.empties shelf.old other ≤ S.empties shelf.new other }
+        ensures bring_up { self.new.bring_up ≡ self.old.bring_up }
+        ensures writer { self.new.writer ≡ self.old.writer }
+        ensures pool { self.new.pool ≡ self.old.pool }
+        ensures setter { self.new.setter ≡ self.old.setter }
+        ensures play { self.new.play ≡ self.old.play }
+        ensures runs { self.new.runs ≡ self.old.runs }
+        ensures calls { self.new.calls ≡ self.old.calls }
+    {
+        self.supply.fill(alloc, shelf)
+    }
+
+    /// How many bytes of sound were read so far: those that were taken and those that are held.
+    pub fn bytes_read(&self) -> u64
+        ensures { result ≡ self.now.supply.taken + length self.now.supply.held }
+    {
+        self.supply.read()
+    }
+}
