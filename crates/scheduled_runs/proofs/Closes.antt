@@ -32,7 +32,8 @@ use Rattle.scheduled_runs.specs.Events.{told_in}
 use Rattle.scheduled_runs.specs.Lines.{lines_of}
 use Rattle.rig.specs.declared.rig.Rig.{Rig}
 use Rattle.rig.specs.Rigs.{telling_of}
-use Rattle.scheduled_runs.specs.Going.{Means, UnderWay, Goes, Ran, IsClosed, IsDriven, plan_by, verbs_for}
+use Rattle.scheduled_runs.proofs.Called.{may_held, only_held}
+use Rattle.scheduled_runs.specs.Going.{Player, sounded, IsWhole, Means, UnderWay, Goes, Ran, IsClosed, IsDriven, plan_by, verbs_for}
 use Rattle.scheduled_runs.proofs.Events.{Run, run_of, counted_on}
 use Rattle.scheduled_runs.proofs.LinkFrames.{short_before, never_wrapped}
 use Rattle.scheduled_runs.proofs.Goes.{Keeps}
@@ -156,13 +157,16 @@ module _ (means : Means) (format : Format) (play : Bool) where
   }
 
 -- so for a rig, where what the setter means, the format, whether it plays and the ring stayed
-pub driven_by : (means means' : Means) (format : Format) (play play' : Bool) (schedule : Schedule) (old middle : Parts) (closed : Closed) (rig rig' rig'' : Rig)
-    → means' ≡ means → format ≡ old.bring_up.agenda.format → play' ≡ play → middle.writer.geometry ≡ old.writer.geometry → Ran means format play (items_of schedule) old middle rig rig'
-    → IsClosed means' middle.bring_up.agenda.format play' middle closed (telling_of rig') (telling_of rig'') → IsDriven means format play schedule old closed (telling_of rig) (telling_of rig'')
-driven_by means means' format play play' schedule old middle closed rig rig' rig'' same is plays ring ran closes =
+pub driven_by : (means means' : Means) (format : Format) (play play' : Bool) (schedule : Schedule) (old middle : Player) (closed : Closed) (rig rig' rig'' : Rig)
+    → means' ≡ means → format ≡ old.bring_up.agenda.format → play' ≡ play → middle.writer.geometry ≡ old.writer.geometry → IsWhole old.supply → Ran means format play (items_of schedule) old middle rig rig'
+    → IsClosed means' middle.bring_up.agenda.format play' (sounded middle middle.supply.held) closed (telling_of rig') (telling_of rig'') → IsDriven means format play schedule (sounded old old.supply.held) closed (telling_of rig) (telling_of rig'')
+driven_by means means' format play play' schedule old middle closed rig rig' rig'' same is plays ring whole ran closes =
     let before = telling_of rig' in
     let after = telling_of rig'' in
-    both_drive means format play schedule old middle closed (telling_of rig) before after ring ran.goes
-    (subst (λ (m : Means). IsClosed m format play middle closed before after) same
-    (subst (λ (f : Format). IsClosed means' f play middle closed before after) (ran.goes.format_is ∙ sym is)
-    (subst (λ (p : Bool). IsClosed means' middle.bring_up.agenda.format p middle closed before after) plays closes)))
+    let last = sounded middle middle.supply.held in
+    let back = ran.goes middle.supply.held (may_held middle.supply ran.whole) in
+    subst (λ (sound : List ℕ). IsDriven means format play schedule (sounded old sound) closed (telling_of rig) after) (only_held old.supply back.0 whole back.1)
+    (both_drive means format play schedule (sounded old back.0) last closed (telling_of rig) before after ring back.2
+    (subst (λ (m : Means). IsClosed m format play last closed before after) same
+    (subst (λ (f : Format). IsClosed means' f play last closed before after) (ran.format_is ∙ sym is)
+    (subst (λ (p : Bool). IsClosed means' middle.bring_up.agenda.format p last closed before after) plays closes))))

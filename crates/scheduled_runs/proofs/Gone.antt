@@ -42,7 +42,7 @@ use Rattle.machine_tasks.specs.Starting.{BeginsAt}
 use Rattle.scheduled_runs.specs.Lines.{lines_of}
 use Rattle.scheduled_runs.specs.Events.{told_in}
 use Rattle.scheduled_runs.specs.LinkFrames.{IsShort}
-use Rattle.scheduled_runs.specs.Going.{Means, parts_of, IsTask, UnderWay, Leaves, IsDriven, plan_by, open_by}
+use Rattle.scheduled_runs.specs.Going.{Means, parts_with, IsTask, UnderWay, Leaves, IsDriven, plan_by, open_by}
 use Rattle.scheduled_runs.specs.Ends.{can_end}
 use Rattle.scheduled_runs.proofs.LinkFrames.{follows_frames}
 use Rattle.scheduled_runs.proofs.Goes.{Keeps}
@@ -97,7 +97,7 @@ pub opened_can_go : (machine : Machine) (format : Format) (plans : List Plan) (g
     → (plays ≡ true → supply ≡ pcm) → IsOpened geometry most bring_up writer → AreApartFrom (ring_of writer) bring_up.engine.rirb.address → geometry.fifo ≡ machine.fifo → geometry.format ≡ format
     → IsTaskOfCodecs (λ (graph : RawCodec). IsPlan graph format) (verbs_by format) (verbs_in format machine.codecs plans) (graphs_in machine.codecs) (task_of format machine plans geometry plays pcm (blocks_of bring_up writer))
     → BeginsAt format machine plans (task_of format machine plans geometry plays pcm (blocks_of bring_up writer)) bring_up → Rests machine.fifo (start_of REGION_BYTES machine)
-    → CanGo machine format plans play (task_of format machine plans geometry plays pcm (blocks_of bring_up writer)) (parts_of bring_up writer supply)
+    → CanGo machine format plans play (task_of format machine plans geometry plays pcm (blocks_of bring_up writer)) (parts_with bring_up writer supply)
 opened_can_go machine format plans geometry most play plays pcm bring_up writer supply same sound opened apart fifo format_is of_codecs begins rests = record {
   is = record { of_codecs = of_codecs; plays_is = sym same };
   begins = begins;

@@ -1,5 +1,5 @@
 -- How rigs that went on go on.
-use Rattle.std.proofs.Common.{◌≡◌, Bool, List, [], ◌++◌, refl, sym, subst, ◌∙◌}
+use Rattle.std.proofs.Common.{◌≡◌, ℕ, Bool, List, [], ◌++◌, refl, sym, subst, ◌∙◌}
 use Rattle.std.specs.Prelude.{false, OnOk, IfOk, Result, Ok, Err}
 use Rattle.stream_format.specs.declared.format.Format.{Format}
 use Rattle.hda_schedule.specs.declared.schedule.Item.{Item}
@@ -9,26 +9,36 @@ use Rattle.rig.specs.declared.setting.Setting.{Setting}
 use Rattle.rig.specs.Rigs.{telling_of, setting_of}
 use Rattle.rig.specs.Follows.{FollowItems}
 use Rattle.rig.specs.Stretches.{IsStretchFrom}
-use Rattle.told_playing.specs.Sounding.{Parts}
-use Rattle.scheduled_runs.specs.Going.{Means, Goes, Ran}
+use Rattle.scheduled_runs.specs.Going.{Means, Goes, Ran, Player, sounded, IsWhole}
 use Rattle.scheduled_runs.proofs.Goes.{FollowBoth, goes_none, goes_both}
 
 -- nothing was run
-pub ran_none : (means : Means) (format : Format) (play : Bool) → FollowItems [] [] → (parts : Parts) (rig : Rig) → (setting_of rig).in_run ≡ false → Ran means format play [] parts parts rig rig
-ran_none means format play none parts rig between = record { goes = goes_none means format play none parts (telling_of rig); between = between; machine = refl }
+pub ran_none : (means : Means) (format : Format) (play : Bool) → FollowItems [] [] → (player : Player) (rig : Rig) → (setting_of rig).in_run ≡ false → IsWhole player.supply → Ran means format play [] player player rig rig
+ran_none means format play none player rig between whole = record {
+  goes = λ later may. (later, may, goes_none means format play none (sounded player later) (telling_of rig));
+  format_is = refl;
+  whole = whole;
+  between = between;
+  machine = refl;
+}
 
 -- some items and then others, where what the setter means, the format and whether it plays stayed
-pub ran_both : (means means' : Means) (format : Format) (play play' : Bool) → FollowBoth → (first second : List Item) (old middle new : Parts) (rig rig' rig'' : Rig)
+pub ran_both : (means means' : Means) (format : Format) (play play' : Bool) → FollowBoth → (first second : List Item) (old middle new : Player) (rig rig' rig'' : Rig)
     → means' ≡ means → format ≡ old.bring_up.agenda.format → play' ≡ play → Ran means format play first old middle rig rig'
     → Ran means' middle.bring_up.agenda.format play' second middle new rig' rig'' → Ran means format play (first ++ second) old new rig rig''
 ran_both means means' format play play' follow first second old middle new rig rig' rig'' same is plays one other =
-    let stays : middle.bring_up.agenda.format ≡ format = one.goes.format_is ∙ sym is in
-    let next : Goes means format play second middle new (telling_of rig') (telling_of rig'') =
-    subst (λ (m : Means). Goes m format play second middle new (telling_of rig') (telling_of rig'')) same
-    (subst (λ (f : Format). Goes means' f play second middle new (telling_of rig') (telling_of rig'')) stays
-    (subst (λ (p : Bool). Goes means' middle.bring_up.agenda.format p second middle new (telling_of rig') (telling_of rig'')) plays other.goes)) in
+    let stays : middle.bring_up.agenda.format ≡ format = one.format_is ∙ sym is in
     record {
-      goes = goes_both means format play follow first second old middle new (telling_of rig) (telling_of rig') (telling_of rig'') one.goes next;
+      goes = λ later may.
+          (let back = other.goes later may in
+          let begun = one.goes back.0 back.1 in
+          let next : Goes means format play second (sounded middle back.0) (sounded new later) (telling_of rig') (telling_of rig'') =
+          subst (λ (m : Means). Goes m format play second (sounded middle back.0) (sounded new later) (telling_of rig') (telling_of rig'')) same
+          (subst (λ (f : Format). Goes means' f play second (sounded middle back.0) (sounded new later) (telling_of rig') (telling_of rig'')) stays
+          (subst (λ (p : Bool). Goes means' middle.bring_up.agenda.format p second (sounded middle back.0) (sounded new later) (telling_of rig') (telling_of rig'')) plays back.2)) in
+          (begun.0, begun.1, goes_both means format play follow first second (sounded old begun.0) (sounded middle back.0) (sounded new later) (telling_of rig) (telling_of rig') (telling_of rig'') begun.2 next));
+      format_is = other.format_is ∙ one.format_is;
+      whole = other.whole;
       between = other.between;
       machine = other.machine ∙ one.machine;
     }

@@ -1,5 +1,5 @@
 -- How calls of a driver go on over a rig, item by item. This project's own.
-use Rattle.std.specs.Prelude.{◌≡◌, ◌++◌, [], Bool, false, ℕ, List, All}
+use Rattle.std.specs.Prelude.{◌≡◌, ◌++◌, [], Bool, false, ℕ, List, length, All}
 use Rattle.verb_codes.specs.declared.verbs.Command.{Command}
 use Rattle.codec_graph.specs.declared.raw.RawCodec.{RawCodec}
 use Rattle.codec_graph.specs.Settings.{Entries}
@@ -14,6 +14,7 @@ use Rattle.jack_counts.specs.Counted.{IsCount}
 use Rattle.jack_counts.specs.Jacks.{Counts}
 use Rattle.codec_bring_up.specs.declared.bringing.BringUp.{BringUp}
 use Rattle.told_bring_up.specs.Standing.{IsTaskOfCodecs}
+use Rattle.wav_reader.specs.Supplies.{Supplied, MayGive}
 use Rattle.period_writer.specs.declared.writer.Writer.{Writer}
 use Rattle.period_writer.specs.Runs.{Tally}
 use Rattle.period_writer.specs.Writers.{measures_of}
@@ -46,9 +47,25 @@ verbs_for means format graph plan = means.verbs_by graph plan format TAG
 abbrev pub open_by : Means → Format → RawCodec → Entries → Plan → Type 0
 open_by means format graph settings plan = means.IsOpenBy graph settings plan format TAG
 
--- the parts of a driver that are told
-abbrev pub parts_of : BringUp → Writer → (supply : List ℕ) → Parts
+-- a driver with its supply, of which it is not known yet what it will have given
+pub record Player : Type 0 where
+  pub bring_up : BringUp
+  pub writer : Writer
+  pub supply : Supplied
+
+abbrev pub parts_of : BringUp → Writer → Supplied → Player
 parts_of bring_up writer supply = record { bring_up = bring_up; writer = writer; supply = supply }
+
+-- the parts of a driver that are told, with this sound to come
+abbrev pub parts_with : BringUp → Writer → (sound : List ℕ) → Parts
+parts_with bring_up writer sound = record { bring_up = bring_up; writer = writer; supply = sound }
+
+abbrev pub sounded : Player → (sound : List ℕ) → Parts
+sounded player sound = parts_with player.bring_up player.writer sound
+
+-- all that is left is held
+abbrev pub IsWhole : Supplied → Type 0
+IsWhole supply = length supply.held ≡ supply.left
 
 -- what is to be done for codecs with these graphs, with sound or without
 pub record IsTask (means : Means) (format : Format) (play : Bool) (verbs : RawCodec → List Command) (graphs : List RawCodec) (task : Task) : Type 0 where
@@ -79,8 +96,12 @@ pub record Goes (means : Means) (format : Format) (play : Bool) (items : List It
   pub silent : play ≡ false → new.writer ≡ old.writer
 
 -- so a rig went on, from between two runs to between two runs
-pub record Ran (means : Means) (format : Format) (play : Bool) (items : List Item) (old new : Parts) (before after : Rig) : Type 0 where
-  pub goes : Goes means format play items old new (telling_of before) (telling_of after)
+pub record Ran (means : Means) (format : Format) (play : Bool) (items : List Item) (old new : Player) (before after : Rig) : Type 0 where
+  -- whatever sound the supply may yet give at the end, there is one that it might give before, over which it went on so
+  pub goes : (later : List ℕ) → MayGive new.supply later
+      → (sound : List ℕ) × MayGive old.supply sound × Goes means format play items (sounded old sound) (sounded new later) (telling_of before) (telling_of after)
+  pub format_is : new.bring_up.agenda.format ≡ old.bring_up.agenda.format
+  pub whole : IsWhole new.supply
   pub between : (setting_of after).in_run ≡ false
   pub machine : (setting_of after).machine ≡ (setting_of before).machine
 

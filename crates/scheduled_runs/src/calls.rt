@@ -1,6 +1,7 @@
 //! Calls of a driver over a rig.
-ghost use Rattle.std.specs.Prelude.{◌≡◌, ◌≤◌, ◌<◌, ◌+◌, [], ◌∷◌, false, IfOk, OnOk};
+ghost use Rattle.std.specs.Prelude.{◌≡◌, ◌≤◌, ◌<◌, ◌+◌, ℕ, List, [], ◌∷◌, false, IfOk, OnOk};
 ghost use Rattle.hda_schedule.specs.declared.schedule.Item.TheVariants.{Drive};
+ghost use Rattle.wav_reader.specs.Supplies.{MayGive, IsTaken, sound_before};
 ghost use Rattle.period_writer.specs.Rings.{ring_bytes};
 ghost use Rattle.told_playing.specs.Keeping.{Calls};
 ghost use Rattle.rig.specs.Rigs.{telling_of, setting_of};
@@ -29,10 +30,12 @@ fn call<T: Setter, P: Platform>(
     driver: &mut Driver<T>,
     line: &DriverLine,
 ) -> Result<Phase, AllocError>
+    requires whole { spec.IsWhole driver.old.supply }
     requires few { driver.old.calls < driver.old.runs }
     requires room { 400 ≤ P.spare_accesses platform.old }
     requires bytes_room { ring_bytes driver.old.writer.geometry.periods driver.old.writer.geometry.period + 8192 ≤ P.spare_bytes platform.old }
-    ensures leads { OnOk result (Calls (λ graph. T.IsPlanBy driver.old.setter graph driver.old.bring_up.agenda.format) (λ graph plan. T.verbs_by driver.old.setter graph plan driver.old.bring_up.agenda.format TAG) driver.old.play line.now.irq line.now.budget (spec.parts_of driver.old.bring_up driver.old.writer driver.old.supply) (spec.parts_of driver.new.bring_up driver.new.writer driver.new.supply) (P.told platform.old) (P.told platform.new)) }
+    ensures taken { IsTaken driver.old.supply driver.new.supply }
+    ensures leads { OnOk result ((later : List ℕ) → MayGive driver.new.supply later → Calls (λ graph. T.IsPlanBy driver.old.setter graph driver.old.bring_up.agenda.format) (λ graph plan. T.verbs_by driver.old.setter graph plan driver.old.bring_up.agenda.format TAG) driver.old.play line.now.irq line.now.budget (spec.parts_with driver.old.bring_up driver.old.writer (sound_before driver.old.supply driver.new.supply later)) (spec.parts_with driver.new.bring_up driver.new.writer later) (P.told platform.old) (P.told platform.new)) }
     ensures geometry { driver.new.writer.geometry ≡ driver.old.writer.geometry }
     ensures setter { driver.new.setter ≡ driver.old.setter }
     ensures play { driver.new.play ≡ driver.old.play }
@@ -58,6 +61,7 @@ pub(crate) fn run_line<T: Setter>(
     bytes: u32,
 ) -> Result<(), AllocError>
     requires between { (setting_of rig.old).in_run ≡ false }
+    requires whole { spec.IsWhole driver.old.supply }
     requires few { driver.old.calls < driver.old.runs }
     requires room { ring_bytes driver.old.writer.geometry.periods driver.old.writer.geometry.period + 8192 ≤ bytes }
     ensures ran { OnOk result (spec.Ran (record { IsPlanBy = T.IsPlanBy driver.old.setter; verbs_by = T.verbs_by driver.old.setter; IsOpenBy = T.IsOpenBy driver.old.setter }) driver.old.bring_up.agenda.format driver.old.play (Drive line.now ∷ []) (spec.parts_of driver.old.bring_up driver.old.writer driver.old.supply) (spec.parts_of driver.new.bring_up driver.new.writer driver.new.supply) rig.old rig.new) }
@@ -84,9 +88,10 @@ pub(crate) fn run_last<T: Setter + Drop>(
     driver: Driver<T>,
     bytes: u32,
 ) -> Result<Closed, AllocError>
+    requires whole { spec.IsWhole driver.supply }
     requires between { (setting_of rig.old).in_run ≡ false }
     requires room { ring_bytes driver.writer.geometry.periods driver.writer.geometry.period + 8192 ≤ bytes }
-    ensures closed { IfOk result (λ closed. spec.IsClosed (record { IsPlanBy = T.IsPlanBy driver.setter; verbs_by = T.verbs_by driver.setter; IsOpenBy = T.IsOpenBy driver.setter }) driver.bring_up.agenda.format driver.play (spec.parts_of driver.bring_up driver.writer driver.supply) closed (telling_of rig.old) (telling_of rig.new)) }
+    ensures closed { IfOk result (λ closed. spec.IsClosed (record { IsPlanBy = T.IsPlanBy driver.setter; verbs_by = T.verbs_by driver.setter; IsOpenBy = T.IsOpenBy driver.setter }) driver.bring_up.agenda.format driver.play (spec.parts_with driver.bring_up driver.writer driver.supply.held) closed (telling_of rig.old) (telling_of rig.new)) }
     ensures machine { OnOk result ((setting_of rig.new).machine ≡ (setting_of rig.old).machine) }
 {
     drivers_keep_to_progress::<T>();

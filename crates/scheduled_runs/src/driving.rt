@@ -26,10 +26,11 @@ pub(crate) fn drive<T: Setter + Drop>(
     schedule: &Schedule,
     bytes: u32,
 ) -> Result<Closed, AllocError>
+    requires whole { spec.IsWhole driver.supply }
     requires between { (setting_of rig.old).in_run ≡ false }
     requires few { driver.calls + length (lines_of schedule.now) ≤ driver.runs }
     requires room { ring_bytes driver.writer.geometry.periods driver.writer.geometry.period + 8192 ≤ bytes }
-    ensures driven { IfOk result (λ closed. spec.IsDriven (record { IsPlanBy = T.IsPlanBy driver.setter; verbs_by = T.verbs_by driver.setter; IsOpenBy = T.IsOpenBy driver.setter }) driver.bring_up.agenda.format driver.play schedule.now (spec.parts_of driver.bring_up driver.writer driver.supply) closed (telling_of rig.old) (telling_of rig.new)) }
+    ensures driven { IfOk result (λ closed. spec.IsDriven (record { IsPlanBy = T.IsPlanBy driver.setter; verbs_by = T.verbs_by driver.setter; IsOpenBy = T.IsOpenBy driver.setter }) driver.bring_up.agenda.format driver.play schedule.now (spec.parts_with driver.bring_up driver.writer driver.supply.held) closed (telling_of rig.old) (telling_of rig.new)) }
     ensures machine { OnOk result ((setting_of rig.new).machine ≡ (setting_of rig.old).machine) }
 {
     match run_schedule(rig, &mut driver, schedule, bytes) {

@@ -25,6 +25,7 @@ fn run_item<T: Setter>(
     item: &Item,
     bytes: u32,
 ) -> Result<(), AllocError>
+    requires whole { spec.IsWhole driver.old.supply }
     requires between { (setting_of rig.old).in_run ≡ false }
     requires few { driver.old.calls + length (lines_in (item.now ∷ [])) ≤ driver.old.runs }
     requires room { ring_bytes driver.old.writer.geometry.periods driver.old.writer.geometry.period + 8192 ≤ bytes }
@@ -53,6 +54,7 @@ fn run_items<T: Setter>(
     items: &[Item],
     bytes: u32,
 ) -> Result<(), AllocError>
+    requires whole { spec.IsWhole driver.old.supply }
     requires between { (setting_of rig.old).in_run ≡ false }
     requires few { driver.old.calls + length (lines_in items.now) ≤ driver.old.runs }
     requires room { ring_bytes driver.old.writer.geometry.periods driver.old.writer.geometry.period + 8192 ≤ bytes }
@@ -80,6 +82,7 @@ fn run_part<T: Setter>(
     part: &Part,
     bytes: u32,
 ) -> Result<(), AllocError>
+    requires whole { spec.IsWhole driver.old.supply }
     requires between { (setting_of rig.old).in_run ≡ false }
     requires few { driver.old.calls + length (lines_in (items_in part.now)) ≤ driver.old.runs }
     requires room { ring_bytes driver.old.writer.geometry.periods driver.old.writer.geometry.period + 8192 ≤ bytes }
@@ -107,6 +110,7 @@ pub(crate) fn run_schedule<T: Setter>(
     schedule: &Schedule,
     bytes: u32,
 ) -> Result<(), AllocError>
+    requires whole { spec.IsWhole driver.old.supply }
     requires between { (setting_of rig.old).in_run ≡ false }
     requires few { driver.old.calls + length (lines_of schedule.now) ≤ driver.old.runs }
     requires room { ring_bytes driver.old.writer.geometry.periods driver.old.writer.geometry.period + 8192 ≤ bytes }

@@ -6,6 +6,7 @@ ghost use Rattle.hda_schedule.specs.Schedules.{IsLimited};
 ghost use Rattle.machine_tasks.specs.Reading.{IsRead};
 ghost use Rattle.machine_tasks.specs.Tasks.{HavePlans};
 ghost use Rattle.scheduled_runs.specs.Ends.{can_end};
+ghost use Rattle.scheduled_runs.specs.Going.{IsWhole};
 ghost use Rattle.scheduled_runs.specs.Openings.{IsFresh};
 ghost use Rattle.scheduled_runs.specs.Walks as spec;
 
@@ -52,7 +53,9 @@ pub fn walk_format() -> Format
 }
 
 /// A supply without sound.
-fn no_sound(alloc: Global) -> Supply {
+fn no_sound(alloc: Global) -> Supply
+    ensures { IsWhole result }
+{
     Supply::whole(Wav {
         format: walk_format(),
         mono: false,
@@ -73,6 +76,7 @@ fn silent_driver(alloc: Global, fifo: u16, calls: u32) -> Result<Driver<Analog>,
     ensures play { IfOk result (λ driver. driver.play ≡ false) }
     ensures calls { IfOk result (λ driver. driver.calls ≡ 0) }
     ensures runs { IfOk result (λ driver. driver.runs ≡ calls) }
+    ensures whole { IfOk result (λ driver. IsWhole driver.supply) }
 {
     let Ok(geometry) = Geometry::new(PERIODS, PERIOD, fifo, walk_format()) else {
         unreachable!();

@@ -1,8 +1,9 @@
-use Rattle.std.proofs.Common.{Bool, true, false, sym, subst}
+use Rattle.std.proofs.Common.{ℕ, List, Bool, true, false, sym, subst}
+use Rattle.wav_reader.specs.Supplies.{MayGive, sound_before}
 use Rattle.std.specs.Prelude.{OnOk}
 use Rattle.driver_commands.specs.declared.answers.TheConstants.{TAG}
 use Rattle.told_playing.specs.Keeping.{Calls}
-use Rattle.scheduled_runs.specs.Going.{parts_of}
+use Rattle.scheduled_runs.specs.Going.{parts_of, sounded}
 use Rattle.scheduled_runs.proofs.Called.{called}
 use Rattle.scheduled_runs.proofs.calls.call.Goals as goal
 
@@ -13,10 +14,10 @@ returns-then-line-clause-leads g c =
     let format = driver.bring_up.agenda.format in
     let old = parts_of driver.bring_up driver.writer driver.supply in
     let new = parts_of now.bring_up now.writer now.supply in
-    subst (λ (irq : Bool). OnOk c.irq.result (Calls (λ graph. g.T.Setter.IsPlanBy driver.setter graph format) (λ graph plan. g.T.Setter.verbs_by driver.setter graph plan format TAG) driver.play irq c.args.line.now.budget old new (g.P.Platform.told c.args.platform.now) (g.P.Platform.told c.irq.new.platform)))
+    subst (λ (irq : Bool). OnOk c.irq.result ((later : List ℕ) → MayGive new.supply later → Calls (λ graph. g.T.Setter.IsPlanBy driver.setter graph format) (λ graph plan. g.T.Setter.verbs_by driver.setter graph plan format TAG) driver.play irq c.args.line.now.budget (sounded old (sound_before old.supply new.supply later)) (sounded new later) (g.P.Platform.told c.args.platform.now) (g.P.Platform.told c.irq.new.platform)))
     (sym c.if-line.true)
     (called (λ graph. g.T.Setter.IsPlanBy driver.setter graph format) (λ graph plan. g.T.Setter.verbs_by driver.setter graph plan format TAG) driver.play true c.args.line.now.budget old new (g.P.Platform.told c.args.platform.now) (g.P.Platform.told c.irq.new.platform) c.irq.result
-    c.irq.ensures.leads c.irq.ensures.kept c.irq.ensures.writer c.irq.ensures.supply c.irq.ensures.sounds)
+    c.requires.whole c.irq.ensures.taken c.irq.ensures.leads c.irq.ensures.kept c.irq.ensures.writer c.irq.ensures.supply c.irq.ensures.sounds)
 
 pub returns-else-line-clause-leads : goal.returns-else-line-clause-leads
 returns-else-line-clause-leads g c =
@@ -25,7 +26,7 @@ returns-else-line-clause-leads g c =
     let format = driver.bring_up.agenda.format in
     let old = parts_of driver.bring_up driver.writer driver.supply in
     let new = parts_of now.bring_up now.writer now.supply in
-    subst (λ (irq : Bool). OnOk c.run.result (Calls (λ graph. g.T.Setter.IsPlanBy driver.setter graph format) (λ graph plan. g.T.Setter.verbs_by driver.setter graph plan format TAG) driver.play irq c.args.line.now.budget old new (g.P.Platform.told c.args.platform.now) (g.P.Platform.told c.run.new.platform)))
+    subst (λ (irq : Bool). OnOk c.run.result ((later : List ℕ) → MayGive new.supply later → Calls (λ graph. g.T.Setter.IsPlanBy driver.setter graph format) (λ graph plan. g.T.Setter.verbs_by driver.setter graph plan format TAG) driver.play irq c.args.line.now.budget (sounded old (sound_before old.supply new.supply later)) (sounded new later) (g.P.Platform.told c.args.platform.now) (g.P.Platform.told c.run.new.platform)))
     (sym c.if-line.false)
     (called (λ graph. g.T.Setter.IsPlanBy driver.setter graph format) (λ graph plan. g.T.Setter.verbs_by driver.setter graph plan format TAG) driver.play false c.args.line.now.budget old new (g.P.Platform.told c.args.platform.now) (g.P.Platform.told c.run.new.platform) c.run.result
-    c.run.ensures.leads c.run.ensures.kept c.run.ensures.writer c.run.ensures.supply c.run.ensures.sounds)
+    c.requires.whole c.run.ensures.taken c.run.ensures.leads c.run.ensures.kept c.run.ensures.writer c.run.ensures.supply c.run.ensures.sounds)

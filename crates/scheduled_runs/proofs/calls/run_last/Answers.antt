@@ -1,7 +1,8 @@
 use Rattle.std.proofs.Common.{[], length}
 use Rattle.rig.specs.Rigs.{setting_of, telling_of}
 use Rattle.rig.specs.Stretches.{IsStretchFrom}
-use Rattle.scheduled_runs.specs.Going.{Means, parts_of}
+use Rattle.scheduled_runs.specs.Going.{Means, parts_with}
+use Rattle.scheduled_runs.proofs.Called.{may_held, ends_held}
 use Rattle.scheduled_runs.proofs.Goes.{Keeps}
 use Rattle.scheduled_runs.proofs.Ran.{stretched_from}
 use Rattle.scheduled_runs.proofs.Closes.{run_closes}
@@ -17,5 +18,5 @@ returns-clause-closed g c =
     let after = telling_of c.end.new.self in
     let stretched : IsStretchFrom (length before.journal) [] after.journal =
     stretched_from (setting_of c.close.new.platform) (setting_of c.begin.new.self) _ after.journal c.in_ok-closed.ensures.fixed c.in-Ok.ensures.setting c.end.ensures.stretch in
-    run_closes means format driver.play keeps c.runs_follow.ensures.closing c.runs_follow.ensures.accesses c.events_are_of_pins.ensures (parts_of driver.bring_up driver.writer driver.supply) c.in_ok-closed.closed
-    before (telling_of c.begin.new.self) (telling_of c.close.new.platform) after c.in-Ok.ensures.told.is c.in_ok-closed.ensures.closes c.end.ensures.told.is stretched
+    run_closes means format driver.play keeps c.runs_follow.ensures.closing c.runs_follow.ensures.accesses c.events_are_of_pins.ensures (parts_with driver.bring_up driver.writer driver.supply.held) c.in_ok-closed.closed
+    before (telling_of c.begin.new.self) (telling_of c.close.new.platform) after c.in-Ok.ensures.told.is (c.in_ok-closed.ensures.closes driver.supply.held (may_held driver.supply c.requires.whole) (ends_held driver.supply c.requires.whole)) c.end.ensures.told.is stretched

@@ -1,9 +1,11 @@
-use Rattle.std.proofs.Common.{List, length, ap, subst, ◌∙◌}
+use Rattle.std.proofs.Common.{List, length, ap, sym, subst, ◌∙◌}
+use Rattle.wav_reader.specs.Supplies.{sound_before}
+use Rattle.scheduled_runs.proofs.Called.{may_before, may_held, whole_on}
 use Rattle.hda_schedule.specs.declared.schedule.Group.{Group}
 use Rattle.rig.specs.declared.setting.Setting.{Setting}
 use Rattle.rig.specs.Rigs.{setting_of, telling_of}
 use Rattle.rig.specs.Stretches.{IsStretchFrom}
-use Rattle.scheduled_runs.specs.Going.{Means, parts_of}
+use Rattle.scheduled_runs.specs.Going.{Means, parts_with}
 use Rattle.scheduled_runs.proofs.Goes.{Keeps, line_goes}
 use Rattle.scheduled_runs.proofs.Ran.{stretched_from}
 use Rattle.scheduled_runs.proofs.calls.run_line.Goals as goal
@@ -17,13 +19,18 @@ returns-clause-ran g c =
     let now = c.call.new.driver in
     let before = telling_of c.args.rig.now in
     let after = telling_of c.end.new.self in
+    let calls = c.in_ok-call.ensures.leads now.supply.held (may_held now.supply (whole_on driver.supply now.supply c.in_ok-call.ensures.taken c.requires.whole)) in
+    let format_on = now.bring_up.formats ∙ calls.kept.format ∙ sym driver.bring_up.formats in
     let begun = c.in_ok-call.ensures.fixed ∙ c.in_ok-begin.ensures.setting in
     let stretched : IsStretchFrom (length before.journal) c.args.line.now.groups after.journal =
     subst (λ (groups : List Group). IsStretchFrom (length before.journal) groups after.journal) c.as_slice.ensures
     (stretched_from (setting_of c.call.new.platform) (setting_of c.begin.new.self) _ after.journal c.in_ok-call.ensures.fixed c.in_ok-begin.ensures.setting c.end.ensures.stretch) in
     record {
-      goes = line_goes means format driver.play keeps c.runs_follow.ensures.line c.args.line.now (parts_of driver.bring_up driver.writer driver.supply) (parts_of now.bring_up now.writer now.supply) before (telling_of c.begin.new.self)
-          (telling_of c.call.new.platform) after c.in_ok-begin.ensures.told.is c.in_ok-call.ensures.leads c.end.ensures.told.is stretched;
+      goes = λ later may. (sound_before driver.supply now.supply later, may_before driver.supply now.supply later c.in_ok-call.ensures.taken c.requires.whole may,
+          line_goes means format driver.play keeps c.runs_follow.ensures.line c.args.line.now (parts_with driver.bring_up driver.writer (sound_before driver.supply now.supply later)) (parts_with now.bring_up now.writer later) before (telling_of c.begin.new.self)
+          (telling_of c.call.new.platform) after c.in_ok-begin.ensures.told.is (c.in_ok-call.ensures.leads later may) c.end.ensures.told.is stretched);
+      format_is = format_on;
+      whole = whole_on driver.supply now.supply c.in_ok-call.ensures.taken c.requires.whole;
       between = ap (λ (setting : Setting). setting.in_run) c.end.ensures.setting;
       machine = ap (λ (setting : Setting). setting.machine) c.end.ensures.setting ∙ ap (λ (setting : Setting). setting.machine) begun;
     }

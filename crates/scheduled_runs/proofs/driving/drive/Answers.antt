@@ -13,5 +13,5 @@ returns-in-Ok-clause-driven g c =
     let same : means' ≡ means = ap (λ setter. record { IsPlanBy = g.T.Setter.IsPlanBy setter; verbs_by = g.T.Setter.verbs_by setter; IsOpenBy = g.T.Setter.IsOpenBy setter }) c.in-Ok.ensures.setter in
     if_ok c.run_last.result
     (λ closed is. driven_by means means' driver.bring_up.agenda.format driver.play now.play c.args.schedule.now (parts_of driver.bring_up driver.writer driver.supply) (parts_of now.bring_up now.writer now.supply) closed c.args.rig.now c.run_schedule.new.rig c.run_last.new.rig
-    same refl c.in-Ok.ensures.play c.in-Ok.ensures.geometry c.in-Ok.ensures.ran is)
+    same refl c.in-Ok.ensures.play c.in-Ok.ensures.geometry c.requires.whole c.in-Ok.ensures.ran is)
     c.run_last.ensures.closed

@@ -1,9 +1,9 @@
-use Rattle.std.proofs.Common.{[], ◌∷◌, ap, sym, subst, ◌∙◌}
+use Rattle.std.proofs.Common.{[], ◌∷◌, refl, ap, sym, subst, ◌∙◌}
 use Rattle.std.specs.Prelude.{OnOk}
 use Rattle.hda_schedule.specs.declared.schedule.Item.{Item}
 use Rattle.rig.specs.declared.setting.Setting.{Setting}
 use Rattle.rig.specs.Rigs.{telling_of}
-use Rattle.scheduled_runs.specs.Going.{Means, Ran, parts_of}
+use Rattle.scheduled_runs.specs.Going.{Means, Ran, parts_of, sounded}
 use Rattle.scheduled_runs.proofs.Goes.{Keeps, step_goes}
 use Rattle.scheduled_runs.proofs.Ran.{on_ok}
 use Rattle.scheduled_runs.proofs.items.run_item.Goals as goal
@@ -18,7 +18,9 @@ returns-in-Device-clause-ran g c =
     let parts = parts_of driver.bring_up driver.writer driver.supply in
     subst (λ (item : Item). OnOk c.step.result (Ran means format driver.play (item ∷ []) parts parts c.args.rig.now c.step.new.self)) (sym c.in-Device.is)
     (on_ok c.step.result (λ went. record {
-      goes = step_goes means format driver.play keeps step parts (telling_of c.args.rig.now) (telling_of c.step.new.self) (c.pieces_follow.ensures.step step) went;
+      goes = λ later may. (later, may, step_goes means format driver.play keeps step (sounded parts later) (telling_of c.args.rig.now) (telling_of c.step.new.self) (c.pieces_follow.ensures.step step) went);
+      format_is = refl;
+      whole = c.requires.whole;
       between = ap (λ (setting : Setting). setting.in_run) c.step.ensures.setting ∙ c.requires.between;
       machine = ap (λ (setting : Setting). setting.machine) c.step.ensures.setting;
     }) c.step.ensures.went)

@@ -10,7 +10,7 @@ pub loop-item-init : goal.loop-item-init
 loop-item-init g c =
     let driver = c.args.driver.now in
     record {
-      ran = ran_none _ driver.bring_up.agenda.format driver.play c.pieces_follow.ensures.none (parts_of driver.bring_up driver.writer driver.supply) c.args.rig.now c.requires.between;
+      ran = ran_none _ driver.bring_up.agenda.format driver.play c.pieces_follow.ensures.none (parts_of driver.bring_up driver.writer driver.supply) c.args.rig.now c.requires.between c.requires.whole;
       geometry = refl;
       setter = refl;
       play = refl;

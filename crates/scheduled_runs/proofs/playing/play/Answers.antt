@@ -7,6 +7,7 @@ use Rattle.hda_world.specs.Events.{Event, AreHonest}
 use Rattle.hda_world.specs.Tellings.{world_of}
 use Rattle.hda_world.specs.JournalEvents.{events_of}
 use Rattle.sound_report.specs.declared.played.Played.{Played}
+use Rattle.wav_reader.specs.Supplies.{Supplied}
 use Rattle.driver_progress.specs.Tasks.{Task, Blocks}
 use Rattle.jack_counts.specs.Jacks.{Counts}
 use Rattle.told_playing.specs.Sounding.{Parts}
@@ -17,7 +18,7 @@ use Rattle.rig.specs.Replays.{AreHeardIn, start_of, telling_from}
 use Rattle.heard_lists.specs.Listings.{AreListsOf, graphs_in, handed_out}
 use Rattle.machine_tasks.specs.Tasks.{commands_of, blocks_of}
 use Rattle.scheduled_runs.specs.Events.{told_in}
-use Rattle.scheduled_runs.specs.Going.{parts_of}
+use Rattle.scheduled_runs.specs.Going.{parts_with}
 use Rattle.scheduled_runs.specs.Hearing.{lists_heard}
 use Rattle.scheduled_runs.specs.Plays.{IsPlayFault, played_task}
 use Rattle.scheduled_runs.proofs.Counting.{few_lines}
@@ -34,7 +35,7 @@ open_driver-requires c =
 
 -- the driver that was opened, and its task
 abbrev opened : goal.After-block_bytes → Parts
-opened c = (let driver = c.in_ok-driver.driver in parts_of driver.bring_up driver.writer driver.supply)
+opened c = (let driver = c.in_ok-driver.driver in parts_with driver.bring_up driver.writer driver.supply.held)
 
 abbrev blocks_for : goal.After-block_bytes → Blocks
 blocks_for c = blocks_of c.in_ok-driver.driver.bring_up c.in_ok-driver.driver.writer
@@ -46,8 +47,8 @@ can_go : (c : goal.After-block_bytes) → CanGo c.args.machine c.args.wav.format
 can_go c =
     let driver = c.in_ok-driver.driver in
     let wav = c.args.wav in
-    opened_can_go c.args.machine wav.format c.args.plans.items c.args.geometry _ driver.play true wav.pcm driver.bring_up driver.writer driver.supply c.in_ok-driver.ensures.play
-    (λ plays. c.in_ok-driver.ensures.supply ∙ c.whole.ensures) c.in_ok-driver.ensures.opened c.in_ok-driver.ensures.apart c.requires.fifo c.requires.format
+    opened_can_go c.args.machine wav.format c.args.plans.items c.args.geometry _ driver.play true wav.pcm driver.bring_up driver.writer driver.supply.held c.in_ok-driver.ensures.play
+    (λ plays. ap (λ (supply : Supplied). supply.held) c.in_ok-driver.ensures.supply ∙ ap (λ (supply : Supplied). supply.held) c.whole.ensures) c.in_ok-driver.ensures.opened c.in_ok-driver.ensures.apart c.requires.fifo c.requires.format
     (c.machines_have_tasks.ensures wav.format c.args.machine c.args.plans.items c.args.geometry true wav.pcm (blocks_for c) c.requires.sound c.requires.read c.requires.plans c.requires.routed)
     (c.opened_drivers_can_begin.ensures wav.format c.args.machine c.args.plans.items c.args.geometry true wav.pcm _ driver.bring_up driver.writer c.requires.sound c.requires.read c.in_ok-driver.ensures.opened)
     (c.machines_rest.ensures c.args.machine)

@@ -16,7 +16,7 @@ use Rattle.rig.specs.Rigs.{telling_of}
 use Rattle.rig.specs.Replays.{start_of}
 use Rattle.machine_tasks.specs.Tasks.{commands_of, task_of, blocks_of}
 use Rattle.scheduled_runs.specs.Events.{told_in}
-use Rattle.scheduled_runs.specs.Going.{parts_of}
+use Rattle.scheduled_runs.specs.Going.{parts_with}
 use Rattle.scheduled_runs.specs.Walks.{walk_format}
 use Rattle.scheduled_runs.proofs.Counting.{few_lines}
 use Rattle.scheduled_runs.proofs.Gone.{CanGo, Gone, gone, opened_can_go}
@@ -30,7 +30,7 @@ silent_driver-requires-clause-few c =
 
 -- the driver that was opened, and its task
 abbrev opened : goal.After-from_vec-5 → Parts
-opened c = (let driver = c.in_ok-driver.driver in parts_of driver.bring_up driver.writer driver.supply)
+opened c = (let driver = c.in_ok-driver.driver in parts_with driver.bring_up driver.writer driver.supply.held)
 
 abbrev task_for : goal.After-from_vec-5 → Task
 task_for c =
@@ -41,7 +41,7 @@ can_go c =
     let driver = c.in_ok-driver.driver in
     let fresh = c.in_ok-driver.ensures.fresh in
     let blocks = blocks_of driver.bring_up driver.writer in
-    opened_can_go c.args.machine walk_format c.args.plans.items fresh.geometry _ driver.play false [] driver.bring_up driver.writer driver.supply c.in_ok-driver.ensures.play (λ plays. cc) fresh.opened fresh.apart fresh.ring.fifo_is
+    opened_can_go c.args.machine walk_format c.args.plans.items fresh.geometry _ driver.play false [] driver.bring_up driver.writer driver.supply.held c.in_ok-driver.ensures.play (λ plays. cc) fresh.opened fresh.apart fresh.ring.fifo_is
     fresh.ring.format_is
     (c.machines_have_tasks.ensures walk_format c.args.machine c.args.plans.items fresh.geometry false [] blocks c.requires.sound c.requires.read c.requires.plans c.requires.routed)
     (c.opened_drivers_can_begin.ensures walk_format c.args.machine c.args.plans.items fresh.geometry false [] _ driver.bring_up driver.writer c.requires.sound c.requires.read fresh.opened)
