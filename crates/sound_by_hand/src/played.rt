@@ -1,6 +1,7 @@
 //! A play: the writer's runs between the device's steps, and what comes of it.
-ghost use Rattle.std.specs.Prelude.{◌≡◌, false, true, OnOk};
+ghost use Rattle.std.specs.Prelude.{◌≡◌, false, true, ℕ, OnOk};
 ghost use Rattle.rig.specs.Rigs.{setting_of};
+ghost use Rattle.wav_reader.specs.Supplies.{Suffices};
 
 use crate::machine::ready;
 use crate::plays::{Play, Turn};
@@ -33,6 +34,13 @@ fn supply_of(alloc: Global, frames: u16) -> Option<Supply> {
     Some(Supply::whole(read_wav(alloc, bytes.as_slice()).ok()?))
 }
 
+/// Whether a supply holds all that is left, so that it suffices for every run.
+fn holds_all(supply: &Supply) -> bool
+    ensures { (ring budget : ℕ) → result ≡ true → Suffices ring budget supply.now }
+{
+    supply.held() >= supply.left()
+}
+
 /// Two periods of 384 bytes, for a FIFO of 192.
 fn small_ring() -> Option<Geometry> {
     let format = Format {
@@ -43,7 +51,7 @@ fn small_ring() -> Option<Geometry> {
     Geometry::new(2, 1, 192, format).ok()
 }
 
-/// Lets the device make the steps, and then the driver its run, unless the stream ended before.
+/// Lets the device make the steps, and then the driver its run, unless the stream ended before. The supply holds all that is left.
 fn turn_once(
     rig: &mut Rig,
     writer: &mut Writer,
@@ -63,7 +71,8 @@ fn turn_once(
     for step in turn.steps {
         rig.step(step)?;
     }
-    if writer.course().ran == Ran::Playing && writer.has_free_record() {
+    let is_open = writer.course().ran == Ran::Playing && writer.has_free_record();
+    if is_open && holds_all(supply) {
         rig.begin(&[], 5 + u32::from(geometry.periods()), geometry.ring())?;
         writer.run(rig, supply, turn.budget);
         rig.end();
@@ -86,6 +95,9 @@ fn play_all(
     ensures list { writer.new.list ≡ writer.old.list }
     ensures periods { writer.new.periods.items ≡ writer.old.periods.items }
 {
+    if !holds_all(supply) {
+        return Ok(());
+    }
     let periods = u32::from(geometry.periods());
     rig.begin(&[], 14 + 2 * periods, 16 * periods + geometry.ring())?;
     writer.start(rig, supply, play.budget);

@@ -1,5 +1,6 @@
 //! A play over the scripted platform: the writer's first run and later ones over the small ring, and what came of them.
-ghost use Rattle.std.specs.Prelude.{◌≡◌, false, true};
+ghost use Rattle.std.specs.Prelude.{◌≡◌, false, true, ℕ};
+ghost use Rattle.wav_reader.specs.Supplies.{Suffices};
 
 use crate::scripted::{Access, Answer, Scripted};
 use dma_pool::Pool;
@@ -75,6 +76,13 @@ pub fn supply_of(alloc: Global, frames: u32) -> Result<Supply, Fail> {
     Ok(Supply::whole(read_wav(alloc, bytes.as_slice())?))
 }
 
+/// Whether a supply holds all that is left, so that it suffices for every run.
+fn holds_all(supply: &Supply) -> bool
+    ensures { (ring budget : ℕ) → result ≡ true → Suffices ring budget supply.now }
+{
+    supply.held() >= supply.left()
+}
+
 /// Sound from a rate on, of 16 bits and two channels.
 pub fn format_at(rate: Rate) -> Format {
     Format {
@@ -113,7 +121,7 @@ pub fn answers_of(alloc: Global, script: &Script) -> Result<Vec<Answer>, AllocEr
     Ok(answers)
 }
 
-/// The first run, with the room that it asks for and no more.
+/// The first run, with the room that it asks for and no more, from a supply that holds all that is left.
 pub fn start(
     platform: &mut Scripted,
     writer: &mut Writer,
@@ -127,12 +135,16 @@ pub fn start(
     ensures list { writer.new.list ≡ writer.old.list }
     ensures periods { writer.new.periods.items ≡ writer.old.periods.items }
 {
+    if !holds_all(supply) {
+        return;
+    }
     let periods = usize::from(geometry.periods());
     platform.make_room(13 + 2 * periods, 16 * periods + geometry.ring() as usize);
     writer.start(platform, supply, budget);
 }
 
-/// A later run, with the room that it asks for and no more, where the stream plays and there is room to record it.
+/// A later run, with the room that it asks for and no more, where the stream plays, there is room to record it, and the supply holds all that
+/// is left.
 pub fn run(
     platform: &mut Scripted,
     writer: &mut Writer,
@@ -146,7 +158,8 @@ pub fn run(
     ensures periods { writer.new.periods.items ≡ writer.old.periods.items }
 {
     let course = writer.course();
-    if course.started && course.ran == Ran::Playing && writer.has_free_record() {
+    let is_open = course.started && course.ran == Ran::Playing && writer.has_free_record();
+    if is_open && holds_all(supply) {
         platform.make_room(
             5 + usize::from(geometry.periods()),
             geometry.ring() as usize,
