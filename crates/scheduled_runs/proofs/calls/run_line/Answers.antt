@@ -26,9 +26,12 @@ returns-clause-ran g c =
     subst (λ (groups : List Group). IsStretchFrom (length before.journal) groups after.journal) c.as_slice.ensures
     (stretched_from (setting_of c.call.new.platform) (setting_of c.begin.new.self) _ after.journal c.in_ok-call.ensures.fixed c.in_ok-begin.ensures.setting c.end.ensures.stretch) in
     record {
-      goes = λ later may. (sound_before driver.supply now.supply later, may_before driver.supply now.supply later c.in_ok-call.ensures.taken c.requires.whole may,
-          line_goes means format driver.play keeps c.runs_follow.ensures.line c.args.line.now (parts_with driver.bring_up driver.writer (sound_before driver.supply now.supply later)) (parts_with now.bring_up now.writer later) before (telling_of c.begin.new.self)
-          (telling_of c.call.new.platform) after c.in_ok-begin.ensures.told.is (c.in_ok-call.ensures.leads later may) c.end.ensures.told.is stretched);
+      goes = λ later may. (
+        sound_before driver.supply now.supply later,
+        may_before driver.supply now.supply later c.in_ok-call.ensures.taken c.requires.whole may,
+        line_goes means format driver.play keeps c.runs_follow.ensures.line c.args.line.now (parts_with driver.bring_up driver.writer (sound_before driver.supply now.supply later)) (parts_with now.bring_up now.writer later) before (telling_of c.begin.new.self)
+            (telling_of c.call.new.platform) after c.in_ok-begin.ensures.told.is (c.in_ok-call.ensures.leads later may) c.end.ensures.told.is stretched,
+      );
       format_is = format_on;
       whole = whole_on driver.supply now.supply c.in_ok-call.ensures.taken c.requires.whole;
       between = ap (λ (setting : Setting). setting.in_run) c.end.ensures.setting;
