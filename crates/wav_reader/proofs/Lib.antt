@@ -10,3 +10,4 @@ pub mod StreamLemmas
 pub mod PutLemmas
 pub mod PlaceLemmas
 pub mod ReadLemmas
+pub mod ReadingOn

@@ -1,14 +1,13 @@
 -- Where in the file ring bytes are read from.
-use Rattle.std.proofs.Common.{◌≡◌, ◌≤◌, ◌<◌, ℕ, zero, suc, ◌+◌, ◌-◌, ◌*◌, ◌/◌, ◌%◌, Bool, true, false, if◌then◌else◌, List, [], ◌∷◌, ◌++◌, length, take, drop, get_or, drop-cons, refl, sym, ap, ◌∙◌, length-append, length-take, length-drop, arith}
+use Rattle.std.proofs.Common.{◌≡◌, ◌≤◌, ◌<◌, ℕ, zero, suc, ◌+◌, ◌-◌, ◌*◌, ◌/◌, ◌%◌, Bool, true, false, List, [], ◌∷◌, ◌++◌, length, take, drop, get_or, drop-cons, refl, sym, ap, ◌∙◌, length-append, length-drop, arith}
 use Rattle.std.proofs.Math.Seq.{take-add, take-length}
-use Rattle.std.proofs.lemmas.List.{drop-drop, drop-take, take-take, take-append-drop, take-append-le, drop_at, take_at, length-take-le}
+use Rattle.std.proofs.lemmas.List.{drop-drop, drop-take, take-take, drop_at, take_at, length-take-le}
 use Rattle.hda_outside.specs.Pieces.{HoldsFront}
 use Rattle.wav_reader.specs.Heads.{Head, EndsWithin, IsRingFormat, frame_length}
 use Rattle.wav_reader.specs.Fills.{end_of_sound}
-use Rattle.wav_reader.specs.Wavs.{ring_block, pieces_of, piece_at, ring_bytes}
+use Rattle.wav_reader.specs.Wavs.{ring_block, piece_at, ring_bytes}
 use Rattle.wav_reader.specs.Readers.{IsNext, doubled, place_of, ring_part, file_bytes, frames_in}
-use Rattle.wav_reader.proofs.RingLemmas.{pieces-more, pair_at, doubled-more, doubled-add, length-doubled, ring_bytes-mono, ring_bytes-stereo}
-use Rattle.std.specs.List.{flat_map}
+use Rattle.wav_reader.proofs.RingLemmas.{pieces-more, pair_at, doubled-add, length-doubled, ring_bytes-mono, ring_bytes-stereo}
 
 -- the bytes of a frame
 pub frame_mono : (head : Head) → IsRingFormat head.format → head.mono ≡ true → frame_length head.mono head.format ≡ 2
@@ -227,6 +226,13 @@ part_inside head at frames form whole inside = by head.mono refl where
   by : (mono : Bool) → head.mono ≡ mono → place_of head at + file_bytes head.mono frames ≤ end_of_sound head
   by true mono = rw (mono, form.bits) (omega (arith, whole, inside))
   by false mono = rw (mono, form.bits, form.channels) (omega (arith, whole, inside))
+
+-- a byte stands before the end of the sound
+pub place_before : (head : Head) (at : ℕ) → IsRingFormat head.format → at < head.frames * 4 → place_of head at + 1 ≤ end_of_sound head
+place_before head at form inside = by head.mono refl where
+  by : (mono : Bool) → head.mono ≡ mono → place_of head at + 1 ≤ end_of_sound head
+  by true mono = rw (mono, form.bits) (omega (arith, inside))
+  by false mono = rw (mono, form.bits, form.channels) (omega (arith, inside))
 
 pub frames_back : (mono : Bool) (frames bytes : ℕ) → bytes ≡ file_bytes mono frames → frames_in mono bytes ≡ frames
 frames_back true frames bytes all = omega arith

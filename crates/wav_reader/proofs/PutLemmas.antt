@@ -1,5 +1,5 @@
 -- Ring bytes that are put last, part by part.
-use Rattle.std.proofs.Common.{◌≡◌, ◌≤◌, ℕ, ◌+◌, ◌*◌, ◌/◌, ◌%◌, List, ◌++◌, drop, length, refl, sym, ap, ◌∙◌, append_assoc, length-append, arith}
+use Rattle.std.proofs.Common.{◌≡◌, ◌≤◌, ℕ, ◌+◌, ◌*◌, ◌/◌, ◌%◌, List, ◌++◌, drop, length, sym, ap, ◌∙◌, append_assoc, length-append, arith}
 use Rattle.circular_buffer.specs.Buffer.{Buffer, buffer}
 use Rattle.wav_reader.specs.Readers.{doubled}
 use Rattle.wav_reader.proofs.RingLemmas.{append-doubled-none, doubled-add, length-doubled}

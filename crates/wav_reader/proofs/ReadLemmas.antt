@@ -1,16 +1,13 @@
 -- What a read of a file's sound answers.
-use Rattle.std.proofs.Common.{◌≡◌, ◌≤◌, ◌<◌, ℕ, ◌+◌, ◌-◌, ◌*◌, ◌/◌, ◌%◌, Bool, true, false, List, ◌++◌, length, take, Option, Some, None, Result, Err, subst, refl, sym, ap, ◌∙◌, length-take, length-append, arith}
-use Rattle.std.proofs.lemmas.List.{take-append-le, take-take}
+use Rattle.std.proofs.Common.{◌≡◌, ◌≤◌, ◌<◌, ℕ, ◌+◌, ◌*◌, Bool, true, false, List, ◌++◌, length, take, Option, Some, None, Result, Err, subst, refl, sym, ap, ◌∙◌, length-append, arith}
+use Rattle.std.proofs.lemmas.List.{take-append-le}
 use Rattle.circular_buffer.specs.Buffer.{Buffer, buffer}
 use Rattle.hda_outside.specs.declared.pieces.Cut.{Cut}
 use Rattle.hda_outside.specs.declared.pieces.Cut.TheVariants.{Short}
 use Rattle.hda_outside.specs.Pieces.{HoldsFront}
 use Rattle.hda_outside.specs.Shelf.{Files}
 use Rattle.wav_reader.specs.Shelves.{HasFile}
-use Rattle.stream_format.specs.declared.format.Bits.TheVariants.{B16}
-use Rattle.wav_reader.specs.declared.opened.WavHead.{WavHead}
-use Rattle.wav_reader.specs.Heads.{Head, EndsWithin, IsRingFormat, frame_length}
-use Rattle.wav_reader.specs.Opening.{head_in_file}
+use Rattle.wav_reader.specs.Heads.{Head, EndsWithin, IsRingFormat}
 use Rattle.wav_reader.specs.Readers.{place_of}
 use Rattle.wav_reader.proofs.PlaceLemmas.{frame_mono, frame_stereo, place_mono, place_stereo}
 

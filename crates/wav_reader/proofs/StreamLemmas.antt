@@ -1,13 +1,13 @@
 -- What is held after a fill.
 use Rattle.std.proofs.Common.{◌≡◌, ◌≢◌, ◌≤◌, ◌<◌, ℕ, ◌+◌, ◌-◌, ◌*◌, ◌/◌, ◌%◌, min, Bool, true, false, if◌then◌else◌, List, ◌++◌, take, drop, length, Some, Result, Ok, Err, OnOk, OnErr, refl, sym, ap, ◌∙◌, arith}
-use Rattle.std.specs.Result.{IsErr, is_err}
+use Rattle.std.specs.Result.{is_err}
 use Rattle.std.proofs.lemmas.List.{take-append-drop, take-take, length-take-le}
 use Rattle.circular_buffer.specs.Buffer.{Buffer, buffer}
 use Rattle.hda_outside.specs.declared.pieces.Cut.{Cut}
 use Rattle.stream_format.specs.declared.format.Bits.TheVariants.{B16}
 use Rattle.wav_reader.specs.Heads.{Head}
 use Rattle.wav_reader.specs.Supplies.{Source, Supplied, IsFilled, block_of}
-use Rattle.wav_reader.specs.Fills.{wanted, IsFull, IsCut, IsNextOf}
+use Rattle.wav_reader.specs.Fills.{IsFull, IsCut}
 use Rattle.wav_reader.specs.Readers.{IsGrown, IsNext}
 
 -- a block has four bytes
@@ -26,10 +26,23 @@ seen_with name head total held taken cut = record {
   source = Some (source_with name head held);
 }
 
--- where something is wanted it was not cut
-pub not_cut : (cut : Bool) (held room total : ℕ) → (min (if cut then held else total) room - held) ≢ 0 → cut ≡ false
-not_cut true held room total some = absurd (some (omega arith))
-not_cut false held room total some = refl
+-- so many bytes are wanted, and no fill was cut before
+pub record IsWanted (cut : Bool) (held room rest count : ℕ) : Type 0 where
+  pub uncut : cut ≡ false
+  pub count_is : count ≡ min rest room - held
+  pub wants : count ≡ min room (if cut then held else rest) - held
+
+pub wanted_by : (cut : Bool) (held room rest left capacity most long : ℕ) → left ≡ (if cut then held else rest) → capacity ≡ room → long ≡ held → most ≡ min left capacity
+    → most - long ≢ 0 → IsWanted cut held room rest (most - long)
+wanted_by true held room rest left capacity most long is ring all least some = absurd (some (none is ring all least)) where
+  none : left ≡ held → capacity ≡ room → long ≡ held → most ≡ min left capacity → most - long ≡ 0
+  none is ring all least = grind (arith, is, ring, all, least)
+wanted_by false held room rest left capacity most long is ring all least some = record { uncut = refl; count_is = so is ring all least; wants = so is ring all least ∙ turned } where
+  so : left ≡ rest → capacity ≡ room → long ≡ held → most ≡ min left capacity → most - long ≡ min rest room - held
+  so is ring all least = grind (arith, is, ring, all, least)
+
+  turned : min rest room - held ≡ min room rest - held
+  turned = grind arith
 
 -- nothing was cut
 pub not_cut_by : (source : Source) (old new : Supplied) (result : Result Unit Cut) → is_err result ≡ false → OnErr result (IsCut source old new)

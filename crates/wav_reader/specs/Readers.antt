@@ -1,5 +1,5 @@
 -- What the readers of a file promise one another.
-use Rattle.std.specs.Prelude.{Bool, Err, List, None, Ok, OnErr, OnOk, Option, Result, Some, drop, if◌then◌else◌, length, nat_le, take, true, ℕ, ◌%◌, ◌*◌, ◌+◌, ◌-◌, ◌/◌, ◌≡◌, ◌≤◌, ◌<◌}
+use Rattle.std.specs.Prelude.{◌≢◌, Bool, Err, List, None, Ok, OnErr, OnOk, Option, Result, Some, drop, if◌then◌else◌, length, nat_le, take, true, ℕ, ◌%◌, ◌*◌, ◌+◌, ◌-◌, ◌/◌, ◌≡◌, ◌≤◌, ◌<◌}
 use Rattle.circular_buffer.specs.Buffer.{Buffer}
 use Rattle.stream_format.specs.Layouts.{layout}
 use Rattle.hda_outside.specs.declared.pieces.Cut.{Cut}
@@ -20,7 +20,11 @@ use Rattle.std.specs.List.{flat_map}
 use Rattle.std.specs.Option.{ok_or}
 use Rattle.wav_reader.specs.Chunks.{kind_at, size_at, body_length, chunk_at}
 use Rattle.wav_reader.specs.Heads.{Head, sound_by}
-use Rattle.wav_reader.specs.Wavs.{ring_block, pieces_of}
+use Rattle.wav_reader.specs.Wavs.{ring_block, pieces_of, ring_bytes}
+use Rattle.hda_outside.specs.Counts.{Rose}
+use Rattle.hda_outside.specs.Shelf.{Files}
+use Rattle.wav_reader.specs.Fills.{end_of_sound}
+use Rattle.wav_reader.specs.Shelves.{ShelfSeen, HasFile, seen_as}
 
 -- the chunk with this head at a place of a file of so many bytes, if it is whole
 abbrev pub chunk_by : List ℕ → ℕ → ℕ → Chunk
@@ -110,3 +114,31 @@ pub record IsGrown (count : ℕ) (old new : Buffer ℕ) (result : Result Unit Cu
   pub most : length new.items ≤ length old.items + count
   pub all : OnOk result (length new.items ≡ length old.items + count)
   pub early : OnErr result (length new.items < length old.items + count)
+
+-- what a shelf tells and has counted under a name
+abbrev pub seen_under : Option Files → (faults empties : List ℕ → ℕ) → (given : ℕ) → (name : List ℕ) → ShelfSeen
+seen_under told faults empties given name = seen_as told (faults name) (empties name) given
+
+-- so many bytes of the sound under a name, or fewer where the reading was cut, were read behind those that are held, of which the first is
+-- that after so many taken ones
+pub record ReadsOn (count : ℕ) (name : List ℕ) (head : Head) (taken : ℕ) (before after : ShelfSeen) (old new : Buffer ℕ)
+    (result : Result Unit Cut) : Type 0 where
+  pub grown : IsGrown count old new result
+  pub told : after.told ≡ before.told
+  pub given : after.given ≤ before.given + count
+  pub given_rises : before.given ≤ after.given
+  -- its faults
+  pub later : before.faults ≤ after.faults
+  pub failed : result ≡ Err cuts.Failed → Rose before.faults after.faults
+  pub empties_later : before.empties ≤ after.empties
+  pub short : (place : ℕ) → result ≡ Err (cuts.Short place) → (place < end_of_sound head) × Rose before.empties after.empties
+  pub not_short : ((place : ℕ) → result ≢ Err (cuts.Short place)) → after.empties ≡ before.empties
+  -- where the file is told, the bytes that are held go on as its sound does, and it is not too short
+  pub reads : (file : List ℕ) → HasFile before.told name head file → IsNext (ring_bytes file head) taken old.items
+      → IsNext (ring_bytes file head) taken new.items
+  pub never_short : (file : List ℕ) → HasFile before.told name head file → (place : ℕ) → result ≢ Err (cuts.Short place)
+
+-- what is answered of a piece that was cut, or was not
+abbrev pub answer_of : Option Cut → Result Unit Cut
+answer_of None = Ok tt
+answer_of (Some cut) = Err cut

@@ -1,5 +1,5 @@
 -- A file's sound that is read while it is taken.
-use Rattle.std.specs.Prelude.{◌≡◌, ◌≤◌, ℕ, ◌+◌, ◌-◌, ◌*◌, ◌%◌, drop, length, string_bytes, vec_len, Some, None, if◌then◌else◌}
+use Rattle.std.specs.Prelude.{◌≡◌, ◌≤◌, ◌+◌, ◌-◌, ◌*◌, ◌%◌, drop, length, string_bytes, vec_len, Some, None, if◌then◌else◌}
 use Rattle.wav_reader.specs.declared.streams.Stream.{Stream}
 use Rattle.wav_reader.specs.declared.supply.Origin.{Origin}
 use Rattle.wav_reader.specs.declared.supply.Origin.TheVariants.{Whole, Streamed}

@@ -1,13 +1,10 @@
 //! The sound of a file on a shelf, from which ring bytes are read.
-ghost use Rattle.std.specs.Prelude.{◌≡◌, ◌≢◌, ◌≤◌, ◌<◌, ℕ, ◌+◌, ◌*◌, ◌%◌, List, length, string_bytes, OnOk, OnErr};
-ghost use Rattle.hda_outside.specs.Counts.{Rose};
+ghost use Rattle.std.specs.Prelude.{◌≡◌, ◌≢◌, ◌≤◌, ℕ, ◌+◌, ◌*◌, ◌%◌, List, length, string_bytes};
 ghost use Rattle.stream_format.specs.Layouts.{layout};
-ghost use Rattle.wav_reader.specs.Fills.{end_of_sound};
 ghost use Rattle.wav_reader.specs.Heads.{frame_length};
 ghost use Rattle.wav_reader.specs.Opening.{head_in_file};
-ghost use Rattle.wav_reader.specs.Readers.{IsGrown, IsNext, place_of, file_bytes, frames_in};
-ghost use Rattle.wav_reader.specs.Shelves.{HasFile};
-ghost use Rattle.wav_reader.specs.Wavs.{ring_bytes};
+ghost use Rattle.wav_reader.specs.Readers.{ReadsOn, place_of, file_bytes, frames_in, seen_under};
+ghost use Rattle.wav_reader.specs.Readers as spec;
 
 use crate::opened::WavHead;
 use crate::ring_parts::{BLOCK, put_frames, put_last};
@@ -27,6 +24,16 @@ pub(crate) struct SoundFile {
     pub head: WavHead,
     pub ghost short: { head.length ≤ 67108864 },
     pub ghost within: { head.from + head.frames * frame_length head.mono (layout head.format) ≤ head.length },
+}
+
+/// What is answered of a piece of the file.
+fn answer_of(cut: Option<Cut>) -> Result<(), Cut>
+    ensures { result ≡ spec.answer_of cut }
+{
+    match cut {
+        None => Ok(()),
+        Some(cut) => Err(cut),
+    }
 }
 
 impl SoundFile {
@@ -62,6 +69,31 @@ impl SoundFile {
         if self.head.mono { bytes / 2 } else { bytes / 4 }
     }
 
+    /// Reads the next ring byte, and puts it last.
+    fn read_byte<S: Shelf>(
+        &self,
+        alloc: Global,
+        shelf: &mut S,
+        taken: u64,
+        held: &mut HeapCircularBuffer<u8>,
+    ) -> Result<(), Cut>
+        requires room { length held.old.items + 1 ≤ held.old.capacity }
+        requires there { taken + length held.old.items + 1 ≤ self.now.head.frames * 4 }
+        ensures reads { ReadsOn 1 (string_bytes self.now.name) (head_in_file self.now.head) taken
+            (seen_under (S.told shelf.old) (S.faults shelf.old) (S.empties shelf.old) (S.given shelf.old) (string_bytes self.now.name))
+            (seen_under (S.told shelf.new) (S.faults shelf.new) (S.empties shelf.new) (S.given shelf.new) (string_bytes self.now.name))
+            held.old held.new result }
+        ensures asked { (other : List ℕ) → other ≢ string_bytes self.now.name → S.asked shelf.new other ≡ S.asked shelf.old other }
+        ensures later { (other : List ℕ) → S.faults shelf.old other ≤ S.faults shelf.new other }
+        ensures empties_later { (other : List ℕ) → S.empties shelf.old other ≤ S.empties shelf.new other }
+    {
+        let mut byte = [0; 1];
+        let at = self.place_of(taken + held.len() as u64);
+        let read = read_piece(alloc, shelf, &self.name, at, &mut byte);
+        put_last(held, &byte[..read.count]);
+        answer_of(read.cut)
+    }
+
     /// Reads the next ring bytes one by one, so many, and puts them last.
     fn read_bytes<S: Shelf>(
         &self,
@@ -73,33 +105,49 @@ impl SoundFile {
     ) -> Result<(), Cut>
         requires room { length held.old.items + count ≤ held.old.capacity }
         requires there { taken + length held.old.items + count ≤ self.now.head.frames * 4 }
-        ensures grown { IsGrown count held.old held.new result }
-        ensures reads { (file : List ℕ) → HasFile (S.told shelf.old) (string_bytes self.now.name) (head_in_file self.now.head) file
-            → IsNext (ring_bytes file (head_in_file self.now.head)) taken held.old.items
-            → IsNext (ring_bytes file (head_in_file self.now.head)) taken held.new.items }
-        ensures never_short { (file : List ℕ) → HasFile (S.told shelf.old) (string_bytes self.now.name) (head_in_file self.now.head) file
-            → (place : ℕ) → result ≢ Err (Cut.Short place) }
-        ensures told { S.told shelf.new ≡ S.told shelf.old }
-        ensures given { S.given shelf.new ≤ S.given shelf.old + count }
-        ensures given_rises { S.given shelf.old ≤ S.given shelf.new }
-        ensures failed { result ≡ Err Cut.Failed → Rose (S.faults shelf.old (string_bytes self.now.name)) (S.faults shelf.new (string_bytes self.now.name)) }
-        ensures short { (place : ℕ) → result ≡ Err (Cut.Short place) → (place < end_of_sound (head_in_file self.now.head))
-            × Rose (S.empties shelf.old (string_bytes self.now.name)) (S.empties shelf.new (string_bytes self.now.name)) }
-        ensures not_short { ((place : ℕ) → result ≢ Err (Cut.Short place))
-            → S.empties shelf.new (string_bytes self.now.name) ≡ S.empties shelf.old (string_bytes self.now.name) }
+        ensures reads { ReadsOn count (string_bytes self.now.name) (head_in_file self.now.head) taken
+            (seen_under (S.told shelf.old) (S.faults shelf.old) (S.empties shelf.old) (S.given shelf.old) (string_bytes self.now.name))
+            (seen_under (S.told shelf.new) (S.faults shelf.new) (S.empties shelf.new) (S.given shelf.new) (string_bytes self.now.name))
+            held.old held.new result }
         ensures asked { (other : List ℕ) → other ≢ string_bytes self.now.name → S.asked shelf.new other ≡ S.asked shelf.old other }
         ensures later { (other : List ℕ) → S.faults shelf.old other ≤ S.faults shelf.new other }
         ensures empties_later { (other : List ℕ) → S.empties shelf.old other ≤ S.empties shelf.new other }
     {
         for _ in 0..count {
-            let mut byte = [0; 1];
-            let at = self.place_of(taken + held.len() as u64);
-            if let Some(cut) = read_piece(alloc, shelf, &self.name, at, &mut byte).cut {
-                return Err(cut);
-            }
-            put_last(held, &byte);
+            self.read_byte(alloc, shelf, taken, held)?;
         }
         Ok(())
+    }
+
+    /// Reads the next frames, no more than a piece has, and puts the ring bytes of those that were read last.
+    fn read_few_frames<S: Shelf>(
+        &self,
+        alloc: Global,
+        shelf: &mut S,
+        taken: u64,
+        frames: usize,
+        piece: &mut [u8],
+        held: &mut HeapCircularBuffer<u8>,
+    ) -> Result<(), Cut>
+        requires piece { length piece.old ≡ 4096 }
+        requires few { frames ≤ frames_in self.now.head.mono 4096 }
+        requires blocks { (taken + length held.old.items) % 4 ≡ 0 }
+        requires room { length held.old.items + 4 * frames ≤ held.old.capacity }
+        requires there { taken + length held.old.items + 4 * frames ≤ self.now.head.frames * 4 }
+        ensures reads { ReadsOn (4 * frames) (string_bytes self.now.name) (head_in_file self.now.head) taken
+            (seen_under (S.told shelf.old) (S.faults shelf.old) (S.empties shelf.old) (S.given shelf.old) (string_bytes self.now.name))
+            (seen_under (S.told shelf.new) (S.faults shelf.new) (S.empties shelf.new) (S.given shelf.new) (string_bytes self.now.name))
+            held.old held.new result }
+        ensures asked { (other : List ℕ) → other ≢ string_bytes self.now.name → S.asked shelf.new other ≡ S.asked shelf.old other }
+        ensures later { (other : List ℕ) → S.faults shelf.old other ≤ S.faults shelf.new other }
+        ensures empties_later { (other : List ℕ) → S.empties shelf.old other ≤ S.empties shelf.new other }
+    {
+        let part = &mut piece[..self.file_bytes(frames)];
+        let at = self.place_of(taken + held.len() as u64);
+        let read = read_piece(alloc, shelf, &self.name, at, part);
+        let whole = self.file_bytes(self.frames_in(read.count));
+        put_frames(held, &part[..whole], self.head.mono);
+        answer_of(read.cut)
     }
 
     /// Reads the next frames, so many, and puts their ring bytes last.
@@ -116,35 +164,19 @@ impl SoundFile {
         requires blocks { 1 ≤ frames → (taken + length held.old.items) % 4 ≡ 0 }
         requires room { length held.old.items + 4 * frames ≤ held.old.capacity }
         requires there { taken + length held.old.items + 4 * frames ≤ self.now.head.frames * 4 }
-        ensures grown { IsGrown (4 * frames) held.old held.new result }
-        ensures reads { (file : List ℕ) → HasFile (S.told shelf.old) (string_bytes self.now.name) (head_in_file self.now.head) file
-            → IsNext (ring_bytes file (head_in_file self.now.head)) taken held.old.items
-            → IsNext (ring_bytes file (head_in_file self.now.head)) taken held.new.items }
-        ensures never_short { (file : List ℕ) → HasFile (S.told shelf.old) (string_bytes self.now.name) (head_in_file self.now.head) file
-            → (place : ℕ) → result ≢ Err (Cut.Short place) }
-        ensures told { S.told shelf.new ≡ S.told shelf.old }
-        ensures given { S.given shelf.new ≤ S.given shelf.old + 4 * frames }
-        ensures given_rises { S.given shelf.old ≤ S.given shelf.new }
-        ensures failed { result ≡ Err Cut.Failed → Rose (S.faults shelf.old (string_bytes self.now.name)) (S.faults shelf.new (string_bytes self.now.name)) }
-        ensures short { (place : ℕ) → result ≡ Err (Cut.Short place) → (place < end_of_sound (head_in_file self.now.head))
-            × Rose (S.empties shelf.old (string_bytes self.now.name)) (S.empties shelf.new (string_bytes self.now.name)) }
-        ensures not_short { ((place : ℕ) → result ≢ Err (Cut.Short place))
-            → S.empties shelf.new (string_bytes self.now.name) ≡ S.empties shelf.old (string_bytes self.now.name) }
+        ensures reads { ReadsOn (4 * frames) (string_bytes self.now.name) (head_in_file self.now.head) taken
+            (seen_under (S.told shelf.old) (S.faults shelf.old) (S.empties shelf.old) (S.given shelf.old) (string_bytes self.now.name))
+            (seen_under (S.told shelf.new) (S.faults shelf.new) (S.empties shelf.new) (S.given shelf.new) (string_bytes self.now.name))
+            held.old held.new result }
         ensures asked { (other : List ℕ) → other ≢ string_bytes self.now.name → S.asked shelf.new other ≡ S.asked shelf.old other }
         ensures later { (other : List ℕ) → S.faults shelf.old other ≤ S.faults shelf.new other }
         ensures empties_later { (other : List ℕ) → S.empties shelf.old other ≤ S.empties shelf.new other }
     {
+        let most = self.frames_in(PIECE_BYTES);
         let mut done = 0;
         while done < frames {
-            let count = (frames - done).min(self.frames_in(PIECE_BYTES));
-            let part = &mut piece[..self.file_bytes(count)];
-            let at = self.place_of(taken + held.len() as u64);
-            let read = read_piece(alloc, shelf, &self.name, at, part);
-            let whole = self.file_bytes(self.frames_in(read.count));
-            put_frames(held, &part[..whole], self.head.mono);
-            if let Some(cut) = read.cut {
-                return Err(cut);
-            }
+            let count = (frames - done).min(most);
+            self.read_few_frames(alloc, shelf, taken, count, piece, held)?;
             done += count;
         }
         Ok(())
@@ -163,20 +195,10 @@ impl SoundFile {
         requires piece { length piece.old ≡ 4096 }
         requires room { length held.old.items + count ≤ held.old.capacity }
         requires there { taken + length held.old.items + count ≤ self.now.head.frames * 4 }
-        ensures grown { IsGrown count held.old held.new result }
-        ensures reads { (file : List ℕ) → HasFile (S.told shelf.old) (string_bytes self.now.name) (head_in_file self.now.head) file
-            → IsNext (ring_bytes file (head_in_file self.now.head)) taken held.old.items
-            → IsNext (ring_bytes file (head_in_file self.now.head)) taken held.new.items }
-        ensures never_short { (file : List ℕ) → HasFile (S.told shelf.old) (string_bytes self.now.name) (head_in_file self.now.head) file
-            → (place : ℕ) → result ≢ Err (Cut.Short place) }
-        ensures told { S.told shelf.new ≡ S.told shelf.old }
-        ensures given { S.given shelf.new ≤ S.given shelf.old + count }
-        ensures given_rises { S.given shelf.old ≤ S.given shelf.new }
-        ensures failed { result ≡ Err Cut.Failed → Rose (S.faults shelf.old (string_bytes self.now.name)) (S.faults shelf.new (string_bytes self.now.name)) }
-        ensures short { (place : ℕ) → result ≡ Err (Cut.Short place) → (place < end_of_sound (head_in_file self.now.head))
-            × Rose (S.empties shelf.old (string_bytes self.now.name)) (S.empties shelf.new (string_bytes self.now.name)) }
-        ensures not_short { ((place : ℕ) → result ≢ Err (Cut.Short place))
-            → S.empties shelf.new (string_bytes self.now.name) ≡ S.empties shelf.old (string_bytes self.now.name) }
+        ensures reads { ReadsOn count (string_bytes self.now.name) (head_in_file self.now.head) taken
+            (seen_under (S.told shelf.old) (S.faults shelf.old) (S.empties shelf.old) (S.given shelf.old) (string_bytes self.now.name))
+            (seen_under (S.told shelf.new) (S.faults shelf.new) (S.empties shelf.new) (S.given shelf.new) (string_bytes self.now.name))
+            held.old held.new result }
         ensures asked { (other : List ℕ) → other ≢ string_bytes self.now.name → S.asked shelf.new other ≡ S.asked shelf.old other }
         ensures later { (other : List ℕ) → S.faults shelf.old other ≤ S.faults shelf.new other }
         ensures empties_later { (other : List ℕ) → S.empties shelf.old other ≤ S.empties shelf.new other }

@@ -1,4 +1,4 @@
-use Rattle.std.proofs.Common.{◌≡◌, ◌≤◌, ◌+◌, ◌*◌, ◌/◌, length, arith}
+use Rattle.std.proofs.Common.{◌/◌, length, arith}
 use Rattle.wav_reader.proofs.RingLemmas.{length-doubled}
 use Rattle.wav_reader.proofs.ring_parts.put_frames.Goals as goal
 

@@ -1,4 +1,4 @@
-use Rattle.std.proofs.Common.{◌<◌, ◌≤◌, ◌+◌, ◌*◌, ◌∷◌, [], length, get_or, arith}
+use Rattle.std.proofs.Common.{◌<◌, ◌+◌, ◌*◌, length, arith}
 use Rattle.wav_reader.specs.Readers.{doubled}
 use Rattle.wav_reader.proofs.RingLemmas.{doubled-more}
 use Rattle.wav_reader.proofs.PutLemmas.{put_step, put_none, put_room}

@@ -1,24 +1,16 @@
-use Rattle.std.proofs.Common.{◌≡◌, ◌≢◌, ◌≤◌, ℕ, ◌+◌, List, take, length, string_bytes}
+use Rattle.std.proofs.Common.{◌≡◌, ◌≢◌, ◌≤◌, ℕ, List, Ok, string_bytes}
 use Rattle.wav_reader.specs.Opening.{head_in_file}
-use Rattle.wav_reader.specs.Readers.{IsNext}
-use Rattle.wav_reader.specs.Shelves.{HasFile}
-use Rattle.wav_reader.specs.Wavs.{ring_bytes}
+use Rattle.wav_reader.specs.Readers.{ReadsOn, seen_under}
 use Rattle.wav_reader.proofs.sound_files.SoundFile.read_bytes.Given as goal
 
--- So many bytes were put last, which are the next ones.
+-- So many bytes were read.
 abbrev pub invariant-loop : goal.invariant-loop
 invariant-loop g l =
     record {
-      capacity : l.held.capacity ≡ l.fn.held.capacity;
-      kept : take (length l.fn.held.items) l.held.items ≡ l.fn.held.items;
-      long : length l.held.items ≡ length l.fn.held.items + l.counter;
-      told : g.S.Shelf.told l.shelf ≡ g.S.Shelf.told l.fn.shelf;
-      reads : (file : List ℕ) → HasFile (g.S.Shelf.told l.fn.shelf) (string_bytes l.self.name) (head_in_file l.self.head) file
-          → IsNext (ring_bytes file (head_in_file l.self.head)) l.taken l.fn.held.items
-          → IsNext (ring_bytes file (head_in_file l.self.head)) l.taken l.held.items;
-      given : g.S.Shelf.given l.shelf ≤ g.S.Shelf.given l.fn.shelf + l.counter;
-      given_rises : g.S.Shelf.given l.fn.shelf ≤ g.S.Shelf.given l.shelf;
-      empties : g.S.Shelf.empties l.shelf (string_bytes l.self.name) ≡ g.S.Shelf.empties l.fn.shelf (string_bytes l.self.name);
+      reads : ReadsOn l.counter (string_bytes l.self.name) (head_in_file l.self.head) l.taken
+          (seen_under (g.S.Shelf.told l.fn.shelf) (g.S.Shelf.faults l.fn.shelf) (g.S.Shelf.empties l.fn.shelf) (g.S.Shelf.given l.fn.shelf) (string_bytes l.self.name))
+          (seen_under (g.S.Shelf.told l.shelf) (g.S.Shelf.faults l.shelf) (g.S.Shelf.empties l.shelf) (g.S.Shelf.given l.shelf) (string_bytes l.self.name))
+          l.fn.held l.held (Ok tt);
       asked : (other : List ℕ) → other ≢ string_bytes l.self.name → g.S.Shelf.asked l.shelf other ≡ g.S.Shelf.asked l.fn.shelf other;
       later : (other : List ℕ) → g.S.Shelf.faults l.fn.shelf other ≤ g.S.Shelf.faults l.shelf other;
       empties_later : (other : List ℕ) → g.S.Shelf.empties l.fn.shelf other ≤ g.S.Shelf.empties l.shelf other;

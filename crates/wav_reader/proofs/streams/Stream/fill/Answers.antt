@@ -1,10 +1,9 @@
-use Rattle.std.proofs.Common.{◌≡◌, ◌≢◌, ◌≤◌, ◌+◌, ◌-◌, ◌*◌, ◌/◌, ℕ, Bool, true, false, min, if◌then◌else◌, List, length, take, drop, string_bytes, sym, ap, ◌∙◌, refl, arith, rules}
+use Rattle.std.proofs.Common.{◌≡◌, ◌≢◌, ◌-◌, ◌*◌, ◌/◌, ℕ, true, false, length, take, string_bytes, ap, ◌∙◌, refl, arith}
 use Rattle.std.specs.Result.{is_err}
-use Rattle.circular_buffer.specs.Buffer.{Buffer, buffer}
+use Rattle.circular_buffer.specs.Buffer.{buffer}
 use Rattle.wav_reader.specs.Opening.{head_in_file}
-use Rattle.wav_reader.specs.Supplies.{Supplied, block_of}
 use Rattle.wav_reader.specs.Wavs.{ring_bytes}
-use Rattle.wav_reader.proofs.StreamLemmas.{block_four, not_cut, not_cut_by, not_full_by, source_with, same_source, full_by, filled_by, cut_by, cut_filled_by, cut_length, next_front, seen_with}
+use Rattle.wav_reader.proofs.StreamLemmas.{block_four, wanted_by, not_cut_by, not_full_by, source_with, same_source, full_by, filled_by, cut_by, cut_filled_by, next_front, seen_with}
 use Rattle.wav_reader.proofs.streams.Stream.fill.Goals as goal
 
 pub returns-else-is_err-clause-fills : goal.returns-else-is_err-clause-fills
@@ -15,17 +14,13 @@ returns-else-is_err-clause-fills g c =
     let total = c.args.self.now.file.head.frames * 4 in
     let held = c.args.self.now.held in
     let taken = c.args.self.now.taken in
-    let grown = c.read_next-read.ensures.grown in
-    let left : c.left.result ≡ (if c.args.self.now.is_cut then length c.args.self.now.held.items else c.args.self.now.file.head.frames * 4 - c.args.self.now.taken) = c.left.ensures.value in
-    let room : c.capacity.result ≡ c.args.self.now.held.capacity = c.capacity.ensures.capacity in
-    let long : c.len.result ≡ length c.args.self.now.held.items = c.len.ensures.len in
-    let most : c.min-most.result ≡ min c.left.result c.capacity.result = c.min-most.ensures in
-    let some : (min (if c.args.self.now.is_cut then length c.args.self.now.held.items else c.args.self.now.file.head.frames * 4 - c.args.self.now.taken) c.args.self.now.held.capacity - length c.args.self.now.held.items) ≢ 0 =
-    rw (← left, ← room, ← long, ← most) c.if-count-eq0.false in
-    let uncut : c.args.self.now.is_cut ≡ false = not_cut c.args.self.now.is_cut (length c.args.self.now.held.items) c.args.self.now.held.capacity (c.args.self.now.file.head.frames * 4 - c.args.self.now.taken) some in
-    let left' : c.left.result ≡ c.args.self.now.file.head.frames * 4 - c.args.self.now.taken = rw uncut at left in
-    let count : c.min-most.result - c.len.result ≡ min (c.args.self.now.file.head.frames * 4 - c.args.self.now.taken) c.args.self.now.held.capacity - length c.args.self.now.held.items = cc in
-    let wants : c.min-most.result - c.len.result ≡ min c.args.self.now.held.capacity (seen_with name said total held taken c.args.self.now.is_cut).left - length c.args.self.now.held.items = rw uncut (omega (arith, count)) in
+    let grown = c.read_next-read.ensures.reads.grown in
+    let rest = c.args.self.now.file.head.frames * 4 - c.args.self.now.taken in
+    let wanted = wanted_by c.args.self.now.is_cut (length held.items) held.capacity rest c.left.result c.capacity.result c.min-most.result c.len.result c.left.ensures.value
+    c.capacity.ensures.capacity c.len.ensures.len c.min-most.ensures c.if-count-eq0.false in
+    let uncut = wanted.uncut in
+    let count = wanted.count_is in
+    let wants = wanted.wants in
     let within = c.requires.is_stream.within in
     let fine : is_err c.read_next-read.result ≡ false = cc (c.is_err.ensures.value, c.if-is_err.false) in
     record {
@@ -35,13 +30,13 @@ returns-else-is_err-clause-fills g c =
       source_is = same_source name said (c.min-most.result - c.len.result) held c.read_next-read.new.held c.read_next-read.result grown;
       filled = λ _. filled_by name said total taken (c.min-most.result - c.len.result) held c.read_next-read.new.held c.args.self.now.is_cut c.read_next-read.result uncut grown;
       idle = λ none. absurd (let none' = none in let nothing = c.if-count-eq0.false in nothing (wants ∙ none));
-      given = (let given = c.read_next-read.ensures.given in omega (arith, given, wants));
-      given_rises = c.read_next-read.ensures.given_rises;
-      failed = c.read_next-read.ensures.failed;
-      short = c.read_next-read.ensures.short;
-      not_short = c.read_next-read.ensures.not_short;
-      reads = c.read_next-read.ensures.reads;
-      never_short = c.read_next-read.ensures.never_short;
+      given = (let given = c.read_next-read.ensures.reads.given in omega (arith, given, wants));
+      given_rises = c.read_next-read.ensures.reads.given_rises;
+      failed = c.read_next-read.ensures.reads.failed;
+      short = c.read_next-read.ensures.reads.short;
+      not_short = c.read_next-read.ensures.reads.not_short;
+      reads = c.read_next-read.ensures.reads.reads;
+      never_short = c.read_next-read.ensures.reads.never_short;
     }
 
 pub returns-then-is_err-clause-fills : goal.returns-then-is_err-clause-fills
@@ -52,17 +47,13 @@ returns-then-is_err-clause-fills g c =
     let total = c.args.self.now.file.head.frames * 4 in
     let held = c.args.self.now.held in
     let taken = c.args.self.now.taken in
-    let grown = c.read_next-read.ensures.grown in
-    let left : c.left.result ≡ (if c.args.self.now.is_cut then length c.args.self.now.held.items else c.args.self.now.file.head.frames * 4 - c.args.self.now.taken) = c.left.ensures.value in
-    let room : c.capacity.result ≡ c.args.self.now.held.capacity = c.capacity.ensures.capacity in
-    let long : c.len.result ≡ length c.args.self.now.held.items = c.len.ensures.len in
-    let most : c.min-most.result ≡ min c.left.result c.capacity.result = c.min-most.ensures in
-    let some : (min (if c.args.self.now.is_cut then length c.args.self.now.held.items else c.args.self.now.file.head.frames * 4 - c.args.self.now.taken) c.args.self.now.held.capacity - length c.args.self.now.held.items) ≢ 0 =
-    rw (← left, ← room, ← long, ← most) c.if-count-eq0.false in
-    let uncut : c.args.self.now.is_cut ≡ false = not_cut c.args.self.now.is_cut (length c.args.self.now.held.items) c.args.self.now.held.capacity (c.args.self.now.file.head.frames * 4 - c.args.self.now.taken) some in
-    let left' : c.left.result ≡ c.args.self.now.file.head.frames * 4 - c.args.self.now.taken = rw uncut at left in
-    let count : c.min-most.result - c.len.result ≡ min (c.args.self.now.file.head.frames * 4 - c.args.self.now.taken) c.args.self.now.held.capacity - length c.args.self.now.held.items = cc in
-    let wants : c.min-most.result - c.len.result ≡ min c.args.self.now.held.capacity (seen_with name said total held taken c.args.self.now.is_cut).left - length c.args.self.now.held.items = rw uncut (omega (arith, count)) in
+    let grown = c.read_next-read.ensures.reads.grown in
+    let rest = c.args.self.now.file.head.frames * 4 - c.args.self.now.taken in
+    let wanted = wanted_by c.args.self.now.is_cut (length held.items) held.capacity rest c.left.result c.capacity.result c.min-most.result c.len.result c.left.ensures.value
+    c.capacity.ensures.capacity c.len.ensures.len c.min-most.ensures c.if-count-eq0.false in
+    let uncut = wanted.uncut in
+    let count = wanted.count_is in
+    let wants = wanted.wants in
     let within = c.requires.is_stream.within in
     let bad : is_err c.read_next-read.result ≡ true = cc (c.is_err.ensures.value, c.if-is_err.true) in
     let four = block_four said c.args.self.now.file.head.bits c.args.self.now.file.head.channels in
@@ -77,11 +68,11 @@ returns-then-is_err-clause-fills g c =
       source_is = same_source name said (c.min-most.result - c.len.result) held c.read_next-read.new.held c.read_next-read.result grown;
       filled = λ whole. cut_filled_by name said total taken (c.min-most.result - c.len.result) held c.read_next-read.new.held c.args.self.now.is_cut c.read_next-read.result uncut four grown (omega (arith, count, within, some')) whole;
       idle = λ none. absurd (let nothing = c.if-count-eq0.false in nothing (wants ∙ none));
-      given = (let given = c.read_next-read.ensures.given in omega (arith, given, wants));
-      given_rises = c.read_next-read.ensures.given_rises;
-      failed = c.read_next-read.ensures.failed;
-      short = c.read_next-read.ensures.short;
-      not_short = c.read_next-read.ensures.not_short;
-      reads = λ file is before. next_front (ring_bytes file said) taken c.read_next-read.new.held (c.read_next-read.ensures.reads file is before);
-      never_short = c.read_next-read.ensures.never_short;
+      given = (let given = c.read_next-read.ensures.reads.given in omega (arith, given, wants));
+      given_rises = c.read_next-read.ensures.reads.given_rises;
+      failed = c.read_next-read.ensures.reads.failed;
+      short = c.read_next-read.ensures.reads.short;
+      not_short = c.read_next-read.ensures.reads.not_short;
+      reads = λ file is before. next_front (ring_bytes file said) taken c.read_next-read.new.held (c.read_next-read.ensures.reads.reads file is before);
+      never_short = c.read_next-read.ensures.reads.never_short;
     })
