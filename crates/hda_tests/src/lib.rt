@@ -16,6 +16,8 @@ mod plans;
 #[cfg(test)]
 mod schedules;
 #[cfg(test)]
+mod streams;
+#[cfg(test)]
 mod verbs;
 #[cfg(test)]
 mod wavs;

@@ -6,20 +6,20 @@ use stream_format::{Bits, Rate};
 use wav_reader::{Supply, Wav, WavFault, read_wav};
 
 /// The beginning of a WAV file.
-const RIFF: &[u8] = b"RIFF\x2c\0\0\0WAVE";
+pub const RIFF: &[u8] = b"RIFF\x2c\0\0\0WAVE";
 /// A chunk `fmt `: 48 kHz, 16 bits, 2 channels.
-const STEREO: &[u8] = b"fmt \x10\0\0\0\x01\0\x02\0\x80\xbb\0\0\0\xee\x02\0\x04\0\x10\0";
+pub const STEREO: &[u8] = b"fmt \x10\0\0\0\x01\0\x02\0\x80\xbb\0\0\0\xee\x02\0\x04\0\x10\0";
 /// The body of that chunk.
 const FIELDS: &[u8] = b"\x01\0\x02\0\x80\xbb\0\0\0\xee\x02\0\x04\0\x10\0";
 /// A chunk `fmt `: 48 kHz, 16 bits, 1 channel.
-const MONO: &[u8] = b"fmt \x10\0\0\0\x01\0\x01\0\x80\xbb\0\0\0\x77\x01\0\x02\0\x10\0";
+pub const MONO: &[u8] = b"fmt \x10\0\0\0\x01\0\x01\0\x80\xbb\0\0\0\x77\x01\0\x02\0\x10\0";
 /// A chunk `fmt ` of another tag.
 const FLOAT: &[u8] = b"fmt \x10\0\0\0\x03\0\x02\0\x80\xbb\0\0\0\xee\x02\0\x04\0\x10\0";
 /// A chunk `data` of two frames.
-const SOUND: &[u8] = b"data\x08\0\0\0\x01\0\x02\0\x03\0\xff\xff";
+pub const SOUND: &[u8] = b"data\x08\0\0\0\x01\0\x02\0\x03\0\xff\xff";
 
 /// The parts one after the other.
-fn joined(alloc: Global, parts: &[&[u8]]) -> Result<Vec<u8>, AllocError> {
+pub fn joined(alloc: Global, parts: &[&[u8]]) -> Result<Vec<u8>, AllocError> {
     let mut bytes = Vec::new(alloc);
     for part in parts {
         bytes.extend_from_slice(part)?;
@@ -28,7 +28,7 @@ fn joined(alloc: Global, parts: &[&[u8]]) -> Result<Vec<u8>, AllocError> {
 }
 
 /// A file of two frames with some of its bytes changed, from a place on.
-fn changed(alloc: Global, place: usize, change: &[u8]) -> Result<Vec<u8>, AllocError> {
+pub fn changed(alloc: Global, place: usize, change: &[u8]) -> Result<Vec<u8>, AllocError> {
     let mut bytes = joined(alloc, &[RIFF, STEREO, SOUND])?;
     for (index, byte) in change.iter().enumerate() {
         if let Some(old) = bytes.get_mut(place.saturating_add(index)) {
@@ -66,7 +66,7 @@ fn reads_sound(rt: HostRuntime) -> Result<(), Fail> {
 }
 
 /// What the first so many bytes of the file of two frames mean.
-fn of_front(len: usize) -> Result<u64, WavFault> {
+pub fn of_front(len: usize) -> Result<u64, WavFault> {
     match len {
         0..=11 => Err(WavFault::NotRiff),
         12 | 36 => Err(WavFault::NoData),
@@ -88,7 +88,7 @@ fn reads_every_front(rt: HostRuntime) -> Result<(), Fail> {
 }
 
 /// Changes of the file of two frames, each with its place, and what the file then means.
-const CHANGES: [(usize, &[u8], Result<u64, WavFault>); 38] = [
+pub const CHANGES: [(usize, &[u8], Result<u64, WavFault>); 38] = [
     (0, b"RIFX", Err(WavFault::NotRiff)),
     (0, b"riff", Err(WavFault::NotRiff)),
     (8, b"WAVX", Err(WavFault::NotRiff)),

@@ -1,0 +1,263 @@
+//! Sound that is read while it is taken: how long files are, what opening a WAV file answers, and what a supply gives out, also where the
+//! shelf fails or the file gets shorter.
+use crate::wavs::{CHANGES, MONO, RIFF, SOUND, STEREO, changed, joined, of_front};
+use hda_outside::{Cut, MemShelf, ReadAll, SureShelf, file_length};
+use std::alloc::{AllocError, Global};
+use std::process::Abort;
+use std::test::Fail;
+use wav_reader::{Supply, Wav, WavFault, WavOpen, open_wav, read_wav};
+
+/// One file, as a shelf takes it.
+fn named(alloc: Global, bytes: Vec<u8>) -> Result<Vec<(String, Vec<u8>)>, AllocError> {
+    let mut files = Vec::new(alloc);
+    files.push((String::from_str(alloc, "file")?, bytes))?;
+    Ok(files)
+}
+
+/// Lengths of files, the most that is asked for, and what is answered.
+const LENGTHS: [(usize, u64, Result<u64, ReadAll>); 14] = [
+    (0, 0, Ok(0)),
+    (0, 1, Ok(0)),
+    (0, u64::MAX, Ok(0)),
+    (1, 0, Err(ReadAll::TooLong)),
+    (1, 1, Ok(1)),
+    (1, 2, Ok(1)),
+    (2, 1, Err(ReadAll::TooLong)),
+    (2, 7, Ok(2)),
+    (3, 3, Ok(3)),
+    (64, 63, Err(ReadAll::TooLong)),
+    (64, 64, Ok(64)),
+    (64, 67_108_864, Ok(64)),
+    (4_096, u64::MAX, Ok(4_096)),
+    (4_096, 4_095, Err(ReadAll::TooLong)),
+];
+
+#[test]
+fn measures_files(rt: HostRuntime) -> Result<(), Fail> {
+    let alloc = rt.alloc();
+    for (len, most, want) in LENGTHS {
+        let mut shelf = SureShelf::new(named(alloc, vec![in alloc; 7; len]?)?);
+        let got = file_length(alloc, &mut shelf, "file", most);
+        assert_eq!(rt; got, want, "{len} {most}");
+        let got = file_length(alloc, &mut shelf, "gone", most);
+        assert_eq!(rt; got, Err(ReadAll::Failed), "{most}");
+    }
+    Ok(())
+}
+
+/// How many frames a file has and where they begin, or its fault; without either where the shelf or memory was wanting.
+fn opened(
+    alloc: Global,
+    bytes: Vec<u8>,
+) -> Result<Option<Result<(u64, u64), WavFault>>, AllocError> {
+    let mut shelf = SureShelf::new(named(alloc, bytes)?);
+    Ok(match open_wav(alloc, &mut shelf, "file") {
+        Ok(head) => Some(Ok((head.frames, head.from))),
+        Err(WavOpen::Wav(fault)) => Some(Err(fault)),
+        Err(_) => None,
+    })
+}
+
+#[test]
+fn opens_each_front(rt: HostRuntime) -> Result<(), Fail> {
+    let alloc = rt.alloc();
+    let file = joined(alloc, &[RIFF, STEREO, SOUND])?;
+    for len in 0..53 {
+        let front = file.get(..len).ok_or("a front")?;
+        let got = opened(alloc, Vec::from_slice(alloc, front)?)?;
+        let want = of_front(len).map(|frames| (frames, 44));
+        assert_eq!(rt; got, Some(want), "{len}");
+    }
+    Ok(())
+}
+
+#[test]
+fn opens_changed_files(rt: HostRuntime) -> Result<(), Fail> {
+    let alloc = rt.alloc();
+    for (place, change, want) in CHANGES {
+        let got = opened(alloc, changed(alloc, place, change)?)?;
+        let want = want.map(|frames| (frames, 44));
+        assert_eq!(rt; got, Some(want), "{place} {change:?}");
+    }
+    let list = b"LIST\x03\0\0\0abc\0";
+    let bytes = joined(alloc, &[RIFF, list, MONO, list, SOUND])?;
+    assert_eq!(rt; opened(alloc, bytes)?, Some(Ok((4, 68))));
+    Ok(())
+}
+
+/// A file of so many bytes of sound, of one channel or of two.
+fn sound_file(alloc: Global, mono: bool, len: u32) -> Result<Vec<u8>, AllocError> {
+    let format = if mono { MONO } else { STEREO };
+    let mut bytes = joined(alloc, &[RIFF, format, b"data"])?;
+    bytes.extend_from_slice(&len.to_le_bytes())?;
+    for at in 0..len {
+        bytes.push((at % 251) as u8)?;
+    }
+    Ok(bytes)
+}
+
+/// A file of so many bytes of sound, what it means as it is read whole, and a supply of it that holds at most so many bytes.
+fn sound_of(
+    rt: &impl Abort,
+    alloc: Global,
+    (mono, len): (bool, u32),
+    ring: u32,
+) -> Result<(Vec<u8>, Wav, Supply), Fail> {
+    let file = sound_file(alloc, mono, len)?;
+    let whole = read_wav(alloc, &file)?;
+    let mut shelf = SureShelf::new(named(alloc, file.clone()?)?);
+    let Ok(head) = open_wav(alloc, &mut shelf, "file") else {
+        return Err(Fail::from("not opened"));
+    };
+    assert!(rt; ring != 0 && ring % 4 == 0);
+    let supply = Supply::stream(alloc, head, "file", ring)?;
+    Ok((file, whole, supply))
+}
+
+/// Takes what is held of a supply, at most so many bytes, and puts them last.
+fn take_some(supply: &mut Supply, most: usize, all: &mut Vec<u8>) -> Result<(), AllocError> {
+    let alloc = *all.allocator();
+    let count = (supply.held() as usize).min(most);
+    let mut some = vec![in alloc; 0; count]?;
+    supply.take(&mut some);
+    all.extend_from_slice(&some)
+}
+
+/// How many bytes are taken at a time: whole blocks and parts of them.
+const TAKES: [usize; 4] = [3, 1, 8, 100_000];
+
+/// Fails the test unless a supply gives out all of a sound, where it is filled before each time that some is taken.
+fn expect_all(
+    rt: &impl Abort,
+    alloc: Global,
+    supply: &mut Supply,
+    file: Vec<u8>,
+    ring: u32,
+) -> Result<Vec<u8>, AllocError> {
+    let mut shelf = SureShelf::new(named(alloc, file)?);
+    let mut all = Vec::new(alloc);
+    for turn in 0..20_000usize {
+        if supply.left() == 0 {
+            break;
+        }
+        assert_eq!(rt; supply.fill(alloc, &mut shelf), Ok(()));
+        assert_eq!(rt; supply.held(), supply.left().min(u64::from(ring)));
+        take_some(supply, TAKES[turn % 4], &mut all)?;
+    }
+    assert_eq!(rt; supply.fill(alloc, &mut shelf), Ok(()));
+    assert_eq!(rt; (supply.held(), supply.left()), (0, 0));
+    Ok(all)
+}
+
+/// Whether a file has one channel, and the bytes that a supply of it holds at most.
+const RINGS: [(bool, u32); 6] = [
+    (false, 4),
+    (false, 768),
+    (false, 100_000),
+    (true, 16),
+    (true, 12_288),
+    (true, 100_000),
+];
+
+#[test]
+fn streams_what_it_reads(rt: HostRuntime) -> Result<(), Fail> {
+    let alloc = rt.alloc();
+    for (mono, ring) in RINGS {
+        // longer than a piece of 4,096 bytes, with bytes at the end that are no whole frame
+        let (file, whole, mut supply) = sound_of(&rt, alloc, (mono, 9_001), ring)?;
+        assert_eq!(rt; supply.left(), whole.pcm.len() as u64);
+        let all = expect_all(&rt, alloc, &mut supply, file, ring)?;
+        assert!(rt; all.as_slice() == whole.pcm.as_slice());
+        assert_eq!(rt; supply.read(), all.len() as u64);
+    }
+    Ok(())
+}
+
+/// Fails the test unless a supply that was cut holds the front of a sound, of so many bytes, and gives no more than that.
+fn expect_front(
+    rt: &impl Abort,
+    alloc: Global,
+    supply: &mut Supply,
+    whole: &Wav,
+    held: u64,
+) -> Result<(), AllocError> {
+    let mut shelf = SureShelf::new(Vec::new(alloc));
+    assert_eq!(rt; supply.fill(alloc, &mut shelf), Ok(()));
+    assert_eq!(rt;
+        (supply.held(), supply.left(), supply.read()),
+        (held, held, held)
+    );
+    let mut all = Vec::new(alloc);
+    take_some(supply, usize::MAX, &mut all)?;
+    assert_eq!(rt; (all.len() as u64, supply.left()), (held, 0));
+    assert!(rt; whole.pcm.as_slice().starts_with(all.as_slice()));
+    Ok(())
+}
+
+/// Whether a file of 9,000 bytes of sound has one channel, the call that fails, of those that each ask for a piece of 4,096 bytes, and the bytes of
+/// sound that are held then.
+const FAILING_CALLS: [(bool, u64, u64); 6] = [
+    (false, 0, 0),
+    (false, 1, 4_096),
+    (false, 2, 8_192),
+    (true, 0, 0),
+    (true, 1, 8_192),
+    (true, 2, 16_384),
+];
+
+#[test]
+fn stops_reading_where_the_shelf_fails(rt: HostRuntime) -> Result<(), Fail> {
+    let alloc = rt.alloc();
+    for (mono, call, held) in FAILING_CALLS {
+        let (file, whole, mut supply) = sound_of(&rt, alloc, (mono, 9_000), 100_000)?;
+        let mut failing = MemShelf::new(named(alloc, file)?, vec![in alloc; call]?);
+        assert_eq!(rt; supply.fill(alloc, &mut failing), Err(Cut::Failed));
+        expect_front(&rt, alloc, &mut supply, &whole, held)?;
+    }
+    Ok(())
+}
+
+/// Whether a file of 84 bytes has one channel, how many of these are left when its sound is read, the place at which no byte more is found, and the
+/// bytes of sound that are held then.
+const FRONTS: [(bool, usize, u64, u64); 14] = [
+    (false, 0, 44, 0),
+    (false, 44, 44, 0),
+    (false, 45, 45, 0),
+    (false, 47, 47, 0),
+    (false, 48, 48, 4),
+    (false, 64, 64, 20),
+    (false, 80, 80, 36),
+    (false, 83, 83, 36),
+    (true, 20, 44, 0),
+    (true, 45, 45, 0),
+    (true, 46, 46, 4),
+    (true, 63, 63, 36),
+    (true, 64, 64, 40),
+    (true, 83, 83, 76),
+];
+
+#[test]
+fn stops_reading_where_the_file_ends(rt: HostRuntime) -> Result<(), Fail> {
+    let alloc = rt.alloc();
+    for (mono, len, place, held) in FRONTS {
+        let (mut file, whole, mut supply) = sound_of(&rt, alloc, (mono, 40), 1_000)?;
+        file.truncate(len);
+        let mut shorter = SureShelf::new(named(alloc, file)?);
+        let got = supply.fill(alloc, &mut shorter);
+        assert_eq!(rt; got, Err(Cut::Short(place)), "{len}");
+        expect_front(&rt, alloc, &mut supply, &whole, held)?;
+    }
+    Ok(())
+}
+
+#[test]
+fn reads_a_longer_file_as_it_was_measured(rt: HostRuntime) -> Result<(), Fail> {
+    let alloc = rt.alloc();
+    for mono in [false, true] {
+        let (mut file, whole, mut supply) = sound_of(&rt, alloc, (mono, 40), 1_000)?;
+        file.extend_from_slice(b"more of it")?;
+        let all = expect_all(&rt, alloc, &mut supply, file, 1_000)?;
+        assert!(rt; all.as_slice() == whole.pcm.as_slice());
+    }
+    Ok(())
+}
