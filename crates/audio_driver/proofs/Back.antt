@@ -10,11 +10,10 @@ use Rattle.command_engine.specs.Blocks.{corb_bytes, rirb_bytes}
 use Rattle.period_writer.specs.declared.geometry.Geometry.{Geometry}
 use Rattle.period_writer.specs.Blocks.{AddsAll}
 use Rattle.period_writer.specs.Rings.{period_bytes, list_bytes}
-use Rattle.audio_driver.specs.Owning.{are_same, is_taken}
 use Rattle.audio_driver.specs.Opening.{Opens}
 use Rattle.audio_driver.specs.Closing.{GivesBack}
 use Rattle.period_writer.proofs.Callers.{adds_keeps}
-use Rattle.audio_driver.proofs.Taken.{same_run, run_same}
+use Rattle.audio_driver.proofs.Taken.{are_same, is_taken, same_run, run_same}
 
 -- ---- the runs beside some
 

@@ -9,13 +9,13 @@ use Rattle.hda_world.proofs.Callers.{row_both, told_both, told_map, told_pair}
 use Rattle.command_engine.specs.Polling.{poll_accesses, found_by}
 use Rattle.period_writer.specs.declared.course.Ran.{Ran}
 use Rattle.period_writer.specs.declared.registers.TheConstants.{CONTROL}
-use Rattle.period_writer.specs.declared.writer.Writer.{Writer}
+use Rattle.period_writer.specs.Courses.{IsCourse}
 use Rattle.period_writer.specs.Rings.{period_bytes}
 use Rattle.period_writer.specs.Places.{line_writes}
 use Rattle.period_writer.specs.Playing.{Finishes, run_bytes, finish_accesses}
 use Rattle.period_writer.specs.Outcomes.{FinishTellsOf}
 use Rattle.period_writer.specs.Runs.{Tally, facts_of, run_reach}
-use Rattle.period_writer.specs.Writers.{tally_of, measures_of, periods_of, ring_of}
+use Rattle.period_writer.specs.Writers.{WriterState, tally_of, measures_of, periods_of, ring_of, ring_size}
 use Rattle.driver_progress.specs.declared.phase.Phase.{Phase}
 use Rattle.driver_progress.specs.declared.phase.Phase.TheVariants.{Ready}
 use Rattle.driver_stretches.specs.Shutting.{shut_accesses}
@@ -33,7 +33,7 @@ use Rattle.audio_driver.proofs.Sounded.{IsSupply, told_each, counts_same, run_en
 
 -- ---- the stream does not play
 
-pub ends_alone : (old : BringUp) (writer : Writer) (supply : List ℕ) (before after : Option Telling) → old.phase ≡ Ready → is_playing writer.course ≡ false → Between (Makes shut_accesses) before after
+pub ends_alone : (old : BringUp) (writer : WriterState) (supply : List ℕ) (before after : Option Telling) → old.phase ≡ Ready → is_playing writer.course ≡ false → Between (Makes shut_accesses) before after
     → EndsSound old old writer (tally_of writer) supply before after
 ends_alone old writer supply before after ready silent shut =
     let limit = (measures_of writer).limit in record {
@@ -51,18 +51,19 @@ ends_alone old writer supply before after ready silent shut =
 
 -- ---- it plays
 
-last_entries : (writer : Writer) (from lpib to : ℕ) (supply : List ℕ) → entries_in (finish_accesses writer.geometry (periods_of writer) writer.course (facts_of 0 (length supply) from lpib to) supply ++ shut_accesses) ≡ []
+last_entries : (writer : WriterState) (from lpib to : ℕ) (supply : List ℕ) → entries_in (finish_accesses writer.geometry (periods_of writer) writer.course (facts_of 0 (length supply) from lpib to) supply ++ shut_accesses) ≡ []
 last_entries writer from lpib to supply =
     let facts = facts_of 0 (length supply) from lpib to in
     let m = measures_of writer in
     let writes = line_writes (period_bytes writer.geometry.period) (periods_of writer) writer.course.reach (run_reach m writer.course facts) (run_bytes m writer.course facts supply) in
     ap entries_in (append_assoc writes (Read WALCLK Four to ∷ Write CONTROL One 0 ∷ []) shut_accesses) ∙ run_entries writer facts supply (Write CONTROL One 0 ∷ shut_accesses) refl
 
-pub ends_playing : (old new : BringUp) (writer : Writer) (tally' : Tally) (supply : List ℕ) (answer : Ran) (before listened stopped after : Option Telling) → writer.course.started ≡ true → is_open writer.course.ran ≡ true
+pub ends_playing : (old new : BringUp) (writer : WriterState) (tally' : Tally) (supply : List ℕ) (answer : Ran) (before listened stopped after : Option Telling) → IsCourse (ring_size writer) (length writer.runs) writer.course
+    → writer.course.started ≡ true → is_open writer.course.ran ≡ true
     → Listens old new before listened → Finishes writer.geometry (periods_of writer) supply (tally_of writer) answer tally' listened stopped
     → ((pcm : List ℕ) → supply ≡ drop writer.course.used pcm → Between (FinishTellsOf (ring_of writer) pcm (tally_of writer) answer tally') listened stopped) → Between (Makes shut_accesses) stopped after
     → EndsSound old new writer tally' supply before after
-ends_playing old new writer tally' supply answer before listened stopped after started more listens finishes tells shut =
+ends_playing old new writer tally' supply answer before listened stopped after course_is started more listens finishes tells shut =
     let facts = facts_of 0 (length supply) finishes.from finishes.lpib finishes.to in
     let was = tally'.course.ran in
     let poll = poll_accesses old.engine.rirb.address old.engine.rings listens.reads in
@@ -83,6 +84,7 @@ ends_playing old new writer tally' supply answer before listened stopped after s
       agenda = listens.agenda;
       tells = told_map (λ before after both. inr (record {
         plays = playing;
+        course_is = course_is;
         reads = listens.reads;
         run = run;
         made_is = refl;

@@ -1,17 +1,24 @@
 -- What a driver keeps from call to call.
-use Rattle.std.proofs.Common.{◌≡◌, ◌≤◌, ◌+◌, ℕ, List, [], ◌∷◌, length, length-append, Bool, true, false, refl, sym, ap, ◌∙◌, arith}
-use Rattle.std.specs.Prelude.{◌&&◌, not}
+use Rattle.std.proofs.Common.{◌≡◌, ◌≤◌, ◌<◌, ◌+◌, ℕ, List, [], ◌∷◌, length, length-append, Bool, true, false, refl, sym, ap, subst, ◌∙◌, arith}
+use Rattle.std.specs.Prelude.{◌&&◌, not, Contains}
+use Rattle.dma_pool.specs.declared.blocks.Lent.{Lent}
+use Rattle.dma_pool.specs.Blocks.{run_at}
+use Rattle.dma_pool.specs.Pools.{PoolState}
+use Rattle.command_engine.specs.Blocks.{corb_bytes, rirb_bytes}
+use Rattle.period_writer.specs.declared.geometry.Geometry.{Geometry}
+use Rattle.period_writer.proofs.Callers.{owns_on}
 use Rattle.period_writer.specs.declared.course.Course.{Course}
 use Rattle.period_writer.specs.declared.course.Ran.{Ran}
 use Rattle.period_writer.specs.declared.course.Run.{Run}
 use Rattle.period_writer.specs.declared.course.Span.{Span}
-use Rattle.period_writer.specs.declared.writer.Writer.{Writer}
 use Rattle.period_writer.specs.Runs.{Measures, RunFacts, Tally, run_of, is_late, tally_if, tally_after, course_opened, tally_opened}
-use Rattle.period_writer.specs.Writers.{tally_of, measures_of}
+use Rattle.period_writer.specs.Writers.{WriterState, KeepsRing, tally_of, measures_of}
 use Rattle.driver_progress.specs.declared.phase.Phase.{Phase}
 use Rattle.driver_progress.specs.declared.phase.Phase.TheVariants.{Reset, Settling, Walking, SettingUp, Ready, Playing, Drained, NothingRouted, Unanswered, Late, Malformed, Failed}
 use Rattle.driver_progress.specs.Phases.{is_asking, is_ready}
 use Rattle.codec_bring_up.specs.declared.bringing.BringUp.{BringUp}
+use Rattle.codec_bring_up.specs.Calls.{IsKept}
+use Rattle.audio_driver.specs.Drivers.{IsDriver}
 use Rattle.audio_driver.specs.States.{is_open, phase_if, phase_of, plays_now}
 
 -- ---- the phase
@@ -56,7 +63,7 @@ one_more m tally tally' facts is =
 
 -- ---- a driver that was just opened
 
-pub opened_tally : (writer : Writer) → writer.runs.items ≡ [] → writer.silences.items ≡ [] → writer.course ≡ course_opened → tally_of writer ≡ tally_opened
+pub opened_tally : (writer : WriterState) → writer.runs ≡ [] → writer.silences ≡ [] → writer.course ≡ course_opened → tally_of writer ≡ tally_opened
 opened_tally writer runs silences course =
     ap (λ (runs : List Run). record (tally_of writer) { runs = runs }) runs
     ∙ ap (λ (silences : List Span). record (tally_of writer) { runs = []; silences = silences }) silences
@@ -65,7 +72,7 @@ opened_tally writer runs silences course =
 never : false ≡ true → ⊥
 never is = cc
 
-pub not_begun : (writer : Writer) → writer.course ≡ course_opened → writer.course.started ≡ true → ⊥
+pub not_begun : (writer : WriterState) → writer.course ≡ course_opened → writer.course.started ≡ true → ⊥
 not_begun writer opened started = never (sym (ap (λ (course : Course). course.started) opened) ∙ started)
 
 pub not_both : (b : Bool) → b ≡ false → b ≡ true → ⊥
@@ -84,7 +91,7 @@ must_be true not_off = refl
 must_be false not_off = absurd (not_off refl)
 
 -- where no run comes next, there was one
-pub over_started : (writer : Writer) → (writer.course.started ≡ false → tally_of writer ≡ tally_opened) → is_open writer.course.ran ≡ false → writer.course.started ≡ true
+pub over_started : (writer : WriterState) → (writer.course.started ≡ false → tally_of writer ≡ tally_opened) → is_open writer.course.ran ≡ false → writer.course.started ≡ true
 over_started writer fresh over =
     must_be writer.course.started (λ off. never (sym over ∙ ap (λ (tally : Tally). is_open tally.course.ran) (fresh off)))
 
@@ -95,7 +102,50 @@ asking_if true phase was limit ready asks = absurd (never (sym (ap is_asking (re
 asking_if false phase was limit ready asks = asks
 
 -- where the bring-up sends commands the driver does
-pub asking_in : (play : Bool) (bring_up : BringUp) (writer : Writer) → (writer.course.started ≡ true → plays_now play bring_up ≡ true)
+pub asking_in : (play : Bool) (bring_up : BringUp) (writer : WriterState) → (writer.course.started ≡ true → plays_now play bring_up ≡ true)
     → is_asking bring_up.phase ≡ true → is_asking (phase_of bring_up writer) ≡ true
 asking_in play bring_up writer begun asks =
     asking_if writer.course.started bring_up.phase writer.course.ran (measures_of writer).limit (λ started. plays_ready play bring_up (begun started)) asks
+
+-- ---- what is true of every driver
+
+-- it stays so over a call that plays
+pub played_on : (bring_up bring_up' : BringUp) (writer writer' : WriterState) (pool : PoolState) (play : Bool) (runs calls : ℕ) → IsDriver bring_up writer pool play runs calls → calls < runs
+    → IsKept bring_up bring_up' → KeepsRing writer writer' → bring_up'.phase ≡ bring_up.phase → length writer'.runs ≤ length writer.runs + 1
+    → (writer'.course.started ≡ false → tally_of writer' ≡ tally_opened) → plays_now play bring_up ≡ true → IsDriver bring_up' writer' pool play runs (calls + 1)
+played_on bring_up bring_up' writer writer' pool play runs calls is few kept keeps phase recorded fresh plays =
+    let looks = is.few_looks in
+    let long = is.few_recorded in
+    record {
+      owns_corb = subst (λ (lent : Lent). Contains pool.taken (run_at lent.address corb_bytes)) (sym kept.corb) is.owns_corb;
+      owns_rirb = subst (λ (lent : Lent). Contains pool.taken (run_at lent.address rirb_bytes)) (sym kept.rirb) is.owns_rirb;
+      owns_ring = owns_on pool.taken writer writer' keeps is.owns_ring;
+      formats = kept.format ∙ is.formats ∙ ap (λ (geometry : Geometry). geometry.format) (sym keeps.geometry);
+      records = keeps.records ∙ is.records;
+      few_runs = is.few_runs;
+      few_calls = omega (arith, few);
+      few_looks = (let more = kept.looks in omega (arith, looks, more));
+      few_recorded = omega (arith, long, recorded);
+      fresh = fresh;
+      begun = λ started. plays_same play bring_up bring_up' phase plays;
+    }
+
+-- and over one that does not
+pub led_on : (bring_up bring_up' : BringUp) (writer : WriterState) (pool : PoolState) (play : Bool) (runs calls : ℕ) → IsDriver bring_up writer pool play runs calls → calls < runs
+    → IsKept bring_up bring_up' → plays_now play bring_up ≡ false → IsDriver bring_up' writer pool play runs (calls + 1)
+led_on bring_up bring_up' writer pool play runs calls is few kept silent =
+    let looks = is.few_looks in
+    let long = is.few_recorded in
+    record {
+      owns_corb = subst (λ (lent : Lent). Contains pool.taken (run_at lent.address corb_bytes)) (sym kept.corb) is.owns_corb;
+      owns_rirb = subst (λ (lent : Lent). Contains pool.taken (run_at lent.address rirb_bytes)) (sym kept.rirb) is.owns_rirb;
+      owns_ring = is.owns_ring;
+      formats = kept.format ∙ is.formats;
+      records = is.records;
+      few_runs = is.few_runs;
+      few_calls = omega (arith, few);
+      few_looks = (let more = kept.looks in omega (arith, looks, more));
+      few_recorded = omega (arith, long);
+      fresh = is.fresh;
+      begun = λ started. absurd (not_both (plays_now play bring_up) silent (is.begun started));
+    }

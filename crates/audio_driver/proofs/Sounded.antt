@@ -17,14 +17,13 @@ use Rattle.command_engine.specs.Entries.{responses_in, answer_among}
 use Rattle.command_engine.proofs.Callers.{made_none}
 use Rattle.period_writer.specs.declared.course.Ran.{Ran}
 use Rattle.period_writer.specs.declared.course.Ran.TheVariants as ran
-use Rattle.period_writer.specs.declared.writer.Writer.{Writer}
 use Rattle.period_writer.specs.Rings.{period_bytes, ring_bytes}
 use Rattle.period_writer.specs.Places.{line_writes, piece_write, touched}
 use Rattle.period_writer.specs.Starting.{entry_write, run_accesses, start_accesses}
 use Rattle.period_writer.specs.Playing.{Starts, Plays, run_bytes, stop_accesses, play_accesses}
 use Rattle.period_writer.specs.Outcomes.{StartTellsOf, RunTellsOf}
 use Rattle.period_writer.specs.Runs.{Measures, RunFacts, Tally, facts_of, run_reach, run_sound, is_late, tally_if, tally_after, tally_opened}
-use Rattle.period_writer.specs.Writers.{tally_of, measures_of, periods_of, ring_of}
+use Rattle.period_writer.specs.Writers.{WriterState, KeepsRing, tally_of, measures_of, periods_of, ring_of}
 use Rattle.driver_progress.specs.declared.phase.Phase.{Phase}
 use Rattle.driver_progress.specs.declared.phase.Phase.TheVariants.{Ready}
 use Rattle.driver_progress.specs.Phases.{is_active}
@@ -74,14 +73,6 @@ left_after pcm supply supply' m tally tally' facts before tally_is is left = λ 
     is ∙ ap (λ (supply : List ℕ). drop sound supply) (left before) ∙ drop-drop sound tally.course.used pcm
     ∙ ap (λ (used : ℕ). drop used pcm) (used_by (is_late m tally.course facts) m tally facts after ∙ ap (λ (tally : Tally). tally.course.used) (sym tally_is))
 
--- ---- the ring stays
-
-pub record SameRing (writer writer' : Writer) : Type 0 where
-  pub geometry : writer'.geometry ≡ writer.geometry
-  pub list : writer'.list ≡ writer.list
-  pub periods : writer'.periods.items ≡ writer.periods.items
-  pub records : writer'.records ≡ writer.records
-
 pub counts_same : (made : List Event) (entries : List (List ℕ)) (old new : BringUp) → entries_in made ≡ entries → ((events : List told.Event) → IsCount events old.jacks → IsCount (with_told events entries) new.jacks)
     → (events : List told.Event) → IsCount events old.jacks → IsCount (with_told events (entries_in made)) new.jacks
 counts_same made entries old new same counted events counts = subst (λ (entries : List (List ℕ)). IsCount (with_told events entries) new.jacks) (sym same) (counted events counts)
@@ -91,10 +82,10 @@ answer_of rings entries = answer_among (asked_of rings.outstanding) (responses_i
 
 -- ---- no run comes
 
-over_phase : (old : BringUp) (writer : Writer) → writer.course.started ≡ true → (state_of old writer).phase ≡ played_as writer.course.ran (measures_of writer).limit
+over_phase : (old : BringUp) (writer : WriterState) → writer.course.started ≡ true → (state_of old writer).phase ≡ played_as writer.course.ran (measures_of writer).limit
 over_phase old writer started = ap (λ (started : Bool). phase_if started old.phase writer.course.ran (measures_of writer).limit) started
 
-pub over_sounds : (old : BringUp) (writer : Writer) (supply : List ℕ) (budget : ℕ) (told : Option Telling) → writer.course.started ≡ true → is_open writer.course.ran ≡ false → Sounds false budget old old writer writer supply supply told told
+pub over_sounds : (old : BringUp) (writer : WriterState) (supply : List ℕ) (budget : ℕ) (told : Option Telling) → writer.course.started ≡ true → is_open writer.course.ran ≡ false → Sounds false budget old old writer writer supply supply told told
 over_sounds old writer supply budget told started over = record {
   made = [];
   are = tt {0};
@@ -107,7 +98,7 @@ over_sounds old writer supply budget told started over = record {
 }
 
 -- a call for an interrupt does not look for one then
-pub over_sounds_irq : (old : BringUp) (writer : Writer) (supply : List ℕ) (budget : ℕ) (told : Option Telling) → writer.course.started ≡ true → is_open writer.course.ran ≡ false → Sounds true budget old old writer writer supply supply told told
+pub over_sounds_irq : (old : BringUp) (writer : WriterState) (supply : List ℕ) (budget : ℕ) (told : Option Telling) → writer.course.started ≡ true → is_open writer.course.ran ≡ false → Sounds true budget old old writer writer supply supply told told
 over_sounds_irq old writer supply budget told started over = record {
   made = [];
   are = tt {0};
@@ -122,7 +113,7 @@ over_sounds_irq old writer supply budget told started over = record {
 
 -- ---- the first run
 
-start_entries : (writer : Writer) (from in_reset ready to : ℕ) (written : List ℕ) → entries_in (start_accesses writer.geometry writer.list.address (periods_of writer) from in_reset ready to written) ≡ []
+start_entries : (writer : WriterState) (from in_reset ready to : ℕ) (written : List ℕ) → entries_in (start_accesses writer.geometry writer.list.address (periods_of writer) from in_reset ready to written) ≡ []
 start_entries writer from in_reset ready to written =
     let bytes = period_bytes writer.geometry.period in
     let ring = ring_bytes writer.geometry.periods writer.geometry.period in
@@ -130,9 +121,9 @@ start_entries writer from in_reset ready to written =
     writes_entries (entry_write writer.list.address (periods_of writer) bytes) (range_with_len 0 (length (periods_of writer))) (line_writes bytes (periods_of writer) 0 ring written ++ rest) (λ number. refl)
     ∙ writes_entries (piece_write bytes (periods_of writer) 0 ring written) (range_with_len (0 / bytes) (touched bytes 0 ring)) rest (λ number. refl)
 
-pub start_sounds : (old : BringUp) (writer writer' : Writer) (supply supply' : List ℕ) (budget : ℕ) (before after : Option Telling) → old.phase ≡ Ready → writer.course.started ≡ false → tally_of writer ≡ tally_opened
+pub start_sounds : (old : BringUp) (writer writer' : WriterState) (supply supply' : List ℕ) (budget : ℕ) (before after : Option Telling) → old.phase ≡ Ready → writer.course.started ≡ false → tally_of writer ≡ tally_opened
     → Starts writer.geometry writer.list.address (periods_of writer) budget supply (tally_of writer) (tally_of writer') supply' before after
-    → Between (StartTellsOf (ring_of writer) supply budget (tally_of writer) (tally_of writer')) before after → SameRing writer writer'
+    → Between (StartTellsOf (ring_of writer) supply budget (tally_of writer) (tally_of writer')) before after → KeepsRing writer writer'
     → Sounds false budget old old writer writer' supply supply' before after
 start_sounds old writer writer' supply supply' budget before after ready fresh opened starts tells same =
     let facts = facts_of budget (length supply) starts.from 0 starts.to in
@@ -169,7 +160,7 @@ no_stop_entries ran.Drained = refl
 no_stop_entries (ran.Late from to) = refl
 
 -- a run reads no entry
-pub run_entries : (writer : Writer) (facts : RunFacts) (supply : List ℕ) (later : List Event) → entries_in later ≡ []
+pub run_entries : (writer : WriterState) (facts : RunFacts) (supply : List ℕ) (later : List Event) → entries_in later ≡ []
     → entries_in (line_writes (period_bytes writer.geometry.period) (periods_of writer) writer.course.reach (run_reach (measures_of writer) writer.course facts) (run_bytes (measures_of writer) writer.course facts supply) ++ Read WALCLK Four facts.to ∷ later) ≡ []
 run_entries writer facts supply later none =
     let bytes = period_bytes writer.geometry.period in
@@ -177,9 +168,9 @@ run_entries writer facts supply later none =
     writes_entries (piece_write bytes (periods_of writer) writer.course.reach reach (run_bytes (measures_of writer) writer.course facts supply)) (range_with_len (writer.course.reach / bytes) (touched bytes writer.course.reach reach)) (Read WALCLK Four facts.to ∷ later) (λ number. refl)
     ∙ none
 
-pub play_sounds : (old new : BringUp) (writer writer' : Writer) (supply supply' : List ℕ) (budget : ℕ) (answer : Ran) (before middle after : Option Telling) → writer.course.started ≡ true → is_open writer.course.ran ≡ true
+pub play_sounds : (old new : BringUp) (writer writer' : WriterState) (supply supply' : List ℕ) (budget : ℕ) (answer : Ran) (before middle after : Option Telling) → writer.course.started ≡ true → is_open writer.course.ran ≡ true
     → Listens old new before middle → IsKept old new → Plays writer.geometry (periods_of writer) budget supply (tally_of writer) answer (tally_of writer') supply' middle after
-    → ((pcm : List ℕ) → supply ≡ drop writer.course.used pcm → Between (RunTellsOf (ring_of writer) pcm budget (tally_of writer) answer (tally_of writer')) middle after) → SameRing writer writer'
+    → ((pcm : List ℕ) → supply ≡ drop writer.course.used pcm → Between (RunTellsOf (ring_of writer) pcm budget (tally_of writer) answer (tally_of writer')) middle after) → KeepsRing writer writer'
     → Sounds false budget old new writer writer' supply supply' before after
 play_sounds old new writer writer' supply supply' budget answer before middle after started more listens kept plays tells same =
     let facts = facts_of budget (length supply) plays.from plays.lpib plays.to in
@@ -217,13 +208,13 @@ play_sounds old new writer writer' supply supply' budget answer before middle af
 
 -- ---- calls for an interrupt
 
-active_phase : (old : BringUp) (writer : Writer) → old.phase ≡ Ready → is_open writer.course.ran ≡ true → is_active (state_of old writer).phase ≡ true
+active_phase : (old : BringUp) (writer : WriterState) → old.phase ≡ Ready → is_open writer.course.ran ≡ true → is_active (state_of old writer).phase ≡ true
 active_phase old writer ready more =
     ap (λ (phase : Phase). is_active (phase_if writer.course.started phase writer.course.ran (measures_of writer).limit)) ready
     ∙ open_active (measures_of writer).limit writer.course.started writer.course.ran more
 
 -- there is none
-pub quiet_sounds : (old : BringUp) (writer : Writer) (supply : List ℕ) (budget interrupts stream : ℕ) (before after : Option Telling) → old.phase ≡ Ready → is_open writer.course.ran ≡ true → has_bit interrupts 31 ≡ false
+pub quiet_sounds : (old : BringUp) (writer : WriterState) (supply : List ℕ) (budget interrupts stream : ℕ) (before after : Option Telling) → old.phase ≡ Ready → is_open writer.course.ran ≡ true → has_bit interrupts 31 ≡ false
     → Between (Makes (interrupt_accesses interrupts stream)) before after → Sounds true budget old old writer writer supply supply before after
 quiet_sounds old writer supply budget interrupts stream before after ready more off looked =
     let made = interrupt_accesses interrupts stream in
@@ -246,7 +237,7 @@ never is = cc
 alone : (first made : List Event) → first ≡ [] → first ++ made ≡ made
 alone first made none = ap (λ (first : List Event). first ++ made) none
 
-irq_tells : (old new : BringUp) (writer writer' : Writer) (supply : List ℕ) (budget interrupts stream : ℕ) (made : List Event) (before middle after : Telling) → has_bit interrupts 31 ≡ true → is_open writer.course.ran ≡ true
+irq_tells : (old new : BringUp) (writer writer' : WriterState) (supply : List ℕ) (budget interrupts stream : ℕ) (made : List Event) (before middle after : Telling) → has_bit interrupts 31 ≡ true → is_open writer.course.ran ≡ true
     → Makes (interrupt_accesses interrupts stream) before middle → SoundTells false budget old new writer writer' supply made middle after
     → SoundTells true budget old new writer writer' supply (interrupt_accesses interrupts stream ++ made) before after
 irq_tells old new writer writer' supply budget interrupts stream made before middle after on more looked (inl still) = still_by still.cause
@@ -284,7 +275,7 @@ irq_tells old new writer writer' supply budget interrupts stream made before mid
       rings = goes.rings;
     }))
 
-pub irq_sounds : (old new : BringUp) (writer writer' : Writer) (supply supply' : List ℕ) (budget interrupts stream : ℕ) (before middle after : Option Telling) → old.phase ≡ Ready → is_open writer.course.ran ≡ true → has_bit interrupts 31 ≡ true
+pub irq_sounds : (old new : BringUp) (writer writer' : WriterState) (supply supply' : List ℕ) (budget interrupts stream : ℕ) (before middle after : Option Telling) → old.phase ≡ Ready → is_open writer.course.ran ≡ true → has_bit interrupts 31 ≡ true
     → Between (Makes (interrupt_accesses interrupts stream)) before middle → Sounds false budget old new writer writer' supply supply' middle after → Sounds true budget old new writer writer' supply supply' before after
 irq_sounds old new writer writer' supply supply' budget interrupts stream before middle after ready more on looked sounds =
     let made = interrupt_accesses interrupts stream ++ sounds.made in

@@ -1,5 +1,5 @@
 -- Runs that are taken stay so as others are taken and given back.
-use Rattle.std.proofs.Common.{◌≡◌, ◌≢◌, ◌≤◌, ◌==◌, ◌||◌, ℕ, zero, suc, Bool, true, false, List, [], ◌∷◌, get_or, refl, ap, ◌∙◌, arith, rules, tests, eq-eqb}
+use Rattle.std.proofs.Common.{◌≡◌, ◌≢◌, ◌≤◌, ◌==◌, ◌&&◌, ◌||◌, ℕ, Bool, true, false, List, [], ◌∷◌, get_or, ap, ◌∙◌, arith, rules, tests, eq-eqb}
 use Rattle.std.specs.Prelude.{Contains, All}
 use Rattle.std.proofs.lemmas.Bool.{and_from}
 use Rattle.dma_pool.specs.declared.blocks.Lent.{Lent}
@@ -11,10 +11,19 @@ use Rattle.command_engine.specs.Opening as of_engine
 use Rattle.period_writer.specs.declared.geometry.Geometry.{Geometry}
 use Rattle.period_writer.specs.Rings.{period_bytes, list_bytes}
 use Rattle.period_writer.specs.Opening as of_writer
+use Rattle.period_writer.specs.Writers.{WriterState, OwnsBlocks}
 use Rattle.period_writer.proofs.Callers.{adds_keeps, adds_others, takes_keep}
-use Rattle.audio_driver.specs.Owning.{are_same, is_taken}
 
 -- ---- the test whether a run is taken
+
+-- whether two runs are the same
+abbrev pub are_same : Run → Run → Bool
+are_same one other = one.first == other.first && one.count == other.count
+
+-- whether a run is among them
+abbrev pub is_taken : List Run → Run → Bool
+is_taken [] run = false
+is_taken (other ∷ taken) run = are_same other run || is_taken taken run
 
 abbrev run_of : (first count : ℕ) → Run
 run_of first count = record { first = first; count = count }
@@ -28,22 +37,6 @@ same_run one other is =
 pub run_same : (one other : Run) → one ≡ other → are_same one other ≡ true
 run_same one other is =
     and_from (one.first == other.first) (one.count == other.count) (eq-eqb one.first other.first (ap (λ (run : Run). run.first) is)) (eq-eqb one.count other.count (ap (λ (run : Run). run.count) is))
-
-or_right : (one other : Bool) → other ≡ true → (one || other) ≡ true
-or_right true other is = refl
-or_right false other is = is
-
-pub taken_of : (taken : List Run) (run : Run) → Contains taken run → is_taken taken run ≡ true
-taken_of [] run has = (let less = has.1 in absurd (omega (arith, less)))
-taken_of (other ∷ taken) run (zero, less, is) = ap (λ (one : Bool). one || is_taken taken run) (run_same other run is)
-taken_of (other ∷ taken) run (suc k, less, is) = or_right (are_same other run) (is_taken taken run) (taken_of taken run (k, omega (arith, less), is))
-
-pub of_taken : (taken : List Run) (run : Run) → is_taken taken run ≡ true → Contains taken run
-of_taken [] run is = (let never : false ≡ true = is in cc)
-of_taken (other ∷ taken) run is = by (are_same other run) refl (of_taken taken run) is where
-  by : (here : Bool) → are_same other run ≡ here → (is_taken taken run ≡ true → Contains taken run) → (here || is_taken taken run) ≡ true → Contains (other ∷ taken) run
-  by true here rest found = (0, omega arith, same_run other run here)
-  by false here rest found = (let has = rest found in (suc has.0, omega (arith, has.1), has.2))
 
 -- ---- runs that stay
 
@@ -62,7 +55,7 @@ engine_leaves pool corb rirb pool' run gives other_corb other_rirb has =
     (λ same. other_rirb (ap (λ (one : Run). one.count) same))
 
 -- the blocks of an engine have 8 and 16 granules, the list of buffers 4 at most, and a period a multiple of 3
-pub list_leaves : (pool : PoolState) (corb rirb : ℕ) (pool' : PoolState) (list periods : ℕ) → periods ≤ 32 → of_engine.GivesBack pool corb rirb pool'
+list_leaves : (pool : PoolState) (corb rirb : ℕ) (pool' : PoolState) (list periods : ℕ) → periods ≤ 32 → of_engine.GivesBack pool corb rirb pool'
     → Contains pool.taken (run_at list (list_bytes periods)) → Contains pool'.taken (run_at list (list_bytes periods))
 list_leaves pool corb rirb pool' list periods few gives has =
     engine_leaves pool corb rirb pool' (run_at list (list_bytes periods)) gives (λ same. omega (arith, few, same)) (λ same. omega (arith, few, same)) has
@@ -72,14 +65,13 @@ period_leaves : (pool : PoolState) (corb rirb : ℕ) (pool' : PoolState) (addres
 period_leaves pool corb rirb pool' address period gives has =
     engine_leaves pool corb rirb pool' (run_at address (period_bytes period)) gives (λ same. omega (arith, same)) (λ same. omega (arith, same)) has
 
-pub periods_leave : (pool : PoolState) (corb rirb : ℕ) (pool' : PoolState) (period : ℕ) (lents : List Lent) → of_engine.GivesBack pool corb rirb pool'
+periods_leave : (pool : PoolState) (corb rirb : ℕ) (pool' : PoolState) (period : ℕ) (lents : List Lent) → of_engine.GivesBack pool corb rirb pool'
     → All (λ (lent : Lent). Contains pool.taken (run_at lent.address (period_bytes period))) lents → All (λ (lent : Lent). Contains pool'.taken (run_at lent.address (period_bytes period))) lents
 periods_leave pool corb rirb pool' period lents gives owned k d less = period_leaves pool corb rirb pool' (get_or lents k d).address period gives (owned k d less)
 
--- ---- the test for each period
-
-pub all_taken : (taken : List Run) (bytes : ℕ) (lents : List Lent) → All (λ (lent : Lent). Contains taken (run_at lent.address bytes)) lents → All (λ (lent : Lent). is_taken taken (run_at lent.address bytes) ≡ true) lents
-all_taken taken bytes lents owned k d less = taken_of taken (run_at (get_or lents k d).address bytes) (owned k d less)
-
-pub of_all_taken : (taken : List Run) (bytes : ℕ) (lents : List Lent) → All (λ (lent : Lent). is_taken taken (run_at lent.address bytes) ≡ true) lents → All (λ (lent : Lent). Contains taken (run_at lent.address bytes)) lents
-of_all_taken taken bytes lents owned k d less = of_taken taken (run_at (get_or lents k d).address bytes) (owned k d less)
+-- and those of a ring
+pub ring_leaves : (pool : PoolState) (corb rirb : ℕ) (pool' : PoolState) (writer : WriterState) → of_engine.GivesBack pool corb rirb pool' → OwnsBlocks pool.taken writer → OwnsBlocks pool'.taken writer
+ring_leaves pool corb rirb pool' writer gives owns = record {
+  list = list_leaves pool corb rirb pool' writer.list.address writer.geometry.periods writer.geometry.few_periods gives owns.list;
+  periods = periods_leave pool corb rirb pool' writer.geometry.period writer.periods gives owns.periods;
+}

@@ -12,13 +12,12 @@ use Rattle.period_writer.specs.declared.course.Ran.{Ran}
 use Rattle.period_writer.specs.declared.course.Ran.TheVariants as ran
 use Rattle.period_writer.specs.declared.geometry.Geometry.{Geometry}
 use Rattle.period_writer.specs.declared.registers.TheConstants.{CONTROL, POSITION}
-use Rattle.period_writer.specs.declared.writer.Writer.{Writer}
 use Rattle.period_writer.specs.Rings.{period_bytes}
 use Rattle.period_writer.specs.Places.{line_writes}
 use Rattle.period_writer.specs.Starting.{start_accesses}
 use Rattle.period_writer.specs.Playing.{run_bytes, stop_accesses, play_accesses, finish_accesses}
 use Rattle.period_writer.specs.Runs.{Measures, RunFacts, Tally, measures, facts_of, run_reach, is_late, tally_if, tally_after, tally_opened}
-use Rattle.period_writer.specs.Writers.{tally_of, measures_of, periods_of}
+use Rattle.period_writer.specs.Writers.{WriterState, tally_of, measures_of, periods_of}
 use Rattle.driver_progress.specs.declared.phase.Phase.{Phase}
 use Rattle.driver_progress.specs.declared.phase.Phase.TheVariants.{Ready, Playing}
 use Rattle.driver_progress.specs.Tasks.{Task, DriverLine}
@@ -69,7 +68,7 @@ fresh_phase : (m : Measures) (tally : Tally) (facts : RunFacts) (phase : Phase) 
 fresh_phase m tally facts phase limit opened =
     ap (λ (tally : Tally). phase_if (tally_after m tally facts).course.started phase (tally_after m tally facts).course.ran limit) opened
 
-pub start_is : (task : Task) (old : BringUp) (writer writer' : Writer) (supply : List ℕ) (budget from in_reset ready to : ℕ)
+pub start_is : (task : Task) (old : BringUp) (writer writer' : WriterState) (supply : List ℕ) (budget from in_reset ready to : ℕ)
     → IsTaskOf old writer supply task → old.phase ≡ Ready → tally_of writer ≡ tally_opened
     → tally_of writer' ≡ tally_after (measures_of writer) (tally_of writer) (facts_of budget (length supply) from 0 to)
     → IsStretch task (state_of old writer) (Some (run_of budget))
@@ -115,7 +114,7 @@ GoesAt task state turn reads from lpib to later rirb geometry periods pcm left =
     IsStretch task state turn (made_by rirb state.rings reads geometry periods state.tally pcm facts later) (is_some (found_by state.rings reads))
     (record state { phase = played_as tally.course.ran (measures geometry).limit; rings = rings_polled state.rings reads; tally = tally })
 
-moved : (task : Task) (old : BringUp) (writer : Writer) (supply : List ℕ) (turn : Option DriverLine) (reads : PollReads) (from lpib to : ℕ) (later : Ran → List Event) → IsTaskOf old writer supply task → supply ≡ drop writer.course.used task.pcm
+moved : (task : Task) (old : BringUp) (writer : WriterState) (supply : List ℕ) (turn : Option DriverLine) (reads : PollReads) (from lpib to : ℕ) (later : Ran → List Event) → IsTaskOf old writer supply task → supply ≡ drop writer.course.used task.pcm
     → GoesAt task (state_of old writer) turn reads from lpib to later task.blocks.rirb task.geometry task.blocks.periods (drop writer.course.used task.pcm) (length task.pcm - writer.course.used)
     → GoesAt task (state_of old writer) turn reads from lpib to later old.engine.rirb.address writer.geometry (periods_of writer) supply (length supply)
 moved task old writer supply turn reads from lpib to later of sound base =
@@ -128,7 +127,7 @@ moved task old writer supply turn reads from lpib to later of sound base =
     (subst (λ (left : ℕ). GoesAt task state turn reads from lpib to later task.blocks.rirb task.geometry task.blocks.periods (drop used task.pcm) left) (left_same task.pcm supply used sound) base))))
 
 -- where it leads
-went_to : (old new : BringUp) (writer : Writer) (tally' : Tally) (limit : ℕ) (reads : PollReads) → tally'.course.started ≡ true → new.kept ≡ old.kept → new.sent ≡ old.sent → new.engine.rings ≡ rings_polled old.engine.rings reads
+went_to : (old new : BringUp) (writer : WriterState) (tally' : Tally) (limit : ℕ) (reads : PollReads) → tally'.course.started ≡ true → new.kept ≡ old.kept → new.sent ≡ old.sent → new.engine.rings ≡ rings_polled old.engine.rings reads
     → record (state_of old writer) { phase = played_as tally'.course.ran limit; rings = rings_polled old.engine.rings reads; tally = tally' } ≡ state_with new tally' limit
 went_to old new writer tally' limit reads started kept sent rings =
     ap (λ (started : Bool). record (state_of old writer) { phase = phase_if started new.phase tally'.course.ran limit; rings = rings_polled old.engine.rings reads; tally = tally' }) (sym started)
@@ -137,7 +136,7 @@ went_to old new writer tally' limit reads started kept sent rings =
     ∙ ap (λ (sent : ℕ). record (state_of old writer) { phase = phase_with new tally' limit; kept = new.kept; sent = sent; rings = new.engine.rings; tally = tally' }) (sym sent)
 
 -- what a poll and a run leave alike
-pub record GoesTo (old new : BringUp) (writer : Writer) (tally' : Tally) (supply : List ℕ) (budget from lpib to : ℕ) (reads : PollReads) : Type 0 where
+pub record GoesTo (old new : BringUp) (writer : WriterState) (tally' : Tally) (supply : List ℕ) (budget from lpib to : ℕ) (reads : PollReads) : Type 0 where
   pub started : writer.course.started ≡ true
   pub more : is_open writer.course.ran ≡ true
   pub new_ones : AreNew old.engine.rings reads
@@ -146,12 +145,12 @@ pub record GoesTo (old new : BringUp) (writer : Writer) (tally' : Tally) (supply
   pub rings : new.engine.rings ≡ rings_polled old.engine.rings reads
   pub tally_is : tally' ≡ tally_after (measures_of writer) (tally_of writer) (facts_of budget (length supply) from lpib to)
 
-playing_phase : (old : BringUp) (writer : Writer) → writer.course.started ≡ true → writer.course.ran ≡ ran.Playing → (state_of old writer).phase ≡ Playing
+playing_phase : (old : BringUp) (writer : WriterState) → writer.course.started ≡ true → writer.course.ran ≡ ran.Playing → (state_of old writer).phase ≡ Playing
 playing_phase old writer started playing =
     ap (λ (started : Bool). phase_if started old.phase writer.course.ran (measures_of writer).limit) started
     ∙ ap (λ (was : Ran). played_as was (measures_of writer).limit) playing
 
-led_to : (task : Task) (old new : BringUp) (writer : Writer) (tally' : Tally) (supply : List ℕ) (turn : Option DriverLine) (from lpib to : ℕ) (reads : PollReads) (later : Ran → List Event) → IsTaskOf old writer supply task
+led_to : (task : Task) (old new : BringUp) (writer : WriterState) (tally' : Tally) (supply : List ℕ) (turn : Option DriverLine) (from lpib to : ℕ) (reads : PollReads) (later : Ran → List Event) → IsTaskOf old writer supply task
     → GoesTo old new writer tally' supply (budget_of turn) from lpib to reads
     → GoesAt task (state_of old writer) turn reads from lpib to later task.blocks.rirb task.geometry task.blocks.periods (drop writer.course.used task.pcm) (length task.pcm - writer.course.used)
     → IsStretch task (state_of old writer) turn (made_by old.engine.rirb.address old.engine.rings reads writer.geometry (periods_of writer) (tally_of writer) supply (facts_of (budget_of turn) (length supply) from lpib to) later)
@@ -167,7 +166,7 @@ led_to task old new writer tally' supply turn from lpib to reads later of goes b
     ∙ went_to old new writer tally' m.limit reads started goes.kept goes.sent goes.rings)
     here
 
-pub play_is : (task : Task) (old new : BringUp) (writer writer' : Writer) (supply : List ℕ) (budget from lpib to : ℕ) (reads : PollReads) → IsTaskOf old writer supply task
+pub play_is : (task : Task) (old new : BringUp) (writer writer' : WriterState) (supply : List ℕ) (budget from lpib to : ℕ) (reads : PollReads) → IsTaskOf old writer supply task
     → GoesTo old new writer (tally_of writer') supply budget from lpib to reads → writer'.geometry ≡ writer.geometry
     → IsStretch task (state_of old writer) (Some (run_of budget))
     (poll_accesses old.engine.rirb.address old.engine.rings reads ++ play_accesses writer.geometry (periods_of writer) writer.course (facts_of budget (length supply) from lpib to) supply writer'.course.ran)
@@ -187,7 +186,7 @@ play_is task old new writer writer' supply budget from lpib to reads of goes geo
     (subst (λ (geometry : Geometry). IsStretch task state turn (made_by old.engine.rirb.address old.engine.rings reads writer.geometry (periods_of writer) (tally_of writer) supply facts stop_accesses) (is_some (found_by old.engine.rings reads)) (state_with new (tally_of writer') (measures geometry).limit))
     (sym geometry) whole)
 
-pub finish_is : (task : Task) (old new : BringUp) (writer : Writer) (tally' : Tally) (supply : List ℕ) (from lpib to : ℕ) (reads : PollReads) → IsTaskOf old writer supply task
+pub finish_is : (task : Task) (old new : BringUp) (writer : WriterState) (tally' : Tally) (supply : List ℕ) (from lpib to : ℕ) (reads : PollReads) → IsTaskOf old writer supply task
     → GoesTo old new writer tally' supply 0 from lpib to reads
     → IsStretch task (state_of old writer) None
     (poll_accesses old.engine.rirb.address old.engine.rings reads ++ (finish_accesses writer.geometry (periods_of writer) writer.course (facts_of 0 (length supply) from lpib to) supply ++ shut_accesses))

@@ -8,14 +8,13 @@ use Rattle.hda_world.specs.Tellings.{Telling}
 use Rattle.command_engine.specs.declared.answers.Event as told
 use Rattle.command_engine.specs.Opening as of_engine
 use Rattle.period_writer.specs.declared.geometry.Geometry.{Geometry}
-use Rattle.period_writer.specs.declared.writer.Writer.{Writer}
 use Rattle.period_writer.specs.Opening as of_writer
 use Rattle.jack_counts.specs.Counted.{IsCount}
 use Rattle.jack_counts.specs.Jacks.{IsOfPin, Counts}
 use Rattle.codec_bring_up.specs.declared.bringing.BringUp.{BringUp}
 use Rattle.codec_bring_up.specs.Calls.{Ends}
 use Rattle.period_writer.specs.Runs.{Tally}
-use Rattle.period_writer.specs.Writers.{tally_of, measures_of}
+use Rattle.period_writer.specs.Writers.{WriterState, tally_of, measures_of}
 use Rattle.audio_driver.specs.States.{plays_now, phase_with}
 use Rattle.audio_driver.specs.Sounding.{EndsSound}
 use Rattle.audio_driver.specs.declared.driver.closing.Closed.{Closed}
@@ -28,7 +27,7 @@ pub record GivesBack (geometry : Geometry) (pool : PoolState) (corb rirb list : 
 
 -- what is left: the bring-up as the last call leaves it, and what the writer recorded. Where calls play that is one for the sound, else it
 -- is the last call of the bring-up, and nothing more is recorded
-pub record Closes (IsPlanBy : RawCodec → Plan → Type 0) (verbs_by : RawCodec → Plan → List Command) (play : Bool) (bring_up : BringUp) (writer : Writer) (supply : List ℕ) (closed : Closed) (before after : Option Telling) : Type 0 where
+pub record Closes (IsPlanBy : RawCodec → Plan → Type 0) (verbs_by : RawCodec → Plan → List Command) (play : Bool) (bring_up : BringUp) (writer : WriterState) (supply : List ℕ) (closed : Closed) (before after : Option Telling) : Type 0 where
   pub ended : BringUp
   pub tally : Tally
   pub ends : plays_now play bring_up ≡ false → Ends IsPlanBy verbs_by bring_up ended before after

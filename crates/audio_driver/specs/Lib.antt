@@ -1,5 +1,6 @@
-pub mod Owning
 pub mod States
 pub mod Opening
 pub mod Sounding
 pub mod Closing
+pub mod Drivers
+pub mod Calls

@@ -3,7 +3,7 @@ use Rattle.std.specs.Prelude.{◌≡◌, ◌⊎◌, ◌+◌, ℕ, List, []}
 use Rattle.dma_pool.specs.Pools.{PoolState}
 use Rattle.command_engine.specs.Opening as of_engine
 use Rattle.period_writer.specs.declared.geometry.Geometry.{Geometry}
-use Rattle.period_writer.specs.declared.writer.Writer.{Writer}
+use Rattle.period_writer.specs.Writers.{WriterState}
 use Rattle.period_writer.specs.Opening as of_writer
 use Rattle.period_writer.specs.Runs.{course_opened}
 use Rattle.driver_progress.specs.declared.phase.Phase.TheVariants.{Reset}
@@ -29,7 +29,7 @@ abbrev pub HasNoRuns : Geometry → PoolState → Type 0
 HasNoRuns geometry pool = of_engine.HasNoRuns pool ⊎ HasNoRing geometry pool
 
 -- where a driver begins: nothing was done yet, and nothing was played
-pub record IsOpened (geometry : Geometry) (most : ℕ) (bring_up : BringUp) (writer : Writer) : Type 0 where
+pub record IsOpened (geometry : Geometry) (most : ℕ) (bring_up : BringUp) (writer : WriterState) : Type 0 where
   pub phase : bring_up.phase ≡ Reset
   pub rings : bring_up.engine.rings ≡ of_engine.rings_opened
   pub format : bring_up.format ≡ geometry.format
@@ -41,6 +41,6 @@ pub record IsOpened (geometry : Geometry) (most : ℕ) (bring_up : BringUp) (wri
   pub plans : bring_up.agenda.plans.items ≡ []
   pub geometry_is : writer.geometry ≡ geometry
   pub records : writer.records ≡ most + 1
-  pub runs : writer.runs.items ≡ []
-  pub silences : writer.silences.items ≡ []
+  pub runs : writer.runs ≡ []
+  pub silences : writer.silences ≡ []
   pub course : writer.course ≡ course_opened

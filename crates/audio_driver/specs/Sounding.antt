@@ -1,13 +1,13 @@
 -- What a call of a driver does that plays. This project's own, over High Definition Audio 1.0a, 4.4 and 4.5.
-use Rattle.std.specs.Prelude.{◌≡◌, ◌++◌, ◌⊎◌, true, false, ℕ, Bool, List, [], drop, Option, Some, None}
+use Rattle.std.specs.Prelude.{◌≡◌, ◌++◌, ◌⊎◌, true, false, ℕ, Bool, List, [], drop, length, Option, Some, None}
 use Rattle.std.specs.Option.{is_some}
 use Rattle.hda_world.specs.Events.{Event}
 use Rattle.hda_world.specs.Tellings.{Telling, Between, Makes}
 use Rattle.command_engine.specs.declared.answers.Event as told
 use Rattle.command_engine.specs.Polling.{PollReads, poll_accesses, rings_polled}
-use Rattle.period_writer.specs.declared.writer.Writer.{Writer}
+use Rattle.period_writer.specs.Courses.{IsCourse}
 use Rattle.period_writer.specs.Runs.{Tally}
-use Rattle.period_writer.specs.Writers.{tally_of, measures_of, ring_of}
+use Rattle.period_writer.specs.Writers.{WriterState, tally_of, measures_of, ring_of, ring_size}
 use Rattle.period_writer.specs.Outcomes.{StartTellsOf, RunTellsOf, FinishTellsOf}
 use Rattle.driver_progress.specs.Tasks.{Task}
 use Rattle.driver_stretches.specs.Interrupts.{interrupt_accesses}
@@ -28,14 +28,14 @@ pub record IsLook (made : List Event) : Type 0 where
   pub is : made ≡ interrupt_accesses interrupts stream
 
 -- no run came: the call was for an interrupt that it did not find, or the sound is over. Nothing changed
-pub record IsStill (irq : Bool) (old new : BringUp) (writer writer' : Writer) (made : List Event) : Type 0 where
+pub record IsStill (irq : Bool) (old new : BringUp) (writer writer' : WriterState) (made : List Event) : Type 0 where
   pub cause : (found_none irq made ≡ true) ⊎ (is_open writer.course.ran ≡ false)
   pub looks : (made ≡ []) ⊎ IsLook made
   pub bring_up : new ≡ old
   pub writer_is : writer' ≡ writer
 
 -- the first run, after the look for interrupts where the call is for one
-pub record Begins (irq : Bool) (budget : ℕ) (old new : BringUp) (writer writer' : Writer) (supply : List ℕ) (made : List Event) (before after : Telling) : Type 0 where
+pub record Begins (irq : Bool) (budget : ℕ) (old new : BringUp) (writer writer' : WriterState) (supply : List ℕ) (made : List Event) (before after : Telling) : Type 0 where
   pub fresh : writer.course.started ≡ false
   pub first : List Event
   pub is_before : IsBefore irq first
@@ -48,7 +48,7 @@ pub record Begins (irq : Bool) (budget : ℕ) (old new : BringUp) (writer writer
   pub bring_up : new ≡ old
 
 -- a later run, after the look for interrupts and one for what codecs told unasked
-pub record GoesOn (irq : Bool) (budget : ℕ) (old new : BringUp) (writer writer' : Writer) (supply : List ℕ) (made : List Event) (before after : Telling) : Type 0 where
+pub record GoesOn (irq : Bool) (budget : ℕ) (old new : BringUp) (writer writer' : WriterState) (supply : List ℕ) (made : List Event) (before after : Telling) : Type 0 where
   pub started : writer.course.started ≡ true
   pub more : is_open writer.course.ran ≡ true
   pub first : List Event
@@ -62,14 +62,14 @@ pub record GoesOn (irq : Bool) (budget : ℕ) (old new : BringUp) (writer writer
   pub tells : (pcm : List ℕ) → supply ≡ drop writer.course.used pcm → RunTellsOf (ring_of writer) pcm budget (tally_of writer) writer'.course.ran (tally_of writer') begins after
   pub rings : new.engine.rings ≡ rings_polled old.engine.rings reads
 
-abbrev pub SoundTells : (irq : Bool) (budget : ℕ) (old new : BringUp) (writer writer' : Writer) (supply : List ℕ) (made : List Event) → Telling → Telling → Type 0
+abbrev pub SoundTells : (irq : Bool) (budget : ℕ) (old new : BringUp) (writer writer' : WriterState) (supply : List ℕ) (made : List Event) → Telling → Telling → Type 0
 SoundTells irq budget old new writer writer' supply made before after =
     IsStill irq old new writer writer' made ⊎ (Begins irq budget old new writer writer' supply made before after ⊎ GoesOn irq budget old new writer writer' supply made before after)
 
 -- ---- a call, on every platform
 
 -- what it leaves alone: of the bring-up all but where RIRB was read to and the count of jacks, of the writer its ring
-pub record StaysSet (old new : BringUp) (writer writer' : Writer) : Type 0 where
+pub record StaysSet (old new : BringUp) (writer writer' : WriterState) : Type 0 where
   pub corb : new.engine.corb ≡ old.engine.corb
   pub rirb : new.engine.rirb ≡ old.engine.rirb
   pub phase : new.phase ≡ old.phase
@@ -78,12 +78,12 @@ pub record StaysSet (old new : BringUp) (writer writer' : Writer) : Type 0 where
   pub agenda : new.agenda ≡ old.agenda
   pub geometry : writer'.geometry ≡ writer.geometry
   pub list : writer'.list ≡ writer.list
-  pub periods : writer'.periods.items ≡ writer.periods.items
+  pub periods : writer'.periods ≡ writer.periods
   pub records : writer'.records ≡ writer.records
 
 -- a call, for an interrupt or not, with this budget: it makes just the accesses that are to be made, and leads where it is to lead, for
 -- every task of the driver. Of the sound what it did not write is left
-pub record Sounds (irq : Bool) (budget : ℕ) (old new : BringUp) (writer writer' : Writer) (supply supply' : List ℕ) (before after : Option Telling) : Type 0 where
+pub record Sounds (irq : Bool) (budget : ℕ) (old new : BringUp) (writer writer' : WriterState) (supply supply' : List ℕ) (before after : Option Telling) : Type 0 where
   pub made : List Event
   pub are : AreAccesses made
   pub by : Between (Makes made) before after
@@ -97,15 +97,16 @@ pub record Sounds (irq : Bool) (budget : ℕ) (old new : BringUp) (writer writer
 -- ---- the last call of a driver whose calls play
 
 -- the stream does not play: the end alone
-pub record ShutsAlone (old ended : BringUp) (writer : Writer) (tally' : Tally) (made : List Event) : Type 0 where
+pub record ShutsAlone (old ended : BringUp) (writer : WriterState) (tally' : Tally) (made : List Event) : Type 0 where
   pub still : is_playing writer.course ≡ false
   pub made_is : made ≡ shut_accesses
   pub bring_up : ended ≡ old
   pub tally_is : tally' ≡ tally_of writer
 
 -- it plays: one more look for what codecs told unasked, the last run, and the end
-pub record StopsSound (old ended : BringUp) (writer : Writer) (tally' : Tally) (supply : List ℕ) (made : List Event) (before after : Telling) : Type 0 where
+pub record StopsSound (old ended : BringUp) (writer : WriterState) (tally' : Tally) (supply : List ℕ) (made : List Event) (before after : Telling) : Type 0 where
   pub plays : is_playing writer.course ≡ true
+  pub course_is : IsCourse (ring_size writer) (length writer.runs) writer.course
   pub reads : PollReads
   pub run : List Event
   pub made_is : made ≡ poll_accesses old.engine.rirb.address old.engine.rings reads ++ (run ++ shut_accesses)
@@ -116,12 +117,12 @@ pub record StopsSound (old ended : BringUp) (writer : Writer) (tally' : Tally) (
   pub tells : (pcm : List ℕ) → supply ≡ drop writer.course.used pcm → FinishTellsOf (ring_of writer) pcm (tally_of writer) tally'.course.ran tally' begins ends
   pub shut : Makes shut_accesses ends after
 
-abbrev pub EndTells : (old ended : BringUp) (writer : Writer) (tally' : Tally) (supply : List ℕ) (made : List Event) → Telling → Telling → Type 0
+abbrev pub EndTells : (old ended : BringUp) (writer : WriterState) (tally' : Tally) (supply : List ℕ) (made : List Event) → Telling → Telling → Type 0
 EndTells old ended writer tally' supply made before after =
     ShutsAlone old ended writer tally' made ⊎ StopsSound old ended writer tally' supply made before after
 
 -- the last call makes just the accesses that are to be made, and leads where it is to lead, for every task of the driver
-pub record EndsSound (old ended : BringUp) (writer : Writer) (tally' : Tally) (supply : List ℕ) (before after : Option Telling) : Type 0 where
+pub record EndsSound (old ended : BringUp) (writer : WriterState) (tally' : Tally) (supply : List ℕ) (before after : Option Telling) : Type 0 where
   pub made : List Event
   pub are : AreAccesses made
   pub by : Between (Makes made) before after

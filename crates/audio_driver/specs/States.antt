@@ -3,9 +3,8 @@ use Rattle.std.specs.Prelude.{◌≡◌, ◌&&◌, ℕ, Bool, true, false, List,
 use Rattle.period_writer.specs.declared.course.Ran.{Ran}
 use Rattle.period_writer.specs.declared.course.Ran.TheVariants as ran
 use Rattle.period_writer.specs.declared.course.Course.{Course}
-use Rattle.period_writer.specs.declared.writer.Writer.{Writer}
 use Rattle.period_writer.specs.Runs.{Tally}
-use Rattle.period_writer.specs.Writers.{tally_of, measures_of, periods_of}
+use Rattle.period_writer.specs.Writers.{WriterState, tally_of, measures_of, periods_of}
 use Rattle.driver_progress.specs.declared.phase.Phase.{Phase}
 use Rattle.driver_progress.specs.declared.phase.Phase.TheVariants.{Playing, Drained, Late}
 use Rattle.driver_progress.specs.Phases.{is_ready}
@@ -33,10 +32,10 @@ abbrev pub state_with : BringUp → Tally → (limit : ℕ) → State
 state_with bring_up tally limit = record (bringing.state_of bring_up) { phase = phase_with bring_up tally limit; tally = tally }
 
 -- with a writer
-abbrev pub phase_of : BringUp → Writer → Phase
+abbrev pub phase_of : BringUp → WriterState → Phase
 phase_of bring_up writer = phase_with bring_up (tally_of writer) (measures_of writer).limit
 
-abbrev pub state_of : BringUp → Writer → State
+abbrev pub state_of : BringUp → WriterState → State
 state_of bring_up writer = state_with bring_up (tally_of writer) (measures_of writer).limit
 
 -- whether a driver that plays has come so far that its calls play
@@ -64,7 +63,7 @@ abbrev pub IsLeft : (pcm : List ℕ) → Course → (supply : List ℕ) → Type
 IsLeft pcm course supply = was_late course.ran ≡ false → supply ≡ drop course.used pcm
 
 -- a task of a driver with these blocks and this sound: its ring and its blocks, and of the sound what it did not write yet is left
-pub record IsTaskOf (bring_up : BringUp) (writer : Writer) (supply : List ℕ) (task : Task) : Type 0 where
+pub record IsTaskOf (bring_up : BringUp) (writer : WriterState) (supply : List ℕ) (task : Task) : Type 0 where
   pub rings : bringing.IsTaskOf bring_up task
   pub geometry : task.geometry ≡ writer.geometry
   pub list : task.blocks.list ≡ writer.list.address

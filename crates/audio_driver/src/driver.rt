@@ -1,13 +1,4 @@
 //! The driver.
-ghost use Rattle.std.specs.Prelude.{◌≡◌, ◌≤◌, ◌+◌, All, length, true, false};
-ghost use Rattle.std.proofs.Props.{props};
-ghost use Rattle.dma_pool.specs.Blocks.{run_at};
-ghost use Rattle.command_engine.specs.Blocks.{corb_bytes, rirb_bytes};
-ghost use Rattle.period_writer.specs.Rings.{period_bytes, list_bytes};
-ghost use Rattle.period_writer.specs.Runs.{tally_opened};
-ghost use Rattle.period_writer.specs.Writers.{tally_of};
-ghost use Rattle.audio_driver.specs.Owning.{is_taken};
-ghost use Rattle.audio_driver.specs.States.{plays_now};
 
 mod closing;
 mod ending;
@@ -22,10 +13,11 @@ use dma_pool::Pool;
 pub use opening::OpenFault;
 use period_writer::Writer;
 use route_setup::Setter;
+use std::marker::Model;
 use wav_reader::Supply;
 
 /// The driver of a controller: the bring-up of its codecs, the ring of periods with the sound to play, and the pool that their blocks
-/// were taken from. This project's own.
+/// were taken from. Contracts see each of them. This project's own.
 pub struct Driver<T: Setter> {
     bring_up: BringUp,
     writer: Writer,
@@ -40,16 +32,24 @@ pub struct Driver<T: Setter> {
     runs: u32,
     /// How many calls there were.
     calls: u32,
-    pub ghost owns_corb: { is_taken pool.taken (run_at bring_up.engine.corb.address corb_bytes) ≡ true },
-    pub ghost owns_rirb: { is_taken pool.taken (run_at bring_up.engine.rirb.address rirb_bytes) ≡ true },
-    pub ghost owns_list: { is_taken pool.taken (run_at writer.list.address (list_bytes writer.geometry.periods)) ≡ true },
-    pub ghost owns_periods: { All (λ lent. is_taken pool.taken (run_at lent.address (period_bytes writer.geometry.period)) ≡ true) writer.periods.items } by { Prim.hlevel props },
-    pub ghost formats: { bring_up.format ≡ writer.geometry.format },
-    pub ghost records: { writer.records ≡ runs + 1 },
-    pub ghost few_runs: { runs ≤ 1000000 },
-    pub ghost few_calls: { calls ≤ runs },
-    pub ghost few_looks: { bring_up.looks ≤ calls },
-    pub ghost few_recorded: { length writer.runs.items ≤ calls },
-    pub ghost fresh: { writer.course.started ≡ false → tally_of writer ≡ tally_opened },
-    pub ghost begun: { writer.course.started ≡ true → plays_now play bring_up ≡ true },
+}
+
+impl<T: Setter> Model for Driver<T> {
+    ghost use Rattle.audio_driver.specs.Drivers.{DriverState, IsDriver};
+
+    ghost Value = { DriverState T };
+
+    ghost view = { λ driver. record {
+      bring_up = driver.bring_up;
+      writer = driver.writer;
+      supply = driver.supply;
+      pool = driver.pool;
+      setter = driver.setter;
+      play = driver.play;
+      runs = driver.runs;
+      calls = driver.calls;
+    } };
+
+    ghost invariant = { λ driver.
+        IsDriver driver.bring_up driver.writer driver.pool driver.play driver.runs driver.calls };
 }

@@ -1,5 +1,5 @@
 -- The ways in which something is meant by words.
-use Rattle.std.proofs.Common.{◌≡◌, ℕ, List, Bool, true, false, inl, inr, Option, Some, refl, sym, ap, subst, arith, option_map}
+use Rattle.std.proofs.Common.{◌≡◌, ℕ, ◌+◌, List, length, Bool, true, false, inl, inr, Option, Some, refl, sym, ap, subst, arith, option_map}
 use Rattle.std.specs.Prelude.{if◌then◌else◌}
 use Rattle.std.specs.List.{Contains}
 use Rattle.stream_format.specs.declared.format.Format.{Format}
@@ -9,17 +9,17 @@ use Rattle.hda_files.specs.declared.machine.Machine.{Machine}
 use Rattle.hda_schedule.specs.declared.schedule.Schedule.{Schedule}
 use Rattle.hda_words.specs.Asked.{Asked, bits_of, hertz, play, request_of, route, walk}
 use Rattle.period_writer.specs.declared.geometry.Geometry.{Geometry}
-use Rattle.wav_reader.specs.declared.wav.Wav.{Wav}
+use Rattle.wav_reader.specs.declared.opened.WavHead.{WavHead}
 use Rattle.sound_report.specs.declared.played.Played.{Played}
 use Rattle.sound_report.specs.declared.status.Status.{Status}
-use Rattle.sound_report.specs.declared.status.Status.TheVariants.{Done, WordsRefused, ShelfFailed, SinkFailed, CodecRefused, WavRefused, ScheduleRefused, NothingRouted, Unanswered, Late, ScheduleEnded, OutOfMemory, GeometryRefused}
+use Rattle.sound_report.specs.declared.status.Status.TheVariants.{Done, WordsRefused, ShelfFailed, SinkFailed, CodecRefused, WavRefused, ScheduleRefused, NothingRouted, Unanswered, Late, ScheduleEnded, OutOfMemory, GeometryRefused, WavShrank}
 use Rattle.sound_report.specs.PlanLines.{plans_lines}
 use Rattle.hda_program.specs.Answers.{IsMeant, RouteAnswers, WalkAnswers, MachineWalks, PlansWalk, PlayAnswers, MachinePlays, SoundPlays, SchedulePlays, PlansPlay}
 use Rattle.hda_program.specs.Asks.{IsNoCommand, IsRouteOf, IsWalkOf, IsPlayOf, Names, NamesCodecFile, codec_of, files_asked, files_of}
 use Rattle.scheduled_runs.specs.Walks.{walk_format}
 use Rattle.hda_program.specs.Causes.{HasBadCodecFile, HasBadRing, HasBadSchedule, HasBadWav, HasPlanned, HasUnreadFile, WantsRun, WantsSound}
 use Rattle.hda_program.specs.Promises.{HasRun}
-use Rattle.hda_program.specs.Files.{CodecStops, IsMachineOf, IsScheduleOf, IsWavOf, ScheduleStops}
+use Rattle.hda_program.specs.Files.{CodecStops, IsHeadOf, IsMachineOf, IsScheduleOf, ScheduleStops, bytes_before}
 use Rattle.hda_program.specs.Meanings.{Meant, of_run, telling, unrouted}
 use Rattle.hda_program.specs.Rings.{IsRingOf}
 use Rattle.machine_tasks.specs.Tasks.{HavePlans}
@@ -44,28 +44,29 @@ Cause told failed words Late = ⊥
 Cause told failed words ScheduleEnded = ⊥
 Cause told failed words OutOfMemory = ⊥
 Cause told failed words GeometryRefused = HasBadRing told words
+Cause told failed words WavShrank = ⊥
 
 -- a text alone, for a cause, or a run
 pub data Case (Cause : Status → Type 0) (Run : Played → Type 0) (meant : Meant) : Type 0 where
   said : (status : Status) → Cause status → (text : List ℕ) → meant ≡ telling status text → Case Cause Run meant
   ran : (played : Played) → Run played → meant ≡ of_run played → Case Cause Run meant
 
-abbrev pub WordsCase : Option Files → (List ℕ → Type 0) → List (List ℕ) → Meant → Type 0
-WordsCase told failed words meant = Case (Cause told failed words) (HasRun told words) meant
+abbrev pub WordsCase : Option Files → (failed emptied : List ℕ → Type 0) → (gave : ℕ → Type 0) → List (List ℕ) → Meant → Type 0
+WordsCase told failed emptied gave words meant = Case (Cause told failed words) (HasRun told failed emptied gave words) meant
 
-module _ (told : Option Files) (failed : List ℕ → Type 0) (words : List (List ℕ)) where
+module _ (told : Option Files) (failed emptied : List ℕ → Type 0) (gave : ℕ → Type 0) (words : List (List ℕ)) where
   -- the words name the files of what they ask
   names_of : (asked : Asked) (name : List ℕ) → request_of words ≡ Some asked → Contains (files_of asked) name → Names words name
   names_of asked name is among = let P : Option Asked → Type 0 = λ asks. Contains (files_asked asks) name in subst P (sym is) among
 
   -- ---- the ends at a file, and at a ring
 
-  codec_stop : (name : List ℕ) (meant : Meant) → Names words name → NamesCodecFile words name → CodecStops told failed name meant → WordsCase told failed words meant
+  codec_stop : (name : List ℕ) (meant : Meant) → Names words name → NamesCodecFile words name → CodecStops told failed name meant → WordsCase told failed emptied gave words meant
   codec_stop name meant names codec (inl stop) = said ShelfFailed (name, names, stop.0) _ stop.1
   codec_stop name meant names codec (inr stop) = said CodecRefused (name, stop.0, codec, stop.1) _ stop.2
 
   schedule_stop : (codec name : List ℕ) (machine : Machine) (meant : Meant) → WantsRun told words codec name → Names words name → IsMachineOf told codec machine
-      → ScheduleStops told failed name meant → WordsCase told failed words meant
+      → ScheduleStops told failed name meant → WordsCase told failed emptied gave words meant
   schedule_stop codec name machine meant wants names file (inl stop) = said ShelfFailed (name, names, stop.0) _ stop.1
   schedule_stop codec name machine meant wants names file (inr stop) =
       said ScheduleRefused (record { codec_name = codec; schedule_name = name; machine = machine; text = stop.0; wants = wants; codec_file = file; refused = stop.1 }) _ stop.2
@@ -74,13 +75,13 @@ module _ (told : Option Files) (failed : List ℕ → Type 0) (words : List (Lis
 
   route_plans : (name : List ℕ) (format : Format) (machine : Machine) (plans : List Plan) (meant : Meant) → IsRouteOf words name format → IsMachineOf told name machine
       → HavePlans format machine.codecs plans → (some : Bool) → have_route plans ≡ some
-      → meant ≡ (if some then telling Done (plans_lines machine.codecs plans) else unrouted machine.codecs plans) → WordsCase told failed words meant
+      → meant ≡ (if some then telling Done (plans_lines machine.codecs plans) else unrouted machine.codecs plans) → WordsCase told failed emptied gave words meant
   route_plans name format machine plans meant is file planned true some e =
       said Done (name, format, is, record { codec_name = name; format = format; machine = machine; plans = plans; wants = inl is; codec_file = file; planned = planned; routed = some }) _ e
   route_plans name format machine plans meant is file planned false some e =
       said NothingRouted (record { codec_name = name; format = format; machine = machine; plans = plans; wants = inl is; codec_file = file; planned = planned; routed = some }) _ e
 
-  route_cases : (name : List ℕ) (format : Format) (meant : Meant) → IsRouteOf words name format → RouteAnswers told failed name format meant → WordsCase told failed words meant
+  route_cases : (name : List ℕ) (format : Format) (meant : Meant) → IsRouteOf words name format → RouteAnswers told failed name format meant → WordsCase told failed emptied gave words meant
   route_cases name format meant is (inl stop) =
       codec_stop name meant (names_of (route name (hertz format.rate) (bits_of format.bits) format.channels) name is (0, omega arith, refl)) (ap (option_map codec_of) is) stop
   route_cases name format meant is (inr answers) =
@@ -89,7 +90,7 @@ module _ (told : Option Files) (failed : List ℕ → Type 0) (words : List (Lis
   -- ---- `walk`
 
   walk_plans : (codec name : List ℕ) (machine : Machine) (schedule : Schedule) (plans : List Plan) (meant : Meant) → IsWalkOf words codec name → IsMachineOf told codec machine
-      → IsScheduleOf told name schedule → HavePlans walk_format machine.codecs plans → PlansWalk machine schedule plans meant → WordsCase told failed words meant
+      → IsScheduleOf told name schedule → HavePlans walk_format machine.codecs plans → PlansWalk machine schedule plans meant → WordsCase told failed emptied gave words meant
   walk_plans codec name machine schedule plans meant is file steps planned (inl none) =
       said NothingRouted (record {
         codec_name = codec;
@@ -117,37 +118,47 @@ module _ (told : Option Files) (failed : List ℕ → Type 0) (words : List (Lis
       })) run.3
 
   walk_machine : (codec name : List ℕ) (machine : Machine) (meant : Meant) → IsWalkOf words codec name → IsMachineOf told codec machine → MachineWalks told failed machine name meant
-      → WordsCase told failed words meant
+      → WordsCase told failed emptied gave words meant
   walk_machine codec name machine meant is file (inl stop) =
       schedule_stop codec name machine meant (inl is) (names_of (walk codec name) name is (1, omega arith, refl)) file stop
   walk_machine codec name machine meant is file (inr answers) =
       walk_plans codec name machine answers.0 answers.2.0 meant is file answers.1 answers.2.1 answers.2.2
 
-  walk_cases : (codec name : List ℕ) (meant : Meant) → IsWalkOf words codec name → WalkAnswers told failed codec name meant → WordsCase told failed words meant
+  walk_cases : (codec name : List ℕ) (meant : Meant) → IsWalkOf words codec name → WalkAnswers told failed codec name meant → WordsCase told failed emptied gave words meant
   walk_cases codec name meant is (inl stop) = codec_stop codec meant (names_of (walk codec name) codec is (0, omega arith, refl)) (ap (option_map codec_of) is) stop
   walk_cases codec name meant is (inr answers) = walk_machine codec name answers.0 meant is answers.1 answers.2
 
   -- ---- `play`
 
   module _ (codec wav name : List ℕ) (periods period : ℕ) (meant : Meant) (is : IsPlayOf words codec wav name periods period) where
-    play_wants : (sound : Wav) → IsWavOf told wav sound → WantsSound told words codec name sound
-    play_wants sound file = record { wav_name = wav; periods = periods; period = period; asks = is; wav_file = file }
+    -- what the files gave at most
+    abbrev codec_gave : (machine : Machine) → IsMachineOf told codec machine → ℕ → Type 0
+    codec_gave machine file bytes = gave (length file.bytes + bytes)
 
-    play_plans : (machine : Machine) (sound : Wav) (schedule : Schedule) (geometry : Geometry) (plans : List Plan) → IsMachineOf told codec machine → IsWavOf told wav sound
-        → IsScheduleOf told name schedule → IsRingOf periods period machine sound geometry → HavePlans sound.format machine.codecs plans
-        → PlansPlay machine sound geometry schedule plans meant → WordsCase told failed words meant
-    play_plans machine sound schedule geometry plans file sound_file steps ring planned (inl none) =
+    abbrev head_gave : (machine : Machine) (head : WavHead) → IsMachineOf told codec machine → ℕ → Type 0
+    head_gave machine head file bytes = codec_gave machine file (bytes_before head + bytes)
+
+    abbrev steps_gave : (machine : Machine) (head : WavHead) (schedule : Schedule) → IsMachineOf told codec machine → IsScheduleOf told name schedule → ℕ → Type 0
+    steps_gave machine head schedule file steps bytes = head_gave machine head file (length steps.bytes + bytes)
+
+    play_wants : (head : WavHead) → IsHeadOf told wav head → WantsSound told words codec name head
+    play_wants head file = record { wav_name = wav; periods = periods; period = period; asks = is; wav_file = file }
+
+    play_plans : (machine : Machine) (head : WavHead) (schedule : Schedule) (geometry : Geometry) (plans : List Plan) → (file : IsMachineOf told codec machine) → IsHeadOf told wav head
+        → (steps : IsScheduleOf told name schedule) → IsRingOf periods period machine head geometry → HavePlans head.format machine.codecs plans
+        → PlansPlay told failed emptied (steps_gave machine head schedule file steps) wav machine head geometry schedule plans meant → WordsCase told failed emptied gave words meant
+    play_plans machine head schedule geometry plans file wav_file steps ring planned (inl none) =
         said NothingRouted (record {
           codec_name = codec;
-          format = sound.format;
+          format = head.format;
           machine = machine;
           plans = plans;
-          wants = inr (inr (name, sound, play_wants sound sound_file, refl));
+          wants = inr (inr (name, head, play_wants head wav_file, refl));
           codec_file = file;
           planned = planned;
           routed = none.0;
         }) _ none.1
-    play_plans machine sound schedule geometry plans file sound_file steps ring planned (inr run) =
+    play_plans machine head schedule geometry plans file wav_file steps ring planned (inr run) =
         ran run.0 (inr (record {
           codec_name = codec;
           wav_name = wav;
@@ -157,23 +168,25 @@ module _ (told : Option Files) (failed : List ℕ → Type 0) (words : List (Lis
           asks = is;
           files = record {
             machine = machine;
-            sound = sound;
+            head = head;
             geometry = geometry;
             schedule = schedule;
             plans = plans;
             codec_file = file;
-            wav_file = sound_file;
+            wav_file = wav_file;
             schedule_file = steps;
             ring = ring;
             planned = planned;
             routed = run.1;
             run = run.2;
+            cut = run.4;
+            reads_little = run.5;
           };
         })) run.3
 
-    play_schedule : (machine : Machine) (sound : Wav) (schedule : Schedule) → IsMachineOf told codec machine → IsWavOf told wav sound → IsScheduleOf told name schedule
-        → SchedulePlays periods period machine sound schedule meant → WordsCase told failed words meant
-    play_schedule machine sound schedule file sound_file steps (inl stop) =
+    play_schedule : (machine : Machine) (head : WavHead) (schedule : Schedule) → (file : IsMachineOf told codec machine) → IsHeadOf told wav head → (steps : IsScheduleOf told name schedule)
+        → SchedulePlays told failed emptied (steps_gave machine head schedule file steps) periods period wav machine head schedule meant → WordsCase told failed emptied gave words meant
+    play_schedule machine head schedule file wav_file steps (inl stop) =
         said GeometryRefused (record {
           codec_name = codec;
           wav_name = wav;
@@ -181,25 +194,25 @@ module _ (told : Option Files) (failed : List ℕ → Type 0) (words : List (Lis
           periods = periods;
           period = period;
           machine = machine;
-          sound = sound;
+          head = head;
           schedule = schedule;
           fault = stop.0;
           asks = is;
           codec_file = file;
-          wav_file = sound_file;
+          wav_file = wav_file;
           schedule_file = steps;
           refused = stop.1;
         }) _ stop.2
-    play_schedule machine sound schedule file sound_file steps (inr answers) =
-        play_plans machine sound schedule answers.0 answers.2.0 file sound_file steps answers.1 answers.2.1 answers.2.2
+    play_schedule machine head schedule file wav_file steps (inr answers) =
+        play_plans machine head schedule answers.0 answers.2.0 file wav_file steps answers.1 answers.2.1 answers.2.2
 
-    play_sound : (machine : Machine) (sound : Wav) → IsMachineOf told codec machine → IsWavOf told wav sound → SoundPlays told failed periods period machine sound name meant
-        → WordsCase told failed words meant
-    play_sound machine sound file sound_file (inl stop) =
-        schedule_stop codec name machine meant (inr (sound, play_wants sound sound_file)) (names_of (play codec wav name periods period) name is (2, omega arith, refl)) file stop
-    play_sound machine sound file sound_file (inr answers) = play_schedule machine sound answers.0 file sound_file answers.1 answers.2
+    play_sound : (machine : Machine) (head : WavHead) → (file : IsMachineOf told codec machine) → IsHeadOf told wav head → SoundPlays told failed emptied (head_gave machine head file) periods period wav machine head name meant
+        → WordsCase told failed emptied gave words meant
+    play_sound machine head file wav_file (inl stop) =
+        schedule_stop codec name machine meant (inr (head, play_wants head wav_file)) (names_of (play codec wav name periods period) name is (2, omega arith, refl)) file stop
+    play_sound machine head file wav_file (inr answers) = play_schedule machine head answers.0 file wav_file answers.1 answers.2
 
-    play_machine : (machine : Machine) → IsMachineOf told codec machine → MachinePlays told failed periods period machine wav name meant → WordsCase told failed words meant
+    play_machine : (machine : Machine) → (file : IsMachineOf told codec machine) → MachinePlays told failed emptied (codec_gave machine file) periods period machine wav name meant → WordsCase told failed emptied gave words meant
     play_machine machine file (inl (inl stop)) = said ShelfFailed (wav, names_of (play codec wav name periods period) wav is (1, omega arith, refl), stop.0) _ stop.1
     play_machine machine file (inl (inr stop)) =
         said WavRefused (record {
@@ -216,13 +229,13 @@ module _ (told : Option Files) (failed : List ℕ → Type 0) (words : List (Lis
         }) _ stop.2
     play_machine machine file (inr answers) = play_sound machine answers.0 file answers.1 answers.2
 
-    play_cases : PlayAnswers told failed codec wav name periods period meant → WordsCase told failed words meant
+    play_cases : PlayAnswers told failed emptied gave codec wav name periods period meant → WordsCase told failed emptied gave words meant
     play_cases (inl stop) = codec_stop codec meant (names_of (play codec wav name periods period) codec is (0, omega arith, refl)) (ap (option_map codec_of) is) stop
     play_cases (inr answers) = play_machine answers.0 answers.1 answers.2
 
   -- ---- all commands
 
-  pub cases : (meant : Meant) → IsMeant told failed words meant → WordsCase told failed words meant
+  pub cases : (meant : Meant) → IsMeant told failed emptied gave words meant → WordsCase told failed emptied gave words meant
   cases meant (inl refused) = said WordsRefused refused.0 _ refused.1
   cases meant (inr (inl asked)) = route_cases asked.0 asked.1 meant asked.2 asked.3
   cases meant (inr (inr (inl asked))) = walk_cases asked.0 asked.1 meant asked.2 asked.3

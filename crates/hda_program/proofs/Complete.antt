@@ -1,5 +1,5 @@
 -- Where nothing is refused, `play` and `walk` come to their runs.
-use Rattle.std.proofs.Common.{◌≡◌, ◌∙◌, ℕ, List, true, false, inl, inr, Option, Some, None, refl, sym, ap, subst}
+use Rattle.std.proofs.Common.{◌≡◌, ◌∙◌, ◌+◌, ℕ, List, length, true, false, inl, inr, Option, Some, None, refl, sym, ap, subst}
 use Rattle.std.specs.Prelude.{◌⊎◌, if◌then◌else◌, Bool}
 use Rattle.stream_format.specs.declared.format.Rate.{Rate}
 use Rattle.stream_format.specs.declared.format.Bits.{Bits}
@@ -15,28 +15,32 @@ use Rattle.hda_words.proofs.Callers.{bits_of-same, hertz-same}
 use Rattle.period_writer.specs.declared.geometry.Geometry.{Geometry}
 use Rattle.period_writer.specs.declared.geometry.GeometryFault.{GeometryFault}
 use Rattle.period_writer.specs.Rings.{fault_of}
-use Rattle.wav_reader.specs.declared.wav.Wav.{Wav}
+use Rattle.wav_reader.specs.declared.opened.WavHead.{WavHead}
 use Rattle.driver_progress.specs.declared.phase.Phase.{Phase}
 use Rattle.driver_progress.specs.declared.phase.Phase.TheVariants.{Reset, Settling, Walking, SettingUp, Ready, Playing, Drained, NothingRouted, Unanswered, Late, Malformed, Failed}
 use Rattle.sound_report.specs.declared.played.Played.{Played}
 use Rattle.sound_report.specs.declared.played.PlayFault.{PlayFault}
 use Rattle.sound_report.specs.declared.played.PlayFault.TheVariants as fault
+use Rattle.sound_report.specs.declared.played.CutLine.{CutLine}
+use Rattle.sound_report.specs.declared.played.CutLine.TheVariants as cuts
 use Rattle.sound_report.specs.declared.status.Status.TheVariants.{Done, OutOfMemory}
 use Rattle.sound_report.specs.Statuses.{number_of}
+use Rattle.scheduled_runs.specs.Plays.{IsCutUnder}
 use Rattle.scheduled_runs.specs.Walks.{IsWalkFault, IsWalked, walk_format}
 use Rattle.machine_tasks.specs.Tasks.{HavePlans}
 use Rattle.hda_program.specs.Answers.{HasEnded, HasEndedPlay, HasEndedWith, HasWritten, IsMeant, MachinePlays, MachineWalks, PlansPlay, PlansWalk, PlayAnswers, RouteAnswers, SchedulePlays, SoundPlays, WalkAnswers}
 use Rattle.hda_program.specs.Asks.{IsPlayOf, IsRouteOf, IsWalkOf}
-use Rattle.hda_program.specs.Causes.{IsOfPlay, IsOfWalk}
+use Rattle.hda_program.specs.Causes.{IsOfPlay, IsOfWalk, IsShortCut}
+use Rattle.hda_program.specs.Files.{IsHeadIn, bytes_before}
 use Rattle.hda_program.specs.Complete.{CanPlay, CanRoute, CanWalk, HasPlayedOn, HasRoutes, HasWalkedOn}
-use Rattle.hda_program.specs.Meanings.{Meant, of_run, status_of, telling, unrouted}
+use Rattle.hda_program.specs.Meanings.{Meant, end_status, fault_status, of_run, status_of, telling, unrouted}
 use Rattle.codec_agenda.specs.Planned.{have_route}
-use Rattle.hda_program.proofs.Endings.{not_route_and_play, not_route_and_walk, same_asked}
+use Rattle.hda_program.proofs.Endings.{never_short, not_route_and_play, not_route_and_walk, same_asked}
 use Rattle.hda_program.proofs.OneReading.{codec_unrefused, one_format, one_machine, one_plans, one_wav_format, schedule_unrefused, wav_unrefused}
 
 -- ---- the statuses of runs
 
-of_play : (end : Option PlayFault) → IsOfPlay (number_of (status_of end))
+of_play : (end : Option PlayFault) → IsOfPlay (number_of (fault_status end))
 of_play None = inl (inl refl)
 of_play (Some (fault.Unanswered codec command issued noticed)) = inl (inr (inl refl))
 of_play (Some (fault.Late from to limit)) = inr refl
@@ -44,7 +48,7 @@ of_play (Some (fault.CommandsLeft sent of)) = inl (inr (inr refl))
 of_play (Some (fault.FramesLeft written heard of)) = inl (inr (inr refl))
 
 WalkEnd : Option PlayFault → Type 0
-WalkEnd end = IsOfWalk (number_of (status_of end))
+WalkEnd end = IsOfWalk (number_of (fault_status end))
 
 of_walk : (phase : Phase) (sent of : ℕ) (end : Option PlayFault) → IsWalkFault phase sent of end → WalkEnd end
 unfolding WalkEnd
@@ -61,15 +65,24 @@ of_walk (Late from to limit) sent of end is = absurd is
 of_walk (Malformed codec malformed) sent of end is = absurd is
 of_walk Failed sent of end is = absurd is
 
-walk_end : (machine : Machine) (plans : List Plan) (schedule : Schedule) (played : Played) → IsWalked machine plans schedule played → IsOfWalk (number_of (status_of played.fault))
+walk_end : (machine : Machine) (plans : List Plan) (schedule : Schedule) (played : Played) → IsWalked machine plans schedule played → IsOfWalk (number_of (status_of played))
 unfolding WalkEnd
-walk_end machine plans schedule played walked = of_walk walked.state.phase walked.state.sent played.commands played.fault walked.ended
+walk_end machine plans schedule played walked =
+    subst (λ (cut : Option CutLine). IsOfWalk (number_of (end_status cut played.fault))) (sym walked.silent.uncut)
+    (of_walk walked.state.phase walked.state.sent played.commands played.fault walked.ended)
+
+-- a run whose reading was cut by nothing ends so
+uncut : (name : List ℕ) (head : WavHead) (failed emptied : Type 0) (cut : Option CutLine) (end : Option PlayFault) → IsCutUnder name head failed emptied cut → (failed → ⊥) → (IsShortCut cut → ⊥)
+    → IsOfPlay (number_of (end_status cut end))
+uncut name head failed emptied None end under good long = of_play end
+uncut name head failed emptied (Some (cuts.Failed text)) end under good long = absurd (good under.1)
+uncut name head failed emptied (Some (cuts.Short place)) end under good long = absurd (long tt)
 
 -- ---- what is meant is a run
 
 -- a run is meant whose status is one of these
 abbrev IsRunOf : (ℕ → Type 0) → Meant → Type 0
-IsRunOf IsOf meant = (played : Played) × IsOf (number_of (status_of played.fault)) × (meant ≡ of_run played)
+IsRunOf IsOf meant = (played : Played) × IsOf (number_of (status_of played)) × (meant ≡ of_run played)
 
 same_routes : (format : Format) (machine : Machine) (one other : List Plan) → HavePlans format machine.codecs one → HavePlans format machine.codecs other → have_route one ≡ true
     → have_route other ≡ false → ⊥
@@ -78,50 +91,56 @@ same_routes format machine one other h k routed none =
 
 -- ---- `play`
 
-module _ (told : Option Files) (failed : List ℕ → Type 0) (codec wav name : List ℕ) (periods period : ℕ) (can : CanPlay told failed codec wav name periods period) (meant : Meant) where
+module _ (told : Option Files) (failed emptied : List ℕ → Type 0) (codec wav name : List ℕ) (periods period : ℕ) (can : CanPlay told failed codec wav name periods period) (meant : Meant) where
   abbrev Here : Option Files
   Here = Some can.files
 
-  play_plans : (machine : Machine) (sound : Wav) (schedule : Schedule) (geometry : Geometry) (plans : List Plan) → can.machine ≡ machine → can.sound.format ≡ sound.format
-      → HavePlans sound.format machine.codecs plans → PlansPlay machine sound geometry schedule plans meant → IsRunOf IsOfPlay meant
-  play_plans machine sound schedule geometry plans same format planned (inl none) =
+  play_plans : (gave : ℕ → Type 0) (machine : Machine) (head : WavHead) (schedule : Schedule) (geometry : Geometry) (plans : List Plan) → can.machine ≡ machine → can.head.format ≡ head.format
+      → IsHeadIn can.files wav head → HavePlans head.format machine.codecs plans → PlansPlay Here failed emptied gave wav machine head geometry schedule plans meant → IsRunOf IsOfPlay meant
+  play_plans gave machine head schedule geometry plans same format file planned (inl none) =
       let P : Format → Type 0 = λ f. HavePlans f can.machine.codecs can.plans in
-      let Q : Machine → Type 0 = λ m. HavePlans sound.format m.codecs can.plans in
-      absurd (same_routes sound.format machine can.plans plans (subst Q same (subst P format can.planned)) planned can.routed none.0)
-  play_plans machine sound schedule geometry plans same format planned (inr run) = (run.0, of_play run.0.fault, run.3)
+      let Q : Machine → Type 0 = λ m. HavePlans head.format m.codecs can.plans in
+      absurd (same_routes head.format machine can.plans plans (subst Q same (subst P format can.planned)) planned can.routed none.0)
+  play_plans gave machine head schedule geometry plans same format file planned (inr run) =
+      let long : IsShortCut run.0.cut → ⊥ = λ short. never_short can.files wav head machine plans geometry schedule run.0 file run.2 short in
+      (run.0, uncut wav head (failed wav) (emptied wav) run.0.cut run.0.fault run.4 can.wav_given long, run.3)
 
-  ring_good : (machine : Machine) (sound : Wav) (end : GeometryFault) → can.machine ≡ machine → can.sound.format ≡ sound.format
-      → fault_of periods period machine.fifo sound.format ≡ Some end → ⊥
-  ring_good machine sound end same format faulty =
+  ring_good : (machine : Machine) (head : WavHead) (end : GeometryFault) → can.machine ≡ machine → can.head.format ≡ head.format
+      → fault_of periods period machine.fifo head.format ≡ Some end → ⊥
+  ring_good machine head end same format faulty =
       let P : Format → Type 0 = λ f. fault_of periods period can.machine.fifo f ≡ None in
-      let Q : Machine → Type 0 = λ m. fault_of periods period m.fifo sound.format ≡ None in
-      let good : fault_of periods period machine.fifo sound.format ≡ None = subst Q same (subst P format can.good_ring) in
+      let Q : Machine → Type 0 = λ m. fault_of periods period m.fifo head.format ≡ None in
+      let good : fault_of periods period machine.fifo head.format ≡ None = subst Q same (subst P format can.good_ring) in
       let bad : None ≡ Some end = sym good ∙ faulty in cc
 
-  play_schedule : (machine : Machine) (sound : Wav) (schedule : Schedule) → can.machine ≡ machine → can.sound.format ≡ sound.format
-      → SchedulePlays periods period machine sound schedule meant → IsRunOf IsOfPlay meant
-  play_schedule machine sound schedule same format (inl stop) = absurd (ring_good machine sound stop.0 same format stop.1)
-  play_schedule machine sound schedule same format (inr (geometry, ring, (plans, planned, plays))) = play_plans machine sound schedule geometry plans same format planned plays
+  play_schedule : (gave : ℕ → Type 0) (machine : Machine) (head : WavHead) (schedule : Schedule) → can.machine ≡ machine → can.head.format ≡ head.format → IsHeadIn can.files wav head
+      → SchedulePlays Here failed emptied gave periods period wav machine head schedule meant → IsRunOf IsOfPlay meant
+  play_schedule gave machine head schedule same format file (inl stop) = absurd (ring_good machine head stop.0 same format stop.1)
+  play_schedule gave machine head schedule same format file (inr (geometry, ring, (plans, planned, plays))) =
+      play_plans gave machine head schedule geometry plans same format file planned plays
 
-  play_sound : (machine : Machine) (sound : Wav) → can.machine ≡ machine → can.sound.format ≡ sound.format → SoundPlays Here failed periods period machine sound name meant
-      → IsRunOf IsOfPlay meant
-  play_sound machine sound same format (inl (inl stop)) = absurd (can.schedule_given stop.0)
-  play_sound machine sound same format (inl (inr stop)) = absurd (schedule_unrefused can.files name stop.0 can.schedule can.schedule_file stop.1)
-  play_sound machine sound same format (inr answers) = play_schedule machine sound answers.0 same format answers.2
+  play_sound : (gave : ℕ → Type 0) (machine : Machine) (head : WavHead) → can.machine ≡ machine → can.head.format ≡ head.format → IsHeadIn can.files wav head
+      → SoundPlays Here failed emptied gave periods period wav machine head name meant → IsRunOf IsOfPlay meant
+  play_sound gave machine head same format file (inl (inl stop)) = absurd (can.schedule_given stop.0)
+  play_sound gave machine head same format file (inl (inr stop)) = absurd (schedule_unrefused can.files name stop.0 can.schedule can.schedule_file stop.1)
+  play_sound gave machine head same format file (inr (schedule, steps, plays)) =
+      play_schedule (λ bytes. gave (length steps.bytes + bytes)) machine head schedule same format file plays
 
-  play_machine : (machine : Machine) → can.machine ≡ machine → MachinePlays Here failed periods period machine wav name meant → IsRunOf IsOfPlay meant
-  play_machine machine same (inl (inl stop)) = absurd (can.wav_given stop.0)
-  play_machine machine same (inl (inr stop)) = absurd (wav_unrefused can.files wav stop.0 can.sound can.wav_file stop.1)
-  play_machine machine same (inr answers) = play_sound machine answers.0 same (one_wav_format can.files wav answers.0 can.sound answers.1 can.wav_file) answers.2
+  play_machine : (gave : ℕ → Type 0) (machine : Machine) → can.machine ≡ machine → MachinePlays Here failed emptied gave periods period machine wav name meant → IsRunOf IsOfPlay meant
+  play_machine gave machine same (inl (inl stop)) = absurd (can.wav_given stop.0)
+  play_machine gave machine same (inl (inr stop)) = absurd (wav_unrefused can.files wav stop.0 can.head can.wav_file stop.1)
+  play_machine gave machine same (inr (head, of, plays)) =
+      play_sound (λ bytes. gave (bytes_before head + bytes)) machine head same (one_wav_format can.files wav head can.head of.file can.wav_file) of.file plays
 
-  play_files : PlayAnswers Here failed codec wav name periods period meant → IsRunOf IsOfPlay meant
-  play_files (inl (inl stop)) = absurd (can.codec_given stop.0)
-  play_files (inl (inr stop)) = absurd (codec_unrefused can.files codec stop.0 can.machine can.codec_file stop.1)
-  play_files (inr answers) = play_machine answers.0 (one_machine can.files codec answers.0 can.machine answers.1 can.codec_file) answers.2
+  play_files : (gave : ℕ → Type 0) → PlayAnswers Here failed emptied gave codec wav name periods period meant → IsRunOf IsOfPlay meant
+  play_files gave (inl (inl stop)) = absurd (can.codec_given stop.0)
+  play_files gave (inl (inr stop)) = absurd (codec_unrefused can.files codec stop.0 can.machine can.codec_file stop.1)
+  play_files gave (inr (machine, file, plays)) =
+      play_machine (λ bytes. gave (length file.bytes + bytes)) machine (one_machine can.files codec machine can.machine file can.codec_file) plays
 
-  play_meant : PlayAnswers told failed codec wav name periods period meant → IsRunOf IsOfPlay meant
-  play_meant answers =
-      let P : Option Files → Type 0 = λ t. PlayAnswers t failed codec wav name periods period meant in play_files (subst P can.tells answers)
+  play_meant : (gave : ℕ → Type 0) → PlayAnswers told failed emptied gave codec wav name periods period meant → IsRunOf IsOfPlay meant
+  play_meant gave answers =
+      let P : Option Files → Type 0 = λ t. PlayAnswers t failed emptied gave codec wav name periods period meant in play_files gave (subst P can.tells answers)
 
 -- ---- `walk`
 
@@ -185,57 +204,57 @@ same_format one other rates bits channels =
     let third : record (layout other) { rate = one.rate; bits = one.bits } ≡ layout one = ap (λ (n : ℕ). record (layout other) { rate = one.rate; bits = one.bits; channels = n }) channels in
     one_format one other (first ∙ second ∙ third)
 
-route_of_words : (told : Option Files) (failed : List ℕ → Type 0) (words : List (List ℕ)) (name : List ℕ) (format : Format) (meant : Meant) → IsRouteOf words name format
-    → IsMeant told failed words meant → RouteAnswers told failed name format meant
-route_of_words told failed words name format meant routes (inl refused) =
+route_of_words : (told : Option Files) (failed emptied : List ℕ → Type 0) (gave : ℕ → Type 0) (words : List (List ℕ)) (name : List ℕ) (format : Format) (meant : Meant) → IsRouteOf words name format
+    → IsMeant told failed emptied gave words meant → RouteAnswers told failed name format meant
+route_of_words told failed emptied gave words name format meant routes (inl refused) =
     let bad : None ≡ Some (route name (hertz format.rate) (bits_of format.bits) format.channels) = sym refused.0 ∙ routes in cc
-route_of_words told failed words name format meant routes (inr (inl (first, other, asks, answers))) =
+route_of_words told failed emptied gave words name format meant routes (inr (inl (first, other, asks, answers))) =
     let same : route first (hertz other.rate) (bits_of other.bits) other.channels ≡ route name (hertz format.rate) (bits_of format.bits) format.channels = same_asked words _ _ asks routes in
     let name_is : first ≡ name = cc in
     let rates : hertz other.rate ≡ hertz format.rate = cc in
     let bits : bits_of other.bits ≡ bits_of format.bits = cc in
     let channels : other.channels ≡ format.channels = cc in
     subst (λ (f : Format). RouteAnswers told failed name f meant) (same_format format other rates bits channels) (subst (λ (n : List ℕ). RouteAnswers told failed n other meant) name_is answers)
-route_of_words told failed words name format meant routes (inr (inr (inl (codec, schedule, asks, answers)))) = absurd (not_route_and_walk words name format codec schedule routes asks)
-route_of_words told failed words name format meant routes (inr (inr (inr (codec, wav, schedule, most, units, asks, answers)))) =
+route_of_words told failed emptied gave words name format meant routes (inr (inr (inl (codec, schedule, asks, answers)))) = absurd (not_route_and_walk words name format codec schedule routes asks)
+route_of_words told failed emptied gave words name format meant routes (inr (inr (inr (codec, wav, schedule, most, units, asks, answers)))) =
     absurd (not_route_and_play words name format codec wav schedule most units routes asks)
 
-walk_of_words : (told : Option Files) (failed : List ℕ → Type 0) (words : List (List ℕ)) (codec name : List ℕ) (meant : Meant) → IsWalkOf words codec name
-    → IsMeant told failed words meant → WalkAnswers told failed codec name meant
-walk_of_words told failed words codec name meant walks (inl refused) = let bad : None ≡ Some (walk codec name) = sym refused.0 ∙ walks in cc
-walk_of_words told failed words codec name meant walks (inr (inl asked)) = absurd (not_route_and_walk words asked.0 asked.1 codec name asked.2 walks)
-walk_of_words told failed words codec name meant walks (inr (inr (inl (first, second, asks, answers)))) =
+walk_of_words : (told : Option Files) (failed emptied : List ℕ → Type 0) (gave : ℕ → Type 0) (words : List (List ℕ)) (codec name : List ℕ) (meant : Meant) → IsWalkOf words codec name
+    → IsMeant told failed emptied gave words meant → WalkAnswers told failed codec name meant
+walk_of_words told failed emptied gave words codec name meant walks (inl refused) = let bad : None ≡ Some (walk codec name) = sym refused.0 ∙ walks in cc
+walk_of_words told failed emptied gave words codec name meant walks (inr (inl asked)) = absurd (not_route_and_walk words asked.0 asked.1 codec name asked.2 walks)
+walk_of_words told failed emptied gave words codec name meant walks (inr (inr (inl (first, second, asks, answers)))) =
     let same : walk first second ≡ walk codec name = same_asked words _ _ asks walks in
     let codec_is : first ≡ codec = cc in
     let name_is : second ≡ name = cc in
     subst (λ (n : List ℕ). WalkAnswers told failed codec n meant) name_is (subst (λ (n : List ℕ). WalkAnswers told failed n second meant) codec_is answers)
-walk_of_words told failed words codec name meant walks (inr (inr (inr (first, second, third, most, units, asks, answers)))) =
+walk_of_words told failed emptied gave words codec name meant walks (inr (inr (inr (first, second, third, most, units, asks, answers)))) =
     let bad : play first second third most units ≡ walk codec name = same_asked words _ _ asks walks in cc
 
 -- what is answered to these words for a play
-abbrev PlayAnswersTo : Option Files → (List ℕ → Type 0) → Meant → Asked → Type 0
-PlayAnswersTo told failed meant (route codec rate bits channels) = ⊥
-PlayAnswersTo told failed meant (walk codec name) = ⊥
-PlayAnswersTo told failed meant (play codec wav name periods period) = PlayAnswers told failed codec wav name periods period meant
+abbrev PlayAnswersTo : Option Files → (failed emptied : List ℕ → Type 0) → (gave : ℕ → Type 0) → Meant → Asked → Type 0
+PlayAnswersTo told failed emptied gave meant (route codec rate bits channels) = ⊥
+PlayAnswersTo told failed emptied gave meant (walk codec name) = ⊥
+PlayAnswersTo told failed emptied gave meant (play codec wav name periods period) = PlayAnswers told failed emptied gave codec wav name periods period meant
 
-play_of_words : (told : Option Files) (failed : List ℕ → Type 0) (words : List (List ℕ)) (codec wav name : List ℕ) (periods period : ℕ) (meant : Meant)
-    → IsPlayOf words codec wav name periods period → IsMeant told failed words meant → PlayAnswers told failed codec wav name periods period meant
-play_of_words told failed words codec wav name periods period meant plays (inl refused) =
+play_of_words : (told : Option Files) (failed emptied : List ℕ → Type 0) (gave : ℕ → Type 0) (words : List (List ℕ)) (codec wav name : List ℕ) (periods period : ℕ) (meant : Meant)
+    → IsPlayOf words codec wav name periods period → IsMeant told failed emptied gave words meant → PlayAnswers told failed emptied gave codec wav name periods period meant
+play_of_words told failed emptied gave words codec wav name periods period meant plays (inl refused) =
     let bad : None ≡ Some (play codec wav name periods period) = sym refused.0 ∙ plays in cc
-play_of_words told failed words codec wav name periods period meant plays (inr (inl asked)) =
+play_of_words told failed emptied gave words codec wav name periods period meant plays (inr (inl asked)) =
     absurd (not_route_and_play words asked.0 asked.1 codec wav name periods period asked.2 plays)
-play_of_words told failed words codec wav name periods period meant plays (inr (inr (inl (first, second, asks, answers)))) =
+play_of_words told failed emptied gave words codec wav name periods period meant plays (inr (inr (inl (first, second, asks, answers)))) =
     let bad : walk first second ≡ play codec wav name periods period = same_asked words _ _ asks plays in cc
-play_of_words told failed words codec wav name periods period meant plays (inr (inr (inr (first, second, third, most, units, asks, answers)))) =
+play_of_words told failed emptied gave words codec wav name periods period meant plays (inr (inr (inr (first, second, third, most, units, asks, answers)))) =
     let same : play first second third most units ≡ play codec wav name periods period = same_asked words _ _ asks plays in
-    subst (λ (a : Asked). PlayAnswersTo told failed meant a) same answers
+    subst (λ (a : Asked). PlayAnswersTo told failed emptied gave meant a) same answers
 
 -- ---- the end
 
 module _ (before after : Option (List ℕ)) (sink_failed : Type 0) (given : Option Played) (status : ℕ) (sink_good : sink_failed → ⊥) where
   written_run : (IsOf : ℕ → Type 0) (meant : Meant) → IsRunOf IsOf meant → HasWritten before after sink_failed meant status → IsOf status ⊎ (status ≡ number_of OutOfMemory)
   written_run IsOf meant (played, ends, is) (inl whole) =
-      let number : number_of (status_of played.fault) ≡ status = sym (whole.0 ∙ ap (λ (m : Meant). number_of m.status) is) in inl (subst IsOf number ends)
+      let number : number_of (status_of played) ≡ status = sym (whole.0 ∙ ap (λ (m : Meant). number_of m.status) is) in inl (subst IsOf number ends)
   written_run IsOf meant run (inr (inl sink)) = absurd (sink_good sink.1)
   written_run IsOf meant run (inr (inr memory)) = inr memory.0
 
@@ -249,25 +268,25 @@ module _ (before after : Option (List ℕ)) (sink_failed : Type 0) (given : Opti
   written_done meant is (inr (inl sink)) = absurd (sink_good sink.1)
   written_done meant is (inr (inr memory)) = inr memory.0
 
-  module _ (told : Option Files) (failed : List ℕ → Type 0) where
+  module _ (told : Option Files) (failed emptied : List ℕ → Type 0) (gave : ℕ → Type 0) where
     pub route_complete : (words : List (List ℕ)) (name : List ℕ) (format : Format) → IsRouteOf words name format → CanRoute told failed name format
-        → HasEnded told failed words before after sink_failed given status → HasRoutes status
+        → HasEnded told failed emptied gave words before after sink_failed given status → HasRoutes status
     route_complete words name format routes can (inl answered) =
-        written_done answered.meant (route_meant told failed name format can answered.meant (route_of_words told failed words name format answered.meant routes answered.is)) answered.written
+        written_done answered.meant (route_meant told failed name format can answered.meant (route_of_words told failed emptied gave words name format answered.meant routes answered.is)) answered.written
     route_complete words name format routes can (inr memory) = inr memory.0
 
     pub files_complete : (codec wav name : List ℕ) (periods period : ℕ) → CanPlay told failed codec wav name periods period
-        → HasEndedPlay told failed codec wav name periods period before after sink_failed given status → HasPlayedOn status
+        → HasEndedPlay told failed emptied gave codec wav name periods period before after sink_failed given status → HasPlayedOn status
     files_complete codec wav name periods period can ended =
-        ended_run (PlayAnswers told failed codec wav name periods period) IsOfPlay (play_meant told failed codec wav name periods period can) ended
+        ended_run (PlayAnswers told failed emptied gave codec wav name periods period) IsOfPlay (λ meant is. play_meant told failed emptied codec wav name periods period can meant gave is) ended
 
     pub play_complete : (words : List (List ℕ)) (codec wav name : List ℕ) (periods period : ℕ) → IsPlayOf words codec wav name periods period
-        → CanPlay told failed codec wav name periods period → HasEnded told failed words before after sink_failed given status → HasPlayedOn status
+        → CanPlay told failed codec wav name periods period → HasEnded told failed emptied gave words before after sink_failed given status → HasPlayedOn status
     play_complete words codec wav name periods period plays can ended =
-        ended_run (IsMeant told failed words) IsOfPlay
-        (λ meant is. play_meant told failed codec wav name periods period can meant (play_of_words told failed words codec wav name periods period meant plays is)) ended
+        ended_run (IsMeant told failed emptied gave words) IsOfPlay
+        (λ meant is. play_meant told failed emptied codec wav name periods period can meant gave (play_of_words told failed emptied gave words codec wav name periods period meant plays is)) ended
 
     pub walk_complete : (words : List (List ℕ)) (codec name : List ℕ) → IsWalkOf words codec name → CanWalk told failed codec name
-        → HasEnded told failed words before after sink_failed given status → HasWalkedOn status
+        → HasEnded told failed emptied gave words before after sink_failed given status → HasWalkedOn status
     walk_complete words codec name walks can ended =
-        ended_run (IsMeant told failed words) IsOfWalk (λ meant is. walk_meant told failed codec name can meant (walk_of_words told failed words codec name meant walks is)) ended
+        ended_run (IsMeant told failed emptied gave words) IsOfWalk (λ meant is. walk_meant told failed codec name can meant (walk_of_words told failed emptied gave words codec name meant walks is)) ended

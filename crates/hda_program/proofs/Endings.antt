@@ -1,20 +1,30 @@
 -- What the statuses of the program come to, and when it gives a run.
-use Rattle.std.proofs.Common.{◌≡◌, ◌≢◌, ◌∙◌, ◌≤◌, ℕ, List, true, false, inl, inr, Option, Some, None, refl, sym, ap, subst, arith}
-use Rattle.std.specs.Prelude.{◌⊎◌, ◌==◌, if◌then◌else◌, IfSome, IsNone, IsSome}
+use Rattle.std.proofs.Common.{◌≡◌, ◌≢◌, ◌∙◌, ◌≤◌, ℕ, List, Bool, true, false, inl, inr, Option, Some, None, refl, sym, ap, subst, arith}
+use Rattle.std.specs.Prelude.{◌⊎◌, ◌==◌, ◌||◌, if◌then◌else◌, IfSome, IsNone, IsSome, IsSomeAnd}
+use Rattle.std.specs.List.{Contains}
+use Rattle.route_planner.specs.declared.routes.Plan.{Plan}
+use Rattle.hda_files.specs.declared.machine.Machine.{Machine}
+use Rattle.hda_schedule.specs.declared.schedule.Schedule.{Schedule}
+use Rattle.period_writer.specs.declared.geometry.Geometry.{Geometry}
+use Rattle.wav_reader.specs.declared.opened.WavHead.{WavHead}
 use Rattle.stream_format.specs.declared.format.Format.{Format}
 use Rattle.hda_outside.specs.Shelf.{Files}
 use Rattle.hda_words.specs.Asked.{Asked, bits_of, hertz, play, request_of, route, walk}
 use Rattle.sound_report.specs.declared.played.Played.{Played}
 use Rattle.sound_report.specs.declared.played.PlayFault.{PlayFault}
 use Rattle.sound_report.specs.declared.played.PlayFault.TheVariants as fault
+use Rattle.sound_report.specs.declared.played.CutLine.{CutLine}
+use Rattle.sound_report.specs.declared.played.CutLine.TheVariants as cuts
 use Rattle.sound_report.specs.declared.status.Status.{Status}
-use Rattle.sound_report.specs.declared.status.Status.TheVariants.{Done, WordsRefused, ShelfFailed, SinkFailed, CodecRefused, WavRefused, ScheduleRefused, NothingRouted, Unanswered, Late, ScheduleEnded, OutOfMemory, GeometryRefused}
+use Rattle.sound_report.specs.declared.status.Status.TheVariants.{Done, WordsRefused, ShelfFailed, SinkFailed, CodecRefused, WavRefused, ScheduleRefused, NothingRouted, Unanswered, Late, ScheduleEnded, OutOfMemory, GeometryRefused, WavShrank}
 use Rattle.sound_report.specs.Statuses.{number_of}
 use Rattle.hda_program.specs.Answers.{HasEnded, HasEndedWith, HasWritten, IsMeant}
-use Rattle.hda_program.specs.Asks.{IsNoCommand, IsPlayOf, IsRouteOf, IsWalkOf}
-use Rattle.hda_program.specs.Causes.{HasBadCodecFile, HasBadRing, HasBadSchedule, HasBadWav, HasPlanned, HasUnreadFile, IsOfPlay, IsOfWalk, IsRunless}
-use Rattle.hda_program.specs.Promises.{HasRun, KeepsPromise}
-use Rattle.hda_program.specs.Meanings.{Meant, of_run, status_of, telling}
+use Rattle.scheduled_runs.specs.Plays.{IsCutUnder, IsPlayedFrom}
+use Rattle.hda_program.specs.Asks.{IsNoCommand, IsPlayOf, IsRouteOf, IsWalkOf, Names, files_asked, files_of}
+use Rattle.hda_program.specs.Files.{IsHeadIn}
+use Rattle.hda_program.specs.Causes.{HasBadCodecFile, HasBadRing, HasBadSchedule, HasBadWav, HasPlanned, HasUnreadFile, IsFailedCut, IsOfSound, IsOfWalk, IsRunless, IsShortCut, OfItsWav, WasShortened, WasUnread}
+use Rattle.hda_program.specs.Promises.{HasPlayedFiles, HasRun, KeepsPromise}
+use Rattle.hda_program.specs.Meanings.{Meant, end_status, fault_status, of_run, status_of, telling}
 use Rattle.hda_program.proofs.Cases.{Case, Cause as CauseOf, IsRouted, WordsCase, cases, ran, said}
 
 -- ---- numbers
@@ -33,7 +43,8 @@ status_with n =
     else (if n == 9 then Unanswered
     else (if n == 10 then Late
     else (if n == 11 then ScheduleEnded
-    else (if n == 12 then OutOfMemory else GeometryRefused)))))))))))
+    else (if n == 12 then OutOfMemory
+    else (if n == 13 then GeometryRefused else WavShrank))))))))))))
 
 status_again : (status : Status) → status_with (number_of status) ≡ status
 status_again Done = refl
@@ -49,36 +60,134 @@ status_again Late = refl
 status_again ScheduleEnded = refl
 status_again OutOfMemory = refl
 status_again GeometryRefused = refl
+status_again WavShrank = refl
 
--- a run ends with 0, or with 9 to 11
-run_low : (fault : Option PlayFault) → 1 ≤ number_of (status_of fault) → 9 ≤ number_of (status_of fault)
-run_low None some = absurd (omega (arith, some))
-run_low (Some (fault.Unanswered codec command issued noticed)) some = omega arith
-run_low (Some (fault.Late from to limit)) some = omega arith
-run_low (Some (fault.CommandsLeft sent of)) some = omega arith
-run_low (Some (fault.FramesLeft written heard of)) some = omega arith
+-- the numbers with which a run ends
+abbrev is_end : ℕ → Bool
+is_end n = n == 0 || n == 3 || n == 9 || n == 10 || n == 11 || n == 14
 
-run_most : (fault : Option PlayFault) → number_of (status_of fault) ≤ 11
-run_most None = omega arith
-run_most (Some (fault.Unanswered codec command issued noticed)) = omega arith
-run_most (Some (fault.Late from to limit)) = omega arith
-run_most (Some (fault.CommandsLeft sent of)) = omega arith
-run_most (Some (fault.FramesLeft written heard of)) = omega arith
+run_ends : (cut : Option CutLine) (end : Option PlayFault) → is_end (number_of (end_status cut end)) ≡ true
+run_ends (Some (cuts.Failed name)) end = refl
+run_ends (Some (cuts.Short place)) end = refl
+run_ends None None = refl
+run_ends None (Some (fault.Unanswered codec command issued noticed)) = refl
+run_ends None (Some (fault.Late from to limit)) = refl
+run_ends None (Some (fault.CommandsLeft sent of)) = refl
+run_ends None (Some (fault.FramesLeft written heard of)) = refl
 
 -- no run ends with this number
 abbrev IsNoEnd : ℕ → Type 0
-IsNoEnd n = ((1 ≤ n) × (n ≤ 8)) ⊎ (12 ≤ n)
+IsNoEnd n = is_end n ≡ false
 
-number_run : (meant : Meant) (played : Played) → meant ≡ of_run played → number_of meant.status ≡ number_of (status_of played.fault)
+number_run : (meant : Meant) (played : Played) → meant ≡ of_run played → number_of meant.status ≡ number_of (status_of played)
 number_run meant played e = ap (λ (m : Meant). number_of m.status) e
 
 run_differs : {X : Type 0} (meant : Meant) (played : Played) (n : ℕ) → meant ≡ of_run played → number_of meant.status ≡ n → IsNoEnd n → X
-run_differs meant played n e number (inl (some, few)) =
-    let is : number_of (status_of played.fault) ≡ n = sym (number_run meant played e) ∙ number in
-    absurd (omega (arith, run_low played.fault (omega (arith, is, some)), is, few))
-run_differs meant played n e number (inr many) =
-    let is : number_of (status_of played.fault) ≡ n = sym (number_run meant played e) ∙ number in
-    absurd (omega (arith, run_most played.fault, is, many))
+run_differs meant played n e number no_end =
+    let is : number_of (status_of played) ≡ n = sym (number_run meant played e) ∙ number in
+    let bad : true ≡ false = sym (run_ends played.cut played.fault) ∙ ap is_end is ∙ no_end in cc
+
+-- ---- a cut
+
+-- a run ends with 3 where its reading was cut by a fault, and with 14 where it was cut by the file's end
+failed_cut : (name : List ℕ) (head : WavHead) (failed emptied : Type 0) (cut : Option CutLine) (end : Option PlayFault) → IsCutUnder name head failed emptied cut
+    → number_of (end_status cut end) ≡ 3 → IsFailedCut name cut × failed
+failed_cut name head failed emptied (Some (cuts.Failed text)) end under number = under
+failed_cut name head failed emptied (Some (cuts.Short place)) end under number = absurd (omega (arith, number))
+failed_cut name head failed emptied None None under number = absurd (omega (arith, number))
+failed_cut name head failed emptied None (Some (fault.Unanswered codec command issued noticed)) under number = absurd (omega (arith, number))
+failed_cut name head failed emptied None (Some (fault.Late from to limit)) under number = absurd (omega (arith, number))
+failed_cut name head failed emptied None (Some (fault.CommandsLeft sent of)) under number = absurd (omega (arith, number))
+failed_cut name head failed emptied None (Some (fault.FramesLeft written heard of)) under number = absurd (omega (arith, number))
+
+short_cut : (name : List ℕ) (head : WavHead) (failed emptied : Type 0) (cut : Option CutLine) (end : Option PlayFault) → IsCutUnder name head failed emptied cut
+    → number_of (end_status cut end) ≡ 14 → IsShortCut cut × emptied
+short_cut name head failed emptied (Some (cuts.Failed text)) end under number = absurd (omega (arith, number))
+short_cut name head failed emptied (Some (cuts.Short place)) end under number = (tt, under.1)
+short_cut name head failed emptied None None under number = absurd (omega (arith, number))
+short_cut name head failed emptied None (Some (fault.Unanswered codec command issued noticed)) under number = absurd (omega (arith, number))
+short_cut name head failed emptied None (Some (fault.Late from to limit)) under number = absurd (omega (arith, number))
+short_cut name head failed emptied None (Some (fault.CommandsLeft sent of)) under number = absurd (omega (arith, number))
+short_cut name head failed emptied None (Some (fault.FramesLeft written heard of)) under number = absurd (omega (arith, number))
+
+-- a walk ends with neither
+uncut_end : (cut : Option CutLine) (end : Option PlayFault) → cut ≡ None → number_of (end_status cut end) ≡ number_of (fault_status end)
+uncut_end cut end none = ap (λ (c : Option CutLine). number_of (end_status c end)) none
+
+no_walk_end : (end : Option PlayFault) (n : ℕ) → number_of (fault_status end) ≡ n → (n ≡ 3) ⊎ (n ≡ 14) → ⊥
+no_walk_end None n number (inl is) = omega (arith, number, is)
+no_walk_end None n number (inr is) = omega (arith, number, is)
+no_walk_end (Some (fault.Unanswered codec command issued noticed)) n number (inl is) = omega (arith, number, is)
+no_walk_end (Some (fault.Unanswered codec command issued noticed)) n number (inr is) = omega (arith, number, is)
+no_walk_end (Some (fault.Late from to limit)) n number (inl is) = omega (arith, number, is)
+no_walk_end (Some (fault.Late from to limit)) n number (inr is) = omega (arith, number, is)
+no_walk_end (Some (fault.CommandsLeft sent of)) n number (inl is) = omega (arith, number, is)
+no_walk_end (Some (fault.CommandsLeft sent of)) n number (inr is) = omega (arith, number, is)
+no_walk_end (Some (fault.FramesLeft written heard of)) n number (inl is) = omega (arith, number, is)
+no_walk_end (Some (fault.FramesLeft written heard of)) n number (inr is) = omega (arith, number, is)
+
+-- a sound of a told file does not get shorter
+never_cut : (files : Files) (name : List ℕ) (head : WavHead) (machine : Machine) (plans : List Plan) (geometry : Geometry) (schedule : Schedule) (played : Played)
+    → IsHeadIn files name head → IsPlayedFrom (Some files) name head machine plans geometry schedule played → (cut : Option CutLine) → played.cut ≡ cut → IsShortCut cut → ⊥
+never_cut files name head machine plans geometry schedule played h run None is short = short
+never_cut files name head machine plans geometry schedule played h run (Some (cuts.Failed text)) is short = short
+never_cut files name head machine plans geometry schedule played h run (Some (cuts.Short place)) is short =
+    run.sound.never_short h.bytes (record { files = files; told_is = refl; file_is = h.file; head_is = h.says }) place is
+
+pub never_short : (files : Files) (name : List ℕ) (head : WavHead) (machine : Machine) (plans : List Plan) (geometry : Geometry) (schedule : Schedule) (played : Played)
+    → IsHeadIn files name head → IsPlayedFrom (Some files) name head machine plans geometry schedule played → IsShortCut played.cut → ⊥
+never_short files name head machine plans geometry schedule played h run short =
+    never_cut files name head machine plans geometry schedule played h run played.cut refl short
+
+module _ (failed emptied : List ℕ → Type 0) (gave : ℕ → Type 0) where
+  pub played_unread : {told : Option Files} {codec name : List ℕ} {periods period : ℕ} (wav : List ℕ) (played : Played) → HasPlayedFiles told failed emptied gave codec wav name periods period played
+      → number_of (status_of played) ≡ 3 → WasUnread failed wav played
+  played_unread wav played run number =
+      let cut = failed_cut wav run.head (failed wav) (emptied wav) played.cut played.fault run.cut number in record { cut = cut.0; cause = cut.1 }
+
+  pub played_short : {told : Option Files} {codec name : List ℕ} {periods period : ℕ} (wav : List ℕ) (played : Played) → HasPlayedFiles told failed emptied gave codec wav name periods period played
+      → number_of (status_of played) ≡ 14 → WasShortened emptied wav played
+  played_short wav played run number =
+      let cut = short_cut wav run.head (failed wav) (emptied wav) played.cut played.fault run.cut number in record { cut = cut.0; cause = cut.1 }
+
+  pub told_never_short : (files : Files) {codec name : List ℕ} {periods period : ℕ} (wav : List ℕ) (played : Played) → HasPlayedFiles (Some files) failed emptied gave codec wav name periods period played
+      → number_of (status_of played) ≡ 14 → ⊥
+  told_never_short files wav played run number =
+      never_short files wav run.head run.machine run.plans run.geometry run.schedule played run.wav_file.file run.run (played_short wav played run number).cut
+
+  -- a run of the words
+  run_unread : {told : Option Files} {words : List (List ℕ)} (played : Played) → HasRun told failed emptied gave words played → number_of (status_of played) ≡ 3
+      → OfItsWav (λ wav. WasUnread failed wav played) words
+  run_unread played (inl walked) number =
+      absurd (no_walk_end played.fault 3 (sym (uncut_end played.cut played.fault walked.run.silent.uncut) ∙ number) (inl refl))
+  run_unread played (inr sounded) number = record {
+    codec_name = sounded.codec_name;
+    wav_name = sounded.wav_name;
+    schedule_name = sounded.schedule_name;
+    periods = sounded.periods;
+    period = sounded.period;
+    asks = sounded.asks;
+    cut = played_unread sounded.wav_name played sounded.files number;
+  }
+
+  run_short : {told : Option Files} {words : List (List ℕ)} (played : Played) → HasRun told failed emptied gave words played → number_of (status_of played) ≡ 14
+      → OfItsWav (λ wav. WasShortened emptied wav played) words
+  run_short played (inl walked) number =
+      absurd (no_walk_end played.fault 14 (sym (uncut_end played.cut played.fault walked.run.silent.uncut) ∙ number) (inr refl))
+  run_short played (inr sounded) number = record {
+    codec_name = sounded.codec_name;
+    wav_name = sounded.wav_name;
+    schedule_name = sounded.schedule_name;
+    periods = sounded.periods;
+    period = sounded.period;
+    asks = sounded.asks;
+    cut = played_short sounded.wav_name played sounded.files number;
+  }
+
+  run_told : (files : Files) {words : List (List ℕ)} (played : Played) → HasRun (Some files) failed emptied gave words played → number_of (status_of played) ≡ 14 → ⊥
+  run_told files played (inl walked) number =
+      no_walk_end played.fault 14 (sym (uncut_end played.cut played.fault walked.run.silent.uncut) ∙ number) (inr refl)
+  run_told files played (inr sounded) number = told_never_short files sounded.wav_name played sounded.files number
 
 -- ---- the words are those of one command
 
@@ -95,15 +204,22 @@ not_route_and_play words name format codec wav schedule periods period routes pl
     let bad : route name (hertz format.rate) (bits_of format.bits) format.channels ≡ play codec wav schedule periods period = same_asked words _ _ routes plays in cc
 
 -- no route makes a run
-no_run_of_route : (told : Option Files) (words : List (List ℕ)) (name : List ℕ) (format : Format) (played : Played) → IsRouteOf words name format → HasRun told words played → ⊥
-no_run_of_route told words name format played routes (inl walked) = not_route_and_walk words name format walked.codec_name walked.schedule_name routes walked.asks
-no_run_of_route told words name format played routes (inr sounded) =
+no_run_of_route : (told : Option Files) (failed emptied : List ℕ → Type 0) (gave : ℕ → Type 0) (words : List (List ℕ)) (name : List ℕ) (format : Format) (played : Played) → IsRouteOf words name format → HasRun told failed emptied gave words played → ⊥
+no_run_of_route told failed emptied gave words name format played routes (inl walked) = not_route_and_walk words name format walked.codec_name walked.schedule_name routes walked.asks
+no_run_of_route told failed emptied gave words name format played routes (inr sounded) =
     not_route_and_play words name format sounded.codec_name sounded.wav_name sounded.schedule_name sounded.periods sounded.period routes sounded.asks
+
+-- the words name their WAV file
+named : (words : List (List ℕ)) (codec wav name : List ℕ) (periods period : ℕ) → IsPlayOf words codec wav name periods period → Names words wav
+named words codec wav name periods period is =
+    let P : Option Asked → Type 0 = λ asks. Contains (files_asked asks) wav in
+    let among : Contains (files_of (play codec wav name periods period)) wav = (1, omega arith, refl) in
+    subst P (sym is) among
 
 -- ---- the causes
 
 -- plans of a run have a route
-was_planned : {told : Option Files} {words : List (List ℕ)} {played : Played} → HasRun told words played → HasPlanned told words true
+was_planned : {told : Option Files} {failed emptied : List ℕ → Type 0} {gave : ℕ → Type 0} {words : List (List ℕ)} {played : Played} → HasRun told failed emptied gave words played → HasPlanned told words true
 was_planned (inl walked) = record {
   codec_name = walked.codec_name;
   format = _;
@@ -116,12 +232,12 @@ was_planned (inl walked) = record {
 }
 was_planned (inr sounded) = record {
   codec_name = sounded.codec_name;
-  format = sounded.files.sound.format;
+  format = sounded.files.head.format;
   machine = sounded.files.machine;
   plans = sounded.files.plans;
   wants = inr (inr (
     sounded.schedule_name,
-    sounded.files.sound,
+    sounded.files.head,
     record { wav_name = sounded.wav_name; periods = sounded.periods; period = sounded.period; asks = sounded.asks; wav_file = sounded.files.wav_file },
     refl,
   ));
@@ -143,11 +259,11 @@ module _ (Cause : Status → Type 0) (Run : Played → Type 0) where
   cause_at n no_end meant (ran played run e) number = run_differs meant played n e number no_end
 
 -- some pin has a route, of a route or of a run
-some_routed : (told : Option Files) (failed : List ℕ → Type 0) (words : List (List ℕ)) (meant : Meant) → WordsCase told failed words meant → number_of meant.status ≡ 0
+some_routed : (told : Option Files) (failed emptied : List ℕ → Type 0) (gave : ℕ → Type 0) (words : List (List ℕ)) (meant : Meant) → WordsCase told failed emptied gave words meant → number_of meant.status ≡ 0
     → HasPlanned told words true
-some_routed told failed words meant (said status cause text e) number =
-    let routed : IsRouted told words = said_cause (CauseOf told failed words) (HasRun told words) 0 meant status text e number cause in routed.3
-some_routed told failed words meant (ran played run e) number = was_planned run
+some_routed told failed emptied gave words meant (said status cause text e) number =
+    let routed : IsRouted told words = said_cause (CauseOf told failed words) (HasRun told failed emptied gave words) 0 meant status text e number cause in routed.3
+some_routed told failed emptied gave words meant (ran played run e) number = was_planned run
 
 -- ---- an end, by the case of what was meant
 
@@ -175,7 +291,7 @@ module _ (Cause : Status → Type 0) (Run : Played → Type 0) (before after : O
 
   -- at the sink's status its count of faults rose, if nothing is meant with that status
   sink_answered : (Cause SinkFailed → ⊥) → (meant : Meant) → Case Cause Run meant → HasWritten before after sink_failed meant status → status ≡ 4 → sink_failed
-  sink_answered unmeant meant case (inl whole) four = absurd (unmeant (cause_at Cause Run 4 (inl (omega arith, omega arith)) meant case (sym whole.0 ∙ four)))
+  sink_answered unmeant meant case (inl whole) four = absurd (unmeant (cause_at Cause Run 4 refl meant case (sym whole.0 ∙ four)))
   sink_answered unmeant meant case (inr (inl sink)) four = sink.1
   sink_answered unmeant meant case (inr (inr memory)) four = absurd (omega (arith, memory.0, four))
 
@@ -217,13 +333,12 @@ module _ (Cause : Status → Type 0) (Run : Played → Type 0) (before after : O
       none_given play (given (λ played. ⊥) ended (λ meant played run e written. run_differs meant played n e (meant_number meant n written is no_sink no_memory) no_end))
 
   pub none_at : Ends → IsRunless status → IsNone play
-  none_at ended (inl is) = refusal_runless 2 ended is (inl (omega arith, omega arith)) (λ e. absurd (omega (arith, e))) (λ e. absurd (omega (arith, e)))
-  none_at ended (inr (inl is)) = refusal_runless 3 ended is (inl (omega arith, omega arith)) (λ e. absurd (omega (arith, e))) (λ e. absurd (omega (arith, e)))
-  none_at ended (inr (inr (inl is))) = refusal_runless 5 ended is (inl (omega arith, omega arith)) (λ e. absurd (omega (arith, e))) (λ e. absurd (omega (arith, e)))
-  none_at ended (inr (inr (inr (inl is)))) = refusal_runless 6 ended is (inl (omega arith, omega arith)) (λ e. absurd (omega (arith, e))) (λ e. absurd (omega (arith, e)))
-  none_at ended (inr (inr (inr (inr (inl is))))) = refusal_runless 7 ended is (inl (omega arith, omega arith)) (λ e. absurd (omega (arith, e))) (λ e. absurd (omega (arith, e)))
-  none_at ended (inr (inr (inr (inr (inr (inl is)))))) = refusal_runless 8 ended is (inl (omega arith, omega arith)) (λ e. absurd (omega (arith, e))) (λ e. absurd (omega (arith, e)))
-  none_at ended (inr (inr (inr (inr (inr (inr is)))))) = refusal_runless 13 ended is (inr (omega arith)) (λ e. absurd (omega (arith, e))) (λ e. absurd (omega (arith, e)))
+  none_at ended (inl is) = refusal_runless 2 ended is refl (λ e. absurd (omega (arith, e))) (λ e. absurd (omega (arith, e)))
+  none_at ended (inr (inl is)) = refusal_runless 5 ended is refl (λ e. absurd (omega (arith, e))) (λ e. absurd (omega (arith, e)))
+  none_at ended (inr (inr (inl is))) = refusal_runless 6 ended is refl (λ e. absurd (omega (arith, e))) (λ e. absurd (omega (arith, e)))
+  none_at ended (inr (inr (inr (inl is)))) = refusal_runless 7 ended is refl (λ e. absurd (omega (arith, e))) (λ e. absurd (omega (arith, e)))
+  none_at ended (inr (inr (inr (inr (inl is))))) = refusal_runless 8 ended is refl (λ e. absurd (omega (arith, e))) (λ e. absurd (omega (arith, e)))
+  none_at ended (inr (inr (inr (inr (inr is))))) = refusal_runless 13 ended is refl (λ e. absurd (omega (arith, e))) (λ e. absurd (omega (arith, e)))
 
   -- no run is given where none can be meant
   none_meant : ((played : Played) → Run played → ⊥) → Ends → IsNone play
@@ -243,75 +358,133 @@ module _ (Cause : Status → Type 0) (Run : Played → Type 0) (before after : O
       run_case n none answered.meant answered.is answered.given (meant_number answered.meant n answered.written is no_sink no_memory)
   run_at n none (inr memory) is no_sink no_memory = absurd (no_memory (sym is ∙ memory.0))
 
-  pub some_at : (Cause Done → ⊥) → (Cause Unanswered → ⊥) → (Cause Late → ⊥) → (Cause ScheduleEnded → ⊥) → Ends → IsOfPlay status → IsSome play
-  some_at done unanswered late left ended (inl (inl is)) = run_at 0 done ended is (λ e. absurd (omega (arith, e))) (λ e. absurd (omega (arith, e)))
-  some_at done unanswered late left ended (inl (inr (inl is))) = run_at 9 unanswered ended is (λ e. absurd (omega (arith, e))) (λ e. absurd (omega (arith, e)))
-  some_at done unanswered late left ended (inl (inr (inr is))) = run_at 11 left ended is (λ e. absurd (omega (arith, e))) (λ e. absurd (omega (arith, e)))
-  some_at done unanswered late left ended (inr is) = run_at 10 late ended is (λ e. absurd (omega (arith, e))) (λ e. absurd (omega (arith, e)))
+  pub some_at : (Cause Done → ⊥) → (Cause Unanswered → ⊥) → (Cause Late → ⊥) → (Cause ScheduleEnded → ⊥) → (Cause WavShrank → ⊥) → Ends → IsOfSound status → IsSome play
+  some_at done unanswered late left shrank ended (inl (inl (inl is))) = run_at 0 done ended is (λ e. absurd (omega (arith, e))) (λ e. absurd (omega (arith, e)))
+  some_at done unanswered late left shrank ended (inl (inl (inr (inl is)))) = run_at 9 unanswered ended is (λ e. absurd (omega (arith, e))) (λ e. absurd (omega (arith, e)))
+  some_at done unanswered late left shrank ended (inl (inl (inr (inr is)))) = run_at 11 left ended is (λ e. absurd (omega (arith, e))) (λ e. absurd (omega (arith, e)))
+  some_at done unanswered late left shrank ended (inl (inr is)) = run_at 10 late ended is (λ e. absurd (omega (arith, e))) (λ e. absurd (omega (arith, e)))
+  some_at done unanswered late left shrank ended (inr is) = run_at 14 shrank ended is (λ e. absurd (omega (arith, e))) (λ e. absurd (omega (arith, e)))
+
+  -- what holds of each run with such a number holds of the run that is given with that status
+  pub of_run_at : (n : ℕ) (P : Played → Type 0) → ((played : Played) → Run played → number_of (status_of played) ≡ n → P played) → Ends → status ≡ n → (n ≢ 4) → (n ≢ 12) → IfSome play P
+  of_run_at n P holds ended is no_sink no_memory =
+      given P ended (λ meant played run e written. holds played run (sym (number_run meant played e) ∙ meant_number meant n written is no_sink no_memory))
+
+  some_of : (P : Played → Type 0) (o : Option Played) → IsSome o → IfSome o P → IsSomeAnd o P
+  some_of P None some holds = cc
+  some_of P (Some played) some holds = holds
+
+  -- the run of a file that got shorter
+  pub shrunk_at : (P : Played → Type 0) → ((played : Played) → Run played → number_of (status_of played) ≡ 14 → P played) → (Cause WavShrank → ⊥) → Ends → status ≡ 14 → IsSomeAnd play P
+  shrunk_at P holds shrank ended is = some_of P play (run_at 14 shrank ended is (λ e. absurd (omega (arith, e))) (λ e. absurd (omega (arith, e)))) (of_run_at 14 P holds ended is (λ e. absurd (omega (arith, e))) (λ e. absurd (omega (arith, e))))
+
+  no_some : (o : Option Played) → IsSome o → IfSome o (λ played. ⊥) → ⊥
+  no_some None some holds = cc
+  no_some (Some played) some holds = holds
+
+  pub never_shrunk : ((played : Played) → Run played → number_of (status_of played) ≡ 14 → ⊥) → (Cause WavShrank → ⊥) → Ends → status ≡ 14 → ⊥
+  never_shrunk never shrank ended is = no_some play (run_at 14 shrank ended is (λ e. absurd (omega (arith, e))) (λ e. absurd (omega (arith, e)))) (of_run_at 14 (λ played. ⊥) never ended is (λ e. absurd (omega (arith, e))) (λ e. absurd (omega (arith, e))))
 
 -- ---- an end of the program
 
-module _ (told : Option Files) (failed : List ℕ → Type 0) (words : List (List ℕ)) (before after : Option (List ℕ)) (sink_failed : Type 0) (play : Option Played) (status : ℕ) where
+module _ (told : Option Files) (failed emptied : List ℕ → Type 0) (gave : ℕ → Type 0) (words : List (List ℕ)) (before after : Option (List ℕ)) (sink_failed : Type 0) (play : Option Played) (status : ℕ) where
   abbrev CauseHere : Status → Type 0
   CauseHere of = CauseOf told failed words of
 
   abbrev RunHere : Played → Type 0
-  RunHere played = HasRun told words played
+  RunHere played = HasRun told failed emptied gave words played
 
-  by_words : HasEnded told failed words before after sink_failed play status → HasEndedWith (Case CauseHere RunHere) before after sink_failed play status
-  by_words ended = by_cases (IsMeant told failed words) (Case CauseHere RunHere) before after sink_failed play status (cases told failed words) ended
+  by_words : HasEnded told failed emptied gave words before after sink_failed play status → HasEndedWith (Case CauseHere RunHere) before after sink_failed play status
+  by_words ended = by_cases (IsMeant told failed emptied gave words) (Case CauseHere RunHere) before after sink_failed play status (cases told failed emptied gave words) ended
 
-  cause_of : (n : ℕ) → IsNoEnd n → (n ≡ 4 → ⊥) → (n ≡ 12 → ⊥) → HasEnded told failed words before after sink_failed play status → status ≡ n → CauseHere (status_with n)
+  cause_of : (n : ℕ) → IsNoEnd n → (n ≡ 4 → ⊥) → (n ≡ 12 → ⊥) → HasEnded told failed emptied gave words before after sink_failed play status → status ≡ n → CauseHere (status_with n)
   cause_of n no_end no_sink no_memory ended is =
       caused CauseHere RunHere before after sink_failed play status n (cause_at CauseHere RunHere n no_end) no_sink no_memory (by_words ended) is
 
-  pub refused_words : HasEnded told failed words before after sink_failed play status → status ≡ 2 → IsNoCommand words
-  refused_words = cause_of 2 (inl (omega arith, omega arith)) (λ e. absurd (omega (arith, e))) (λ e. absurd (omega (arith, e)))
+  pub refused_words : HasEnded told failed emptied gave words before after sink_failed play status → status ≡ 2 → IsNoCommand words
+  refused_words = cause_of 2 refl (λ e. absurd (omega (arith, e))) (λ e. absurd (omega (arith, e)))
 
-  pub shelf_failed : HasEnded told failed words before after sink_failed play status → status ≡ 3 → HasUnreadFile failed words
-  shelf_failed = cause_of 3 (inl (omega arith, omega arith)) (λ e. absurd (omega (arith, e))) (λ e. absurd (omega (arith, e)))
+  unread_name : (meant : Meant) → WordsCase told failed emptied gave words meant → number_of meant.status ≡ 3 → HasUnreadFile failed words
+  unread_name meant (said of cause text e) number = said_cause CauseHere RunHere 3 meant of text e number cause
+  unread_name meant (ran played run e) number =
+      let of = run_unread failed emptied gave played run (sym (number_run meant played e) ∙ number) in
+      (of.wav_name, named words of.codec_name of.wav_name of.schedule_name of.periods of.period of.asks, of.cut.cause)
 
-  pub refused_codec : HasEnded told failed words before after sink_failed play status → status ≡ 5 → HasBadCodecFile told words
-  refused_codec = cause_of 5 (inl (omega arith, omega arith)) (λ e. absurd (omega (arith, e))) (λ e. absurd (omega (arith, e)))
+  pub shelf_failed : HasEnded told failed emptied gave words before after sink_failed play status → status ≡ 3 → HasUnreadFile failed words
+  shelf_failed ended is =
+      caused CauseHere RunHere before after sink_failed play status 3 unread_name (λ e. absurd (omega (arith, e))) (λ e. absurd (omega (arith, e))) (by_words ended) is
 
-  pub refused_wav : HasEnded told failed words before after sink_failed play status → status ≡ 6 → HasBadWav told words
-  refused_wav = cause_of 6 (inl (omega arith, omega arith)) (λ e. absurd (omega (arith, e))) (λ e. absurd (omega (arith, e)))
+  -- the run that is given where the reading of its sound was cut
+  pub unread_run : HasEnded told failed emptied gave words before after sink_failed play status → status ≡ 3
+      → IfSome play (λ played. OfItsWav (λ wav. WasUnread failed wav played) words)
+  unread_run ended is =
+      of_run_at CauseHere RunHere before after sink_failed play status 3 (λ played. OfItsWav (λ wav. WasUnread failed wav played) words)
+      (λ played run number. run_unread failed emptied gave played run number) (by_words ended) is (λ e. absurd (omega (arith, e))) (λ e. absurd (omega (arith, e)))
 
-  pub refused_schedule : HasEnded told failed words before after sink_failed play status → status ≡ 7 → HasBadSchedule told words
-  refused_schedule = cause_of 7 (inl (omega arith, omega arith)) (λ e. absurd (omega (arith, e))) (λ e. absurd (omega (arith, e)))
+  pub shrunk_run : HasEnded told failed emptied gave words before after sink_failed play status → status ≡ 14
+      → IsSomeAnd play (λ played. OfItsWav (λ wav. WasShortened emptied wav played) words)
+  shrunk_run ended is =
+      shrunk_at CauseHere RunHere before after sink_failed play status (λ played. OfItsWav (λ wav. WasShortened emptied wav played) words)
+      (λ played run number. run_short failed emptied gave played run number) (λ none. none) (by_words ended) is
 
-  pub refused_geometry : HasEnded told failed words before after sink_failed play status → status ≡ 13 → HasBadRing told words
-  refused_geometry = cause_of 13 (inr (omega arith)) (λ e. absurd (omega (arith, e))) (λ e. absurd (omega (arith, e)))
+  pub refused_codec : HasEnded told failed emptied gave words before after sink_failed play status → status ≡ 5 → HasBadCodecFile told words
+  refused_codec = cause_of 5 refl (λ e. absurd (omega (arith, e))) (λ e. absurd (omega (arith, e)))
 
-  pub was_routed : HasEnded told failed words before after sink_failed play status → status ≡ 0 → HasPlanned told words true
+  pub refused_wav : HasEnded told failed emptied gave words before after sink_failed play status → status ≡ 6 → HasBadWav told words
+  refused_wav = cause_of 6 refl (λ e. absurd (omega (arith, e))) (λ e. absurd (omega (arith, e)))
+
+  pub refused_schedule : HasEnded told failed emptied gave words before after sink_failed play status → status ≡ 7 → HasBadSchedule told words
+  refused_schedule = cause_of 7 refl (λ e. absurd (omega (arith, e))) (λ e. absurd (omega (arith, e)))
+
+  pub refused_geometry : HasEnded told failed emptied gave words before after sink_failed play status → status ≡ 13 → HasBadRing told words
+  refused_geometry = cause_of 13 refl (λ e. absurd (omega (arith, e))) (λ e. absurd (omega (arith, e)))
+
+  pub was_routed : HasEnded told failed emptied gave words before after sink_failed play status → status ≡ 0 → HasPlanned told words true
   was_routed ended is =
-      caused CauseHere RunHere before after sink_failed play status 0 (some_routed told failed words) (λ e. absurd (omega (arith, e))) (λ e. absurd (omega (arith, e))) (by_words ended) is
+      caused CauseHere RunHere before after sink_failed play status 0 (some_routed told failed emptied gave words) (λ e. absurd (omega (arith, e))) (λ e. absurd (omega (arith, e))) (by_words ended) is
 
-  pub was_unrouted : HasEnded told failed words before after sink_failed play status → status ≡ 8 → HasPlanned told words false
-  was_unrouted = cause_of 8 (inl (omega arith, omega arith)) (λ e. absurd (omega (arith, e))) (λ e. absurd (omega (arith, e)))
+  pub was_unrouted : HasEnded told failed emptied gave words before after sink_failed play status → status ≡ 8 → HasPlanned told words false
+  was_unrouted = cause_of 8 refl (λ e. absurd (omega (arith, e))) (λ e. absurd (omega (arith, e)))
 
-  pub sink_faulted : HasEnded told failed words before after sink_failed play status → status ≡ 4 → sink_failed
+  pub sink_faulted : HasEnded told failed emptied gave words before after sink_failed play status → status ≡ 4 → sink_failed
   sink_faulted ended four = sink_at_fault CauseHere RunHere before after sink_failed play status (λ none. none) (by_words ended) four
 
-  pub run_promised : HasEnded told failed words before after sink_failed play status → IfSome play (KeepsPromise (HasRun told words) before after sink_failed status)
+  pub run_promised : HasEnded told failed emptied gave words before after sink_failed play status → IfSome play (KeepsPromise (HasRun told failed emptied gave words) before after sink_failed status)
   run_promised ended = promise_kept CauseHere RunHere before after sink_failed play status (by_words ended)
 
-  pub runless : HasEnded told failed words before after sink_failed play status → IsRunless status → IsNone play
+  pub runless : HasEnded told failed emptied gave words before after sink_failed play status → IsRunless status → IsNone play
   runless ended is = none_at CauseHere RunHere before after sink_failed play status (by_words ended) is
 
   -- `route` makes no run
-  pub route_runless : HasEnded told failed words before after sink_failed play status → (name : List ℕ) (format : Format) → IsRouteOf words name format → IsNone play
+  pub route_runless : HasEnded told failed emptied gave words before after sink_failed play status → (name : List ℕ) (format : Format) → IsRouteOf words name format → IsNone play
   route_runless ended name format routes =
-      none_meant CauseHere RunHere before after sink_failed play status (λ played run. no_run_of_route told words name format played routes run) (by_words ended)
+      none_meant CauseHere RunHere before after sink_failed play status (λ played run. no_run_of_route told failed emptied gave words name format played routes run) (by_words ended)
 
   -- `walk` and `play` give their run at the statuses of a run, since nothing else is meant with them by their words
-  runs : HasEnded told failed words before after sink_failed play status → (IsRouted told words → ⊥) → IsOfPlay status → IsSome play
-  runs ended unrouted is = some_at CauseHere RunHere before after sink_failed play status unrouted (λ none. none) (λ none. none) (λ none. none) (by_words ended) is
+  runs : HasEnded told failed emptied gave words before after sink_failed play status → (IsRouted told words → ⊥) → IsOfSound status → IsSome play
+  runs ended unrouted is = some_at CauseHere RunHere before after sink_failed play status unrouted (λ none. none) (λ none. none) (λ none. none) (λ none. none) (by_words ended) is
 
-  pub walk_runs : HasEnded told failed words before after sink_failed play status → (codec name : List ℕ) → IsWalkOf words codec name → IsOfWalk status → IsSome play
-  walk_runs ended codec name walks is = runs ended (λ routed. not_route_and_walk words routed.0 routed.1 codec name routed.2 walks) (inl is)
+  pub walk_runs : HasEnded told failed emptied gave words before after sink_failed play status → (codec name : List ℕ) → IsWalkOf words codec name → IsOfWalk status → IsSome play
+  walk_runs ended codec name walks is = runs ended (λ routed. not_route_and_walk words routed.0 routed.1 codec name routed.2 walks) (inl (inl is))
 
-  pub play_runs : HasEnded told failed words before after sink_failed play status → (codec wav name : List ℕ) (periods period : ℕ) → IsPlayOf words codec wav name periods period
-      → IsOfPlay status → IsSome play
+  pub play_runs : HasEnded told failed emptied gave words before after sink_failed play status → (codec wav name : List ℕ) (periods period : ℕ) → IsPlayOf words codec wav name periods period
+      → IsOfSound status → IsSome play
   play_runs ended codec wav name periods period plays is =
       runs ended (λ routed. not_route_and_play words routed.0 routed.1 codec wav name periods period routed.2 plays) is
+
+-- where the files are told no WAV file gets shorter
+module _ (failed emptied : List ℕ → Type 0) (gave : ℕ → Type 0) (words : List (List ℕ)) (before after : Option (List ℕ)) (sink_failed : Type 0) (play : Option Played) (status : ℕ) where
+  never_told : (files : Files) → HasEnded (Some files) failed emptied gave words before after sink_failed play status → status ≡ 14 → ⊥
+  never_told files ended is =
+      never_shrunk (CauseHere (Some files) failed emptied gave words before after sink_failed play status) (RunHere (Some files) failed emptied gave words before after sink_failed play status) before after sink_failed play status
+      (λ played run number. run_told failed emptied gave files played run number) (λ none. none)
+      (by_words (Some files) failed emptied gave words before after sink_failed play status ended) is
+
+  pub never_shrinks : (told : Option Files) → HasEnded told failed emptied gave words before after sink_failed play status → IfSome told (λ files. status ≢ 14)
+  never_shrinks None ended = tt
+  never_shrinks (Some files) ended = never_told files ended
+
+-- a status that is another number
+pub not_shrunk : (told : Option Files) (other : ℕ) → (other ≡ 14 → ⊥) → IfSome told (λ files. other ≢ 14)
+not_shrunk None other apart = tt
+not_shrunk (Some files) other apart = apart

@@ -15,12 +15,11 @@ use Rattle.hda_files.proofs.Callers.{one_reading}
 use Rattle.hda_schedule.specs.declared.schedule.Schedule.{Schedule}
 use Rattle.hda_schedule.specs.declared.fault.SchedFault.{SchedFault}
 use Rattle.hda_schedule.specs.Schedules.{schedule_of}
-use Rattle.wav_reader.specs.declared.fault.WavFault.{WavFault}
-use Rattle.wav_reader.specs.declared.fault.WavFault.TheVariants as wav
-use Rattle.wav_reader.specs.declared.wav.Wav.{Wav}
-use Rattle.wav_reader.specs.Wavs as wavs
+use Rattle.wav_reader.specs.declared.opened.WavHead.{WavHead}
+use Rattle.wav_reader.specs.Heads.{Head, head_of}
+use Rattle.wav_reader.specs.Opening.{head_in_file, most_wav_bytes}
 use Rattle.machine_tasks.specs.Tasks.{HavePlans}
-use Rattle.hda_program.specs.Files.{IsCodecRefused, IsLonger, IsMachineOf, IsScheduleOf, IsScheduleRefused, IsShortFile, IsWavOf, IsWavRefused, most_codec_bytes, most_schedule_bytes, most_wav_bytes}
+use Rattle.hda_program.specs.Files.{IsCodecRefused, IsHeadIn, IsLonger, IsMachineOf, IsScheduleOf, IsScheduleRefused, IsShortFile, IsWavRefused, most_codec_bytes, most_schedule_bytes}
 
 -- ---- bytes
 
@@ -63,18 +62,10 @@ codec_unrefused files name text machine h (inr refused) =
 
 -- ---- WAV files
 
-wav_reading : (bytes : List ℕ) (sound : Wav) → wavs.Reads bytes (Ok sound) → Ok (wavs.meaning sound) ≡ wavs.wav_of bytes
-wav_reading bytes sound (inl memory) = let bad : Ok sound ≡ Err wav.OutOfMemory = memory in cc
-wav_reading bytes sound (inr reading) = reading
-
-wav_fault_reading : (bytes : List ℕ) (f : WavFault) → f ≢ wav.OutOfMemory → wavs.Reads bytes (Err f) → Err f ≡ wavs.wav_of bytes
-wav_fault_reading bytes f known (inl memory) = let same : f ≡ wav.OutOfMemory = cc in absurd (known same)
-wav_fault_reading bytes f known (inr reading) = reading
-
-layout_of_bytes : (bytes : List ℕ) (one other : Wav) → wavs.Reads bytes (Ok one) → wavs.Reads bytes (Ok other) → layout other.format ≡ layout one.format
+layout_of_bytes : (bytes : List ℕ) (one other : WavHead) → head_of bytes ≡ Ok (head_in_file one) → head_of bytes ≡ Ok (head_in_file other) → layout other.format ≡ layout one.format
 layout_of_bytes bytes one other h k =
-    let both : Ok (wavs.meaning other) ≡ Ok (wavs.meaning one) = wav_reading bytes other k ∙ sym (wav_reading bytes one h) in
-    let same : wavs.meaning other ≡ wavs.meaning one = cc in ap (λ (m : wavs.Meaning). m.format) same
+    let both : Ok (head_in_file other) ≡ Ok (head_in_file one) = sym k ∙ h in
+    let same : head_in_file other ≡ head_in_file one = cc in ap (λ (head : Head). head.format) same
 
 -- formats that say the same are one
 made : (l : Layout) → l.channels % 2 ≡ 0 → 2 ≤ l.channels → l.channels ≤ 8 → Format
@@ -97,20 +88,16 @@ pub one_format : (one other : Format) → layout other ≡ layout one → other 
 unfolding made
 one_format one other same = format_as other (layout one) same one.even one.some one.few
 
-pub one_wav_format : (files : Files) (name : List ℕ) (one other : Wav) → IsWavOf (Some files) name one → IsWavOf (Some files) name other → other.format ≡ one.format
+pub one_wav_format : (files : Files) (name : List ℕ) (one other : WavHead) → IsHeadIn files name one → IsHeadIn files name other → other.format ≡ one.format
 one_wav_format files name one other h k =
-    let same : k.bytes ≡ h.bytes = one_file files name k.bytes h.bytes k.file.file h.file.file in
-    one_format one.format other.format (layout_of_bytes h.bytes one other h.reads (subst (λ (b : List ℕ). wavs.Reads b (Ok other)) same k.reads))
+    let same : k.bytes ≡ h.bytes = one_file files name k.bytes h.bytes k.file h.file in
+    one_format one.format other.format (layout_of_bytes h.bytes one other h.says (ap head_of (sym same) ∙ k.says))
 
-wav_unfaulty : (bytes : List ℕ) (sound : Wav) (f : WavFault) → wavs.Reads bytes (Ok sound) → f ≢ wav.OutOfMemory → wavs.Reads bytes (Err f) → ⊥
-wav_unfaulty bytes sound f h known k =
-    let bad : Ok (wavs.meaning sound) ≡ Err f = wav_reading bytes sound h ∙ sym (wav_fault_reading bytes f known k) in cc
-
-pub wav_unrefused : (files : Files) (name text : List ℕ) (sound : Wav) → IsWavOf (Some files) name sound → IsWavRefused (Some files) name text → ⊥
-wav_unrefused files name text sound h (inl long) = not_longer files name most_wav_bytes h.bytes h.file long.0
-wav_unrefused files name text sound h (inr refused) =
-    let same : h.bytes ≡ refused.0 = one_file files name h.bytes refused.0 h.file.file refused.1.file in
-    wav_unfaulty refused.0 sound refused.2.fault (subst (λ (b : List ℕ). wavs.Reads b (Ok sound)) same h.reads) refused.2.known refused.2.reads
+pub wav_unrefused : (files : Files) (name text : List ℕ) (head : WavHead) → IsHeadIn files name head → IsWavRefused (Some files) name text → ⊥
+wav_unrefused files name text head h (inl long) = not_longer files name most_wav_bytes h.bytes (record { file = h.file; short = h.short }) long.0
+wav_unrefused files name text head h (inr faulty) =
+    let same : h.bytes ≡ faulty.file.bytes = one_file files name h.bytes faulty.file.bytes h.file faulty.file.file in
+    let bad : Ok (head_in_file head) ≡ Err faulty.fault = sym h.says ∙ ap head_of same ∙ faulty.file.says in cc
 
 -- ---- schedules
 

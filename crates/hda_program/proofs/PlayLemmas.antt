@@ -1,32 +1,52 @@
 -- What is said of a shelf that had been asked before holds of both together, for a sound that is to be played.
-use Rattle.std.proofs.Common.{◌≡◌, ℕ, List, inl, inr, Option, subst}
+use Rattle.std.proofs.Common.{◌≡◌, ℕ, ◌+◌, List, length, inl, inr, Option, Some, None, subst}
 use Rattle.hda_outside.specs.Shelf.{Files}
 use Rattle.hda_files.specs.declared.machine.Machine.{Machine}
-use Rattle.wav_reader.specs.declared.wav.Wav.{Wav}
-use Rattle.hda_program.specs.Answers.{MachinePlays, SoundPlays}
-use Rattle.hda_program.specs.Files.{IsWavOf, ScheduleStops, WavStops}
+use Rattle.hda_schedule.specs.declared.schedule.Schedule.{Schedule}
+use Rattle.period_writer.specs.declared.geometry.Geometry.{Geometry}
+use Rattle.route_planner.specs.declared.routes.Plan.{Plan}
+use Rattle.wav_reader.specs.declared.opened.WavHead.{WavHead}
+use Rattle.sound_report.specs.declared.played.CutLine.{CutLine}
+use Rattle.sound_report.specs.declared.played.CutLine.TheVariants as cuts
+use Rattle.scheduled_runs.specs.Plays.{IsCutUnder}
+use Rattle.hda_program.specs.Answers.{MachinePlays, PlansPlay, SchedulePlays, SoundPlays}
+use Rattle.hda_program.specs.Files.{bytes_before}
 use Rattle.hda_program.specs.Meanings.{Meant}
 
-module _ (told later : Option Files) (failed both : List ℕ → Type 0) (meant : Meant) (same : later ≡ told) (rose : (n : List ℕ) → failed n → both n) where
-  schedule_stops : (name : List ℕ) → ScheduleStops later failed name meant → ScheduleStops told both name meant
-  schedule_stops name (inl unread) = inl (rose name unread.0, unread.1)
-  schedule_stops name (inr refused) =
-      let P : Option Files → Type 0 = λ files. ScheduleStops files both name meant in subst P same (inr refused)
+-- a cause of a cut
+cut_both : (name : List ℕ) (head : WavHead) (failed emptied both_failed both_emptied : Type 0) (cut : Option CutLine) → (failed → both_failed) → (emptied → both_emptied)
+    → IsCutUnder name head failed emptied cut → IsCutUnder name head both_failed both_emptied cut
+cut_both name head failed emptied both_failed both_emptied None rose more under = tt
+cut_both name head failed emptied both_failed both_emptied (Some (cuts.Failed text)) rose more under = (under.0, rose under.1)
+cut_both name head failed emptied both_failed both_emptied (Some (cuts.Short place)) rose more under = (under.0, more under.1)
 
-  wav_stops : (name : List ℕ) → WavStops later failed name meant → WavStops told both name meant
-  wav_stops name (inl unread) = inl (rose name unread.0, unread.1)
-  wav_stops name (inr refused) =
-      let P : Option Files → Type 0 = λ files. WavStops files both name meant in subst P same (inr refused)
+module _ (told : Option Files) (failed emptied both_failed both_emptied : List ℕ → Type 0) (meant : Meant) (rose : (n : List ℕ) → failed n → both_failed n) (more : (n : List ℕ) → emptied n → both_emptied n) where
+  plans_both : (gave given : ℕ → Type 0) → ((n : ℕ) → gave n → given n) → (wav : List ℕ) (machine : Machine) (head : WavHead) (geometry : Geometry) (schedule : Schedule) (plans : List Plan)
+      → PlansPlay told failed emptied gave wav machine head geometry schedule plans meant → PlansPlay told both_failed both_emptied given wav machine head geometry schedule plans meant
+  plans_both gave given give wav machine head geometry schedule plans (inl none) = inl none
+  plans_both gave given give wav machine head geometry schedule plans (inr run) =
+      inr (run.0, run.1, run.2, run.3, cut_both wav head (failed wav) (emptied wav) (both_failed wav) (both_emptied wav) run.0.cut (rose wav) (more wav) run.4, give _ run.5)
 
-  pub SoundPlays-both : (periods period : ℕ) (machine : Machine) (sound : Wav) (name : List ℕ)
-      → SoundPlays later failed periods period machine sound name meant → SoundPlays told both periods period machine sound name meant
-  SoundPlays-both periods period machine sound name (inl stops) = inl (schedule_stops name stops)
-  SoundPlays-both periods period machine sound name (inr plays) =
-      let P : Option Files → Type 0 = λ files. SoundPlays files both periods period machine sound name meant in subst P same (inr plays)
+  schedule_both : (gave given : ℕ → Type 0) → ((n : ℕ) → gave n → given n) → (periods period : ℕ) (wav : List ℕ) (machine : Machine) (head : WavHead) (schedule : Schedule)
+      → SchedulePlays told failed emptied gave periods period wav machine head schedule meant → SchedulePlays told both_failed both_emptied given periods period wav machine head schedule meant
+  schedule_both gave given give periods period wav machine head schedule (inl stops) = inl stops
+  schedule_both gave given give periods period wav machine head schedule (inr (geometry, ring, (plans, planned, plays))) =
+      inr (geometry, ring, (plans, planned, plans_both gave given give wav machine head geometry schedule plans plays))
 
-  pub MachinePlays-both : (periods period : ℕ) (machine : Machine) (wav name : List ℕ)
-      → MachinePlays later failed periods period machine wav name meant → MachinePlays told both periods period machine wav name meant
-  MachinePlays-both periods period machine wav name (inl stops) = inl (wav_stops wav stops)
-  MachinePlays-both periods period machine wav name (inr plays) =
-      let P : Option Files → Type 0 = λ files. IsWavOf files wav plays.0 in
-      inr (plays.0, subst P same plays.1, SoundPlays-both periods period machine plays.0 name plays.2)
+  pub SoundPlays-both : (gave given : ℕ → Type 0) → ((n : ℕ) → gave n → given n) → (periods period : ℕ) (wav : List ℕ) (machine : Machine) (head : WavHead) (name : List ℕ)
+      → SoundPlays told failed emptied gave periods period wav machine head name meant → SoundPlays told both_failed both_emptied given periods period wav machine head name meant
+  SoundPlays-both gave given give periods period wav machine head name (inl (inl unread)) = inl (inl (rose name unread.0, unread.1))
+  SoundPlays-both gave given give periods period wav machine head name (inl (inr refused)) = inl (inr refused)
+  SoundPlays-both gave given give periods period wav machine head name (inr (schedule, file, plays)) =
+      inr (schedule, file, schedule_both (λ n. gave (length file.bytes + n)) (λ n. given (length file.bytes + n)) (λ n g. give (length file.bytes + n) g) periods period wav machine head schedule plays)
+
+  pub SchedulePlays-both : (gave given : ℕ → Type 0) → ((n : ℕ) → gave n → given n) → (periods period : ℕ) (wav : List ℕ) (machine : Machine) (head : WavHead) (schedule : Schedule)
+      → SchedulePlays told failed emptied gave periods period wav machine head schedule meant → SchedulePlays told both_failed both_emptied given periods period wav machine head schedule meant
+  SchedulePlays-both = schedule_both
+
+  pub MachinePlays-both : (gave given : ℕ → Type 0) → ((n : ℕ) → gave n → given n) → (periods period : ℕ) (machine : Machine) (wav name : List ℕ)
+      → MachinePlays told failed emptied gave periods period machine wav name meant → MachinePlays told both_failed both_emptied given periods period machine wav name meant
+  MachinePlays-both gave given give periods period machine wav name (inl (inl unread)) = inl (inl (rose wav unread.0, unread.1))
+  MachinePlays-both gave given give periods period machine wav name (inl (inr refused)) = inl (inr refused)
+  MachinePlays-both gave given give periods period machine wav name (inr (head, file, plays)) =
+      inr (head, file, SoundPlays-both (λ n. gave (bytes_before head + n)) (λ n. given (bytes_before head + n)) (λ n g. give (bytes_before head + n) g) periods period wav machine head name plays)

@@ -1,5 +1,5 @@
 -- A shelf that is asked twice, and requests as what the words mean.
-use Rattle.std.proofs.Common.{◌≡◌, ◌≢◌, ℕ, ◌≤◌, List, [], ◌∷◌, inl, inr, Option, Some, subst, sym, arith}
+use Rattle.std.proofs.Common.{◌≡◌, ◌≢◌, ℕ, ◌+◌, ◌≤◌, List, [], ◌∷◌, inl, inr, Option, Some, subst, sym, arith}
 use Rattle.hda_outside.specs.Shelf.{Files}
 use Rattle.hda_outside.specs.Counts.{Rose}
 use Rattle.hda_files.specs.declared.machine.Machine.{Machine}
@@ -15,6 +15,10 @@ use Rattle.hda_program.specs.Meanings.{Meant}
 pub Rose-longer : (first before now last : ℕ) → first ≤ before → Rose before now → now ≤ last → Rose first last
 Rose-longer first before now last earlier rose later = omega arith
 
+-- what was given in all, by what was given before and then
+pub given_longer : (first before last most : ℕ) → before ≤ first + most → (n : ℕ) → last ≤ before + n → last ≤ first + (most + n)
+given_longer first before last most few n later = omega arith
+
 -- what is said of a shelf that had been asked before holds of both together
 pub MachineWalks-both : (told later : Option Files) (failed both : List ℕ → Type 0) (machine : Machine) (name : List ℕ) (meant : Meant) → later ≡ told
     → ((n : List ℕ) → failed n → both n) → MachineWalks later failed machine name meant → MachineWalks told both machine name meant
@@ -25,11 +29,11 @@ MachineWalks-both told later failed both machine name meant same rose (inr walke
     let P : Option Files → Type 0 = λ files. MachineWalks files both machine name meant in subst P same (inr walked)
 
 -- an answer to a request of the words is meant by them
-pub request_meant : (told : Option Files) (failed : List ℕ → Type 0) (words : List (List ℕ)) (asked : Request) (meant : Meant)
-    → request_of words ≡ Some (asked_by asked) → RequestAnswers told failed asked meant → IsMeant told failed words meant
-request_meant told failed words (request.Route codec format) meant is answers = inr (inl (codec.now, format, is, answers))
-request_meant told failed words (request.Walk codec schedule) meant is answers = inr (inr (inl (codec.now, schedule.now, is, answers)))
-request_meant told failed words (request.Play codec wav schedule periods period) meant is answers =
+pub request_meant : (told : Option Files) (failed emptied : List ℕ → Type 0) (gave : ℕ → Type 0) (words : List (List ℕ)) (asked : Request) (meant : Meant)
+    → request_of words ≡ Some (asked_by asked) → RequestAnswers told failed emptied gave asked meant → IsMeant told failed emptied gave words meant
+request_meant told failed emptied gave words (request.Route codec format) meant is answers = inr (inl (codec.now, format, is, answers))
+request_meant told failed emptied gave words (request.Walk codec schedule) meant is answers = inr (inr (inl (codec.now, schedule.now, is, answers)))
+request_meant told failed emptied gave words (request.Play codec wav schedule periods period) meant is answers =
     inr (inr (inr (codec.now, wav.now, schedule.now, periods, period, is, answers)))
 
 -- a name that the words do not name is none of the request's files

@@ -1,5 +1,5 @@
 -- What the program answers, and how it ends. This project's own.
-use Rattle.std.specs.Prelude.{◌≡◌, ◌⊎◌, ℕ, true, false, if◌then◌else◌, List, Option, None}
+use Rattle.std.specs.Prelude.{◌≡◌, ◌⊎◌, ◌+◌, ℕ, true, false, if◌then◌else◌, List, length, Option, None}
 use Rattle.stream_format.specs.declared.format.Format.{Format}
 use Rattle.route_planner.specs.declared.routes.Plan.{Plan}
 use Rattle.hda_words.specs.declared.request.Request.{Request}
@@ -10,15 +10,15 @@ use Rattle.hda_outside.specs.Shelf.{Files}
 use Rattle.hda_outside.specs.Sink.{taken_with, TookFront}
 use Rattle.hda_schedule.specs.declared.schedule.Schedule.{Schedule}
 use Rattle.period_writer.specs.declared.geometry.Geometry.{Geometry}
-use Rattle.wav_reader.specs.declared.wav.Wav.{Wav}
+use Rattle.wav_reader.specs.declared.opened.WavHead.{WavHead}
 use Rattle.sound_report.specs.declared.played.Played.{Played}
 use Rattle.sound_report.specs.declared.status.Status.TheVariants.{Done, WordsRefused, SinkFailed, OutOfMemory}
 use Rattle.sound_report.specs.PlanLines.{plans_lines}
 use Rattle.sound_report.specs.Statuses.{number_of}
 use Rattle.hda_program.specs.Asks.{IsNoCommand, IsRouteOf, IsWalkOf, IsPlayOf}
 use Rattle.scheduled_runs.specs.Walks.{walk_format, IsWalked}
-use Rattle.scheduled_runs.specs.Plays.{IsPlayed}
-use Rattle.hda_program.specs.Files.{IsMachineOf, IsWavOf, IsScheduleOf, CodecStops, WavStops, ScheduleStops}
+use Rattle.scheduled_runs.specs.Plays.{IsCutUnder, IsPlayedFrom, most_read}
+use Rattle.hda_program.specs.Files.{IsMachineOf, IsHeadOf, IsScheduleOf, CodecStops, WavStops, ScheduleStops, bytes_before}
 use Rattle.hda_program.specs.Rings.{IsRingOf, RingStops}
 use Rattle.hda_program.specs.Meanings.{Meant, telling, unrouted, of_run}
 use Rattle.machine_tasks.specs.Tasks.{HavePlans}
@@ -62,58 +62,72 @@ WalkAnswers told failed codec name meant =
 
 -- ---- `play`
 
--- what it answers for plans: nothing is run where no pin has a route, and else the sound is played through the ring by the schedule
-abbrev pub PlansPlay : Machine → Wav → Geometry → Schedule → List Plan → Meant → Type 0
-PlansPlay machine sound geometry schedule plans meant =
+-- what it answers for plans: nothing is run where no pin has a route, and else the sound of the WAV file of this name is played
+-- through the ring by the schedule, and read meanwhile
+abbrev pub PlansPlay : Option Files → (failed emptied : List ℕ → Type 0) → (gave : ℕ → Type 0) → (wav : List ℕ)
+    → Machine → WavHead → Geometry → Schedule → List Plan → Meant → Type 0
+PlansPlay told failed emptied gave wav machine head geometry schedule plans meant =
     ((have_route plans ≡ false) × (meant ≡ unrouted machine.codecs plans))
-    ⊎ ((played : Played) × (have_route plans ≡ true) × IsPlayed machine plans sound geometry schedule played × (meant ≡ of_run played))
+    ⊎ ((played : Played) × (have_route plans ≡ true) × IsPlayedFrom told wav head machine plans geometry schedule played
+    × (meant ≡ of_run played) × IsCutUnder wav head (failed wav) (emptied wav) played.cut × gave (most_read geometry played))
 
 -- the plans are for the sound's format
-abbrev pub RingPlays : Machine → Wav → Geometry → Schedule → Meant → Type 0
-RingPlays machine sound geometry schedule meant =
-    (plans : List Plan) × HavePlans sound.format machine.codecs plans × PlansPlay machine sound geometry schedule plans meant
+abbrev pub RingPlays : Option Files → (failed emptied : List ℕ → Type 0) → (gave : ℕ → Type 0) → (wav : List ℕ)
+    → Machine → WavHead → Geometry → Schedule → Meant → Type 0
+RingPlays told failed emptied gave wav machine head geometry schedule meant =
+    (plans : List Plan) × HavePlans head.format machine.codecs plans
+    × PlansPlay told failed emptied gave wav machine head geometry schedule plans meant
 
 -- it ends at the ring, or goes on with that of the words
-abbrev pub SchedulePlays : (periods period : ℕ) → Machine → Wav → Schedule → Meant → Type 0
-SchedulePlays periods period machine sound schedule meant =
-    RingStops periods period machine sound meant
-    ⊎ ((geometry : Geometry) × IsRingOf periods period machine sound geometry × RingPlays machine sound geometry schedule meant)
+abbrev pub SchedulePlays : Option Files → (failed emptied : List ℕ → Type 0) → (gave : ℕ → Type 0)
+    → (periods period : ℕ) → (wav : List ℕ) → Machine → WavHead → Schedule → Meant → Type 0
+SchedulePlays told failed emptied gave periods period wav machine head schedule meant =
+    RingStops periods period machine head meant
+    ⊎ ((geometry : Geometry) × IsRingOf periods period machine head geometry
+    × RingPlays told failed emptied gave wav machine head geometry schedule meant)
 
 -- it ends at the schedule, or goes on with what this reads as
-abbrev pub SoundPlays : Option Files → (List ℕ → Type 0) → (periods period : ℕ) → Machine → Wav → List ℕ → Meant → Type 0
-SoundPlays told failed periods period machine sound name meant =
+abbrev pub SoundPlays : Option Files → (failed emptied : List ℕ → Type 0) → (gave : ℕ → Type 0)
+    → (periods period : ℕ) → (wav : List ℕ) → Machine → WavHead → (schedule : List ℕ) → Meant → Type 0
+SoundPlays told failed emptied gave periods period wav machine head name meant =
     ScheduleStops told failed name meant
-    ⊎ ((schedule : Schedule) × IsScheduleOf told name schedule × SchedulePlays periods period machine sound schedule meant)
+    ⊎ ((schedule : Schedule) × (file : IsScheduleOf told name schedule)
+    × SchedulePlays told failed emptied (λ bytes. gave (length file.bytes + bytes)) periods period wav machine head schedule meant)
 
--- it ends at the WAV file, or goes on with the sound that this reads as
-abbrev pub MachinePlays : Option Files → (List ℕ → Type 0) → (periods period : ℕ) → Machine → (wav schedule : List ℕ) → Meant → Type 0
-MachinePlays told failed periods period machine wav name meant =
+-- it ends at the WAV file, or goes on with what this says before its sound
+abbrev pub MachinePlays : Option Files → (failed emptied : List ℕ → Type 0) → (gave : ℕ → Type 0)
+    → (periods period : ℕ) → Machine → (wav schedule : List ℕ) → Meant → Type 0
+MachinePlays told failed emptied gave periods period machine wav name meant =
     WavStops told failed wav meant
-    ⊎ ((sound : Wav) × IsWavOf told wav sound × SoundPlays told failed periods period machine sound name meant)
+    ⊎ ((head : WavHead) × IsHeadOf told wav head
+    × SoundPlays told failed emptied (λ bytes. gave (bytes_before head + bytes)) periods period wav machine head name meant)
 
 -- it ends at the codec file, or goes on with the machine that this reads as
-abbrev pub PlayAnswers : Option Files → (List ℕ → Type 0) → (codec wav schedule : List ℕ) → (periods period : ℕ) → Meant → Type 0
-PlayAnswers told failed codec wav name periods period meant =
+abbrev pub PlayAnswers : Option Files → (failed emptied : List ℕ → Type 0) → (gave : ℕ → Type 0)
+    → (codec wav schedule : List ℕ) → (periods period : ℕ) → Meant → Type 0
+PlayAnswers told failed emptied gave codec wav name periods period meant =
     CodecStops told failed codec meant
-    ⊎ ((machine : Machine) × IsMachineOf told codec machine × MachinePlays told failed periods period machine wav name meant)
+    ⊎ ((machine : Machine) × (file : IsMachineOf told codec machine)
+    × MachinePlays told failed emptied (λ bytes. gave (length file.bytes + bytes)) periods period machine wav name meant)
 
 -- ---- all commands
 
 -- what is answered to a request of the words
-abbrev pub RequestAnswers : Option Files → (List ℕ → Type 0) → Request → Meant → Type 0
-RequestAnswers told failed (request.Route codec format) meant = RouteAnswers told failed codec.now format meant
-RequestAnswers told failed (request.Walk codec schedule) meant = WalkAnswers told failed codec.now schedule.now meant
-RequestAnswers told failed (request.Play codec wav schedule periods period) meant =
-    PlayAnswers told failed codec.now wav.now schedule.now periods period meant
+abbrev pub RequestAnswers : Option Files → (failed emptied : List ℕ → Type 0) → (gave : ℕ → Type 0) → Request → Meant → Type 0
+RequestAnswers told failed emptied gave (request.Route codec format) meant = RouteAnswers told failed codec.now format meant
+RequestAnswers told failed emptied gave (request.Walk codec schedule) meant = WalkAnswers told failed codec.now schedule.now meant
+RequestAnswers told failed emptied gave (request.Play codec wav schedule periods period) meant =
+    PlayAnswers told failed emptied gave codec.now wav.now schedule.now periods period meant
 
--- what the program answers to its words, where the shelf told these files and failed under some names
-abbrev pub IsMeant : Option Files → (List ℕ → Type 0) → List (List ℕ) → Meant → Type 0
-IsMeant told failed words meant =
+-- what the program answers to its words, where the shelf told these files, failed under some names, answered under some with no
+-- byte, and gave no more than some numbers of bytes
+abbrev pub IsMeant : Option Files → (failed emptied : List ℕ → Type 0) → (gave : ℕ → Type 0) → List (List ℕ) → Meant → Type 0
+IsMeant told failed emptied gave words meant =
     (IsNoCommand words × (meant ≡ telling WordsRefused usage_line))
     ⊎ (((name : List ℕ) × (format : Format) × IsRouteOf words name format × RouteAnswers told failed name format meant)
     ⊎ (((codec : List ℕ) × (name : List ℕ) × IsWalkOf words codec name × WalkAnswers told failed codec name meant)
     ⊎ ((codec : List ℕ) × (wav : List ℕ) × (name : List ℕ) × (periods : ℕ) × (period : ℕ) × IsPlayOf words codec wav name periods period
-    × PlayAnswers told failed codec wav name periods period meant)))
+    × PlayAnswers told failed emptied gave codec wav name periods period meant)))
 
 -- ---- the end
 
@@ -138,12 +152,13 @@ HasEndedWith CanMean before after sink_failed play status =
     ⊎ ((status ≡ number_of OutOfMemory) × (play ≡ None) × (after ≡ before))
 
 -- the program has ended so, with what it answers to its words
-abbrev pub HasEnded : Option Files → (List ℕ → Type 0) → List (List ℕ) → Option (List ℕ) → Option (List ℕ) → Type 0 → Option Played → ℕ → Type 0
-HasEnded told failed words before after sink_failed play status =
-    HasEndedWith (IsMeant told failed words) before after sink_failed play status
+abbrev pub HasEnded : Option Files → (failed emptied : List ℕ → Type 0) → (gave : ℕ → Type 0) → (words : List (List ℕ))
+    → (before after : Option (List ℕ)) → (sink_failed : Type 0) → Option Played → (status : ℕ) → Type 0
+HasEnded told failed emptied gave words before after sink_failed play status =
+    HasEndedWith (IsMeant told failed emptied gave words) before after sink_failed play status
 
 -- it has ended so, with what `play` answers for the files of these names and a ring of these numbers
-abbrev pub HasEndedPlay : Option Files → (List ℕ → Type 0) → (codec wav schedule : List ℕ) → (periods period : ℕ) → Option (List ℕ) → Option (List ℕ) → Type 0 → Option Played → ℕ
-    → Type 0
-HasEndedPlay told failed codec wav name periods period before after sink_failed play status =
-    HasEndedWith (PlayAnswers told failed codec wav name periods period) before after sink_failed play status
+abbrev pub HasEndedPlay : Option Files → (failed emptied : List ℕ → Type 0) → (gave : ℕ → Type 0) → (codec wav schedule : List ℕ)
+    → (periods period : ℕ) → (before after : Option (List ℕ)) → (sink_failed : Type 0) → Option Played → (status : ℕ) → Type 0
+HasEndedPlay told failed emptied gave codec wav name periods period before after sink_failed play status =
+    HasEndedWith (PlayAnswers told failed emptied gave codec wav name periods period) before after sink_failed play status

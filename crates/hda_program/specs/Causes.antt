@@ -1,17 +1,20 @@
 -- The causes of single statuses, and when a run is given. This project's own.
-use Rattle.std.specs.Prelude.{◌≡◌, ◌⊎◌, ℕ, Bool, List, Option}
+use Rattle.std.specs.Prelude.{◌≡◌, ◌⊎◌, ℕ, Bool, List, Option, Some, None, string_bytes}
 use Rattle.stream_format.specs.declared.format.Format.{Format}
 use Rattle.route_planner.specs.declared.routes.Plan.{Plan}
 use Rattle.hda_files.specs.declared.machine.Machine.{Machine}
 use Rattle.hda_outside.specs.Shelf.{Files}
 use Rattle.hda_schedule.specs.declared.schedule.Schedule.{Schedule}
 use Rattle.period_writer.specs.declared.geometry.GeometryFault.{GeometryFault}
-use Rattle.wav_reader.specs.declared.wav.Wav.{Wav}
-use Rattle.sound_report.specs.declared.status.Status.TheVariants.{Done, WordsRefused, ShelfFailed, CodecRefused, WavRefused, ScheduleRefused, NothingRouted, Unanswered, Late, ScheduleEnded, GeometryRefused}
+use Rattle.wav_reader.specs.declared.opened.WavHead.{WavHead}
+use Rattle.sound_report.specs.declared.played.Played.{Played}
+use Rattle.sound_report.specs.declared.played.CutLine.{CutLine}
+use Rattle.sound_report.specs.declared.played.CutLine.TheVariants as cuts
+use Rattle.sound_report.specs.declared.status.Status.TheVariants.{Done, WordsRefused, CodecRefused, WavRefused, ScheduleRefused, NothingRouted, Unanswered, Late, ScheduleEnded, GeometryRefused, WavShrank}
 use Rattle.sound_report.specs.Statuses.{number_of}
 use Rattle.hda_program.specs.Asks.{Names, NamesCodecFile, IsRouteOf, IsWalkOf, IsPlayOf}
 use Rattle.scheduled_runs.specs.Walks.{walk_format}
-use Rattle.hda_program.specs.Files.{IsMachineOf, IsWavOf, IsScheduleOf, IsCodecRefused, IsWavRefused, IsScheduleRefused}
+use Rattle.hda_program.specs.Files.{IsMachineOf, IsHeadOf, IsScheduleOf, IsCodecRefused, IsWavRefused, IsScheduleRefused}
 use Rattle.hda_program.specs.Rings.{IsBadRing}
 use Rattle.machine_tasks.specs.Tasks.{HavePlans}
 use Rattle.codec_agenda.specs.Planned.{have_route}
@@ -24,26 +27,26 @@ HasUnreadFile failed words = (name : List ℕ) × Names words name × failed nam
 abbrev pub HasBadCodecFile : Option Files → List (List ℕ) → Type 0
 HasBadCodecFile told words = (name : List ℕ) × (text : List ℕ) × NamesCodecFile words name × IsCodecRefused told name text
 
--- the words ask for a sound by the schedule of the second name, and their WAV file reads as this one
-pub record WantsSound (told : Option Files) (words : List (List ℕ)) (codec_name schedule_name : List ℕ) (sound : Wav) : Type 0 where
+-- the words ask for a sound by the schedule of the second name, and their WAV file says this before it
+pub record WantsSound (told : Option Files) (words : List (List ℕ)) (codec_name schedule_name : List ℕ) (head : WavHead) : Type 0 where
   pub wav_name : List ℕ
   pub periods : ℕ
   pub period : ℕ
   pub asks : IsPlayOf words codec_name wav_name schedule_name periods period
-  pub wav_file : IsWavOf told wav_name sound
+  pub wav_file : IsHeadOf told wav_name head
 
 -- the words want a run by the schedule of the second name: a walk, or a sound
 abbrev pub WantsRun : Option Files → List (List ℕ) → (codec_name schedule_name : List ℕ) → Type 0
-WantsRun told words codec_name schedule_name = IsWalkOf words codec_name schedule_name ⊎ ((sound : Wav) × WantsSound told words codec_name schedule_name sound)
+WantsRun told words codec_name schedule_name = IsWalkOf words codec_name schedule_name ⊎ ((head : WavHead) × WantsSound told words codec_name schedule_name head)
 
 -- the words want plans of the codec file of this name, for this format: a sound for its own
 abbrev pub WantsPlans : Option Files → List (List ℕ) → (codec_name : List ℕ) → Format → Type 0
 WantsPlans told words codec_name format =
     IsRouteOf words codec_name format
     ⊎ (((schedule_name : List ℕ) × IsWalkOf words codec_name schedule_name × (format ≡ walk_format))
-    ⊎ ((schedule_name : List ℕ) × (sound : Wav) × WantsSound told words codec_name schedule_name sound × (format ≡ sound.format)))
+    ⊎ ((schedule_name : List ℕ) × (head : WavHead) × WantsSound told words codec_name schedule_name head × (format ≡ head.format)))
 
--- the words name a codec file that reads as a machine, and a WAV file that is too long, or whose bytes read as a fault
+-- the words name a codec file that reads as a machine, and a WAV file that is too long, or has a fault before its sound
 pub record HasBadWav (told : Option Files) (words : List (List ℕ)) : Type 0 where
   pub codec_name : List ℕ
   pub wav_name : List ℕ
@@ -56,7 +59,7 @@ pub record HasBadWav (told : Option Files) (words : List (List ℕ)) : Type 0 wh
   pub codec_file : IsMachineOf told codec_name machine
   pub refused : IsWavRefused told wav_name text
 
--- the words name a codec file that reads as a machine, for a sound a WAV file that reads as one, and a schedule that is too long, or
+-- the words name a codec file that reads as a machine, for a sound a WAV file that says it, and a schedule that is too long, or
 -- whose bytes read as a fault
 pub record HasBadSchedule (told : Option Files) (words : List (List ℕ)) : Type 0 where
   pub codec_name : List ℕ
@@ -67,7 +70,7 @@ pub record HasBadSchedule (told : Option Files) (words : List (List ℕ)) : Type
   pub codec_file : IsMachineOf told codec_name machine
   pub refused : IsScheduleRefused told schedule_name text
 
--- the words name three files that read as a machine, a sound and a schedule, and the ring of their numbers has a fault
+-- the words name files that read as a machine and a schedule, and one that says a sound, and the ring of their numbers has a fault
 pub record HasBadRing (told : Option Files) (words : List (List ℕ)) : Type 0 where
   pub codec_name : List ℕ
   pub wav_name : List ℕ
@@ -75,14 +78,14 @@ pub record HasBadRing (told : Option Files) (words : List (List ℕ)) : Type 0 w
   pub periods : ℕ
   pub period : ℕ
   pub machine : Machine
-  pub sound : Wav
+  pub head : WavHead
   pub schedule : Schedule
   pub fault : GeometryFault
   pub asks : IsPlayOf words codec_name wav_name schedule_name periods period
   pub codec_file : IsMachineOf told codec_name machine
-  pub wav_file : IsWavOf told wav_name sound
+  pub wav_file : IsHeadOf told wav_name head
   pub schedule_file : IsScheduleOf told schedule_name schedule
-  pub refused : IsBadRing periods period machine sound fault
+  pub refused : IsBadRing periods period machine head fault
 
 -- the words name a codec file that reads as a machine, of whose plans some has a route, or none
 pub record HasPlanned (told : Option Files) (words : List (List ℕ)) (some : Bool) : Type 0 where
@@ -99,16 +102,52 @@ pub record HasPlanned (told : Option Files) (words : List (List ℕ)) (some : Bo
 abbrev pub IsRunless : ℕ → Type 0
 IsRunless status =
     (status ≡ number_of WordsRefused)
-    ⊎ ((status ≡ number_of ShelfFailed)
     ⊎ ((status ≡ number_of CodecRefused)
     ⊎ ((status ≡ number_of WavRefused)
     ⊎ ((status ≡ number_of ScheduleRefused)
-    ⊎ ((status ≡ number_of NothingRouted) ⊎ (status ≡ number_of GeometryRefused))))))
+    ⊎ ((status ≡ number_of NothingRouted) ⊎ (status ≡ number_of GeometryRefused)))))
 
 -- a status at which a walk was run
 abbrev pub IsOfWalk : ℕ → Type 0
 IsOfWalk status = (status ≡ number_of Done) ⊎ ((status ≡ number_of Unanswered) ⊎ (status ≡ number_of ScheduleEnded))
 
--- a status at which a sound was played
+-- a status at which a sound was played of which the reading was not cut
 abbrev pub IsOfPlay : ℕ → Type 0
 IsOfPlay status = IsOfWalk status ⊎ (status ≡ number_of Late)
+
+-- a status at which a sound was played: that of a sound, or of a WAV file that got shorter
+abbrev pub IsOfSound : ℕ → Type 0
+IsOfSound status = IsOfPlay status ⊎ (status ≡ number_of WavShrank)
+
+-- ---- the end of a sound whose reading was cut
+
+-- it was cut since the shelf failed, and this is the name that is told; or since there was no byte more
+abbrev pub IsFailedCut : (name : List ℕ) → Option CutLine → Type 0
+IsFailedCut name None = ⊥
+IsFailedCut name (Some (cuts.Failed text)) = string_bytes text ≡ name
+IsFailedCut name (Some (cuts.Short place)) = ⊥
+
+abbrev pub IsShortCut : Option CutLine → Type 0
+IsShortCut None = ⊥
+IsShortCut (Some (cuts.Failed text)) = ⊥
+IsShortCut (Some (cuts.Short place)) = Unit {0}
+
+-- the reading of this run's sound was cut since the shelf failed under the name
+pub record WasUnread (failed : List ℕ → Type 0) (name : List ℕ) (played : Played) : Type 0 where
+  pub cut : IsFailedCut name played.cut
+  pub cause : failed name
+
+-- or since it answered under the name that there was no byte more
+pub record WasShortened (emptied : List ℕ → Type 0) (name : List ℕ) (played : Played) : Type 0 where
+  pub cut : IsShortCut played.cut
+  pub cause : emptied name
+
+-- so it was for the WAV file that the words name
+pub record OfItsWav (WasCut : (name : List ℕ) → Type 0) (words : List (List ℕ)) : Type 0 where
+  pub codec_name : List ℕ
+  pub wav_name : List ℕ
+  pub schedule_name : List ℕ
+  pub periods : ℕ
+  pub period : ℕ
+  pub asks : IsPlayOf words codec_name wav_name schedule_name periods period
+  pub cut : WasCut wav_name

@@ -6,21 +6,21 @@ use Rattle.hda_outside.specs.Shelf.{Files}
 use Rattle.hda_files.specs.declared.machine.Machine.{Machine}
 use Rattle.hda_schedule.specs.declared.schedule.Schedule.{Schedule}
 use Rattle.period_writer.specs.Rings.{fault_of}
-use Rattle.wav_reader.specs.declared.wav.Wav.{Wav}
+use Rattle.wav_reader.specs.declared.opened.WavHead.{WavHead}
 use Rattle.sound_report.specs.declared.status.Status.TheVariants.{Done, OutOfMemory}
 use Rattle.sound_report.specs.Statuses.{number_of}
 use Rattle.scheduled_runs.specs.Walks.{walk_format}
 use Rattle.machine_tasks.specs.Tasks.{HavePlans}
 use Rattle.hda_program.specs.Causes.{IsOfPlay, IsOfWalk}
-use Rattle.hda_program.specs.Files.{IsMachineOf, IsScheduleOf, IsWavOf}
+use Rattle.hda_program.specs.Files.{IsHeadIn, IsMachineOf, IsScheduleOf}
 use Rattle.codec_agenda.specs.Planned.{have_route}
 
--- the shelf tells its files and failed under none of the three names, whose files read as a machine, a sound and a schedule; the ring of
--- these numbers has no fault, and some pin has a route for the sound's format
+-- the shelf tells its files and failed under none of the three names. The files read as a machine and a schedule, and say a sound;
+-- the ring of these numbers has no fault, and some pin has a route for the sound's format
 pub record CanPlay (told : Option Files) (failed : List ℕ → Type 0) (codec_name wav_name schedule_name : List ℕ) (periods period : ℕ) : Type 0 where
   pub files : Files
   pub machine : Machine
-  pub sound : Wav
+  pub head : WavHead
   pub schedule : Schedule
   pub plans : List Plan
   pub tells : told ≡ Some files
@@ -28,10 +28,10 @@ pub record CanPlay (told : Option Files) (failed : List ℕ → Type 0) (codec_n
   pub wav_given : failed wav_name → ⊥
   pub schedule_given : failed schedule_name → ⊥
   pub codec_file : IsMachineOf (Some files) codec_name machine
-  pub wav_file : IsWavOf (Some files) wav_name sound
+  pub wav_file : IsHeadIn files wav_name head
   pub schedule_file : IsScheduleOf (Some files) schedule_name schedule
-  pub good_ring : fault_of periods period machine.fifo sound.format ≡ None
-  pub planned : HavePlans sound.format machine.codecs plans
+  pub good_ring : fault_of periods period machine.fifo head.format ≡ None
+  pub planned : HavePlans head.format machine.codecs plans
   pub routed : have_route plans ≡ true
 
 -- the shelf tells its files and did not fail under this name, whose file reads as a machine, and some pin has a route for the format

@@ -1,5 +1,5 @@
 -- What the files that the words name come to. This project's own.
-use Rattle.std.specs.Prelude.{◌≡◌, ◌≢◌, ◌⊎◌, ◌<◌, ◌≤◌, ◌*◌, ℕ, List, length, Option, Some, None, Result, Ok, Err, codes}
+use Rattle.std.specs.Prelude.{◌≡◌, ◌≢◌, ◌⊎◌, ◌<◌, ◌≤◌, ◌+◌, ◌*◌, ℕ, List, length, Option, Some, None, Result, Ok, Err, codes}
 use Rattle.hda_outside.specs.Counts.{Rose}
 use Rattle.hda_outside.specs.Shelf.{Files, file_of}
 use Rattle.hda_files.specs.declared.machine.Machine.{Machine}
@@ -10,23 +10,22 @@ use Rattle.hda_schedule.specs.declared.schedule.Schedule.{Schedule}
 use Rattle.hda_schedule.specs.declared.fault.SchedFault.{SchedFault}
 use Rattle.hda_schedule.specs.Schedules.{schedule_of, IsLimited}
 use Rattle.hda_schedule.specs.Ranges.{IsInRange}
-use Rattle.stream_format.specs.Cadence.{block_bytes}
+use Rattle.stream_format.specs.Layouts.{layout}
 use Rattle.wav_reader.specs.declared.fault.WavFault.{WavFault}
 use Rattle.wav_reader.specs.declared.fault.WavFault.TheVariants as wav
-use Rattle.wav_reader.specs.declared.wav.Wav.{Wav}
-use Rattle.wav_reader.specs.Wavs as wavs
+use Rattle.wav_reader.specs.declared.opened.WavHead.{WavHead}
+use Rattle.wav_reader.specs.Heads.{frame_length, head_of}
+use Rattle.wav_reader.specs.Opening.{head_in_file, most_wav_bytes}
 use Rattle.sound_report.specs.declared.status.Status.{Status}
 use Rattle.sound_report.specs.declared.status.Status.TheVariants.{ShelfFailed, CodecRefused, WavRefused, ScheduleRefused}
 use Rattle.hda_program.specs.declared.message.Message.{Message}
 use Rattle.hda_program.specs.Meanings.{Meant, telling, message_meant}
-use Rattle.hda_program.specs.Text.{fault_text, wav_fault_text, schedule_fault_text, unreadable_line, codec_refused_line, wav_refused_line, schedule_refused_line}
+use Rattle.sound_report.specs.Texts.{unreadable_line}
+use Rattle.hda_program.specs.Text.{fault_text, wav_fault_text, schedule_fault_text, codec_refused_line, wav_refused_line, schedule_refused_line}
 
--- how long a codec file, a WAV file and a schedule may be
+-- how long a codec file and a schedule may be
 abbrev pub most_codec_bytes : ℕ
 most_codec_bytes = 262144
-
-abbrev pub most_wav_bytes : ℕ
-most_wav_bytes = 67108864
 
 abbrev pub most_schedule_bytes : ℕ
 most_schedule_bytes = 4194304
@@ -50,6 +49,14 @@ pub record IsShortFile (most : ℕ) (told : Option Files) (name bytes : List ℕ
 abbrev pub FailedUnder : (before after : List ℕ → ℕ) → List ℕ → Type 0
 FailedUnder before after name = Rose (before name) (after name)
 
+-- or it answered a call for some bytes with none
+abbrev pub EmptiedUnder : (before after : List ℕ → ℕ) → List ℕ → Type 0
+EmptiedUnder before after name = Rose (before name) (after name)
+
+-- between two counts of the bytes that it gave, it gave no more than so many
+abbrev pub GivenAtMost : (before after bytes : ℕ) → Type 0
+GivenAtMost before after bytes = after ≤ before + bytes
+
 -- the shelf failed under the name, and the text says so
 abbrev pub IsUnread : (List ℕ → Type 0) → List ℕ → Meant → Type 0
 IsUnread failed name meant = failed name × (meant ≡ telling ShelfFailed (unreadable_line name))
@@ -60,10 +67,11 @@ IsRefused most IsFault told name text =
     (IsLonger most told name × (text ≡ codes "TooLong"))
     ⊎ ((bytes : List ℕ) × IsShortFile most told name bytes × IsFault bytes text)
 
--- a command ends at such a file: the shelf failed, or the file is refused, with this status and a line of this kind
-abbrev pub StopsAt : (most : ℕ) → (IsFault : (bytes text : List ℕ) → Type 0) → Status → (line : List ℕ → List ℕ) → Option Files → (List ℕ → Type 0) → (name : List ℕ) → Meant → Type 0
-StopsAt most IsFault status line told failed name meant =
-    IsUnread failed name meant ⊎ ((text : List ℕ) × IsRefused most IsFault told name text × (meant ≡ telling status (line text)))
+-- a command ends at a file: the shelf failed, or the file is refused, with this status and a line of this kind
+abbrev pub StopsAt : (IsRefusedAs : (text : List ℕ) → Type 0) → Status → (line : List ℕ → List ℕ) → (failed : List ℕ → Type 0)
+    → (name : List ℕ) → Meant → Type 0
+StopsAt IsRefusedAs status line failed name meant =
+    IsUnread failed name meant ⊎ ((text : List ℕ) × IsRefusedAs text × (meant ≡ telling status (line text)))
 
 -- ---- the codec file
 
@@ -84,12 +92,13 @@ abbrev pub IsCodecRefused : Option Files → (name text : List ℕ) → Type 0
 IsCodecRefused told name text = IsRefused most_codec_bytes IsCodecFault told name text
 
 abbrev pub CodecStops : Option Files → (List ℕ → Type 0) → (name : List ℕ) → Meant → Type 0
-CodecStops told failed name meant = StopsAt most_codec_bytes IsCodecFault CodecRefused codec_refused_line told failed name meant
+CodecStops told failed name meant = StopsAt (IsCodecRefused told name) CodecRefused codec_refused_line failed name meant
 
--- what reading the codec file gives: a sound machine, or the end of the command
-abbrev pub IsCodecRead : Option Files → (List ℕ → Type 0) → List ℕ → Result Machine Message → Type 0
-IsCodecRead told failed name (Ok machine) = IsMachineOf told name machine × IsSound machine
-IsCodecRead told failed name (Err message) = CodecStops told failed name (message_meant message)
+-- what reading the codec file gives: a sound machine, where no more bytes were given than the file has, or the end of the command
+abbrev pub IsCodecRead : Option Files → (failed : List ℕ → Type 0) → (gave : ℕ → Type 0) → List ℕ → Result Machine Message → Type 0
+IsCodecRead told failed gave name (Ok machine) =
+    (file : IsMachineOf told name machine) × IsSound machine × gave (length file.bytes)
+IsCodecRead told failed gave name (Err message) = CodecStops told failed name (message_meant message)
 
 -- what its bytes give
 abbrev pub AreCodecBytesRead : List ℕ → Result Machine Message → Type 0
@@ -98,38 +107,58 @@ AreCodecBytesRead bytes (Err message) = (text : List ℕ) × IsCodecFault bytes 
 
 -- ---- the WAV file
 
--- the file of this name reads as this sound
-pub record IsWavOf (told : Option Files) (name : List ℕ) (sound : Wav) : Type 0 where
+-- of these files the one of this name is short enough, is as long as was measured, and says this before its sound
+pub record IsHeadIn (files : Files) (name : List ℕ) (head : WavHead) : Type 0 where
   pub bytes : List ℕ
-  pub file : IsShortFile most_wav_bytes told name bytes
-  pub reads : wavs.Reads bytes (Ok sound)
+  pub file : file_of files name ≡ Some bytes
+  pub short : length bytes ≤ most_wav_bytes
+  pub length_is : head.length ≡ length bytes
+  pub says : head_of bytes ≡ Ok (head_in_file head)
 
--- the bytes read as a fault, which the text names
-pub record IsWavFault (bytes text : List ℕ) : Type 0 where
+-- of these files the one of this name is short enough and has this fault
+pub record IsFaultIn (files : Files) (name : List ℕ) (fault : WavFault) : Type 0 where
+  pub bytes : List ℕ
+  pub file : file_of files name ≡ Some bytes
+  pub short : length bytes ≤ most_wav_bytes
+  pub says : head_of bytes ≡ Err fault
+
+-- so where the files are told
+abbrev pub IsHeadTold : Option Files → (name : List ℕ) → WavHead → Type 0
+IsHeadTold None name head = Unit {0}
+IsHeadTold (Some files) name head = IsHeadIn files name head
+
+abbrev pub IsFaultTold : Option Files → (name : List ℕ) → WavFault → Type 0
+IsFaultTold None name fault = Unit {0}
+IsFaultTold (Some files) name fault = IsFaultIn files name fault
+
+-- the file of this name says this before its sound, which ends within the file
+pub record IsHeadOf (told : Option Files) (name : List ℕ) (head : WavHead) : Type 0 where
+  pub file : IsHeadTold told name head
+  pub short : head.length ≤ most_wav_bytes
+  pub within : head.from + head.frames * frame_length head.mono (layout head.format) ≤ head.length
+
+-- the file has a fault before its sound, which the text names
+pub record IsWavFault (told : Option Files) (name text : List ℕ) : Type 0 where
   pub fault : WavFault
   pub known : fault ≢ wav.OutOfMemory
-  pub reads : wavs.Reads bytes (Err fault)
+  pub file : IsFaultTold told name fault
   pub says : text ≡ wav_fault_text fault
 
+-- a WAV file is refused: it is too long, or has a fault before its sound; the text says which
 abbrev pub IsWavRefused : Option Files → (name text : List ℕ) → Type 0
-IsWavRefused told name text = IsRefused most_wav_bytes IsWavFault told name text
+IsWavRefused told name text = (IsLonger most_wav_bytes told name × (text ≡ codes "TooLong")) ⊎ IsWavFault told name text
 
-abbrev pub WavStops : Option Files → (List ℕ → Type 0) → (name : List ℕ) → Meant → Type 0
-WavStops told failed name meant = StopsAt most_wav_bytes IsWavFault WavRefused wav_refused_line told failed name meant
+abbrev pub WavStops : Option Files → (failed : List ℕ → Type 0) → (name : List ℕ) → Meant → Type 0
+WavStops told failed name meant = StopsAt (IsWavRefused told name) WavRefused wav_refused_line failed name meant
 
--- a sound has whole blocks, one for each frame
-abbrev pub HasWholeBlocks : Wav → Type 0
-HasWholeBlocks sound = length sound.pcm ≡ sound.frames * block_bytes sound.format
+-- how many bytes are given at most of what stands before a sound, and of those by which the file is measured
+abbrev pub bytes_before : WavHead → ℕ
+bytes_before head = head.from + 64
 
--- what reading the WAV file gives: a sound, or the end of the command
-abbrev pub IsWavRead : Option Files → (List ℕ → Type 0) → List ℕ → Result Wav Message → Type 0
-IsWavRead told failed name (Ok sound) = IsWavOf told name sound × HasWholeBlocks sound
-IsWavRead told failed name (Err message) = WavStops told failed name (message_meant message)
-
--- what its bytes give
-abbrev pub AreWavBytesRead : List ℕ → Result Wav Message → Type 0
-AreWavBytesRead bytes (Ok sound) = wavs.Reads bytes (Ok sound) × HasWholeBlocks sound
-AreWavBytesRead bytes (Err message) = (text : List ℕ) × IsWavFault bytes text × (message_meant message ≡ telling WavRefused (wav_refused_line text))
+-- what opening the WAV file gives: what it says before its sound, of which no byte was given, or the end of the command
+abbrev pub IsWavOpened : Option Files → (failed : List ℕ → Type 0) → (gave : ℕ → Type 0) → List ℕ → Result WavHead Message → Type 0
+IsWavOpened told failed gave name (Ok head) = IsHeadOf told name head × gave (bytes_before head)
+IsWavOpened told failed gave name (Err message) = WavStops told failed name (message_meant message)
 
 -- ---- the schedule
 
@@ -149,17 +178,18 @@ abbrev pub IsScheduleRefused : Option Files → (name text : List ℕ) → Type 
 IsScheduleRefused told name text = IsRefused most_schedule_bytes IsScheduleFault told name text
 
 abbrev pub ScheduleStops : Option Files → (List ℕ → Type 0) → (name : List ℕ) → Meant → Type 0
-ScheduleStops told failed name meant = StopsAt most_schedule_bytes IsScheduleFault ScheduleRefused schedule_refused_line told failed name meant
+ScheduleStops told failed name meant = StopsAt (IsScheduleRefused told name) ScheduleRefused schedule_refused_line failed name meant
 
 -- a schedule as it is read keeps its ranges and limits
 pub record IsGoodSchedule (schedule : Schedule) : Type 0 where
   pub ranges : IsInRange schedule
   pub limits : IsLimited schedule
 
--- what reading the schedule gives: a schedule, or the end of the command
-abbrev pub IsScheduleRead : Option Files → (List ℕ → Type 0) → List ℕ → Result Schedule Message → Type 0
-IsScheduleRead told failed name (Ok schedule) = IsScheduleOf told name schedule × IsGoodSchedule schedule
-IsScheduleRead told failed name (Err message) = ScheduleStops told failed name (message_meant message)
+-- what reading the schedule gives: a schedule, where no more bytes were given than the file has, or the end of the command
+abbrev pub IsScheduleRead : Option Files → (failed : List ℕ → Type 0) → (gave : ℕ → Type 0) → List ℕ → Result Schedule Message → Type 0
+IsScheduleRead told failed gave name (Ok schedule) =
+    (file : IsScheduleOf told name schedule) × IsGoodSchedule schedule × gave (length file.bytes)
+IsScheduleRead told failed gave name (Err message) = ScheduleStops told failed name (message_meant message)
 
 -- what its bytes give
 abbrev pub AreScheduleBytesRead : List ℕ → Result Schedule Message → Type 0

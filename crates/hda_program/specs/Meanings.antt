@@ -7,8 +7,10 @@ use Rattle.hda_outside.specs.declared.fault.Fault.TheVariants as outside
 use Rattle.sound_report.specs.declared.played.Played.{Played}
 use Rattle.sound_report.specs.declared.played.PlayFault.{PlayFault}
 use Rattle.sound_report.specs.declared.played.PlayFault.TheVariants as fault
+use Rattle.sound_report.specs.declared.played.CutLine.{CutLine}
+use Rattle.sound_report.specs.declared.played.CutLine.TheVariants as cuts
 use Rattle.sound_report.specs.declared.status.Status.{Status}
-use Rattle.sound_report.specs.declared.status.Status.TheVariants.{Done, SinkFailed, NothingRouted, Unanswered, Late, ScheduleEnded, OutOfMemory}
+use Rattle.sound_report.specs.declared.status.Status.TheVariants.{Done, ShelfFailed, SinkFailed, NothingRouted, Unanswered, Late, ScheduleEnded, OutOfMemory, WavShrank}
 use Rattle.sound_report.specs.PlanLines.{plans_lines}
 use Rattle.sound_report.specs.Texts.{text_of}
 use Rattle.hda_program.specs.declared.message.Message.{Message}
@@ -25,13 +27,22 @@ pub record Meant : Type 0 where
 abbrev pub telling : Status → List ℕ → Meant
 telling status text = record { status = status; text = text; play = None }
 
--- how a run of the driver ended
-abbrev pub status_of : Option PlayFault → Status
-status_of None = Done
-status_of (Some (fault.Unanswered codec command issued noticed)) = Unanswered
-status_of (Some (fault.Late from to limit)) = Late
-status_of (Some (fault.CommandsLeft sent of)) = ScheduleEnded
-status_of (Some (fault.FramesLeft written heard of)) = ScheduleEnded
+-- whether all was done, or why a run of the driver ended early
+abbrev pub fault_status : Option PlayFault → Status
+fault_status None = Done
+fault_status (Some (fault.Unanswered codec command issued noticed)) = Unanswered
+fault_status (Some (fault.Late from to limit)) = Late
+fault_status (Some (fault.CommandsLeft sent of)) = ScheduleEnded
+fault_status (Some (fault.FramesLeft written heard of)) = ScheduleEnded
+
+-- how it ended: where the reading of its sound was cut that comes first
+abbrev pub end_status : Option CutLine → Option PlayFault → Status
+end_status (Some (cuts.Failed name)) end = ShelfFailed
+end_status (Some (cuts.Short place)) end = WavShrank
+end_status None end = fault_status end
+
+abbrev pub status_of : Played → Status
+status_of played = end_status played.cut played.fault
 
 -- what the status of a text comes to once it was written: its own, or that of the fault
 abbrev pub written_status : Result (Unit {0}) Fault → Status → Status
@@ -41,7 +52,7 @@ written_status (Err outside.OutOfMemory) status = OutOfMemory
 
 -- a run, with its report for a text
 abbrev pub of_run : Played → Meant
-of_run played = record { status = status_of played.fault; text = text_of played; play = Some played }
+of_run played = record { status = status_of played; text = text_of played; play = Some played }
 
 -- plans of which none has a route, and a line that says so
 abbrev pub unrouted : List CodecFile → List Plan → Meant

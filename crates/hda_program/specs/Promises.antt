@@ -1,16 +1,16 @@
 -- The promises of `walk` and of `play`: what the run is that is given, part by part, and the text that was written of it. This project's own.
-use Rattle.std.specs.Prelude.{◌≡◌, ◌⊎◌, ℕ, true, List, Option}
+use Rattle.std.specs.Prelude.{◌≡◌, ◌⊎◌, ◌+◌, ℕ, true, List, length, Option}
 use Rattle.route_planner.specs.declared.routes.Plan.{Plan}
 use Rattle.hda_files.specs.declared.machine.Machine.{Machine}
 use Rattle.hda_outside.specs.Shelf.{Files}
 use Rattle.hda_schedule.specs.declared.schedule.Schedule.{Schedule}
 use Rattle.period_writer.specs.declared.geometry.Geometry.{Geometry}
-use Rattle.wav_reader.specs.declared.wav.Wav.{Wav}
+use Rattle.wav_reader.specs.declared.opened.WavHead.{WavHead}
 use Rattle.sound_report.specs.declared.played.Played.{Played}
 use Rattle.hda_program.specs.Asks.{IsWalkOf, IsPlayOf}
 use Rattle.scheduled_runs.specs.Walks.{walk_format, IsWalked}
-use Rattle.scheduled_runs.specs.Plays.{IsPlayed}
-use Rattle.hda_program.specs.Files.{IsMachineOf, IsWavOf, IsScheduleOf}
+use Rattle.scheduled_runs.specs.Plays.{IsCutUnder, IsPlayedFrom, most_read}
+use Rattle.hda_program.specs.Files.{IsMachineOf, IsHeadOf, IsScheduleOf, bytes_before}
 use Rattle.hda_program.specs.Rings.{IsRingOf}
 use Rattle.hda_program.specs.Answers.{HasWritten}
 use Rattle.hda_program.specs.Meanings.{of_run}
@@ -33,37 +33,44 @@ pub record HasWalked (told : Option Files) (words : List (List ℕ)) (played : P
   -- one history, progress, open routes, and how it ended
   pub run : IsWalked machine plans schedule played
 
--- the run is that of the sound that the WAV file of the second name reads as, through the machine that the codec file of the first reads as
+-- the run is that of the sound of the WAV file of the second name, through the machine that the codec file of the first reads as
 -- and a ring of these numbers, with the plans for that sound, by the schedule of the third
-pub record HasPlayedFiles (told : Option Files) (codec_name wav_name schedule_name : List ℕ) (periods period : ℕ) (played : Played) : Type 0 where
+pub record HasPlayedFiles (told : Option Files) (failed emptied : List ℕ → Type 0) (gave : ℕ → Type 0)
+    (codec_name wav_name schedule_name : List ℕ) (periods period : ℕ) (played : Played) : Type 0 where
   pub machine : Machine
-  pub sound : Wav
+  pub head : WavHead
   pub schedule : Schedule
   pub geometry : Geometry
   pub plans : List Plan
-  -- the input: what the three files read as, the ring, and the plans of the machine's codecs, of which some has a route
+  -- the input: what the codec file and the schedule read as, what the WAV file says before its sound, the ring, and the plans of the
+  -- machine's codecs, of which some has a route
   pub codec_file : IsMachineOf told codec_name machine
-  pub wav_file : IsWavOf told wav_name sound
+  pub wav_file : IsHeadOf told wav_name head
   pub schedule_file : IsScheduleOf told schedule_name schedule
-  pub ring : IsRingOf periods period machine sound geometry
-  pub planned : HavePlans sound.format machine.codecs plans
+  pub ring : IsRingOf periods period machine head geometry
+  pub planned : HavePlans head.format machine.codecs plans
   pub routed : have_route plans ≡ true
-  -- one history, progress, open routes, the runs of the ring, what was heard, and how it ended
-  pub run : IsPlayed machine plans sound geometry schedule played
+  -- the sound that was read, one history, progress, open routes, the runs of the ring, what was heard, and how it ended
+  pub run : IsPlayedFrom told wav_name head machine plans geometry schedule played
+  -- why the reading of the sound was cut, where it was
+  pub cut : IsCutUnder wav_name head (failed wav_name) (emptied wav_name) played.cut
+  -- no more bytes were given than the codec file and the schedule have, than stand before the sound, and than its playing takes
+  pub reads_little : gave (length codec_file.bytes + (bytes_before head + (length schedule_file.bytes + most_read geometry played)))
 
 -- the run is that for which the words ask: of the files that they name, and the ring of their numbers
-pub record HasPlayed (told : Option Files) (words : List (List ℕ)) (played : Played) : Type 0 where
+pub record HasPlayed (told : Option Files) (failed emptied : List ℕ → Type 0) (gave : ℕ → Type 0) (words : List (List ℕ))
+    (played : Played) : Type 0 where
   pub codec_name : List ℕ
   pub wav_name : List ℕ
   pub schedule_name : List ℕ
   pub periods : ℕ
   pub period : ℕ
   pub asks : IsPlayOf words codec_name wav_name schedule_name periods period
-  pub files : HasPlayedFiles told codec_name wav_name schedule_name periods period played
+  pub files : HasPlayedFiles told failed emptied gave codec_name wav_name schedule_name periods period played
 
 -- the run is the walk for which the words ask, or the play
-abbrev pub HasRun : Option Files → List (List ℕ) → Played → Type 0
-HasRun told words played = HasWalked told words played ⊎ HasPlayed told words played
+abbrev pub HasRun : Option Files → (failed emptied : List ℕ → Type 0) → (gave : ℕ → Type 0) → List (List ℕ) → Played → Type 0
+HasRun told failed emptied gave words played = HasWalked told words played ⊎ HasPlayed told failed emptied gave words played
 
 -- the promise of a run: it is the one that was asked for, and its report was written whole, with the status of its end, or its front at the status of
 -- a fault of the sink or of want of memory

@@ -4,21 +4,21 @@ use Rattle.hda_files.specs.declared.machine.Machine.{Machine}
 use Rattle.period_writer.specs.declared.geometry.Geometry.{Geometry}
 use Rattle.period_writer.specs.declared.geometry.GeometryFault.{GeometryFault}
 use Rattle.period_writer.specs.Rings.{fault_of}
-use Rattle.wav_reader.specs.declared.wav.Wav.{Wav}
+use Rattle.wav_reader.specs.declared.opened.WavHead.{WavHead}
 use Rattle.sound_report.specs.declared.status.Status.TheVariants.{GeometryRefused}
 use Rattle.scheduled_runs.specs.Shapes.{HasShape}
 use Rattle.hda_program.specs.Meanings.{Meant, telling}
 use Rattle.hda_program.specs.Text.{geometry_fault_text, geometry_refused_line}
 
 -- the ring has the numbers of the words, and is for the machine's FIFO and the sound's format
-abbrev pub IsRingOf : (periods period : ℕ) → Machine → Wav → Geometry → Type 0
-IsRingOf periods period machine sound geometry = HasShape periods period machine.fifo sound.format geometry
+abbrev pub IsRingOf : (periods period : ℕ) → Machine → WavHead → Geometry → Type 0
+IsRingOf periods period machine head geometry = HasShape periods period machine.fifo head.format geometry
 
 -- such a ring has this fault
-abbrev pub IsBadRing : (periods period : ℕ) → Machine → Wav → GeometryFault → Type 0
-IsBadRing periods period machine sound fault = fault_of periods period machine.fifo sound.format ≡ Some fault
+abbrev pub IsBadRing : (periods period : ℕ) → Machine → WavHead → GeometryFault → Type 0
+IsBadRing periods period machine head fault = fault_of periods period machine.fifo head.format ≡ Some fault
 
 -- a command ends at its ring, whose fault the text names
-abbrev pub RingStops : (periods period : ℕ) → Machine → Wav → Meant → Type 0
-RingStops periods period machine sound meant =
-    (fault : GeometryFault) × IsBadRing periods period machine sound fault × (meant ≡ telling GeometryRefused (geometry_refused_line (geometry_fault_text fault)))
+abbrev pub RingStops : (periods period : ℕ) → Machine → WavHead → Meant → Type 0
+RingStops periods period machine head meant =
+    (fault : GeometryFault) × IsBadRing periods period machine head fault × (meant ≡ telling GeometryRefused (geometry_refused_line (geometry_fault_text fault)))

@@ -111,9 +111,6 @@ wav_refused_line fault = refused_line (codes "wav") fault
 abbrev pub geometry_refused_line : List ℕ → List ℕ
 geometry_refused_line fault = refused_line (codes "geometry") fault
 
-abbrev pub unreadable_line : List ℕ → List ℕ
-unreadable_line name = codes "cannot read: " ++ name ++ newline
-
 abbrev pub nothing_routed_line : List ℕ
 nothing_routed_line = codes "nothing routed" ++ newline
 

@@ -1,12 +1,13 @@
 //! What `play` does with three files, for callers that have no words.
-ghost use Rattle.std.specs.Prelude.{◌≡◌, ◌≢◌, ◌≤◌, ℕ, List, IfSome, IsNone, IsSome};
+ghost use Rattle.std.specs.Prelude.{◌≡◌, ◌≢◌, ◌≤◌, ℕ, List, IfSome, IsNone, IsSome, IsSomeAnd};
 ghost use Rattle.hda_outside.specs.Counts.{Rose};
 ghost use Rattle.hda_words.specs.Asked.{IsRingInRange};
+ghost use Rattle.sound_report.specs.Statuses.{number_of};
 ghost use Rattle.hda_program.specs.Answers.{HasEndedPlay};
-ghost use Rattle.hda_program.specs.Causes.{IsOfPlay, IsRunless};
+ghost use Rattle.hda_program.specs.Causes.{IsOfSound, IsRunless, WasShortened, WasUnread};
 ghost use Rattle.hda_program.specs.Promises.{HasPlayedFiles, KeepsPromise};
 ghost use Rattle.hda_program.specs.Complete.{CanPlay, HasPlayedOn};
-ghost use Rattle.hda_program.specs.Files.{FailedUnder};
+ghost use Rattle.hda_program.specs.Files.{EmptiedUnder, FailedUnder, GivenAtMost};
 
 use crate::play::answer_play;
 use crate::run::{Ended, write_answer};
@@ -18,7 +19,7 @@ use std::alloc::Global;
 /// these names. The ring has 2 to 32 periods of 1 to 128 units, each of 384 bytes.
 ///
 /// It ends with a status of [`Status`]: 0 where all frames of sound were played. Its run of the driver is given also where its text could
-/// not be written.
+/// not be written. The sound is read while it is played; where its reading is cut the run goes on over what was read.
 pub fn play_files<S: Shelf, K: Sink>(
     alloc: Global,
     shelf: &mut S,
@@ -33,15 +34,29 @@ pub fn play_files<S: Shelf, K: Sink>(
 
     // The meant text was written whole, or its front at a fault of the sink or at want of memory.
     ensures ended { HasEndedPlay (S.told shelf.old) (FailedUnder (S.faults shelf.old) (S.faults shelf.new))
+        (EmptiedUnder (S.empties shelf.old) (S.empties shelf.new))
+        (GivenAtMost (S.given shelf.old) (S.given shelf.new))
         codec.now wav.now schedule.now periods period (K.taken out.old) (K.taken out.new) (Rose (K.faults out.old) (K.faults out.new)) result.play result.status }
 
-    // The promise of `play`: the run that is given is that of these files and this ring, and its report was written.
-    ensures promise { IfSome result.play (KeepsPromise (HasPlayedFiles (S.told shelf.old) codec.now wav.now schedule.now periods period)
+    // The promise of `play`: the run that is given is that of these files and this ring, few bytes were read for it, and its report
+    // was written.
+    ensures promise { IfSome result.play (KeepsPromise (HasPlayedFiles (S.told shelf.old)
+        (FailedUnder (S.faults shelf.old) (S.faults shelf.new))
+        (EmptiedUnder (S.empties shelf.old) (S.empties shelf.new))
+        (GivenAtMost (S.given shelf.old) (S.given shelf.new))
+        codec.now wav.now schedule.now periods period)
         (K.taken out.old) (K.taken out.new) (Rose (K.faults out.old) (K.faults out.new)) result.status) }
 
     // When a run is given.
     ensures runless { IsRunless result.status → IsNone result.play }
-    ensures runs { IsOfPlay result.status → IsSome result.play }
+    ensures runs { IsOfSound result.status → IsSome result.play }
+
+    // Where the reading of the sound was cut. A shelf that tells its files lets none get shorter.
+    ensures unread_run { result.status ≡ number_of Status.ShelfFailed
+        → IfSome result.play (WasUnread (FailedUnder (S.faults shelf.old) (S.faults shelf.new)) wav.now) }
+    ensures shrunk_run { result.status ≡ number_of Status.WavShrank
+        → IsSomeAnd result.play (WasShortened (EmptiedUnder (S.empties shelf.old) (S.empties shelf.new)) wav.now) }
+    ensures never_shrinks { IfSome (S.told shelf.old) (λ files. result.status ≢ number_of Status.WavShrank) }
 
     // Good files and a good ring are not refused.
     ensures completes { CanPlay (S.told shelf.old) (FailedUnder (S.faults shelf.old) (S.faults shelf.new)) codec.now wav.now schedule.now periods period

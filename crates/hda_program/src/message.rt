@@ -1,7 +1,8 @@
 //! Texts with a status, and the lines of refusals.
 ghost use Rattle.std.specs.Prelude.{◌≡◌, IfOk, string_bytes};
 ghost use Rattle.hda_program.specs.Meanings.{telling, message_meant};
-ghost use Rattle.hda_program.specs.Text.{codec_refused_line, geometry_refused_line, refused_line, schedule_refused_line, unreadable_line, usage_line, wav_refused_line};
+ghost use Rattle.hda_program.specs.Text.{codec_refused_line, geometry_refused_line, refused_line, schedule_refused_line, usage_line, wav_refused_line};
+ghost use Rattle.sound_report.specs.Texts.{unreadable_line};
 
 use crate::text::USAGE;
 use sound_report::Status;

@@ -4,7 +4,7 @@ ghost use Rattle.hda_files.specs.Machines.{IsSound};
 ghost use Rattle.hda_words.specs.Asked.{IsRingInRange};
 ghost use Rattle.hda_program.specs.Answers.{MachinePlays, PlayAnswers, RingPlays, SchedulePlays, SoundPlays};
 ghost use Rattle.machine_tasks.specs.Reading.{IsRead};
-ghost use Rattle.hda_program.specs.Files.{FailedUnder, HasWholeBlocks, IsGoodSchedule};
+ghost use Rattle.hda_program.specs.Files.{EmptiedUnder, FailedUnder, GivenAtMost, IsGoodSchedule, IsHeadOf};
 ghost use Rattle.hda_program.specs.Meanings.{answer_meant};
 
 use crate::answer::Answer;
@@ -13,7 +13,7 @@ use crate::message::geometry_refused;
 use crate::plans::{nothing_routed, plans_of};
 use crate::schedule::read_schedule_file;
 use crate::text::geometry_fault_name;
-use crate::wav::read_wav_file;
+use crate::wav::open_wav_file;
 use codec_agenda::have_route;
 use hda_files::Machine;
 use hda_outside::Shelf;
@@ -21,7 +21,7 @@ use hda_schedule::Schedule;
 use period_writer::Geometry;
 use scheduled_runs::play;
 use std::alloc::{AllocError, Global};
-use wav_reader::Wav;
+use wav_reader::WavHead;
 
 /// What `play` answers for the files of these names and a ring of so many periods of so many units.
 ///
@@ -38,10 +38,13 @@ pub(crate) fn answer_play<S: Shelf>(
 ) -> Result<Answer, AllocError>
     requires ring { IsRingInRange periods period }
     ensures answers { IfOk result (λ answer. PlayAnswers (S.told shelf.old) (FailedUnder (S.faults shelf.old) (S.faults shelf.new))
+        (EmptiedUnder (S.empties shelf.old) (S.empties shelf.new))
+        (GivenAtMost (S.given shelf.old) (S.given shelf.new))
         codec.now wav.now schedule.now periods period (answer_meant answer)) }
     ensures asked { (other : List ℕ) → other ≢ codec.now → other ≢ wav.now → other ≢ schedule.now → S.asked shelf.new other ≡ S.asked shelf.old other }
     ensures told { S.told shelf.new ≡ S.told shelf.old }
     ensures later { (other : List ℕ) → S.faults shelf.old other ≤ S.faults shelf.new other }
+    ensures empties_later { (other : List ℕ) → S.empties shelf.old other ≤ S.empties shelf.new other }
 {
     match read_codec_file(alloc, shelf, codec)? {
         Ok(machine) => play_machine(alloc, shelf, machine, wav, schedule, periods, period),
@@ -66,18 +69,21 @@ fn play_machine<S: Shelf>(
     requires read { IsRead machine }
     requires ring { IsRingInRange periods period }
     ensures answers { IfOk result (λ answer. MachinePlays (S.told shelf.old) (FailedUnder (S.faults shelf.old) (S.faults shelf.new))
+        (EmptiedUnder (S.empties shelf.old) (S.empties shelf.new))
+        (GivenAtMost (S.given shelf.old) (S.given shelf.new))
         periods period machine wav.now schedule.now (answer_meant answer)) }
     ensures asked { (other : List ℕ) → other ≢ wav.now → other ≢ schedule.now → S.asked shelf.new other ≡ S.asked shelf.old other }
     ensures told { S.told shelf.new ≡ S.told shelf.old }
     ensures later { (other : List ℕ) → S.faults shelf.old other ≤ S.faults shelf.new other }
+    ensures empties_later { (other : List ℕ) → S.empties shelf.old other ≤ S.empties shelf.new other }
 {
-    match read_wav_file(alloc, shelf, wav)? {
-        Ok(sound) => play_sound(alloc, shelf, machine, sound, schedule, periods, period),
+    match open_wav_file(alloc, shelf, wav)? {
+        Ok(head) => play_sound(alloc, shelf, machine, head, wav, schedule, periods, period),
         Err(message) => Ok(Answer::Message(message)),
     }
 }
 
-/// What `play` answers for a machine, a sound, and the schedule of this name.
+/// What `play` answers for a machine, the WAV file that says this before its sound, and the schedule of this name.
 ///
 /// # Errors
 /// Want of memory.
@@ -85,48 +91,62 @@ fn play_sound<S: Shelf>(
     alloc: Global,
     shelf: &mut S,
     machine: Machine,
-    sound: Wav,
+    head: WavHead,
+    wav: &str,
     schedule: &str,
     periods: u8,
     period: u8,
 ) -> Result<Answer, AllocError>
     requires sound { IsSound machine }
     requires read { IsRead machine }
-    requires whole { HasWholeBlocks sound }
+    requires file { IsHeadOf (S.told shelf.old) wav.now head }
     requires ring { IsRingInRange periods period }
     ensures answers { IfOk result (λ answer. SoundPlays (S.told shelf.old) (FailedUnder (S.faults shelf.old) (S.faults shelf.new))
-        periods period machine sound schedule.now (answer_meant answer)) }
-    ensures asked { (other : List ℕ) → other ≢ schedule.now → S.asked shelf.new other ≡ S.asked shelf.old other }
+        (EmptiedUnder (S.empties shelf.old) (S.empties shelf.new))
+        (GivenAtMost (S.given shelf.old) (S.given shelf.new))
+        periods period wav.now machine head schedule.now (answer_meant answer)) }
+    ensures asked { (other : List ℕ) → other ≢ wav.now → other ≢ schedule.now → S.asked shelf.new other ≡ S.asked shelf.old other }
     ensures told { S.told shelf.new ≡ S.told shelf.old }
     ensures later { (other : List ℕ) → S.faults shelf.old other ≤ S.faults shelf.new other }
+    ensures empties_later { (other : List ℕ) → S.empties shelf.old other ≤ S.empties shelf.new other }
 {
     match read_schedule_file(alloc, shelf, schedule)? {
-        Ok(steps) => play_schedule(alloc, machine, sound, &steps, periods, period),
+        Ok(steps) => play_schedule(alloc, shelf, machine, head, wav, &steps, periods, period),
         Err(message) => Ok(Answer::Message(message)),
     }
 }
 
-/// What `play` answers for a machine, a sound and a schedule: it plays through the ring of these numbers, if that is good.
+/// What `play` answers for a machine, a WAV file and a schedule: it plays through the ring of these numbers, if it is good.
 ///
 /// # Errors
 /// Want of memory.
-fn play_schedule(
+fn play_schedule<S: Shelf>(
     alloc: Global,
+    shelf: &mut S,
     machine: Machine,
-    sound: Wav,
+    head: WavHead,
+    wav: &str,
     schedule: &Schedule,
     periods: u8,
     period: u8,
 ) -> Result<Answer, AllocError>
     requires sound { IsSound machine }
     requires read { IsRead machine }
-    requires whole { HasWholeBlocks sound }
+    requires file { IsHeadOf (S.told shelf.old) wav.now head }
     requires good { IsGoodSchedule schedule.now }
     requires ring { IsRingInRange periods period }
-    ensures { IfOk result (λ answer. SchedulePlays periods period machine sound schedule.now (answer_meant answer)) }
+    ensures answers { IfOk result (λ answer. SchedulePlays (S.told shelf.old)
+        (FailedUnder (S.faults shelf.old) (S.faults shelf.new))
+        (EmptiedUnder (S.empties shelf.old) (S.empties shelf.new))
+        (GivenAtMost (S.given shelf.old) (S.given shelf.new))
+        periods period wav.now machine head schedule.now (answer_meant answer)) }
+    ensures asked { (other : List ℕ) → other ≢ wav.now → S.asked shelf.new other ≡ S.asked shelf.old other }
+    ensures told { S.told shelf.new ≡ S.told shelf.old }
+    ensures later { (other : List ℕ) → S.faults shelf.old other ≤ S.faults shelf.new other }
+    ensures empties_later { (other : List ℕ) → S.empties shelf.old other ≤ S.empties shelf.new other }
 {
-    match Geometry::new(periods, period, machine.fifo, sound.format) {
-        Ok(geometry) => play_ring(alloc, machine, sound, geometry, schedule),
+    match Geometry::new(periods, period, machine.fifo, head.format) {
+        Ok(geometry) => play_ring(alloc, shelf, machine, head, wav, geometry, schedule),
         Err(fault) => {
             let message = geometry_refused(alloc, geometry_fault_name(fault))?;
             Ok(Answer::Message(message))
@@ -134,28 +154,38 @@ fn play_schedule(
     }
 }
 
-/// What `play` answers for a machine, a sound, a ring and a schedule: it runs nothing where no pin has a route.
+/// What `play` answers for a machine, a WAV file, a ring and a schedule: it runs nothing where no pin has a route.
 ///
 /// # Errors
 /// Want of memory.
-fn play_ring(
+fn play_ring<S: Shelf>(
     alloc: Global,
+    shelf: &mut S,
     machine: Machine,
-    sound: Wav,
+    head: WavHead,
+    wav: &str,
     geometry: Geometry,
     schedule: &Schedule,
 ) -> Result<Answer, AllocError>
     requires sound { IsSound machine }
     requires read { IsRead machine }
-    requires whole { HasWholeBlocks sound }
+    requires file { IsHeadOf (S.told shelf.old) wav.now head }
     requires good { IsGoodSchedule schedule.now }
     requires fifo { geometry.fifo ≡ machine.fifo }
-    requires format { geometry.format ≡ sound.format }
-    ensures { IfOk result (λ answer. RingPlays machine sound geometry schedule.now (answer_meant answer)) }
+    requires format { geometry.format ≡ head.format }
+    ensures answers { IfOk result (λ answer. RingPlays (S.told shelf.old)
+        (FailedUnder (S.faults shelf.old) (S.faults shelf.new))
+        (EmptiedUnder (S.empties shelf.old) (S.empties shelf.new))
+        (GivenAtMost (S.given shelf.old) (S.given shelf.new))
+        wav.now machine head geometry schedule.now (answer_meant answer)) }
+    ensures asked { (other : List ℕ) → other ≢ wav.now → S.asked shelf.new other ≡ S.asked shelf.old other }
+    ensures told { S.told shelf.new ≡ S.told shelf.old }
+    ensures later { (other : List ℕ) → S.faults shelf.old other ≤ S.faults shelf.new other }
+    ensures empties_later { (other : List ℕ) → S.empties shelf.old other ≤ S.empties shelf.new other }
 {
-    let plans = plans_of(alloc, machine.codecs.as_slice(), sound.format)?;
+    let plans = plans_of(alloc, machine.codecs.as_slice(), head.format)?;
     if have_route(plans.as_slice()) {
-        let played = play(alloc, machine, plans, sound, geometry, schedule)?;
+        let played = play(alloc, shelf, machine, plans, head, wav, geometry, schedule)?;
         Ok(Answer::Run(played))
     } else {
         let message = nothing_routed(alloc, machine.codecs.as_slice(), plans.as_slice())?;

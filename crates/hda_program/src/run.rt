@@ -1,19 +1,19 @@
 //! The program over any shelf and sink.
-ghost use Rattle.std.specs.Prelude.{◌≡◌, ◌≤◌, ℕ, List, map, string_bytes, IfSome, IsNone, IsSome, true, false};
+ghost use Rattle.std.specs.Prelude.{◌≡◌, ◌≢◌, ◌≤◌, ℕ, List, map, string_bytes, IfSome, IsNone, IsSome, IsSomeAnd, true, false};
 ghost use Rattle.stream_format.specs.declared.format.Format.{Format};
 ghost use Rattle.hda_outside.specs.Counts.{Rose};
 ghost use Rattle.sound_report.specs.Statuses.{number_of};
 ghost use Rattle.hda_program.specs.Answers.{HasEnded, HasWritten};
 ghost use Rattle.hda_program.specs.Asks.{AsksForItsFiles, IsNoCommand, IsPlayOf, IsRouteOf, IsWalkOf};
-ghost use Rattle.hda_program.specs.Causes.{HasBadCodecFile, HasBadRing, HasBadSchedule, HasBadWav, HasPlanned, HasUnreadFile, IsOfPlay, IsOfWalk, IsRunless};
+ghost use Rattle.hda_program.specs.Causes.{HasBadCodecFile, HasBadRing, HasBadSchedule, HasBadWav, HasPlanned, HasUnreadFile, IsOfSound, IsOfWalk, IsRunless, OfItsWav, WasShortened, WasUnread};
 ghost use Rattle.hda_program.specs.Promises.{HasRun, KeepsPromise};
 ghost use Rattle.hda_program.specs.Complete.{CanPlay, CanRoute, CanWalk, HasPlayedOn, HasRoutes, HasWalkedOn};
-ghost use Rattle.hda_program.specs.Meanings.{answer_meant, of_run, status_of, telling, written_status};
-ghost use Rattle.hda_program.specs.Files.{FailedUnder};
+ghost use Rattle.hda_program.specs.Meanings.{answer_meant, fault_status, of_run, status_of, telling, written_status};
+ghost use Rattle.hda_program.specs.Files.{EmptiedUnder, FailedUnder, GivenAtMost};
 
 use crate::answer::{Answer, answer_words};
 use hda_outside::{Fault, Shelf, Sink, write_all};
-use sound_report::{PlayFault, Played, Status, write_report};
+use sound_report::{CutLine, PlayFault, Played, Status, write_report};
 use std::alloc::Global;
 
 /// How the program ended. This project's own.
@@ -29,7 +29,8 @@ pub struct Ended {
 ///
 /// The statuses are those of [`Status`]. `route` ends with 0 where some pin has a route, `walk` where all codecs were set up, `play`
 /// where all frames of sound were played. `walk` and `play` give their run of the driver, also where its text could not be written. Where
-/// the files and the ring are good, some pin has a route and neither shelf nor sink fails, nothing is refused.
+/// the files and the ring are good, some pin has a route and neither shelf nor sink fails, nothing is refused. `play` reads the sound
+/// while it is played; where its reading is cut the run goes on over what was read.
 pub fn hda_main<S: Shelf, K: Sink>(
     alloc: Global,
     words: &[String],
@@ -38,10 +39,17 @@ pub fn hda_main<S: Shelf, K: Sink>(
 ) -> Ended
     // The meant text was written whole, or its front at a fault of the sink or at want of memory.
     ensures ended { HasEnded (S.told shelf.old) (FailedUnder (S.faults shelf.old) (S.faults shelf.new))
+        (EmptiedUnder (S.empties shelf.old) (S.empties shelf.new))
+        (GivenAtMost (S.given shelf.old) (S.given shelf.new))
         (map string_bytes words.now) (K.taken out.old) (K.taken out.new) (Rose (K.faults out.old) (K.faults out.new)) result.play result.status }
 
-    // The promise of `walk` and of `play`: the run that is given is the one that the words ask for, and its report was written.
-    ensures promise { IfSome result.play (KeepsPromise (HasRun (S.told shelf.old) (map string_bytes words.now))
+    // The promise of `walk` and of `play`: the run that is given is the one that the words ask for, few bytes were read for a sound,
+    // and its report was written.
+    ensures promise { IfSome result.play (KeepsPromise (HasRun (S.told shelf.old)
+        (FailedUnder (S.faults shelf.old) (S.faults shelf.new))
+        (EmptiedUnder (S.empties shelf.old) (S.empties shelf.new))
+        (GivenAtMost (S.given shelf.old) (S.given shelf.new))
+        (map string_bytes words.now))
         (K.taken out.old) (K.taken out.new) (Rose (K.faults out.old) (K.faults out.new)) result.status) }
 
     // When a run is given.
@@ -49,7 +57,16 @@ pub fn hda_main<S: Shelf, K: Sink>(
     ensures route_runless { (name : List ℕ) (format : Format) → IsRouteOf (map string_bytes words.now) name format → IsNone result.play }
     ensures walk_runs { (codec schedule : List ℕ) → IsWalkOf (map string_bytes words.now) codec schedule → IsOfWalk result.status → IsSome result.play }
     ensures play_runs { (codec wav schedule : List ℕ) (periods period : ℕ) → IsPlayOf (map string_bytes words.now) codec wav schedule periods period
-        → IsOfPlay result.status → IsSome result.play }
+        → IsOfSound result.status → IsSome result.play }
+
+    // Where the reading of a sound was cut. A shelf that tells its files lets none get shorter.
+    ensures unread_run { result.status ≡ number_of Status.ShelfFailed → IfSome result.play (λ played.
+        OfItsWav (λ name. WasUnread (FailedUnder (S.faults shelf.old) (S.faults shelf.new)) name played)
+        (map string_bytes words.now)) }
+    ensures shrunk_run { result.status ≡ number_of Status.WavShrank → IsSomeAnd result.play (λ played.
+        OfItsWav (λ name. WasShortened (EmptiedUnder (S.empties shelf.old) (S.empties shelf.new)) name played)
+        (map string_bytes words.now)) }
+    ensures never_shrinks { IfSome (S.told shelf.old) (λ files. result.status ≢ number_of Status.WavShrank) }
 
     // The causes of single statuses.
     ensures refused_words { result.status ≡ number_of Status.WordsRefused → IsNoCommand (map string_bytes words.now) }
@@ -122,7 +139,7 @@ fn write_run<K: Sink>(alloc: Global, out: &mut K, played: &Played) -> Status
     ensures written { HasWritten (K.taken out.old) (K.taken out.new) (Rose (K.faults out.old) (K.faults out.new)) (of_run played.now) (number_of result) }
     ensures later { K.faults out.old ≤ K.faults out.new }
 {
-    written_status(write_report(alloc, out, played), status_of(played.fault))
+    written_status(write_report(alloc, out, played), status_of(played))
 }
 
 /// The status of a text that was written so: its own, or that of the fault.
@@ -136,9 +153,20 @@ fn written_status(written: Result<(), Fault>, status: Status) -> Status
     }
 }
 
+/// The status of a run: how the reading of its sound was cut comes first.
+fn status_of(played: &Played) -> Status
+    ensures { result ≡ status_of played.now }
+{
+    match played.cut {
+        Some(CutLine::Failed(_)) => Status::ShelfFailed,
+        Some(CutLine::Short(_)) => Status::WavShrank,
+        None => fault_status(played.fault),
+    }
+}
+
 /// The status of a run that ended so.
-fn status_of(fault: Option<PlayFault>) -> Status
-    ensures { result ≡ status_of fault }
+fn fault_status(fault: Option<PlayFault>) -> Status
+    ensures { result ≡ fault_status fault }
 {
     match fault {
         None => Status::Done,

@@ -1,6 +1,6 @@
 //! The schedule of a command.
 ghost use Rattle.std.specs.Prelude.{◌≡◌, ◌≢◌, ◌≤◌, ℕ, List, IfOk, length};
-ghost use Rattle.hda_program.specs.Files.{AreScheduleBytesRead, FailedUnder, IsScheduleRead};
+ghost use Rattle.hda_program.specs.Files.{AreScheduleBytesRead, FailedUnder, GivenAtMost, IsScheduleRead};
 
 use crate::message::{Message, schedule_refused, unreadable};
 use crate::text::push_schedule_fault;
@@ -17,10 +17,12 @@ pub(crate) fn read_schedule_file<S: Shelf>(
     shelf: &mut S,
     name: &str,
 ) -> Result<Result<Schedule, Message>, AllocError>
-    ensures read { IfOk result (IsScheduleRead (S.told shelf.old) (FailedUnder (S.faults shelf.old) (S.faults shelf.new)) name.now) }
+    ensures read { IfOk result (IsScheduleRead (S.told shelf.old) (FailedUnder (S.faults shelf.old) (S.faults shelf.new))
+        (GivenAtMost (S.given shelf.old) (S.given shelf.new)) name.now) }
     ensures asked { (other : List ℕ) → other ≢ name.now → S.asked shelf.new other ≡ S.asked shelf.old other }
     ensures told { S.told shelf.new ≡ S.told shelf.old }
     ensures later { (other : List ℕ) → S.faults shelf.old other ≤ S.faults shelf.new other }
+    ensures empties_later { (other : List ℕ) → S.empties shelf.old other ≤ S.empties shelf.new other }
 {
     match read_all(alloc, shelf, name, MOST_SCHEDULE_BYTES as u64) {
         Ok(bytes) => read_bytes(alloc, bytes.as_slice()),

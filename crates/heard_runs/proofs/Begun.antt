@@ -19,13 +19,12 @@ use Rattle.command_engine.specs.declared.ring_places.RingPlaces.{RingPlaces}
 use Rattle.command_engine.specs.Courses as engine
 use Rattle.command_engine.proofs.Callers.{event_keeps, responses_apart}
 use Rattle.period_writer.specs.declared.course.Ran.{Ran}
-use Rattle.period_writer.specs.declared.writer.Writer.{Writer}
 use Rattle.period_writer.specs.Runs.{Tally, measures, facts_of}
 use Rattle.period_writer.specs.Lines.{line_of}
 use Rattle.period_writer.specs.Playing.{run_bytes}
 use Rattle.period_writer.specs.Starting.{rise_accesses}
 use Rattle.period_writer.specs.Standing.{Ring}
-use Rattle.period_writer.specs.Writers.{tally_of, ring_of}
+use Rattle.period_writer.specs.Writers.{WriterState, tally_of, ring_of}
 use Rattle.period_writer.specs.Outcomes.{HasNotWrapped, CanBegin, StartTells}
 use Rattle.codec_bring_up.specs.declared.bringing.BringUp.{BringUp}
 use Rattle.codec_bring_up.specs.Told.{IsBefore}
@@ -174,7 +173,7 @@ module _ (laws : FirstLaws) (on : Laws) (codecs : List CodecState) (ring : Ring)
 
 -- ---- the call
 
-pub first_sounds : (laws : FirstLaws) (on : Laws) (pcm : List ℕ) (irq : Bool) (budget : ℕ) (old new : BringUp) (writer writer' : Writer) (supply : List ℕ) (made : List Event) (before after : Telling) (from read corb rirb : ℕ)
+pub first_sounds : (laws : FirstLaws) (on : Laws) (pcm : List ℕ) (irq : Bool) (budget : ℕ) (old new : BringUp) (writer writer' : WriterState) (supply : List ℕ) (made : List Event) (before after : Telling) (from read corb rirb : ℕ)
     → Begins irq budget old new writer writer' supply made before after → StaysSet old new writer writer' → supply ≡ pcm → Along HasNotBegun before.journal before.start → Rests writer.geometry.fifo (world_of before)
     → engine.Stands from read corb rirb old.engine.rings (world_of before) → (world_of before).registers.global.corb_read_pointer ≡ (world_of before).registers.global.corb_write_pointer → AreApartFrom (ring_of writer) rirb
     → HasNotWrapped (world_of after) → Sounds (world_of before).codecs (ring_of writer') pcm (tally_of writer') after

@@ -16,10 +16,9 @@ use Rattle.command_engine.specs.Polling.{PollReads, entry_reads, batch_accesses,
 use Rattle.period_writer.specs.declared.course.Ran.{Ran}
 use Rattle.period_writer.specs.declared.course.Ran.TheVariants as ran
 use Rattle.period_writer.specs.declared.geometry.Geometry.{Geometry}
-use Rattle.period_writer.specs.declared.writer.Writer.{Writer}
 use Rattle.period_writer.specs.Runs.{Tally}
 use Rattle.period_writer.specs.Standing.{Ring}
-use Rattle.period_writer.specs.Writers.{tally_of, measures_of, ring_of}
+use Rattle.period_writer.specs.Writers.{WriterState, tally_of, measures_of, ring_of}
 use Rattle.period_writer.specs.Blocks.{addresses_of}
 use Rattle.period_writer.specs.Outcomes.{HasNotWrapped}
 use Rattle.driver_progress.specs.declared.registers.TheConstants.{STREAM_STATUS}
@@ -133,7 +132,7 @@ module _ (task : Task) (state : State) (budget limit : ℕ) (tally : Tally) (mad
   still_by (ran.Late from to) true cause = tt {0}
   still_by (ran.Late from to) false cause = tt {0}
 
-still_beside : (irq : Bool) (budget : ℕ) (old new : BringUp) (writer writer' : Writer) (made : List Event) (task : Task) (found : Bool) → IsStill irq old new writer writer' made
+still_beside : (irq : Bool) (budget : ℕ) (old new : BringUp) (writer writer' : WriterState) (made : List Event) (task : Task) (found : Bool) → IsStill irq old new writer writer' made
     → IsStretch task (state_of old writer) (Some (record { irq = irq; budget = budget })) made found (state_of new writer') → writer.course.started ≡ true → All IsBeside made
 still_beside irq budget old new writer writer' made task found still stretch started =
     let limit = (measures_of writer).limit in
@@ -149,7 +148,7 @@ same_rings : (g g' : Geometry) (l l' : ℕ) (p p' : List ℕ) → g' ≡ g → l
     → let new : Ring = record { geometry = g'; list = l'; periods = p' } in let old : Ring = record { geometry = g; list = l; periods = p } in new ≡ old
 same_rings g g' l l' p p' a b c = cc
 
-pub ring_same : (old new : BringUp) (writer writer' : Writer) → StaysSet old new writer writer' → ring_of writer' ≡ ring_of writer
+pub ring_same : (old new : BringUp) (writer writer' : WriterState) → StaysSet old new writer writer' → ring_of writer' ≡ ring_of writer
 ring_same old new writer writer' stays = same_rings _ _ _ _ _ _ stays.geometry (ap (λ list. list.address) stays.list) (ap addresses_of stays.periods)
 
 pub open_plays : (was : Ran) → is_open was ≡ true → was ≡ ran.Playing
@@ -157,12 +156,12 @@ open_plays ran.Playing is = refl
 open_plays ran.Drained is = absurd (not_true is)
 open_plays (ran.Late from to) is = absurd (not_true is)
 
-module _ (laws : Laws) (codecs : List CodecState) (pcm : List ℕ) (irq : Bool) (budget : ℕ) (old new : BringUp) (writer writer' : Writer) (supply : List ℕ) (made : List Event) (before after : Telling) where
+module _ (laws : Laws) (codecs : List CodecState) (pcm : List ℕ) (irq : Bool) (budget : ℕ) (old new : BringUp) (writer writer' : WriterState) (supply : List ℕ) (made : List Event) (before after : Telling) where
   still_sounds : (task : Task) (found : Bool) → IsStill irq old new writer writer' made → Makes made before after
       → IsStretch task (state_of old writer) (Some (record { irq = irq; budget = budget })) made found (state_of new writer')
       → Sounds codecs (ring_of writer) pcm (tally_of writer) before → Sounds codecs (ring_of writer') pcm (tally_of writer') after
   still_sounds task found still makes stretch sounds =
-      subst (λ (writer : Writer). Sounds codecs (ring_of writer) pcm (tally_of writer) after) (sym still.writer_is)
+      subst (λ (writer : WriterState). Sounds codecs (ring_of writer) pcm (tally_of writer) after) (sym still.writer_is)
       (row_sounds laws codecs (ring_of writer) pcm (tally_of writer) made before after makes (still_beside irq budget old new writer writer' made task found still stretch sounds.started) sounds)
 
   goes_sounds : GoesOn irq budget old new writer writer' supply made before after → StaysSet old new writer writer' → IsLeft pcm writer.course supply → HasNotWrapped (world_of after)

@@ -2,7 +2,6 @@
 use Rattle.std.proofs.Common.{◌≡◌, inl, inr, ◌≤◌, ◌+◌, ◌-◌, ◌*◌, ◌/◌, ◌&&◌, ℕ, Bool, true, false, List, [], ◌∷◌, ◌++◌, length, map, drop, Some, refl, sym, ap, subst, ◌∙◌, arith, rules}
 use Rattle.std.specs.Prelude.{All, nat_lt}
 use Rattle.std.specs.List.{range_with_len}
-use Rattle.std.specs.Vec.{vec_len}
 use Rattle.std.proofs.Math.Nat.{mod-eq_of_lt, div-mul-le_self}
 use Rattle.std.proofs.lemmas.Nat.{le-div}
 use Rattle.std.proofs.lemmas.List.Elements.{All-from_recursion}
@@ -26,7 +25,6 @@ use Rattle.hda_world.proofs.Callers.{world_of-went, went_both, Weaving, woven}
 use Rattle.command_engine.specs.Polling.{poll_accesses}
 use Rattle.period_writer.specs.declared.course.Ran.{Ran}
 use Rattle.period_writer.specs.declared.course.Ran.TheVariants as ran
-use Rattle.period_writer.specs.declared.writer.Writer.{Writer}
 use Rattle.period_writer.specs.declared.registers.TheConstants.{CONTROL}
 use Rattle.period_writer.specs.Rings.{period_bytes}
 use Rattle.period_writer.specs.Courses.{IsCourse}
@@ -37,7 +35,7 @@ use Rattle.period_writer.specs.Playing.{run_bytes, turn_accesses, finish_accesse
 use Rattle.period_writer.specs.Standing.{Ring, size_of, limit_in}
 use Rattle.period_writer.specs.Owning.{IsPlaying}
 use Rattle.period_writer.specs.Beside.{LeavesStopped}
-use Rattle.period_writer.specs.Writers.{tally_of, ring_of}
+use Rattle.period_writer.specs.Writers.{WriterState, tally_of, ring_of}
 use Rattle.period_writer.specs.Outcomes.{HasNotWrapped, HasDrained, WasStopped, EndsLast, FinishTells}
 use Rattle.driver_stretches.specs.Shutting.{shut_accesses}
 use Rattle.codec_bring_up.specs.declared.bringing.BringUp.{BringUp}
@@ -211,7 +209,7 @@ module _ (laws : HearLaws) (codecs : List CodecState) (ring : Ring) (pcm : List 
 
 -- ---- the last call
 
-module _ (on : Laws) (laws : HearLaws) (codecs : List CodecState) (pcm : List ℕ) (old ended : BringUp) (writer : Writer) (tally' : Tally) (supply : List ℕ) (made last : List Event) (before after : Telling)
+module _ (on : Laws) (laws : HearLaws) (codecs : List CodecState) (pcm : List ℕ) (old ended : BringUp) (writer : WriterState) (tally' : Tally) (supply : List ℕ) (made last : List Event) (before after : Telling)
     (went : Went before after last) (small : Along HasNotWrapped last (world_of before)) (left : IsLeft pcm writer.course supply) (sounds : Sounds codecs (ring_of writer) pcm (tally_of writer) before) where
   abbrev ring : Ring
   ring = ring_of writer
@@ -333,7 +331,7 @@ module _ (on : Laws) (laws : HearLaws) (codecs : List CodecState) (pcm : List �
       set_going ran.Playing is run,
       has_stopped ran.Playing is run,
       λ alone. hear laws codecs ring pcm tally' (world_of begins) here.heard (world_of after).carried (carried_begins alone)
-          (playing_heard laws codecs ring pcm tally tally' (vec_len writer.runs) writer.course_is begins ends playing here.heard small_begins run is ran_on.events ran_on.went (all_back IsNoStep polled.events ran_on.events (alone_ends alone)))
+          (playing_heard laws codecs ring pcm tally tally' (length writer.runs) stops_sound.course_is begins ends playing here.heard small_begins run is ran_on.events ran_on.went (all_back IsNoStep polled.events ran_on.events (alone_ends alone)))
           (λ drained. absurd (never_drained ran.Playing refl (is ∙ drained))),
     )
     ends_by ran.Drained is run = (

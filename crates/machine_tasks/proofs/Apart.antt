@@ -9,10 +9,9 @@ use Rattle.dma_pool.specs.Blocks.{run_at}
 use Rattle.dma_pool.specs.Several.{TakesAll}
 use Rattle.command_engine.specs.Blocks.{rirb_bytes}
 use Rattle.period_writer.specs.declared.geometry.Geometry.{Geometry}
-use Rattle.period_writer.specs.declared.writer.Writer.{Writer}
 use Rattle.period_writer.specs.Blocks.{addresses_of}
 use Rattle.period_writer.specs.Rings.{period_bytes, list_bytes}
-use Rattle.period_writer.specs.Writers.{periods_of, ring_of}
+use Rattle.period_writer.specs.Writers.{WriterState, periods_of, ring_of}
 use Rattle.period_writer.proofs.Callers.{adds_keeps}
 use Rattle.codec_bring_up.specs.declared.bringing.BringUp.{BringUp}
 use Rattle.audio_driver.specs.Opening.{Opens}
@@ -52,8 +51,8 @@ taken_apart geometry pool pool' corb rirb list periods aligned aligned' opens = 
   later : Contains opens.writer.middle (run_at rirb rirb_bytes)
   later = adds_keeps opens.middle.taken (run_at list (list_bytes geometry.periods)) opens.writer.middle opens.writer.list_taken.adds (run_at rirb rirb_bytes) first
 
-pub opened_apart : (geometry : Geometry) (pool pool' : PoolState) (bring_up : BringUp) (writer : Writer) → writer.geometry ≡ geometry
+pub opened_apart : (geometry : Geometry) (pool pool' : PoolState) (bring_up : BringUp) (writer : WriterState) → writer.geometry ≡ geometry
     → Opens geometry pool bring_up.engine.corb.address bring_up.engine.rirb.address writer.list.address (periods_of writer) pool' → AreApartFrom (ring_of writer) bring_up.engine.rirb.address
 opened_apart geometry pool pool' bring_up writer same opens =
     subst (λ (g : Geometry). AreApartFrom (record { geometry = g; list = writer.list.address; periods = periods_of writer }) bring_up.engine.rirb.address) (sym same)
-    (taken_apart geometry pool pool' bring_up.engine.corb.address bring_up.engine.rirb.address writer.list.address writer.periods.items bring_up.engine.rirb.aligned writer.list.aligned opens)
+    (taken_apart geometry pool pool' bring_up.engine.corb.address bring_up.engine.rirb.address writer.list.address writer.periods bring_up.engine.rirb.aligned writer.list.aligned opens)

@@ -16,7 +16,7 @@ use Rattle.rig.specs.Replays.{start_of}
 use Rattle.command_engine.specs.declared.ring_places.RingPlaces.{RingPlaces}
 use Rattle.command_engine.specs.Courses.{HasBlocks, AscendFrom, AscendByAddress, graphs_in}
 use Rattle.period_writer.specs.declared.geometry.Geometry.{Geometry}
-use Rattle.period_writer.specs.declared.writer.Writer.{Writer}
+use Rattle.period_writer.specs.Writers.{WriterState}
 use Rattle.driver_progress.specs.declared.phase.Phase.{Phase}
 use Rattle.driver_progress.specs.declared.phase.Phase.TheVariants.{Reset}
 use Rattle.driver_progress.specs.States.{State, state_opened}
@@ -78,14 +78,14 @@ can_begin bring_up machine size whole_region sound whole sent walked = record {
 abbrev state_with : Phase → (kept sent : ℕ) → RingPlaces → State
 state_with phase kept sent rings = record { phase = phase; kept = kept; sent = sent; rings = rings; tally = tally_opened }
 
-opened_state : (bring_up : BringUp) (geometry : Geometry) (most : ℕ) (writer : Writer) → IsOpened geometry most bring_up writer → state_of bring_up ≡ state_opened
+opened_state : (bring_up : BringUp) (geometry : Geometry) (most : ℕ) (writer : WriterState) → IsOpened geometry most bring_up writer → state_of bring_up ≡ state_opened
 opened_state bring_up geometry most writer opened =
     ap (λ (phase : Phase). state_with phase bring_up.kept bring_up.sent bring_up.engine.rings) opened.phase
     ∙ ap (λ (kept : ℕ). state_with Reset kept bring_up.sent bring_up.engine.rings) opened.kept
     ∙ ap (λ (sent : ℕ). state_with Reset 0 sent bring_up.engine.rings) opened.sent
     ∙ ap (λ (rings : RingPlaces). state_with Reset 0 0 rings) opened.rings
 
-pub begins : (format : Format) (machine : Machine) (plans : List Plan) (geometry : Geometry) (plays : Bool) (pcm : List ℕ) (most : ℕ) (bring_up : BringUp) (writer : Writer) → IsSound machine → IsWhole machine → IsOpened geometry most bring_up writer
+pub begins : (format : Format) (machine : Machine) (plans : List Plan) (geometry : Geometry) (plays : Bool) (pcm : List ℕ) (most : ℕ) (bring_up : BringUp) (writer : WriterState) → IsSound machine → IsWhole machine → IsOpened geometry most bring_up writer
     → BeginsAt format machine plans (task_of format machine plans geometry plays pcm (blocks_of bring_up writer)) bring_up
 begins format machine plans geometry plays pcm most bring_up writer sound whole opened =
     let task = task_of format machine plans geometry plays pcm (blocks_of bring_up writer) in
@@ -100,7 +100,7 @@ begins format machine plans geometry plays pcm most bring_up writer sound whole 
     }
 
 -- so it stands to every world of which nothing was asked yet
-pub stands_before : (IsPlanBy : RawCodec → Plan → Type 0) (verbs : RawCodec → List Command) (task : Task) (geometry : Geometry) (most : ℕ) (bring_up : BringUp) (writer : Writer) (world : World)
+pub stands_before : (IsPlanBy : RawCodec → Plan → Type 0) (verbs : RawCodec → List Command) (task : Task) (geometry : Geometry) (most : ℕ) (bring_up : BringUp) (writer : WriterState) (world : World)
     → IsOpened geometry most bring_up writer → IsTaskOf bring_up task → length world.memory ≡ REGION_BYTES → AscendByAddress world.codecs → HasOnly world → world.registers.global.corb_run ≡ 0 → All KeepsDefaults world.codecs
     → IsBroughtUp IsPlanBy verbs (graphs_in world.codecs) task 0 bring_up world × (state_of bring_up ≡ state_opened)
 stands_before IsPlanBy verbs task geometry most bring_up writer world opened blocks whole ascend only stopped defaults = (

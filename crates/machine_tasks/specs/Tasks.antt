@@ -12,7 +12,7 @@ use Rattle.hda_files.specs.declared.machine.CodecFile.{CodecFile}
 use Rattle.heard_lists.specs.Listings.{graphs_in}
 use Rattle.hda_files.specs.declared.machine.Machine.{Machine}
 use Rattle.period_writer.specs.declared.geometry.Geometry.{Geometry}
-use Rattle.period_writer.specs.declared.writer.Writer.{Writer}
+use Rattle.period_writer.specs.Writers.{WriterState}
 use Rattle.period_writer.specs.Blocks.{addresses_of}
 use Rattle.driver_progress.specs.Tasks.{Task, Blocks, order_of, walks_over}
 use Rattle.codec_bring_up.specs.declared.bringing.BringUp.{BringUp}
@@ -52,10 +52,10 @@ task_of format machine plans geometry plays pcm blocks = record {
 }
 
 -- where the blocks of a driver lie
-abbrev pub blocks_of : BringUp → Writer → Blocks
+abbrev pub blocks_of : BringUp → WriterState → Blocks
 blocks_of bring_up writer = record {
   corb = bring_up.engine.corb.address;
   rirb = bring_up.engine.rirb.address;
   list = writer.list.address;
-  periods = addresses_of writer.periods.items;
+  periods = addresses_of writer.periods;
 }

@@ -45,7 +45,8 @@ const FIRST_COMMANDS: u32 = 10;
 /// How many of them go to one codec.
 fn codec_count(alloc: Global, graph: &Graph, plan: &Plan, format: Format) -> Result<u32, AllocError>
     requires { IsPlan graph.now format plan.now }
-    ensures value { IfOk result (λ count. count ≡ length (walk_commands graph.now) + length (verbs_by format graph.now plan.now)) }
+    ensures value { IfOk result (λ count.
+        count ≡ length (walk_commands graph.now) + length (verbs_by format graph.now plan.now)) }
     ensures few { IfOk result (λ count. count ≤ 50000) }
 {
     let verbs = verb_count(alloc, graph, plan, format)?;

@@ -17,11 +17,10 @@ ghost use Rattle.dma_pool.specs.Pools.{PoolState};
 ghost use Rattle.hda_files.specs.declared.machine.Machine.{Machine};
 ghost use Rattle.hda_files.specs.Machines.{IsSound};
 ghost use Rattle.period_writer.specs.declared.geometry.Geometry.{Geometry};
-ghost use Rattle.period_writer.specs.declared.writer.Writer.{Writer};
 ghost use Rattle.driver_progress.specs.Tasks.{Blocks, Task};
 ghost use Rattle.codec_bring_up.specs.declared.bringing.BringUp.{BringUp};
 ghost use Rattle.audio_driver.specs.Opening.{Opens, IsOpened, HasNoRuns};
-ghost use Rattle.period_writer.specs.Writers.{periods_of, ring_of};
+ghost use Rattle.period_writer.specs.Writers.{WriterState, periods_of, ring_of};
 ghost use Rattle.rig.specs.Replays.{start_of};
 ghost use Rattle.stream_rest.specs.Resting.{Rests, AreApartFrom};
 ghost use Rattle.told_bring_up.specs.Standing.{IsTaskOfCodecs, IsBroughtUp};
@@ -41,26 +40,34 @@ pub fn read_machines_are_whole()
 /// What is to be done for a machine of which some pin has a route, with any ring of periods, sound and blocks, is the task of its codecs: the
 /// walks over them, and then the set-up verbs of each by its plan.
 pub fn machines_have_tasks()
-    ensures { (format : Format) (machine : Machine) (plans : List Plan) (geometry : Geometry) (plays : Bool) (pcm : List ℕ) (blocks : Blocks)
+    ensures { (format : Format) (machine : Machine) (plans : List Plan) (geometry : Geometry) (plays : Bool)
+        (pcm : List ℕ) (blocks : Blocks)
         → IsSound machine → IsRead machine → HavePlans format machine.codecs plans → have_route plans ≡ true
-        → IsTaskOfCodecs (λ (graph : RawCodec). IsPlan graph format) (verbs_by format) (verbs_in format machine.codecs plans) (graphs_of machine.codecs) (task_of format machine plans geometry plays pcm blocks) }
+        → IsTaskOfCodecs (λ (graph : RawCodec). IsPlan graph format) (verbs_by format)
+        (verbs_in format machine.codecs plans) (graphs_of machine.codecs)
+        (task_of format machine plans geometry plays pcm blocks) }
 {}
 
 /// A driver that was just opened, for any number of calls, stands to the start of a machine as its task asks, and nothing was done yet.
 pub fn opened_drivers_can_begin()
-    ensures { (format : Format) (machine : Machine) (plans : List Plan) (geometry : Geometry) (plays : Bool) (pcm : List ℕ) (most : ℕ) (bring_up : BringUp) (writer : Writer)
+    ensures { (format : Format) (machine : Machine) (plans : List Plan) (geometry : Geometry) (plays : Bool)
+        (pcm : List ℕ) (most : ℕ) (bring_up : BringUp) (writer : WriterState)
         → IsSound machine → IsRead machine → IsOpened geometry most bring_up writer
-        → BeginsAt format machine plans (task_of format machine plans geometry plays pcm (blocks_of bring_up writer)) bring_up }
+        → BeginsAt format machine plans
+        (task_of format machine plans geometry plays pcm (blocks_of bring_up writer)) bring_up }
 {}
 
 /// A driver that was just opened stands to every world of which nothing was asked yet, for each task with its blocks: codecs stand by
 /// address, none but these announced itself, they have their pins' configuration defaults, and CORB's engine does not run. Nothing was
 /// done yet.
 pub fn opened_drivers_stand<T: Setter>()
-    ensures { (setter : T) (format : Format) (verbs : RawCodec → List Command) (task : Task) (geometry : Geometry) (most : ℕ) (bring_up : BringUp) (writer : Writer) (world : World)
-        → IsOpened geometry most bring_up writer → IsTaskOf bring_up task → length world.memory ≡ REGION_BYTES → AscendByAddress world.codecs → HasOnly world
+    ensures { (setter : T) (format : Format) (verbs : RawCodec → List Command) (task : Task) (geometry : Geometry)
+        (most : ℕ) (bring_up : BringUp) (writer : WriterState) (world : World)
+        → IsOpened geometry most bring_up writer → IsTaskOf bring_up task → length world.memory ≡ REGION_BYTES
+        → AscendByAddress world.codecs → HasOnly world
         → world.registers.global.corb_run ≡ 0 → All KeepsDefaults world.codecs
-        → IsBroughtUp (λ graph. T.IsPlanBy setter graph format) verbs (graphs_in world.codecs) task 0 bring_up world × (state_of bring_up ≡ state_opened) }
+        → IsBroughtUp (λ graph. T.IsPlanBy setter graph format) verbs (graphs_in world.codecs) task 0 bring_up world
+        × (state_of bring_up ≡ state_opened) }
 {}
 
 /// In a pool that fills the region and of which nothing is taken there are runs for the blocks of a driver with any ring of periods.
@@ -75,7 +82,9 @@ pub fn machines_rest()
 
 /// The blocks that a driver took when it was opened lie apart: those of its ring have no byte of RIRB.
 pub fn opened_blocks_lie_apart()
-    ensures { (geometry : Geometry) (pool pool' : PoolState) (bring_up : BringUp) (writer : Writer) → writer.geometry ≡ geometry
-        → Opens geometry pool bring_up.engine.corb.address bring_up.engine.rirb.address writer.list.address (periods_of writer) pool'
+    ensures { (geometry : Geometry) (pool pool' : PoolState) (bring_up : BringUp) (writer : WriterState)
+        → writer.geometry ≡ geometry
+        → Opens geometry pool bring_up.engine.corb.address bring_up.engine.rirb.address writer.list.address
+        (periods_of writer) pool'
         → AreApartFrom (ring_of writer) bring_up.engine.rirb.address }
 {}

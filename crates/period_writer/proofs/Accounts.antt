@@ -1,10 +1,10 @@
 -- What a run takes of a supply, and how much of it is recorded.
-use Rattle.std.proofs.Common.{◌≡◌, ◌≤◌, ◌<◌, ◌+◌, ◌-◌, ◌*◌, ◌/◌, ◌%◌, ◌∙◌, ℕ, zero, suc, Bool, true, false, length, refl, ap, sym, subst, arith}
-use Rattle.std.specs.Prelude.{min, drop, if◌then◌else◌}
+use Rattle.std.proofs.Common.{◌≡◌, ◌≤◌, ◌+◌, ◌-◌, ◌*◌, ◌/◌, ◌%◌, ◌∙◌, ℕ, zero, suc, Bool, true, false, length, refl, ap, sym, subst, arith}
+use Rattle.std.specs.Prelude.{min, if◌then◌else◌}
 use Rattle.std.proofs.lemmas.List.{length-drop}
 use Rattle.std.proofs.lemmas.Nat.{div-add-mod', mod-mul-add, mod_below}
 use Rattle.std.proofs.Math.Nat.{mul-mod_left, mod-zero}
-use Rattle.wav_reader.specs.Supplies.{Supplied, Suffices, without}
+use Rattle.wav_reader.specs.Supplies.{Supplied, without}
 use Rattle.period_writer.specs.declared.course.Course.{Course}
 use Rattle.period_writer.specs.declared.course.Ran.TheVariants.{Drained, Playing}
 use Rattle.period_writer.specs.Courses.{IsCourse}

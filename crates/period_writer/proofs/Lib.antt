@@ -21,6 +21,7 @@ pub mod FirstRuns
 pub mod Begins
 pub mod Started
 pub mod FreshWriters
+pub mod KeptRings
 pub mod Paces
 pub mod RingMemory
 pub mod RingKept

@@ -1,6 +1,6 @@
 -- A run is the same over all sound that is left and over a part of it that holds what the run may take.
-use Rattle.std.proofs.Common.{◌≡◌, ◌≤◌, ◌<◌, ◌+◌, ◌-◌, ◌%◌, ◌==◌, ◌∙◌, ℕ, Bool, true, false, List, length, refl, ap, sym, subst, arith, rules, if◌then◌else◌}
-use Rattle.std.specs.Prelude.{min, nat_le, ◌&&◌, take, drop, [], ◌∷◌, ◌++◌}
+use Rattle.std.proofs.Common.{◌≡◌, ◌≤◌, ◌<◌, ◌+◌, ◌-◌, ◌%◌, ◌==◌, ◌∙◌, ℕ, Bool, true, false, refl, ap, arith, if◌then◌else◌}
+use Rattle.std.specs.Prelude.{min, nat_le, ◌&&◌, [], ◌∷◌, ◌++◌}
 use Rattle.std.proofs.lemmas.Nat.{mod_below}
 use Rattle.period_writer.specs.declared.course.Course.{Course}
 use Rattle.period_writer.specs.declared.course.Ran.TheVariants.{Drained, Playing}

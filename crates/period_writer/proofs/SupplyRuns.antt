@@ -1,10 +1,9 @@
 -- A run that a supply suffices for is one over each sound that the supply may yet give.
-use Rattle.std.proofs.Common.{◌≡◌, ◌≤◌, ◌<◌, ◌+◌, ◌-◌, ◌*◌, ◌==◌, ◌&&◌, ◌∙◌, nat_lt, ℕ, Bool, true, false, List, [], ◌∷◌, ◌++◌, length, refl, ap, sym, subst, arith, rules, append_assoc, Option}
-use Rattle.std.specs.Prelude.{min, take, drop, replicate}
-use Rattle.std.proofs.Math.Seq.{drop-append_seam, take-length}
-use Rattle.std.proofs.lemmas.List.{length-append, length-take-le, length-drop, take-append-le, take-append-drop}
-use Rattle.wav_reader.specs.Supplies.{Supplied, MayGive, Suffices, EndsWith, IsTaken, without, sound_before}
-use Rattle.wav_reader.proofs.Callers.{with_taken, before_is, given_before, rest_after, first_of}
+use Rattle.std.proofs.Common.{◌≡◌, ◌≤◌, ◌+◌, ◌-◌, ◌*◌, ◌&&◌, ◌∙◌, nat_lt, ℕ, Bool, true, false, List, [], ◌∷◌, ◌++◌, length, refl, ap, sym, subst, arith}
+use Rattle.std.specs.Prelude.{min, drop, replicate}
+use Rattle.std.proofs.lemmas.List.{length-append}
+use Rattle.wav_reader.specs.Supplies.{Supplied, MayGive, Suffices, EndsWith, without}
+use Rattle.wav_reader.proofs.Callers.{with_taken, given_before, rest_after, first_of}
 use Rattle.period_writer.specs.declared.course.Course.{Course}
 use Rattle.period_writer.specs.Courses.{IsCourse}
 use Rattle.period_writer.specs.Lines.{sound_and_silence}

@@ -65,7 +65,9 @@ impl Geometry {
         requires few_periods { periods ≤ 32 }
         requires some { 1 ≤ period }
         requires few { period ≤ 128 }
-        ensures exact { MatchResult result (λ geometry. rings.fault_of periods period fifo format ≡ None) (λ fault. rings.fault_of periods period fifo format ≡ Some fault) }
+        ensures exact { MatchResult result
+            (λ geometry. rings.fault_of periods period fifo format ≡ None)
+            (λ fault. rings.fault_of periods period fifo format ≡ Some fault) }
         ensures periods { IfOk result (λ geometry. geometry.periods ≡ periods) }
         ensures period { IfOk result (λ geometry. geometry.period ≡ period) }
         ensures fifo { IfOk result (λ geometry. geometry.fifo ≡ fifo) }

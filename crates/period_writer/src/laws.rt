@@ -11,15 +11,18 @@ use crate::registers::{CONTROL, FORMAT, LAST_INDEX, LIST_ADDRESS, POSITION, RING
 /// is the sound in order.
 pub fn runs_append_to_the_line()
     ensures opened { IsLine tally_opened }
-    ensures kept { (m : Measures) (runs : ℕ) (tally : Tally) (facts : RunFacts) → IsCourse m.ring runs tally.course → IsLine tally → IsLine (tally_if false m tally facts) }
-    ensures grows { (m : Measures) (runs : ℕ) (tally : Tally) (facts : RunFacts) (pcm : List ℕ) → IsCourse m.ring runs tally.course → IsLine tally
-        → line_of (tally_if false m tally facts) pcm ≡ line_of tally pcm ++ run_bytes m tally.course facts (drop tally.course.used pcm) }
+    ensures kept { (m : Measures) (runs : ℕ) (tally : Tally) (facts : RunFacts)
+        → IsCourse m.ring runs tally.course → IsLine tally → IsLine (tally_if false m tally facts) }
+    ensures grows { (m : Measures) (runs : ℕ) (tally : Tally) (facts : RunFacts) (pcm : List ℕ)
+        → IsCourse m.ring runs tally.course → IsLine tally → line_of (tally_if false m tally facts) pcm
+        ≡ line_of tally pcm ++ run_bytes m tally.course facts (drop tally.course.used pcm) }
 {}
 
 /// Where a run stands is kept by runs: the line ends one ring ahead of the last one, and neither the sound nor its end is past that.
 pub fn runs_keep_the_course()
     ensures opened { (ring : ℕ) → IsCourse ring 0 tally_opened.course }
-    ensures kept { (m : Measures) (runs : ℕ) (tally : Tally) (facts : RunFacts) → 1 ≤ m.ring → IsCourse m.ring runs tally.course
+    ensures kept { (m : Measures) (runs : ℕ) (tally : Tally) (facts : RunFacts)
+        → 1 ≤ m.ring → IsCourse m.ring runs tally.course
         → IsCourse m.ring (runs + 1) (tally_if false m tally facts).course }
     ensures late { (m : Measures) (runs : ℕ) (tally : Tally) (facts : RunFacts) → IsCourse m.ring runs tally.course
         → IsCourse m.ring runs (tally_if true m tally facts).course }

@@ -51,7 +51,9 @@ fn write_filled<P: Platform>(
     requires small { base + period.old.bytes < 2 ^ 64 }
     requires room { 1 ≤ P.spare_accesses platform.old }
     requires bytes_room { length piece.old ≤ P.spare_bytes platform.old }
-    ensures told { Between (λ old new. Accessed old new (DmaWrite (period.old.address + (from - base)) (sound_and_silence sound (length piece.old) supply.old.held))) (P.told platform.old) (P.told platform.new) }
+    ensures told { Between (λ old new. Accessed old new (DmaWrite
+        (period.old.address + (from - base)) (sound_and_silence sound (length piece.old) supply.old.held)))
+        (P.told platform.old) (P.told platform.new) }
     ensures supply { supply.new ≡ without sound supply.old }
     ensures same { period.new ≡ period.old }
     ensures fixed { P.fixed platform.new ≡ P.fixed platform.old }
@@ -108,7 +110,10 @@ fn write_step<P: Platform>(
     requires left { piece.sound ≤ length supply.old.held }
     requires room { 1 ≤ P.spare_accesses platform.old }
     requires bytes_room { piece.to - piece.from ≤ P.spare_bytes platform.old }
-    ensures told { Between (λ old new. Accessed old new (DmaWrite (spec.place_in (length buffer.old) (addresses_of periods.old) piece.period piece.from) (sound_and_silence piece.sound (piece.to - piece.from) supply.old.held))) (P.told platform.old) (P.told platform.new) }
+    ensures told { Between (λ old new. Accessed old new (DmaWrite
+        (spec.place_in (length buffer.old) (addresses_of periods.old) piece.period piece.from)
+        (sound_and_silence piece.sound (piece.to - piece.from) supply.old.held)))
+        (P.told platform.old) (P.told platform.new) }
     ensures supply { supply.new ≡ without piece.sound supply.old }
     ensures periods { periods.new ≡ periods.old }
     ensures fixed { P.fixed platform.new ≡ P.fixed platform.old }
@@ -146,11 +151,14 @@ fn write_line<P: Platform>(
     requires left { part.sound ≤ length supply.old.held }
     requires room { spec.touched (length buffer.old) part.from part.to ≤ P.spare_accesses platform.old }
     requires bytes_room { part.to - part.from ≤ P.spare_bytes platform.old }
-    ensures made { Between (Makes (spec.line_writes (length buffer.old) (addresses_of periods.old) part.from part.to (sound_and_silence part.sound (part.to - part.from) supply.old.held))) (P.told platform.old) (P.told platform.new) }
+    ensures made { Between (Makes (spec.line_writes (length buffer.old) (addresses_of periods.old) part.from part.to
+        (sound_and_silence part.sound (part.to - part.from) supply.old.held)))
+        (P.told platform.old) (P.told platform.new) }
     ensures supply { supply.new ≡ without part.sound supply.old }
     ensures periods { periods.new ≡ periods.old }
     ensures fixed { P.fixed platform.new ≡ P.fixed platform.old }
-    ensures accesses { P.spare_accesses platform.new + spec.touched (length buffer.old) part.from part.to ≡ P.spare_accesses platform.old }
+    ensures accesses { P.spare_accesses platform.new + spec.touched (length buffer.old) part.from part.to
+        ≡ P.spare_accesses platform.old }
     ensures bytes { P.spare_bytes platform.new + (part.to - part.from) ≡ P.spare_bytes platform.old }
 {
     let bytes = buffer.len() as u64;
@@ -180,12 +188,16 @@ pub(crate) fn write_part<P: Platform>(
     requires left { part.sound ≤ length supply.old.held }
     requires room { spec.touched (length buffer.old.items) part.from part.to ≤ P.spare_accesses platform.old }
     requires bytes_room { part.to - part.from ≤ P.spare_bytes platform.old }
-    ensures made { Between (Makes (spec.line_writes (length buffer.old.items) (addresses_of periods.old.items) part.from part.to (sound_and_silence part.sound (part.to - part.from) supply.old.held))) (P.told platform.old) (P.told platform.new) }
+    ensures made { Between (Makes (spec.line_writes
+        (length buffer.old.items) (addresses_of periods.old.items) part.from part.to
+        (sound_and_silence part.sound (part.to - part.from) supply.old.held)))
+        (P.told platform.old) (P.told platform.new) }
     ensures supply { supply.new ≡ without part.sound supply.old }
     ensures periods { periods.new.items ≡ periods.old.items }
     ensures buffer { length buffer.new.items ≡ length buffer.old.items }
     ensures fixed { P.fixed platform.new ≡ P.fixed platform.old }
-    ensures accesses { P.spare_accesses platform.new + spec.touched (length buffer.old.items) part.from part.to ≡ P.spare_accesses platform.old }
+    ensures accesses { P.spare_accesses platform.new + spec.touched (length buffer.old.items) part.from part.to
+        ≡ P.spare_accesses platform.old }
     ensures bytes { P.spare_bytes platform.new + (part.to - part.from) ≡ P.spare_bytes platform.old }
 {
     write_line(platform, periods, buffer, supply, part);

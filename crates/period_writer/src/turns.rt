@@ -3,6 +3,7 @@ ghost use Rattle.std.specs.Prelude.{◌≡◌, ◌≤◌, ◌<◌, ◌-◌, ◌^
 ghost use Rattle.period_writer.specs.Rings.{ring_bytes};
 ghost use Rattle.period_writer.specs.Courses.{IsCourse};
 ghost use Rattle.period_writer.specs.Runs as spec;
+ghost use Rattle.period_writer.specs.Turns.{facts_by};
 
 use crate::course::{Course, Ran};
 use crate::geometry::Geometry;
@@ -74,10 +75,11 @@ pub(crate) fn turn_of(geometry: &Geometry, course: Course, facts: Facts) -> Turn
     requires some { 1 ≤ ring_bytes geometry.now.periods geometry.now.period }
     requires few { ring_bytes geometry.now.periods geometry.now.period < 2 ^ 22 }
     requires small { course.at < 2 ^ 60 }
-    requires reach { course.reach ≡ (if course.started then course.at + ring_bytes geometry.now.periods geometry.now.period else 0) }
-    ensures at { result.at ≡ spec.run_at (spec.measures geometry.now) course (spec.facts_of facts.budget facts.left facts.from facts.lpib 0) }
-    ensures reach { result.reach ≡ spec.run_reach (spec.measures geometry.now) course (spec.facts_of facts.budget facts.left facts.from facts.lpib 0) }
-    ensures sound { result.sound ≡ spec.run_sound (spec.measures geometry.now) course (spec.facts_of facts.budget facts.left facts.from facts.lpib 0) }
+    requires reach { course.reach
+        ≡ (if course.started then course.at + ring_bytes geometry.now.periods geometry.now.period else 0) }
+    ensures at { result.at ≡ spec.run_at (spec.measures geometry.now) course (facts_by facts 0) }
+    ensures reach { result.reach ≡ spec.run_reach (spec.measures geometry.now) course (facts_by facts 0) }
+    ensures sound { result.sound ≡ spec.run_sound (spec.measures geometry.now) course (facts_by facts 0) }
     ensures ascends { course.reach ≤ result.reach }
     ensures room { result.reach - course.reach ≤ ring_bytes geometry.now.periods geometry.now.period }
     ensures fits { result.sound ≤ result.reach - course.reach }
@@ -118,7 +120,8 @@ fn sound_end(course: Course, turn: Turn) -> u64
 
 /// How a run ends that is not late.
 fn ending(course: Course, turn: Turn, left: u64, sound_end: u64) -> Ran
-    ensures { result ≡ (if course.started && left == turn.sound && nat_le sound_end turn.at then Ran.Drained else Ran.Playing) }
+    ensures { result
+        ≡ (if course.started && left == turn.sound && nat_le sound_end turn.at then Ran.Drained else Ran.Playing) }
 {
     if course.started && left == turn.sound && sound_end <= turn.at {
         Ran::Drained

@@ -44,7 +44,9 @@ fn write_plays<K: Sink>(alloc: Global, out: &mut K) -> Result<(), Fault> {
     )?;
     write_made(alloc, out, "-- no whole block\n", plays::no_block(alloc))?;
     write_made(alloc, out, "-- no frame\n", plays::no_frame(alloc))?;
-    write_made(alloc, out, "-- late\n", plays::late(alloc))
+    write_made(alloc, out, "-- late\n", plays::late(alloc))?;
+    write_made(alloc, out, "-- unread\n", plays::unread(alloc))?;
+    write_made(alloc, out, "-- shrunk\n", plays::shrunk(alloc))
 }
 
 /// The texts of what pins heard beyond that.

@@ -4,7 +4,7 @@ use codec_sound::Heard;
 use hda_items::Items;
 use heard_lists::PinHeard;
 use period_writer::{Run, Span};
-use sound_report::{PlayFault, Played};
+use sound_report::{CutLine, PlayFault, Played};
 use std::alloc::Global;
 
 /// A run.
@@ -29,6 +29,7 @@ pub(crate) fn play(
     let mut played = set_up(alloc)?;
     played.walk = false;
     played.total = total;
+    played.read = total;
     played.runs = Items::from_slice(alloc, runs).ok()?;
     played.silences = Items::from_slice(alloc, silences).ok()?;
     played
@@ -65,6 +66,27 @@ pub(crate) fn hole(alloc: Global) -> Option<Played> {
         Heard::Sound(0, 0),
     ];
     play(alloc, 2, &runs, &[Span { start: 8, end: 784 }], &heard)
+}
+
+/// Two frames of four: the file could not be read any more then.
+pub(crate) fn unread(alloc: Global) -> Option<Played> {
+    let mut played = two_frames(alloc)?;
+    played.total = 4;
+    played.cut = Some(CutLine::Failed(String::from_str(alloc, "sounds/four.wav").ok()?));
+    Some(played)
+}
+
+/// Two frames of four after a hole: the file had got shorter then, and the schedule ended before the silence behind them.
+pub(crate) fn shrunk(alloc: Global) -> Option<Played> {
+    let mut played = hole(alloc)?;
+    played.total = 4;
+    played.cut = Some(CutLine::Short(52));
+    played.fault = Some(PlayFault::FramesLeft {
+        written: 2,
+        heard: 2,
+        of: 4,
+    });
+    Some(played)
 }
 
 /// Appends so many frames of sound, of which the first is this one: frame n has n on the left, and -n on the right.

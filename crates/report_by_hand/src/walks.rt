@@ -47,6 +47,7 @@ pub(crate) fn set_up(alloc: Global) -> Option<Played> {
         machine,
         format,
         total: 0,
+        read: 0,
         commands: 44,
         plans,
         graphs: Items::new(alloc),
@@ -60,6 +61,7 @@ pub(crate) fn set_up(alloc: Global) -> Option<Played> {
         },
         walk: true,
         fault: None,
+        cut: None,
     })
 }
 

@@ -1,5 +1,5 @@
 -- That the last call ends a run over a schedule.
-use Rattle.std.proofs.Common.{◌≡◌, ℕ, Bool, true, false, List, [], ◌∷◌, ◌++◌, length, refl, sym, ap, subst, ◌∙◌, Some, append-nil, append_assoc}
+use Rattle.std.proofs.Common.{◌+◌, ◌≡◌, ℕ, Bool, true, false, List, [], ◌∷◌, ◌++◌, length, refl, sym, ap, subst, ◌∙◌, Some, append-nil, append_assoc}
 use Rattle.std.specs.Prelude.{All, drop}
 use Rattle.std.proofs.Math.Seq.{drop-nil}
 use Rattle.std.proofs.lemmas.List.Elements.{All-nil, All-cons, All-head, All-tail, All-append}
@@ -18,7 +18,7 @@ use Rattle.jack_counts.specs.Counted.{IsCount}
 use Rattle.jack_counts.specs.Jacks.{IsOfPin, Counts}
 use Rattle.codec_bring_up.specs.declared.bringing.BringUp.{BringUp}
 use Rattle.period_writer.specs.declared.geometry.Geometry.{Geometry}
-use Rattle.period_writer.specs.declared.writer.Writer.{Writer}
+use Rattle.period_writer.specs.Writers.{WriterState}
 use Rattle.period_writer.specs.Runs.{measures}
 use Rattle.period_writer.specs.Writers.{tally_of}
 use Rattle.audio_driver.specs.States.{plays_now, phase_with}
@@ -32,8 +32,9 @@ use Rattle.scheduled_runs.specs.Events.{told_in}
 use Rattle.scheduled_runs.specs.Lines.{lines_of}
 use Rattle.rig.specs.declared.rig.Rig.{Rig}
 use Rattle.rig.specs.Rigs.{telling_of}
-use Rattle.scheduled_runs.proofs.Called.{may_held, only_held}
-use Rattle.scheduled_runs.specs.Going.{Player, sounded, IsWhole, Means, UnderWay, Goes, Ran, IsClosed, IsDriven, plan_by, verbs_for}
+use Rattle.wav_reader.specs.Supplies.{MayGive, EndsWith}
+use Rattle.scheduled_runs.specs.Feeding.{IsFed}
+use Rattle.scheduled_runs.specs.Going.{Stand, sounded, Means, UnderWay, Goes, Ran, IsClosed, IsDriven, HasDriven, plan_by, verbs_for}
 use Rattle.scheduled_runs.proofs.Events.{Run, run_of, counted_on}
 use Rattle.scheduled_runs.proofs.LinkFrames.{short_before, never_wrapped}
 use Rattle.scheduled_runs.proofs.Goes.{Keeps}
@@ -105,6 +106,7 @@ module _ (means : Means) (format : Format) (play : Bool) where
         (closes.jacks (told_in (first ++ stretch [] (accesses_of run.events)))
         (counted_on old.bring_up.jacks closes.ended.jacks call.made (stretch [] (accesses_of run.events)) (ap entries_in (sym laid) ∙ run.entries) first call.counted count)
         (of_pins (entries_in (first ++ stretch [] (accesses_of run.events)))));
+    grows = closes.grows;
     leaves = record {
       phase = closes.phase;
       sent = closes.sent;
@@ -152,21 +154,29 @@ module _ (means : Means) (format : Format) (play : Bool) where
       graphs = closes.leaves.graphs;
       runs = closes.leaves.runs;
       silences = closes.leaves.silences;
-      silent = λ none. (closes.leaves.silent none ∙ ap (λ (writer : Writer). tally_of writer) (goes.silent none));
+      silent = λ none. (closes.leaves.silent none ∙ ap (λ (writer : WriterState). tally_of writer) (goes.silent none));
     };
   }
 
--- so for a rig, where what the setter means, the format, whether it plays and the ring stayed
-pub driven_by : (means means' : Means) (format : Format) (play play' : Bool) (schedule : Schedule) (old middle : Player) (closed : Closed) (rig rig' rig'' : Rig)
-    → means' ≡ means → format ≡ old.bring_up.agenda.format → play' ≡ play → middle.writer.geometry ≡ old.writer.geometry → IsWhole old.supply → Ran means format play (items_of schedule) old middle rig rig'
-    → IsClosed means' middle.bring_up.agenda.format play' (sounded middle middle.supply.held) closed (telling_of rig') (telling_of rig'') → IsDriven means format play schedule (sounded old old.supply.held) closed (telling_of rig) (telling_of rig'')
-driven_by means means' format play play' schedule old middle closed rig rig' rig'' same is plays ring whole ran closes =
-    let before = telling_of rig' in
-    let after = telling_of rig'' in
-    let last = sounded middle middle.supply.held in
-    let back = ran.goes middle.supply.held (may_held middle.supply ran.whole) in
-    subst (λ (sound : List ℕ). IsDriven means format play schedule (sounded old sound) closed (telling_of rig) after) (only_held old.supply back.0 whole back.1)
-    (both_drive means format play schedule (sounded old back.0) last closed (telling_of rig) before after ring back.2
-    (subst (λ (m : Means). IsClosed m format play last closed before after) same
-    (subst (λ (f : Format). IsClosed means' f play last closed before after) (ran.format_is ∙ sym is)
-    (subst (λ (p : Bool). IsClosed means' middle.bring_up.agenda.format p last closed before after) plays closes))))
+-- so for a rig, where what the setter means, the format, whether it plays and the ring stayed, while so many bytes of the sound were read
+pub driven_by : (means means' : Means) (format : Format) (play play' : Bool) (schedule : Schedule) (old middle : Stand) (closed : Closed) (read : ℕ) (after : Rig)
+    → means' ≡ means → format ≡ old.player.bring_up.agenda.format → play' ≡ play → middle.player.writer.geometry ≡ old.player.writer.geometry → read ≡ middle.player.supply.taken + length middle.player.supply.held
+    → Ran means format play (items_of schedule) old middle
+    → ((sound : List ℕ) → MayGive middle.player.supply sound → EndsWith middle.player.supply sound → IsClosed means' middle.player.bring_up.agenda.format play' (sounded middle.player sound) closed (telling_of middle.rig) (telling_of after))
+    → HasDriven means format play schedule old closed read middle.shelf middle.cut (telling_of after)
+unfolding both_drive
+driven_by means means' format play play' schedule old middle closed read after same is plays ring read_is ran closes = record {
+  last = middle.player.supply;
+  course = middle.player.writer.course;
+  gave = ran.gave;
+  took = ran.took;
+  driven = λ later may ends. both_drive means format play schedule (sounded old.player (ran.gave ++ later)) (sounded middle.player later) closed (telling_of old.rig) (telling_of middle.rig) (telling_of after) ring (ran.goes later may) (by later may ends);
+  grows = λ later may ends. (by later may ends).grows;
+  fed = λ source first fed. subst (λ (geometry : Geometry). IsFed (measures geometry) source first middle.shelf middle.cut middle.player.supply middle.player.writer.course) ring (ran.fed source first fed);
+  read_is = read_is;
+} where
+  by : (sound : List ℕ) → MayGive middle.player.supply sound → EndsWith middle.player.supply sound → IsClosed means format play (sounded middle.player sound) closed (telling_of middle.rig) (telling_of after)
+  by sound may ends =
+      subst (λ (m : Means). IsClosed m format play (sounded middle.player sound) closed (telling_of middle.rig) (telling_of after)) same
+      (subst (λ (f : Format). IsClosed means' f play (sounded middle.player sound) closed (telling_of middle.rig) (telling_of after)) (ran.format_is ∙ sym is)
+      (subst (λ (p : Bool). IsClosed means' middle.player.bring_up.agenda.format p (sounded middle.player sound) closed (telling_of middle.rig) (telling_of after)) plays (closes sound may ends)))

@@ -1,5 +1,5 @@
 -- What a driver over a machine has done that ran a whole schedule from the machine's start.
-use Rattle.std.proofs.Common.{◌≡◌, ℕ, Bool, true, false, List, [], ◌++◌, refl, sym, ap, subst, ◌∙◌, Some, arith}
+use Rattle.std.proofs.Common.{◌≡◌, ◌≤◌, ℕ, Bool, true, false, List, [], ◌++◌, refl, sym, ap, subst, ◌∙◌, Some, arith}
 use Rattle.std.specs.Prelude.{All, drop}
 use Rattle.codec_graph.specs.declared.raw.RawCodec.{RawCodec}
 use Rattle.stream_format.specs.declared.format.Format.{Format}
@@ -17,7 +17,7 @@ use Rattle.hda_world.specs.Tellings.{Telling, world_of}
 use Rattle.period_writer.specs.declared.geometry.Geometry.{Geometry}
 use Rattle.period_writer.specs.Runs.{Tally, tally_opened, measures}
 use Rattle.period_writer.specs.Writers.{measures_of, tally_of, ring_of}
-use Rattle.period_writer.specs.declared.writer.Writer.{Writer}
+use Rattle.period_writer.specs.Writers.{WriterState}
 use Rattle.period_writer.specs.declared.course.Course.{Course}
 use Rattle.period_writer.specs.declared.course.Run.{Run}
 use Rattle.period_writer.specs.declared.course.Span.{Span}
@@ -39,11 +39,14 @@ use Rattle.rig.specs.Replays.{start_of, telling_from}
 use Rattle.heard_lists.specs.Listings.{graphs_in}
 use Rattle.machine_tasks.specs.Tasks.{verbs_by, verbs_in, task_of, blocks_of}
 use Rattle.machine_tasks.specs.Starting.{BeginsAt}
+use Rattle.driver_progress.specs.States.{State}
 use Rattle.scheduled_runs.specs.Lines.{lines_of}
 use Rattle.scheduled_runs.specs.Events.{told_in}
 use Rattle.scheduled_runs.specs.LinkFrames.{IsShort}
 use Rattle.scheduled_runs.specs.Going.{Means, parts_with, IsTask, UnderWay, Leaves, IsDriven, plan_by, open_by}
 use Rattle.scheduled_runs.specs.Ends.{can_end}
+use Rattle.scheduled_runs.specs.FrameCounts.{written_by}
+use Rattle.scheduled_runs.proofs.Written.{used_written}
 use Rattle.scheduled_runs.proofs.LinkFrames.{follows_frames}
 use Rattle.scheduled_runs.proofs.Goes.{Keeps}
 use Rattle.scheduled_runs.proofs.Phases.{is_failed, course_well, ended_well, ends}
@@ -86,14 +89,14 @@ abbrev tally_with : List Run → List Span → Course → Tally
 tally_with runs silences course = record { runs = runs; silences = silences; course = course }
 
 -- a driver that was just opened recorded nothing
-pub opened_tally : (geometry : Geometry) (most : ℕ) (bring_up : BringUp) (writer : Writer) → IsOpened geometry most bring_up writer → tally_of writer ≡ tally_opened
+pub opened_tally : (geometry : Geometry) (most : ℕ) (bring_up : BringUp) (writer : WriterState) → IsOpened geometry most bring_up writer → tally_of writer ≡ tally_opened
 opened_tally geometry most bring_up writer opened =
-    ap (λ (runs : List Run). tally_with runs writer.silences.items writer.course) opened.runs
+    ap (λ (runs : List Run). tally_with runs writer.silences writer.course) opened.runs
     ∙ ap (λ (silences : List Span). tally_with [] silences writer.course) opened.silences
     ∙ ap (λ (course : Course). tally_with [] [] course) opened.course
 
 -- it can begin its task
-pub opened_can_go : (machine : Machine) (format : Format) (plans : List Plan) (geometry : Geometry) (most : ℕ) (play plays : Bool) (pcm : List ℕ) (bring_up : BringUp) (writer : Writer) (supply : List ℕ) → play ≡ plays
+pub opened_can_go : (machine : Machine) (format : Format) (plans : List Plan) (geometry : Geometry) (most : ℕ) (play plays : Bool) (pcm : List ℕ) (bring_up : BringUp) (writer : WriterState) (supply : List ℕ) → play ≡ plays
     → (plays ≡ true → supply ≡ pcm) → IsOpened geometry most bring_up writer → AreApartFrom (ring_of writer) bring_up.engine.rirb.address → geometry.fifo ≡ machine.fifo → geometry.format ≡ format
     → IsTaskOfCodecs (λ (graph : RawCodec). IsPlan graph format) (verbs_by format) (verbs_in format machine.codecs plans) (graphs_in machine.codecs) (task_of format machine plans geometry plays pcm (blocks_of bring_up writer))
     → BeginsAt format machine plans (task_of format machine plans geometry plays pcm (blocks_of bring_up writer)) bring_up → Rests machine.fifo (start_of REGION_BYTES machine)
@@ -124,25 +127,9 @@ short_from machine schedule journal follows limited =
     let none : (start_of REGION_BYTES machine).frames ≡ 0 = refl in
     omega (arith, all, few, none)
 
-pub gone : ((format : Format) → Keeps analog format) → (machine : Machine) (format : Format) (plans : List Plan) (play : Bool) (task : Task) (schedule : Schedule) (old : Parts) (closed : Closed) (before after : Telling) (journal : List Event)
-    → CanGo machine format plans play task old → IsLimited schedule → Some before ≡ Some (telling_from REGION_BYTES machine []) → journal ≡ after.journal
-    → IsDriven analog old.bring_up.agenda.format play schedule old closed before after → Gone machine format play task schedule old closed journal
-gone keeps machine format plans play task schedule old closed before after journal can limited at told drives = record {
-  ended = driven.ended;
-  tally = driven.tally;
-  last = driven.last;
-  no_steps = driven.no_steps;
-  has = subst (λ (telling : Telling). HasGone (plan_by analog format) (open_by analog format) (graphs_in machine.codecs) task (lines_of schedule) driven.ended driven.tally driven.last telling) ends
-      (driven.over (verbs_in format machine.codecs plans) (graphs_in machine.codecs) task (lines_of schedule) can.is
-      (subst IsShort (sym ends) (short_from machine schedule journal follows limited)) under_way);
-  leaves = driven.leaves;
-  replays = subst (λ (events : List Event). AreHonest events (start_of REGION_BYTES machine)) whole (subst (λ (telling : Telling). AreHonest driven.events (world_of telling)) start driven.went.honest);
-  follows = follows;
-  jacks = subst (λ (events : List Event). Counts (told_in events) closed.jacks.items) whole (driven.counted [] can.jacks);
-} where
-  driven : IsDriven analog format play schedule old closed before after
-  driven = subst (λ (f : Format). IsDriven analog f play schedule old closed before after) can.format_is drives
-
+module _ (keeps : (format : Format) → Keeps analog format) (machine : Machine) (format : Format) (plans : List Plan) (play : Bool) (task : Task) (schedule : Schedule) (old : Parts) (closed : Closed) (before after : Telling) (journal : List Event)
+    (can : CanGo machine format plans play task old) (limited : IsLimited schedule) (at : Some before ≡ Some (telling_from REGION_BYTES machine [])) (told : journal ≡ after.journal)
+    (driven : IsDriven analog format play schedule old closed before after) where
   start : before ≡ telling_from REGION_BYTES machine []
   start = some_same at
 
@@ -150,8 +137,8 @@ gone keeps machine format plans play task schedule old closed before after journ
   whole : driven.events ≡ journal
   whole = sym (told ∙ driven.went.journal ∙ ap (λ (telling : Telling). telling.journal ++ driven.events) start)
 
-  ends : after ≡ telling_from REGION_BYTES machine journal
-  ends =
+  end_is : after ≡ telling_from REGION_BYTES machine journal
+  end_is =
       ap (λ (world : World). record { start = world; journal = after.journal }) (driven.went.start ∙ ap (λ (telling : Telling). telling.start) start)
       ∙ ap (λ (events : List Event). telling_from REGION_BYTES machine events) (sym told)
 
@@ -165,6 +152,46 @@ gone keeps machine format plans play task schedule old closed before after journ
 
   under_way : UnderWay analog format (verbs_in format machine.codecs plans) (graphs_in machine.codecs) task (lines_of schedule) (lines_of schedule) old before
   under_way = subst (λ (telling : Telling). UnderWay analog format (verbs_in format machine.codecs plans) (graphs_in machine.codecs) task (lines_of schedule) (lines_of schedule) old telling) (sym start) first
+
+  has_gone : HasGone (plan_by analog format) (open_by analog format) (graphs_in machine.codecs) task (lines_of schedule) driven.ended driven.tally driven.last (telling_from REGION_BYTES machine journal)
+  has_gone = subst (λ (telling : Telling). HasGone (plan_by analog format) (open_by analog format) (graphs_in machine.codecs) task (lines_of schedule) driven.ended driven.tally driven.last telling) end_is
+      (driven.over (verbs_in format machine.codecs plans) (graphs_in machine.codecs) task (lines_of schedule) can.is
+      (subst IsShort (sym end_is) (short_from machine schedule journal follows limited)) under_way)
+
+  gone_so : Gone machine format play task schedule old closed journal
+  gone_so = record {
+    ended = driven.ended;
+    tally = driven.tally;
+    last = driven.last;
+    no_steps = driven.no_steps;
+    has = has_gone;
+    leaves = driven.leaves;
+    replays = subst (λ (events : List Event). AreHonest events (start_of REGION_BYTES machine)) whole (subst (λ (telling : Telling). AreHonest driven.events (world_of telling)) start driven.went.honest);
+    follows = follows;
+    jacks = subst (λ (events : List Event). Counts (told_in events) closed.jacks.items) whole (driven.counted [] can.jacks);
+  }
+
+  -- what was used at the end was written by the recorded runs
+  used_so : (used : ℕ) → used ≤ driven.tally.course.used → used ≤ written_by closed.runs.items
+  used_so used most =
+      let is : written_by driven.tally.runs ≡ driven.tally.course.used =
+      subst (λ (state : State). written_by state.tally.runs ≡ state.tally.course.used) has_gone.state_is (used_written task (lines_of schedule) (telling_from REGION_BYTES machine journal)) in
+      let runs = ap written_by driven.leaves.runs in
+      omega (arith, most, is, runs)
+
+pub gone : ((format : Format) → Keeps analog format) → (machine : Machine) (format : Format) (plans : List Plan) (play : Bool) (task : Task) (schedule : Schedule) (old : Parts) (closed : Closed) (before after : Telling) (journal : List Event)
+    → CanGo machine format plans play task old → IsLimited schedule → Some before ≡ Some (telling_from REGION_BYTES machine []) → journal ≡ after.journal
+    → IsDriven analog old.bring_up.agenda.format play schedule old closed before after → Gone machine format play task schedule old closed journal
+gone keeps machine format plans play task schedule old closed before after journal can limited at told drives =
+    gone_so keeps machine format plans play task schedule old closed before after journal can limited at told (subst (λ (f : Format). IsDriven analog f play schedule old closed before after) can.format_is drives)
+
+-- what was used at the last call was written by the recorded runs
+pub used_in_runs : ((format : Format) → Keeps analog format) → (machine : Machine) (format : Format) (plans : List Plan) (play : Bool) (task : Task) (schedule : Schedule) (old : Parts) (closed : Closed) (before after : Telling) (journal : List Event)
+    → CanGo machine format plans play task old → IsLimited schedule → Some before ≡ Some (telling_from REGION_BYTES machine []) → journal ≡ after.journal
+    → (drives : IsDriven analog old.bring_up.agenda.format play schedule old closed before after) → (used : ℕ) → used ≤ drives.tally.course.used → used ≤ written_by closed.runs.items
+used_in_runs keeps machine format plans play task schedule old closed before after journal can limited at told =
+    subst (λ (f : Format). (drives : IsDriven analog f play schedule old closed before after) → (used : ℕ) → used ≤ drives.tally.course.used → used ≤ written_by closed.runs.items) (sym can.format_is)
+    (used_so keeps machine format plans play task schedule old closed before after journal can limited at told)
 
 -- ---- in which phase it ends
 

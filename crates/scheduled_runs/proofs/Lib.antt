@@ -1,6 +1,8 @@
 pub mod Events
 pub mod LinkFrames
 pub mod Called
+pub mod Feeds
+pub mod Sound
 pub mod Goes
 pub mod Closes
 pub mod Ran
@@ -15,3 +17,5 @@ pub mod Written
 pub mod Recorded
 pub mod LineRecorded
 pub mod Played
+pub mod PlayedFrom
+pub mod PlayedOver

@@ -7,7 +7,7 @@ use Rattle.period_writer.specs.declared.geometry.Geometry.{Geometry}
 use Rattle.period_writer.specs.Courses.{IsCourse}
 use Rattle.period_writer.specs.Rings.{period_bytes}
 use Rattle.period_writer.specs.Lines.{IsLine}
-use Rattle.period_writer.specs.Runs.{Measures, RunFacts, Stretch, Tally, is_late, measures, tally_if, tally_of_stretches, tally_on, tally_opened, taken_up, taken_up_if}
+use Rattle.period_writer.specs.Runs.{Measures, RunFacts, Stretch, Tally, measures, tally_if, tally_of_stretches, tally_on, tally_opened, taken_up, taken_up_if}
 
 -- what a run keeps
 pub record RunLaws : Type 0 where

@@ -114,6 +114,12 @@ written_within task lines telling =
     let used = within.used in
     let few = within.few in omega (arith, used, few)
 
+-- they wrote what was used
+pub used_written : (task : Task) (lines : List DriverLine) (telling : Telling) → written_by (state_of task lines telling).tally.runs ≡ (state_of task lines telling).tally.course.used
+used_written task lines telling =
+    let course = course_of task lines telling in
+    (within_if_open course.within task course (within_after task telling.journal telling.start (course_opened lines) (opened_within (length task.pcm)))).used
+
 -- and once the line has drained all of it was written, and the link had played the last of it
 pub drained_whole : (task : Task) (lines : List DriverLine) (telling : Telling) → (state_of task lines telling).tally.course.ran ≡ ran.Drained → HasPlayedAll task.pcm (state_of task lines telling).tally
 drained_whole task lines telling is =

@@ -1,11 +1,13 @@
 -- How calls of a driver go on over a rig, item by item. This project's own.
-use Rattle.std.specs.Prelude.{◌≡◌, ◌++◌, [], Bool, false, ℕ, List, length, All}
+use Rattle.std.specs.Prelude.{◌≡◌, ◌≤◌, ◌+◌, ◌++◌, [], ◌∷◌, Bool, false, ℕ, List, length, All, Option}
 use Rattle.verb_codes.specs.declared.verbs.Command.{Command}
 use Rattle.codec_graph.specs.declared.raw.RawCodec.{RawCodec}
 use Rattle.codec_graph.specs.Settings.{Entries}
 use Rattle.stream_format.specs.declared.format.Format.{Format}
 use Rattle.route_planner.specs.declared.routes.Plan.{Plan}
 use Rattle.hda_schedule.specs.declared.schedule.Item.{Item}
+use Rattle.hda_schedule.specs.declared.schedule.Item.TheVariants.{Drive}
+use Rattle.hda_schedule.specs.declared.schedule.DriverLine.{DriverLine as Line}
 use Rattle.hda_world.specs.Events.{Event, IsNoStep}
 use Rattle.hda_world.specs.Tellings.{Telling, Went}
 use Rattle.driver_progress.specs.Tasks.{Task, DriverLine}
@@ -14,9 +16,12 @@ use Rattle.jack_counts.specs.Counted.{IsCount}
 use Rattle.jack_counts.specs.Jacks.{Counts}
 use Rattle.codec_bring_up.specs.declared.bringing.BringUp.{BringUp}
 use Rattle.told_bring_up.specs.Standing.{IsTaskOfCodecs}
-use Rattle.wav_reader.specs.Supplies.{Supplied, MayGive}
-use Rattle.period_writer.specs.declared.writer.Writer.{Writer}
+use Rattle.hda_outside.specs.declared.pieces.Cut.{Cut}
+use Rattle.wav_reader.specs.Supplies.{Source, Supplied, MayGive, EndsWith, IsTaken, sound_before}
+use Rattle.period_writer.specs.Writers.{WriterState}
 use Rattle.period_writer.specs.Runs.{Tally}
+use Rattle.period_writer.specs.Accounts.{Accounts}
+use Rattle.period_writer.specs.declared.course.Course.{Course}
 use Rattle.period_writer.specs.Writers.{measures_of}
 use Rattle.audio_driver.specs.States.{phase_with}
 use Rattle.audio_driver.specs.declared.driver.closing.Closed.{Closed}
@@ -30,6 +35,7 @@ use Rattle.rig.specs.Stretches.{stretch}
 use Rattle.scheduled_runs.specs.Lines.{lines_in, lines_of}
 use Rattle.scheduled_runs.specs.Events.{told_in}
 use Rattle.scheduled_runs.specs.LinkFrames.{IsShort}
+use Rattle.scheduled_runs.specs.Feeding.{Shelves, Took, IsFed}
 
 -- what a setter means: which plan is that of a graph, by which verbs it is set up, and what these are for
 pub record Means : Type 1 where
@@ -50,22 +56,33 @@ open_by means format graph settings plan = means.IsOpenBy graph settings plan fo
 -- a driver with its supply, of which it is not known yet what it will have given
 pub record Player : Type 0 where
   pub bring_up : BringUp
-  pub writer : Writer
+  pub writer : WriterState
   pub supply : Supplied
 
-abbrev pub parts_of : BringUp → Writer → Supplied → Player
+abbrev pub parts_of : BringUp → WriterState → Supplied → Player
 parts_of bring_up writer supply = record { bring_up = bring_up; writer = writer; supply = supply }
 
 -- the parts of a driver that are told, with this sound to come
-abbrev pub parts_with : BringUp → Writer → (sound : List ℕ) → Parts
+abbrev pub parts_with : BringUp → WriterState → (sound : List ℕ) → Parts
 parts_with bring_up writer sound = record { bring_up = bring_up; writer = writer; supply = sound }
 
 abbrev pub sounded : Player → (sound : List ℕ) → Parts
 sounded player sound = parts_with player.bring_up player.writer sound
 
--- all that is left is held
-abbrev pub IsWhole : Supplied → Type 0
-IsWhole supply = length supply.held ≡ supply.left
+-- a driver with its supply over a rig, the shelf that the supply reads from, and how the reading was cut, if it was
+pub record Stand : Type 0 where
+  pub player : Player
+  pub shelf : Shelves
+  pub cut : Option Cut
+  pub rig : Rig
+
+abbrev pub stand_of : BringUp → WriterState → Supplied → Shelves → Option Cut → Rig → Stand
+stand_of bring_up writer supply shelf cut rig = record { player = parts_of bring_up writer supply; shelf = shelf; cut = cut; rig = rig }
+
+-- its supply is fed from a source since a first moment
+abbrev pub IsFedFrom : Option Source → (first : Shelves) → Stand → Type 0
+IsFedFrom source first stand =
+    let player = stand.player in IsFed (measures_of player.writer) source first stand.shelf stand.cut player.supply player.writer.course
 
 -- what is to be done for codecs with these graphs, with sound or without
 pub record IsTask (means : Means) (format : Format) (play : Bool) (verbs : RawCodec → List Command) (graphs : List RawCodec) (task : Task) : Type 0 where
@@ -95,15 +112,28 @@ pub record Goes (means : Means) (format : Format) (play : Bool) (items : List It
   -- of one that plays nothing nothing is recorded
   pub silent : play ≡ false → new.writer ≡ old.writer
 
--- so a rig went on, from between two runs to between two runs
-pub record Ran (means : Means) (format : Format) (play : Bool) (items : List Item) (old new : Player) (before after : Rig) : Type 0 where
-  -- whatever sound the supply may yet give at the end, there is one that it might give before, over which it went on so
+-- a driver line was run, for which the supply was filled
+pub record RanLine (means : Means) (format : Format) (play : Bool) (line : Line) (old new : Player) (before after : Rig) : Type 0 where
+  pub taken : IsTaken old.supply new.supply
+  pub accounts : Accounts (measures_of old.writer) old.supply new.supply old.writer.course new.writer.course
   pub goes : (later : List ℕ) → MayGive new.supply later
-      → (sound : List ℕ) × MayGive old.supply sound × Goes means format play items (sounded old sound) (sounded new later) (telling_of before) (telling_of after)
+      → Goes means format play (Drive line ∷ []) (sounded old (sound_before old.supply new.supply later)) (sounded new later) (telling_of before) (telling_of after)
   pub format_is : new.bring_up.agenda.format ≡ old.bring_up.agenda.format
-  pub whole : IsWhole new.supply
   pub between : (setting_of after).in_run ≡ false
   pub machine : (setting_of after).machine ≡ (setting_of before).machine
+
+-- so a rig went on, from between two runs to between two runs
+pub record Ran (means : Means) (format : Format) (play : Bool) (items : List Item) (old new : Stand) : Type 0 where
+  pub gave : List ℕ
+  pub took : Took gave old.shelf old.player.supply new.player.supply
+  -- it went on so over each sound that the supply may yet give at the end, with what was taken before it
+  pub goes : (later : List ℕ) → MayGive new.player.supply later
+      → Goes means format play items (sounded old.player (gave ++ later)) (sounded new.player later) (telling_of old.rig) (telling_of new.rig)
+  pub fed : (source : Option Source) (first : Shelves) → IsFedFrom source first old → IsFedFrom source first new
+  pub told_is : (name : List ℕ) → (new.shelf name).told ≡ (old.shelf name).told
+  pub format_is : new.player.bring_up.agenda.format ≡ old.player.bring_up.agenda.format
+  pub between : (setting_of new.rig).in_run ≡ false
+  pub machine : (setting_of new.rig).machine ≡ (setting_of old.rig).machine
 
 -- what is left of a closed driver, of which the last call left this bring-up and this tally
 pub record Leaves (play : Bool) (old : Parts) (ended : BringUp) (tally : Tally) (closed : Closed) : Type 0 where
@@ -125,6 +155,8 @@ pub record IsClosed (means : Means) (format : Format) (play : Bool) (old : Parts
   pub over : (verbs : RawCodec → List Command) (graphs : List RawCodec) (task : Task) (all : List DriverLine) → IsTask means format play verbs graphs task → IsShort after
       → UnderWay means format verbs graphs task all [] old before → HasGone (plan_by means format) (open_by means format) graphs task all ended tally (stretch [] accesses) after
   pub counted : (first : List Event) → IsCount (told_in first) old.bring_up.jacks → Counts (told_in (first ++ stretch [] accesses)) closed.jacks.items
+  -- no less was used than before
+  pub grows : old.writer.course.used ≤ tally.course.used
   pub leaves : Leaves play old ended tally closed
 
 -- a whole schedule was run, and then the last call was made, with these events, in which the device made no step
@@ -140,3 +172,15 @@ pub record IsDriven (means : Means) (format : Format) (play : Bool) (schedule : 
       → UnderWay means format verbs graphs task all (lines_of schedule) old before → HasGone (plan_by means format) (open_by means format) graphs task all ended tally last after
   pub counted : (first : List Event) → IsCount (told_in first) old.bring_up.jacks → Counts (told_in (first ++ events)) closed.jacks.items
   pub leaves : Leaves play old ended tally closed
+
+-- a whole schedule was run, and then the last call was made, while so many bytes of the sound were read. The supply that was left at the last call
+-- gives one more sound, or none: over each that ends with it the run is that of what was taken, and of that sound
+pub record HasDriven (means : Means) (format : Format) (play : Bool) (schedule : Schedule) (old : Stand) (closed : Closed) (read : ℕ) (shelf : Shelves) (cut : Option Cut) (after : Telling) : Type 0 where
+  pub last : Supplied
+  pub course : Course
+  pub gave : List ℕ
+  pub took : Took gave old.shelf old.player.supply last
+  pub driven : (later : List ℕ) → MayGive last later → EndsWith last later → IsDriven means format play schedule (sounded old.player (gave ++ later)) closed (telling_of old.rig) after
+  pub grows : (later : List ℕ) (may : MayGive last later) (ends : EndsWith last later) → course.used ≤ (driven later may ends).tally.course.used
+  pub fed : (source : Option Source) (first : Shelves) → IsFedFrom source first old → IsFed (measures_of old.player.writer) source first shelf cut last course
+  pub read_is : read ≡ last.taken + length last.held

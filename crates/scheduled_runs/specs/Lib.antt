@@ -10,6 +10,8 @@ pub mod Hearing
 pub mod Stretches
 pub mod Plays
 -- what private functions promise one another
+pub mod Feeding
+pub mod Reading
 pub mod Going
 pub mod Openings
 pub mod Ends

@@ -1,7 +1,7 @@
 -- Where a driver begins that plays nothing. This project's own.
 use Rattle.std.specs.Prelude.{ℕ}
 use Rattle.period_writer.specs.declared.geometry.Geometry.{Geometry}
-use Rattle.period_writer.specs.declared.writer.Writer.{Writer}
+use Rattle.period_writer.specs.Writers.{WriterState}
 use Rattle.period_writer.specs.Writers.{ring_of}
 use Rattle.codec_bring_up.specs.declared.bringing.BringUp.{BringUp}
 use Rattle.audio_driver.specs.Opening.{IsOpened}
@@ -11,7 +11,7 @@ use Rattle.scheduled_runs.specs.FirstFits.{AreFirstFits}
 use Rattle.scheduled_runs.specs.Walks.{IsWalkRing}
 
 -- it was just opened, for a FIFO of so many bytes and so many calls
-pub record IsFresh (fifo calls : ℕ) (bring_up : BringUp) (writer : Writer) : Type 0 where
+pub record IsFresh (fifo calls : ℕ) (bring_up : BringUp) (writer : WriterState) : Type 0 where
   pub geometry : Geometry
   pub opened : IsOpened geometry calls bring_up writer
   pub ring : IsWalkRing fifo geometry

@@ -1,9 +1,15 @@
 -- What comes of playing a sound over a machine by a schedule. This project's own.
 use Rattle.std.specs.List.{AllZip}
-use Rattle.std.specs.Prelude.{◌≡◌, ℕ, Bool, true, false, List, length, Option, Some, None}
+use Rattle.std.specs.Prelude.{◌≡◌, ◌≢◌, ◌<◌, ℕ, ◌+◌, ◌*◌, Bool, true, false, List, length, take, Option, Some, None, string_bytes}
 use Rattle.stream_format.specs.Cadence.{block_bytes}
 use Rattle.route_planner.specs.declared.routes.Plan.{Plan}
+use Rattle.hda_outside.specs.Shelf.{Files}
+use Rattle.wav_reader.specs.declared.opened.WavHead.{WavHead}
 use Rattle.wav_reader.specs.declared.wav.Wav.{Wav}
+use Rattle.wav_reader.specs.Fills.{end_of_sound}
+use Rattle.wav_reader.specs.Opening.{head_in_file}
+use Rattle.wav_reader.specs.Shelves.{HasFile}
+use Rattle.wav_reader.specs.Wavs.{ring_bytes}
 use Rattle.hda_schedule.specs.declared.schedule.Schedule.{Schedule}
 use Rattle.hda_files.specs.declared.machine.Machine.{Machine}
 use Rattle.hda_world.specs.Worlds.{CarriedFrame}
@@ -17,11 +23,14 @@ use Rattle.period_writer.specs.declared.course.Ran.TheVariants as ran
 use Rattle.period_writer.specs.declared.geometry.Geometry.{Geometry}
 use Rattle.period_writer.specs.Runs.{Tally, measures, tally_of_stretches}
 use Rattle.period_writer.specs.Lines.{IsLine}
+use Rattle.period_writer.specs.Rings as rings
 use Rattle.driver_progress.specs.declared.phase.Phase.{Phase}
 use Rattle.driver_progress.specs.declared.phase.Phase.TheVariants.{Reset, Settling, Walking, SettingUp, Ready, Playing, Drained, NothingRouted, Unanswered, Late, Malformed, Failed}
 use Rattle.driver_progress.specs.Tasks.{Task, Blocks}
 use Rattle.driver_progress.specs.States.{State}
 use Rattle.jack_counts.specs.Jacks.{Counts}
+use Rattle.sound_report.specs.declared.played.CutLine.{CutLine}
+use Rattle.sound_report.specs.declared.played.CutLine.TheVariants as cuts
 use Rattle.sound_report.specs.declared.played.Played.{Played}
 use Rattle.sound_report.specs.declared.played.PlayFault.{PlayFault}
 use Rattle.sound_report.specs.declared.played.PlayFault.TheVariants as faults
@@ -31,7 +40,7 @@ use Rattle.scheduled_runs.specs.Lines.{lines_of}
 use Rattle.scheduled_runs.specs.Events.{told_in}
 use Rattle.scheduled_runs.specs.Histories.{HasInput, IsHistory, MakesProgress, StaysOpen, commands_for, journal_of, told_by}
 use Rattle.scheduled_runs.specs.Stretches.{stretches_of}
-use Rattle.scheduled_runs.specs.FrameCounts.{frames_written, frames_below, last_at}
+use Rattle.scheduled_runs.specs.FrameCounts.{frames_written, frames_below, last_at, written_by}
 use Rattle.scheduled_runs.specs.Hearing.{HasPlayedAll, HearTheirs, WasSilent, lists_heard}
 
 -- ---- how it ended
@@ -110,3 +119,38 @@ pub record IsPlayed (machine : Machine) (plans : List Plan) (wav : Wav) (geometr
   pub jacks : Counts (told_in (journal_of played)) played.jacks
   pub commands : played.commands ≡ commands_for wav.format machine plans
   pub ended : IsPlayFault state.phase state.sent played.commands (block_bytes wav.format) played.total state.tally.runs state.tally.silences played.fault
+
+-- ---- the sound
+
+-- a sound with this head and these bytes, of which a part may have been read
+abbrev pub sound_with : WavHead → (pcm : List ℕ) → Wav
+sound_with head pcm = record { format = head.format; mono = head.mono; frames = head.frames; pcm = pcm }
+
+-- how many of the frames were read: all where the reading was not cut, and fewer where it was
+abbrev pub IsReadUpTo : Option CutLine → (read frames : ℕ) → Type 0
+IsReadUpTo None read frames = read ≡ frames
+IsReadUpTo (Some cut) read frames = read < frames
+
+-- these are the bytes of the sound that was read, in whole blocks. Where the file is told they are its first ones, and it does not get shorter
+pub record IsSoundRead (told : Option Files) (name : List ℕ) (head : WavHead) (played : Played) (pcm : List ℕ) : Type 0 where
+  pub blocks : length pcm ≡ played.read * block_bytes head.format
+  pub up_to : IsReadUpTo played.cut played.read head.frames
+  pub told_is : (file : List ℕ) → HasFile told name (head_in_file head) file → pcm ≡ take (played.read * block_bytes head.format) (ring_bytes file (head_in_file head))
+  pub never_short : (file : List ℕ) → HasFile told name (head_in_file head) file → (place : ℕ) → played.cut ≢ Some (cuts.Short place)
+
+-- why the reading was cut: the shelf failed under the name, or it answered, before the sound's end, that there was no byte more
+abbrev pub IsCutUnder : (name : List ℕ) → WavHead → (failed emptied : Type 0) → Option CutLine → Type 0
+IsCutUnder name head failed emptied None = Unit {0}
+IsCutUnder name head failed emptied (Some (cuts.Failed other)) = (string_bytes other ≡ name) × failed
+IsCutUnder name head failed emptied (Some (cuts.Short place)) = (place < end_of_sound (head_in_file head)) × emptied
+
+-- the run of a driver that plays a sound which it reads meanwhile: over the sound that was read
+pub record IsPlayedFrom (told : Option Files) (name : List ℕ) (head : WavHead) (machine : Machine) (plans : List Plan) (geometry : Geometry) (schedule : Schedule) (played : Played) : Type 0 where
+  pub pcm : List ℕ
+  pub sound : IsSoundRead told name head played pcm
+  pub run : IsPlayed machine plans (sound_with head pcm) geometry schedule played
+
+-- no more bytes are given than the recorded runs wrote, and twice what the ring has: as many may be held at the end, and as many a late run may
+-- have taken
+abbrev pub most_read : Geometry → Played → ℕ
+most_read geometry played = written_by played.runs + 2 * rings.ring_bytes geometry.periods geometry.period

@@ -50,6 +50,8 @@ pub record HasNoSound (played : Played) : Type 0 where
   pub runs : played.runs ≡ []
   pub silences : played.silences ≡ []
   pub heard : played.heard ≡ []
+  pub unread : played.read ≡ 0
+  pub uncut : played.cut ≡ None
 
 -- the run of a walk over a machine whose codecs have these plans
 pub record IsWalked (machine : Machine) (plans : List Plan) (schedule : Schedule) (played : Played) : Type 0 where

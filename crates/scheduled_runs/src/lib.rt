@@ -4,6 +4,7 @@
 
 mod calls;
 mod driving;
+mod feeding;
 mod frame_counts;
 mod items;
 mod lines;

@@ -1,7 +1,11 @@
 //! Playing: the reset, the walk over all codecs, their set-up, and then the sound, by a schedule.
-ghost use Rattle.std.specs.Prelude.{◌≡◌, ◌≤◌, ◌*◌, true, false, IfOk, length};
+ghost use Rattle.std.specs.Prelude.{◌≡◌, ◌≢◌, ◌≤◌, ℕ, ◌+◌, ◌*◌, List, true, false, Some, IfOk};
+ghost use Rattle.hda_outside.specs.Counts.{Rose};
+ghost use Rattle.hda_outside.specs.declared.pieces.Cut.TheVariants.{OutOfMemory};
+ghost use Rattle.stream_format.specs.Layouts.{layout};
+ghost use Rattle.wav_reader.specs.Heads.{frame_length};
+ghost use Rattle.scheduled_runs.specs.Reading as reading;
 ghost use Rattle.codec_agenda.specs.Planned.{have_route};
-ghost use Rattle.stream_format.specs.Cadence.{block_bytes};
 ghost use Rattle.hda_files.specs.Machines.{IsSound};
 ghost use Rattle.hda_schedule.specs.Schedules.{IsLimited};
 ghost use Rattle.machine_tasks.specs.Reading.{IsRead};
@@ -19,6 +23,7 @@ use audio_driver::Closed;
 use driver_progress::Phase;
 use hda_files::Machine;
 use hda_items::Items;
+use hda_outside::{Cut, Shelf};
 use hda_schedule::Schedule;
 use machine_tasks::{
     command_count, machines_have_tasks, machines_rest, opened_drivers_can_begin,
@@ -28,10 +33,10 @@ use period_writer::{Geometry, runs_append_to_the_line, runs_keep_the_course};
 use rig::Rig;
 use route_planner::{Plan, one_order};
 use route_setup::Analog;
-use sound_report::{PlayFault, Played};
+use sound_report::{CutLine, PlayFault, Played};
 use std::alloc::{AllocError, Global};
 use told_playing::drivers_keep_to_progress;
-use wav_reader::{Supply, Wav};
+use wav_reader::{Supply, WavHead};
 
 /// The frames that were left when the schedule ended, of so many with blocks of so many bytes.
 fn frames_left(closed: &Closed, block: u32, total: u64) -> PlayFault
@@ -67,29 +72,72 @@ fn play_fault(closed: &Closed, of: u32, block: u32, total: u64) -> Option<PlayFa
     }
 }
 
-/// Runs a driver over a machine by a schedule until all sound was played, a run was late, or the schedule ends: it resets the controller,
-/// walks over all codecs, plans their routes, sends the verbs that open them, and plays the sound through a ring of this geometry. The
-/// machine is one that a codec file describes, with these plans of its codecs for the format of the sound, of which some has a route.
+/// How many frames of the sound were read, of so many with blocks of so many bytes: all of them where the reading was not cut.
+fn frames_read(cut: &Option<Cut>, bytes: u64, block: u32, total: u64) -> u64
+    requires { 1 ≤ block }
+    ensures { result ≡ reading.frames_read cut.now bytes block total }
+{
+    match cut {
+        None => total,
+        Some(_) => bytes / u64::from(block),
+    }
+}
+
+/// How the reading of the sound under this name was cut, for the report.
 ///
 /// # Errors
 /// Want of memory.
-pub fn play(
+fn cut_line(alloc: Global, cut: Option<Cut>, name: &str) -> Result<Option<CutLine>, AllocError>
+    requires { cut ≢ Some OutOfMemory }
+    ensures { IfOk result (reading.IsLineOf name.now cut) }
+{
+    match cut {
+        None => Ok(None),
+        Some(Cut::Failed) => {
+            let name = String::from_str(alloc, name)?;
+            Ok(Some(CutLine::Failed(name)))
+        }
+        Some(Cut::Short(place)) => Ok(Some(CutLine::Short(place))),
+        Some(Cut::OutOfMemory) => unreachable!(),
+    }
+}
+
+/// Runs a driver over a machine by a schedule until all sound was played, a run was late, or the schedule ends: it resets the controller,
+/// walks over all codecs, plans their routes, sends the verbs that open them, and plays the sound through a ring of this geometry. The
+/// sound is that of the WAV file `name`, of which `head` says what stands before it; it is read while it plays, before each call that may
+/// play as much as the ring takes. Where the shelf fails or the file gets shorter meanwhile, the run goes on over the sound that was read
+/// until then. The machine is one that a codec file describes, with these plans of its codecs for the format of the sound, of which some
+/// has a route.
+///
+/// # Errors
+/// Want of memory.
+pub fn play<S: Shelf>(
     alloc: Global,
+    shelf: &mut S,
     machine: Machine,
     plans: Vec<Plan>,
-    wav: Wav,
+    head: WavHead,
+    name: &str,
     geometry: Geometry,
     schedule: &Schedule,
 ) -> Result<Played, AllocError>
     requires sound { IsSound machine }
     requires read { IsRead machine }
-    requires plans { HavePlans wav.format machine.codecs plans.items }
+    requires plans { HavePlans head.format machine.codecs plans.items }
     requires routed { have_route plans.items ≡ true }
-    requires whole { length wav.pcm ≡ wav.frames * block_bytes wav.format }
-    requires format { geometry.format ≡ wav.format }
+    requires short { head.length ≤ 67108864 }
+    requires within { head.from + head.frames * frame_length head.mono (layout head.format) ≤ head.length }
+    requires format { geometry.format ≡ head.format }
     requires fifo { geometry.fifo ≡ machine.fifo }
     requires limits { IsLimited schedule.now }
-    ensures { IfOk result (λ played. spec.IsPlayed machine plans.items wav geometry schedule.now played) }
+    ensures played { IfOk result (λ played. spec.IsPlayedFrom (S.told shelf.old) name.now head machine plans.items geometry schedule.now played) }
+    ensures cut { IfOk result (λ played. spec.IsCutUnder name.now head (Rose (S.faults shelf.old name.now) (S.faults shelf.new name.now))
+        (Rose (S.empties shelf.old name.now) (S.empties shelf.new name.now)) played.cut) }
+    ensures given { IfOk result (λ played. S.given shelf.new ≤ S.given shelf.old + spec.most_read geometry played) }
+    ensures told { S.told shelf.new ≡ S.told shelf.old }
+    ensures asked { (other : List ℕ) → other ≢ name.now → S.asked shelf.new other ≡ S.asked shelf.old other }
+    ensures later { (other : List ℕ) → S.faults shelf.old other ≤ S.faults shelf.new other }
+    ensures empties_later { (other : List ℕ) → S.empties shelf.old other ≤ S.empties shelf.new other }
 {
     read_machines_are_whole();
     machines_have_tasks();
@@ -99,30 +147,32 @@ pub fn play(
     one_order();
     runs_keep_the_course();
     runs_append_to_the_line();
-    let format = wav.format;
-    let total = wav.frames;
-    let _bytes = wav.pcm.len();
+    let format = head.format;
+    let total = head.frames;
     let commands = command_count(alloc, machine.codecs.as_slice(), plans.as_slice(), format)?;
     let mut rig = Rig::new(alloc, machine)?;
-    let driver = open_driver(
+    let supply = Supply::stream(alloc, head, name, geometry.ring())?;
+    let driver = open_driver(alloc, geometry, supply, line_count(schedule), true)?;
+    let mut cut = None;
+    let driven = drive(
         alloc,
-        geometry,
-        Supply::whole(wav),
-        line_count(schedule),
-        true,
-    )?;
-    let closed = drive(
+        shelf,
+        &mut cut,
         &mut rig,
         driver,
         schedule,
         geometry.ring() + BYTES_BESIDE_RING,
     )?;
+    let closed = driven.closed;
+    let read = frames_read(&cut, driven.read, format.block_bytes(), total);
     let (machine, heard, journal) = rig.parts();
     let fault = play_fault(&closed, commands, format.block_bytes(), total);
+    let cut = cut_line(alloc, cut, name)?;
     Ok(Played {
         machine,
         format,
         total,
+        read,
         commands,
         plans: Items::from_vec(plans),
         graphs: Items::from_vec(closed.graphs),
@@ -133,5 +183,6 @@ pub fn play(
         journal,
         walk: false,
         fault,
+        cut,
     })
 }

@@ -6,7 +6,7 @@ ghost use Rattle.hda_schedule.specs.Schedules.{IsLimited};
 ghost use Rattle.machine_tasks.specs.Reading.{IsRead};
 ghost use Rattle.machine_tasks.specs.Tasks.{HavePlans};
 ghost use Rattle.scheduled_runs.specs.Ends.{can_end};
-ghost use Rattle.scheduled_runs.specs.Going.{IsWhole};
+ghost use Rattle.scheduled_runs.specs.Feeding.{IsSilent};
 ghost use Rattle.scheduled_runs.specs.Openings.{IsFresh};
 ghost use Rattle.scheduled_runs.specs.Walks as spec;
 
@@ -17,6 +17,7 @@ use audio_driver::Driver;
 use driver_progress::Phase;
 use hda_files::Machine;
 use hda_items::Items;
+use hda_outside::SureShelf;
 use hda_schedule::Schedule;
 use machine_tasks::{
     command_count, machines_have_tasks, machines_rest, opened_drivers_can_begin,
@@ -54,7 +55,7 @@ pub fn walk_format() -> Format
 
 /// A supply without sound.
 fn no_sound(alloc: Global) -> Supply
-    ensures { IsWhole result }
+    ensures { IsSilent result }
 {
     Supply::whole(Wav {
         format: walk_format(),
@@ -76,7 +77,7 @@ fn silent_driver(alloc: Global, fifo: u16, calls: u32) -> Result<Driver<Analog>,
     ensures play { IfOk result (λ driver. driver.play ≡ false) }
     ensures calls { IfOk result (λ driver. driver.calls ≡ 0) }
     ensures runs { IfOk result (λ driver. driver.runs ≡ calls) }
-    ensures whole { IfOk result (λ driver. IsWhole driver.supply) }
+    ensures supply { IfOk result (λ driver. IsSilent driver.supply) }
 {
     let Ok(geometry) = Geometry::new(PERIODS, PERIOD, fifo, walk_format()) else {
         unreachable!();
@@ -148,12 +149,24 @@ pub fn walk(
     let fifo = machine.fifo;
     let mut rig = Rig::new(alloc, machine)?;
     let driver = silent_driver(alloc, fifo, line_count(schedule))?;
-    let closed = drive(&mut rig, driver, schedule, RING_BYTES + BYTES_BESIDE_RING)?;
+    let mut no_files = SureShelf::new(Vec::new(alloc));
+    let mut cut = None;
+    let driven = drive(
+        alloc,
+        &mut no_files,
+        &mut cut,
+        &mut rig,
+        driver,
+        schedule,
+        RING_BYTES + BYTES_BESIDE_RING,
+    )?;
+    let closed = driven.closed;
     let (machine, _, journal) = rig.parts();
     Ok(Played {
         machine,
         format: walk_format(),
         total: 0,
+        read: 0,
         commands,
         plans: Items::from_vec(plans),
         graphs: Items::from_vec(closed.graphs),
@@ -164,5 +177,6 @@ pub fn walk(
         journal,
         walk: true,
         fault: walk_fault(closed.phase, closed.sent, commands),
+        cut: None,
     })
 }

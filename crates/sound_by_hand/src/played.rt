@@ -2,6 +2,7 @@
 ghost use Rattle.std.specs.Prelude.{◌≡◌, false, true, ℕ, OnOk};
 ghost use Rattle.rig.specs.Rigs.{setting_of};
 ghost use Rattle.wav_reader.specs.Supplies.{Suffices};
+ghost use Rattle.period_writer.specs.Writers.{KeepsRing};
 
 use crate::machine::ready;
 use crate::plays::{Play, Turn};
@@ -64,9 +65,7 @@ fn turn_once(
     requires geometry { writer.old.geometry ≡ geometry.now }
     ensures closed { OnOk result ((setting_of rig.new).in_run ≡ false) }
     ensures started { writer.new.course.started ≡ true }
-    ensures geometry { writer.new.geometry ≡ writer.old.geometry }
-    ensures list { writer.new.list ≡ writer.old.list }
-    ensures periods { writer.new.periods.items ≡ writer.old.periods.items }
+    ensures keeps { KeepsRing writer.old writer.new }
 {
     for step in turn.steps {
         rig.step(step)?;
@@ -91,9 +90,7 @@ fn play_all(
     requires closed { (setting_of rig.old).in_run ≡ false }
     requires fresh { writer.old.course.started ≡ false }
     requires geometry { writer.old.geometry ≡ geometry.now }
-    ensures geometry { writer.new.geometry ≡ writer.old.geometry }
-    ensures list { writer.new.list ≡ writer.old.list }
-    ensures periods { writer.new.periods.items ≡ writer.old.periods.items }
+    ensures keeps { KeepsRing writer.old writer.new }
 {
     if !holds_all(supply) {
         return Ok(());
@@ -119,9 +116,7 @@ fn turns(
     requires closed { (setting_of rig.old).in_run ≡ false }
     requires started { writer.old.course.started ≡ true }
     requires geometry { writer.old.geometry ≡ geometry.now }
-    ensures geometry { writer.new.geometry ≡ writer.old.geometry }
-    ensures list { writer.new.list ≡ writer.old.list }
-    ensures periods { writer.new.periods.items ≡ writer.old.periods.items }
+    ensures keeps { KeepsRing writer.old writer.new }
 {
     for turn in turns {
         turn_once(rig, writer, supply, geometry, turn)?;

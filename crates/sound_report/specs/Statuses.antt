@@ -1,7 +1,7 @@
 -- The numbers of the exit statuses. This project's own.
 use Rattle.std.specs.Prelude.{ℕ}
 use Rattle.sound_report.specs.declared.status.Status.{Status}
-use Rattle.sound_report.specs.declared.status.Status.TheVariants.{Done, WordsRefused, ShelfFailed, SinkFailed, CodecRefused, WavRefused, ScheduleRefused, NothingRouted, Unanswered, Late, ScheduleEnded, OutOfMemory, GeometryRefused}
+use Rattle.sound_report.specs.declared.status.Status.TheVariants.{Done, WordsRefused, ShelfFailed, SinkFailed, CodecRefused, WavRefused, ScheduleRefused, NothingRouted, Unanswered, Late, ScheduleEnded, OutOfMemory, GeometryRefused, WavShrank}
 
 abbrev pub number_of : Status → ℕ
 number_of Done = 0
@@ -17,3 +17,4 @@ number_of Late = 10
 number_of ScheduleEnded = 11
 number_of OutOfMemory = 12
 number_of GeometryRefused = 13
+number_of WavShrank = 14

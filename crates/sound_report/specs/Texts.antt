@@ -1,11 +1,13 @@
 -- The whole text of a run of the driver. This project's own.
-use Rattle.std.specs.Prelude.{ℕ, Bool, List, ◌++◌, codes, decimal, Option, Some, None, if◌then◌else◌}
+use Rattle.std.specs.Prelude.{ℕ, Bool, List, ◌++◌, codes, decimal, string_bytes, Option, Some, None, if◌then◌else◌}
 use Rattle.std.specs.List.{flat_map}
 use Rattle.std.specs.Int.{to_be_bytes, w32}
 use Rattle.hex.specs.Hex.{encode_lower}
 use Rattle.sound_report.specs.declared.played.Played.{Played}
 use Rattle.sound_report.specs.declared.played.PlayFault.{PlayFault}
 use Rattle.sound_report.specs.declared.played.PlayFault.TheVariants.{Unanswered, Late, CommandsLeft, FramesLeft}
+use Rattle.sound_report.specs.declared.played.CutLine.{CutLine}
+use Rattle.sound_report.specs.declared.played.CutLine.TheVariants.{Failed, Short}
 use Rattle.sound_report.specs.PlanLines.{plans_lines, newline}
 use Rattle.sound_report.specs.RunLines.{run_line, silence_line, jack_line}
 use Rattle.sound_report.specs.PinParts.{pin_part}
@@ -43,10 +45,28 @@ fault_line (FramesLeft written heard of) = frames_left_line written heard of
 abbrev pub done_line : Bool → ℕ → ℕ → List ℕ
 done_line walk commands total = if walk then codes "set up " ++ decimal commands ++ newline else codes "played " ++ decimal total ++ newline
 
+-- a file could not be read: its name
+abbrev pub unreadable_line : List ℕ → List ℕ
+unreadable_line name = codes "cannot read: " ++ name ++ newline
+
+-- the WAV file got shorter while it was played: the place at which it had no byte more
+abbrev pub shrank_line : ℕ → List ℕ
+shrank_line place = codes "wav shrank: " ++ decimal place ++ newline
+
+-- how the reading of the sound was cut
+abbrev pub cut_line : CutLine → List ℕ
+cut_line (Failed name) = unreadable_line (string_bytes name)
+cut_line (Short place) = shrank_line place
+
+-- how it ended: how the reading was cut, or else why it ended early, or else what was done
+abbrev pub ending_line : Option CutLine → Option PlayFault → List ℕ → List ℕ
+ending_line (Some cut) fault done = cut_line cut
+ending_line None (Some fault) done = fault_line fault
+ending_line None None done = done
+
 -- the last line
-abbrev pub last_line : Option PlayFault → List ℕ → List ℕ
-last_line None done = done
-last_line (Some fault) done = fault_line fault
+abbrev pub last_line : Played → List ℕ
+last_line played = ending_line played.cut played.fault (done_line played.walk played.commands played.total)
 
 -- the lines between the plans and the last one: runs, silences, jacks and pins
 abbrev pub middle_lines : Played → List ℕ
@@ -61,4 +81,4 @@ abbrev pub text_of : Played → List ℕ
 text_of played =
     plans_lines played.machine.codecs played.plans
     ++ middle_lines played
-    ++ last_line played.fault (done_line played.walk played.commands played.total)
+    ++ last_line played

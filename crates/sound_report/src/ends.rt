@@ -1,9 +1,9 @@
 //! The last line of a run's text.
 ghost use Rattle.std.specs.Prelude.{◌≡◌, ◌++◌, OnOk};
-ghost use Rattle.sound_report.specs.Texts.{unanswered_line, commands_left_line, frames_left_line, fault_line, done_line, last_line};
+ghost use Rattle.sound_report.specs.Texts.{unanswered_line, commands_left_line, frames_left_line, fault_line, cut_line, done_line, last_line};
 
 use crate::pieces::{push_hex, push_number, push_word};
-use crate::played::PlayFault;
+use crate::played::{CutLine, PlayFault, Played};
 use std::alloc::AllocError;
 use std::io::Write;
 
@@ -71,6 +71,16 @@ fn push_fault(out: &mut Vec<u8>, fault: PlayFault) -> Result<(), AllocError>
     }
 }
 
+/// How the reading of the sound was cut.
+fn push_cut(out: &mut Vec<u8>, cut: &CutLine) -> Result<(), AllocError>
+    ensures { OnOk result (out.new.items ≡ out.old.items ++ cut_line cut.now) }
+{
+    match cut {
+        CutLine::Failed(name) => writeln!(out, "cannot read: {name}").map_err(|_| AllocError),
+        CutLine::Short(place) => writeln!(out, "wav shrank: {place}").map_err(|_| AllocError),
+    }
+}
+
 /// What was done.
 fn push_done(out: &mut Vec<u8>, walk: bool, commands: u32, total: u64) -> Result<(), AllocError>
     ensures { OnOk result (out.new.items ≡ out.old.items ++ done_line walk commands total) }
@@ -82,21 +92,18 @@ fn push_done(out: &mut Vec<u8>, walk: bool, commands: u32, total: u64) -> Result
     }
 }
 
-/// Appends the last line: why the run ended early, or what was done.
+/// Appends the last line: how the reading of the sound was cut, or else why the run ended early, or else what was done.
 ///
 /// # Errors
 /// Want of memory.
-pub(crate) fn push_last(
-    out: &mut Vec<u8>,
-    fault: Option<PlayFault>,
-    walk: bool,
-    commands: u32,
-    total: u64,
-) -> Result<(), AllocError>
-    ensures { OnOk result (out.new.items ≡ out.old.items ++ last_line fault (done_line walk commands total)) }
+pub(crate) fn push_last(out: &mut Vec<u8>, played: &Played) -> Result<(), AllocError>
+    ensures { OnOk result (out.new.items ≡ out.old.items ++ last_line played.now) }
 {
-    match fault {
+    if let Some(cut) = &played.cut {
+        return push_cut(out, cut);
+    }
+    match played.fault {
         Some(fault) => push_fault(out, fault),
-        None => push_done(out, walk, commands, total),
+        None => push_done(out, played.walk, played.commands, played.total),
     }
 }

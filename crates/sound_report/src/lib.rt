@@ -13,6 +13,6 @@ mod status;
 mod whole;
 
 pub use plans::{push_nid, push_plans};
-pub use played::{PlayFault, Played};
+pub use played::{CutLine, PlayFault, Played};
 pub use status::Status;
 pub use whole::{report, write_report};

@@ -50,6 +50,15 @@ pub enum PlayFault {
     },
 }
 
+/// How the reading of a sound was cut while it was played. This project's own.
+#[derive(Debug, Drop)]
+pub enum CutLine {
+    /// The file could not be read, under this name.
+    Failed(String),
+    /// The file got shorter: the place in it, in bytes, at which it answered that there was no byte more.
+    Short(u64),
+}
+
 /// A run of the driver over a machine from first to last, and how it ended. This project's own.
 #[derive(Drop)]
 pub struct Played {
@@ -59,6 +68,8 @@ pub struct Played {
     pub format: Format,
     /// How many frames of sound there are; 0 for a walk.
     pub total: u64,
+    /// How many of them were read: all of them exactly where the reading was not cut; 0 for a walk.
+    pub read: u64,
     /// How many commands it takes to walk over all codecs and to set them up.
     pub commands: u32,
     /// The plan of each of the machine's codecs, in order.
@@ -79,4 +90,6 @@ pub struct Played {
     pub walk: bool,
     /// Why it ended before it was done. `None` where all was done.
     pub fault: Option<PlayFault>,
+    /// How the reading of the sound was cut. `None` where it was not, as for a walk. The run goes on over the frames that were read.
+    pub cut: Option<CutLine>,
 }

@@ -31,6 +31,8 @@ pub enum Status {
     OutOfMemory,
     /// The ring of sound has a fault.
     GeometryRefused,
+    /// The WAV file got shorter while it was played.
+    WavShrank,
 }
 
 impl Status {
@@ -52,6 +54,7 @@ impl Status {
             Status::ScheduleEnded => 11,
             Status::OutOfMemory => 12,
             Status::GeometryRefused => 13,
+            Status::WavShrank => 14,
         }
     }
 }

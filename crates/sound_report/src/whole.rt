@@ -49,13 +49,7 @@ pub fn write_report<K: Sink>(alloc: Global, out: &mut K, played: &Played) -> Res
     let mut page = plans.into_bytes();
     page.reserve(PAGE_LEN)?;
     write_middle(out, &mut page, played)?;
-    push_last(
-        &mut page,
-        played.fault,
-        played.walk,
-        played.commands,
-        played.total,
-    )?;
+    push_last(&mut page, played)?;
     write_all(alloc, out, page.as_slice())
 }
 

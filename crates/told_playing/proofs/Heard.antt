@@ -9,9 +9,8 @@ use Rattle.hda_world.specs.Events.{Event, Stepped, Begin, End}
 use Rattle.hda_world.specs.Tellings.{Telling, world_of, Went, Accessed}
 use Rattle.command_engine.specs.declared.ring_places.RingPlaces.{RingPlaces}
 use Rattle.command_engine.specs.Polling.{found_by}
-use Rattle.period_writer.specs.declared.writer.Writer.{Writer}
 use Rattle.period_writer.specs.Outcomes.{HasNotWrapped}
-use Rattle.period_writer.specs.Writers.{measures_of}
+use Rattle.period_writer.specs.Writers.{WriterState, measures_of}
 use Rattle.driver_progress.specs.Phases.{is_asking}
 use Rattle.driver_progress.specs.States.{State}
 use Rattle.driver_progress.specs.Tasks.{Task, DriverLine}
@@ -29,7 +28,7 @@ use Rattle.told_playing.proofs.Good.{StayGood, good_now, begin_good, end_good, s
 use Rattle.told_playing.proofs.Playing.{plays}
 
 -- no command is outstanding after a call that plays, where none was
-pub none_after : (irq : Bool) (budget : ℕ) (old new : BringUp) (writer writer' : Writer) (supply : List ℕ) (made : List Event) (before after : Telling) → sounding.SoundTells irq budget old new writer writer' supply made before after
+pub none_after : (irq : Bool) (budget : ℕ) (old new : BringUp) (writer writer' : WriterState) (supply : List ℕ) (made : List Event) (before after : Telling) → sounding.SoundTells irq budget old new writer writer' supply made before after
     → old.engine.rings.outstanding ≡ None → new.engine.rings.outstanding ≡ None
 none_after irq budget old new writer writer' supply made before after (inl still) none = ap (λ (bring_up : BringUp). bring_up.engine.rings.outstanding) still.bring_up ∙ none
 none_after irq budget old new writer writer' supply made before after (inr (inl begins)) none = ap (λ (bring_up : BringUp). bring_up.engine.rings.outstanding) begins.bring_up ∙ none

@@ -7,9 +7,8 @@ use Rattle.route_planner.specs.declared.routes.Plan.{Plan}
 use Rattle.device_steps.specs.declared.Step.{Step}
 use Rattle.hda_world.specs.Events.{Stepped, Begin, End}
 use Rattle.hda_world.specs.Tellings.{Telling, Went, Accessed}
-use Rattle.period_writer.specs.declared.writer.Writer.{Writer}
 use Rattle.period_writer.specs.Standing.{Ring}
-use Rattle.period_writer.specs.Writers.{tally_of, ring_of}
+use Rattle.period_writer.specs.Writers.{WriterState, tally_of, ring_of}
 use Rattle.driver_progress.specs.Tasks.{Task, DriverLine}
 use Rattle.codec_bring_up.specs.Calls as bringing
 use Rattle.audio_driver.specs.States.{plays_now, IsTaskOf}
@@ -26,7 +25,7 @@ use Rattle.told_playing.proofs.Bringing.{made_rest, leads_accesses}
 task_kept : (task : Task) (old new : Parts) → bringing.IsKept old.bring_up new.bring_up → new.writer ≡ old.writer → new.supply ≡ old.supply → IsTaskOf old.bring_up old.writer old.supply task → IsTaskOf new.bring_up new.writer new.supply task
 task_kept task old new kept writer supply is =
     subst (λ (supply : List ℕ). IsTaskOf new.bring_up new.writer supply task) (sym supply)
-    (subst (λ (writer : Writer). IsTaskOf new.bring_up writer old.supply task) (sym writer) (record {
+    (subst (λ (writer : WriterState). IsTaskOf new.bring_up writer old.supply task) (sym writer) (record {
       rings = record { corb = is.rings.corb ∙ sym (ap (λ corb. corb.address) kept.corb); rirb = is.rings.rirb ∙ sym (ap (λ rirb. rirb.address) kept.rirb) };
       geometry = is.geometry;
       list = is.list;
@@ -43,7 +42,7 @@ silent_on task old new before after kept writer supply rests silent = record {
   fresh = ap tally_of writer ∙ silent.fresh;
   apart = subst (λ (rirb : ℕ). AreApartFrom (ring_in new) rirb) (sym (ap (λ rirb. rirb.address) kept.rirb))
       (subst (λ (ring : Ring). AreApartFrom ring old.bring_up.engine.rirb.address) (sym (ap ring_of writer)) silent.apart);
-  rests = subst (λ (writer : Writer). Along (Rests writer.geometry.fifo) after.journal after.start) (sym writer) rests;
+  rests = subst (λ (writer : WriterState). Along (Rests writer.geometry.fifo) after.journal after.start) (sym writer) rests;
 }
 
 module _ (IsPlanBy : RawCodec → Plan → Type 0) (verbs_by : RawCodec → Plan → List Command) (verbs : RawCodec → List Command) (IsOpenBy : RawCodec → Entries → Plan → Type 0) (graphs : List RawCodec) (task : Task)

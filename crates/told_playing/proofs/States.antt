@@ -6,9 +6,8 @@ use Rattle.command_engine.specs.declared.answers.Outstanding.{Outstanding}
 use Rattle.command_engine.specs.Polling.{still_outstanding}
 use Rattle.period_writer.specs.declared.course.Ran.{Ran}
 use Rattle.period_writer.specs.declared.course.Ran.TheVariants as ran
-use Rattle.period_writer.specs.declared.writer.Writer.{Writer}
 use Rattle.period_writer.specs.Runs.{Tally, tally_opened}
-use Rattle.period_writer.specs.Writers.{tally_of, measures_of}
+use Rattle.period_writer.specs.Writers.{WriterState, tally_of, measures_of}
 use Rattle.period_writer.specs.Blocks.{addresses_of}
 use Rattle.driver_progress.specs.declared.phase.Phase.{Phase}
 use Rattle.driver_progress.specs.declared.phase.Phase.TheVariants.{Reset, Settling, Walking, SettingUp, Ready, Playing, Drained, NothingRouted, Unanswered, Late, Malformed, Failed}
@@ -30,7 +29,7 @@ not_true is = cc
 pub silent_with : (bring_up : BringUp) (tally : Tally) (limit : ℕ) → tally ≡ tally_opened → state_with bring_up tally limit ≡ bringing.state_of bring_up
 silent_with bring_up tally limit fresh = ap (λ (tally : Tally). state_with bring_up tally limit) fresh
 
-pub silent_state : (bring_up : BringUp) (writer : Writer) → tally_of writer ≡ tally_opened → state_of bring_up writer ≡ bringing.state_of bring_up
+pub silent_state : (bring_up : BringUp) (writer : WriterState) → tally_of writer ≡ tally_opened → state_of bring_up writer ≡ bringing.state_of bring_up
 silent_state bring_up writer fresh = silent_with bring_up (tally_of writer) (measures_of writer).limit fresh
 
 played_set_up : (was : Ran) (limit : ℕ) → are_set_up (played_as was limit) ≡ true
@@ -102,7 +101,7 @@ end_silent task bring_up = plays_none task None bring_up.phase bring_up.early (�
 -- ---- over a call that plays
 
 -- the task stays the driver's
-pub task_on : (task : Task) (irq : Bool) (budget : ℕ) (old new : BringUp) (writer writer' : Writer) (supply supply' : List ℕ) (before after : Option Telling) → Sounds irq budget old new writer writer' supply supply' before after
+pub task_on : (task : Task) (irq : Bool) (budget : ℕ) (old new : BringUp) (writer writer' : WriterState) (supply supply' : List ℕ) (before after : Option Telling) → Sounds irq budget old new writer writer' supply supply' before after
     → IsTaskOf old writer supply task → IsTaskOf new writer' supply' task
 task_on task irq budget old new writer writer' supply supply' before after sounds is =
     let stays = sounds.stays in record {

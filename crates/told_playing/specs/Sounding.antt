@@ -5,10 +5,9 @@ use Rattle.codec_graph.specs.CodecStates.{CodecState}
 use Rattle.codec_graph.specs.Settings.{Entries}
 use Rattle.route_planner.specs.declared.routes.Plan.{Plan}
 use Rattle.hda_world.specs.Tellings.{Telling}
-use Rattle.period_writer.specs.declared.writer.Writer.{Writer}
 use Rattle.period_writer.specs.Runs.{Tally, tally_opened}
 use Rattle.period_writer.specs.Standing.{Ring}
-use Rattle.period_writer.specs.Writers.{tally_of, ring_of}
+use Rattle.period_writer.specs.Writers.{WriterState, tally_of, ring_of}
 use Rattle.driver_progress.specs.declared.phase.Phase.TheVariants.{Ready}
 use Rattle.driver_progress.specs.Tasks.{Task}
 use Rattle.driver_progress.specs.States.{State}
@@ -22,7 +21,7 @@ use Rattle.heard_runs.specs.Sounding as heard
 -- a driver, as far as what is told hangs on it: its bring-up, its writer, and the sound that is still to come
 pub record Parts : Type 0 where
   pub bring_up : BringUp
-  pub writer : Writer
+  pub writer : WriterState
   pub supply : List ℕ
 
 abbrev pub state_in : Parts → State

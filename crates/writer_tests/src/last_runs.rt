@@ -1,5 +1,6 @@
 //! The last run, which stops the stream whatever it finds.
 ghost use Rattle.std.specs.Prelude.{◌≡◌, false};
+ghost use Rattle.period_writer.specs.Writers.{KeepsRing};
 
 use crate::play::{Played, Script, answers_of, nothing, record, small_ring, start, supply_of};
 use crate::scripted::Access::{Read, Write};
@@ -22,9 +23,7 @@ fn finish(
     geometry: &Geometry,
 ) -> Option<Ran>
     requires geometry { writer.old.geometry ≡ geometry.now }
-    ensures geometry { writer.new.geometry ≡ writer.old.geometry }
-    ensures list { writer.new.list ≡ writer.old.list }
-    ensures periods { writer.new.periods.items ≡ writer.old.periods.items }
+    ensures keeps { KeepsRing writer.old writer.new }
 {
     let course = writer.course();
     if course.started && course.ran == Ran::Playing && writer.has_free_record() {
@@ -48,9 +47,7 @@ fn finish_all(
 ) -> Result<(), AllocError>
     requires fresh { writer.old.course.started ≡ false }
     requires geometry { writer.old.geometry ≡ geometry.now }
-    ensures geometry { writer.new.geometry ≡ writer.old.geometry }
-    ensures list { writer.new.list ≡ writer.old.list }
-    ensures periods { writer.new.periods.items ≡ writer.old.periods.items }
+    ensures keeps { KeepsRing writer.old writer.new }
 {
     let (_, _, budget) = script.first;
     start(platform, writer, supply, geometry, budget);

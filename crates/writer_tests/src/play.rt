@@ -1,6 +1,7 @@
 //! A play over the scripted platform: the writer's first run and later ones over the small ring, and what came of them.
 ghost use Rattle.std.specs.Prelude.{◌≡◌, false, true, ℕ};
 ghost use Rattle.wav_reader.specs.Supplies.{Suffices};
+ghost use Rattle.period_writer.specs.Writers.{KeepsRing};
 
 use crate::scripted::{Access, Answer, Scripted};
 use dma_pool::Pool;
@@ -131,9 +132,7 @@ pub fn start(
 )
     requires fresh { writer.old.course.started ≡ false }
     requires geometry { writer.old.geometry ≡ geometry.now }
-    ensures geometry { writer.new.geometry ≡ writer.old.geometry }
-    ensures list { writer.new.list ≡ writer.old.list }
-    ensures periods { writer.new.periods.items ≡ writer.old.periods.items }
+    ensures keeps { KeepsRing writer.old writer.new }
 {
     if !holds_all(supply) {
         return;
@@ -153,9 +152,7 @@ pub fn run(
     budget: u32,
 ) -> Option<Ran>
     requires geometry { writer.old.geometry ≡ geometry.now }
-    ensures geometry { writer.new.geometry ≡ writer.old.geometry }
-    ensures list { writer.new.list ≡ writer.old.list }
-    ensures periods { writer.new.periods.items ≡ writer.old.periods.items }
+    ensures keeps { KeepsRing writer.old writer.new }
 {
     let course = writer.course();
     let is_open = course.started && course.ran == Ran::Playing && writer.has_free_record();
@@ -179,9 +176,7 @@ fn run_all(
     played: &mut Played,
 ) -> Result<(), AllocError>
     requires geometry { writer.old.geometry ≡ geometry.now }
-    ensures geometry { writer.new.geometry ≡ writer.old.geometry }
-    ensures list { writer.new.list ≡ writer.old.list }
-    ensures periods { writer.new.periods.items ≡ writer.old.periods.items }
+    ensures keeps { KeepsRing writer.old writer.new }
 {
     for (_, _, _, budget) in script.turns {
         if let Some(ran) = run(platform, writer, supply, geometry, *budget) {
@@ -203,9 +198,7 @@ fn play_all(
 ) -> Result<(), AllocError>
     requires fresh { writer.old.course.started ≡ false }
     requires geometry { writer.old.geometry ≡ geometry.now }
-    ensures geometry { writer.new.geometry ≡ writer.old.geometry }
-    ensures list { writer.new.list ≡ writer.old.list }
-    ensures periods { writer.new.periods.items ≡ writer.old.periods.items }
+    ensures keeps { KeepsRing writer.old writer.new }
 {
     let (_, _, budget) = script.first;
     start(platform, writer, supply, geometry, budget);

@@ -1,16 +1,16 @@
 //! How a driver is closed.
-ghost use Rattle.std.specs.Prelude.{◌≡◌, ◌≤◌, ◌+◌, ℕ, List, Contains, All, IfOk, OnErr, true};
+ghost use Rattle.std.specs.Prelude.{◌≡◌, ◌≤◌, ◌+◌, ℕ, List, Contains, IfOk, OnErr, true};
 ghost use Rattle.wav_reader.specs.Supplies.{MayGive, EndsWith};
 ghost use Rattle.dma_pool.specs.Blocks.{run_at};
 ghost use Rattle.dma_pool.specs.Pools.{PoolState};
 ghost use Rattle.command_engine.specs.Blocks.{corb_bytes, rirb_bytes};
-ghost use Rattle.period_writer.specs.Rings.{period_bytes, list_bytes, ring_bytes};
-ghost use Rattle.period_writer.specs.Blocks.{addresses_of};
+ghost use Rattle.period_writer.specs.Writers.{OwnsBlocks, periods_of, ring_size};
 ghost use Rattle.driver_progress.specs.Phases.{is_asking};
 ghost use Rattle.codec_bring_up.specs.Told.{IsShut};
-ghost use Rattle.audio_driver.specs.Opening.{Opens};
 ghost use Rattle.audio_driver.specs.States as states;
 ghost use Rattle.audio_driver.specs.Closing as spec;
+ghost use Rattle.audio_driver.specs.Drivers.{TakesBlocks, GivesBlocks};
+ghost use Rattle.audio_driver.specs.Calls.{ClosesBy};
 
 use super::Driver;
 use super::ending::end_call;
@@ -19,7 +19,6 @@ use codec_bring_up::BroughtUp;
 use codec_graph::Graph;
 use command_engine::Engine;
 use dma_pool::Pool;
-use driver_commands::TAG;
 use driver_progress::{Jack, Phase};
 use hda_platform::Platform;
 use period_writer::{Records, Run, Span, Writer};
@@ -52,11 +51,11 @@ pub struct Closed {
 pub(super) fn give_back(pool: &mut Pool, engine: Engine, writer: Writer) -> Records
     requires corb { Contains pool.old.taken (run_at engine.corb.address corb_bytes) }
     requires rirb { Contains pool.old.taken (run_at engine.rirb.address rirb_bytes) }
-    requires list { Contains pool.old.taken (run_at writer.list.address (list_bytes writer.geometry.periods)) }
-    requires periods { All (λ lent. Contains pool.old.taken (run_at lent.address (period_bytes writer.geometry.period))) writer.periods.items }
-    ensures gives { spec.GivesBack writer.geometry pool.old engine.corb.address engine.rirb.address writer.list.address (addresses_of writer.periods.items) pool.new }
-    ensures runs { result.runs ≡ writer.runs }
-    ensures silences { result.silences ≡ writer.silences }
+    requires ring { OwnsBlocks pool.old.taken writer }
+    ensures gives { spec.GivesBack writer.geometry pool.old engine.corb.address engine.rirb.address
+        writer.list.address (periods_of writer) pool.new }
+    ensures runs { result.runs.items ≡ writer.runs }
+    ensures silences { result.silences.items ≡ writer.silences }
 {
     engine.close(pool);
     writer.end(pool)
@@ -72,15 +71,18 @@ impl<T: Setter + Drop> Driver<T> {
     /// let go.
     pub fn close<P: Platform>(self, platform: &mut P) -> Result<Closed, AllocError>
         requires room { 400 ≤ P.spare_accesses platform.old }
-        requires bytes_room { ring_bytes self.writer.geometry.periods self.writer.geometry.period + 8192 ≤ P.spare_bytes platform.old }
-        ensures closes { (sound : List ℕ) → MayGive self.supply sound → EndsWith self.supply sound → IfOk result (λ closed. spec.Closes (λ graph. T.IsPlanBy self.setter graph self.bring_up.agenda.format) (λ graph plan. T.verbs_by self.setter graph plan self.bring_up.agenda.format TAG) self.play self.bring_up self.writer sound closed (P.told platform.old) (P.told platform.new)) }
-        ensures gives { IfOk result (λ closed. spec.GivesBack self.writer.geometry self.pool self.bring_up.engine.corb.address self.bring_up.engine.rirb.address self.writer.list.address (addresses_of self.writer.periods.items) closed.pool) }
-        ensures pool { IfOk result (λ closed. (before : PoolState) → Opens self.writer.geometry before self.bring_up.engine.corb.address self.bring_up.engine.rirb.address self.writer.list.address (addresses_of self.writer.periods.items) self.pool → closed.pool ≡ before) }
+        requires bytes_room { ring_size self.writer + 8192 ≤ P.spare_bytes platform.old }
+        ensures closes { (sound : List ℕ) → MayGive self.supply sound → EndsWith self.supply sound
+            → IfOk result (λ closed. ClosesBy T.IsPlanBy T.verbs_by self sound closed
+            (P.told platform.old) (P.told platform.new)) }
+        ensures gives { IfOk result (λ closed. GivesBlocks self closed.pool) }
+        ensures pool { IfOk result (λ closed. (before : PoolState)
+            → TakesBlocks self.writer.geometry before self → closed.pool ≡ before) }
         ensures cause { OnErr result (is_asking (states.phase_of self.bring_up self.writer) ≡ true) }
         ensures shut { OnErr result (IsShut (P.told platform.new)) }
         ensures fixed { P.fixed platform.new ≡ P.fixed platform.old }
         ensures accesses { P.spare_accesses platform.old ≤ P.spare_accesses platform.new + 298 }
-        ensures bytes { P.spare_bytes platform.old ≤ P.spare_bytes platform.new + (ring_bytes self.writer.geometry.periods self.writer.geometry.period + 2040) }
+        ensures bytes { P.spare_bytes platform.old ≤ P.spare_bytes platform.new + (ring_size self.writer + 2040) }
     {
         let Driver {
             mut bring_up,
@@ -123,10 +125,11 @@ impl<T: Setter + Drop> Driver<T> {
             Err(failed) => Err(failed),
         }
     }
+
     /// Lets a driver go without a call more: the controller stays as it is, and all blocks go back to the pool.
     pub fn abandon(self) -> Pool
-        ensures gives { spec.GivesBack self.writer.geometry self.pool self.bring_up.engine.corb.address self.bring_up.engine.rirb.address self.writer.list.address (addresses_of self.writer.periods.items) result }
-        ensures pool { (before : PoolState) → Opens self.writer.geometry before self.bring_up.engine.corb.address self.bring_up.engine.rirb.address self.writer.list.address (addresses_of self.writer.periods.items) self.pool → result ≡ before }
+        ensures gives { GivesBlocks self result }
+        ensures pool { (before : PoolState) → TakesBlocks self.writer.geometry before self → result ≡ before }
     {
         let Driver {
             bring_up,

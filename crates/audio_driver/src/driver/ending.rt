@@ -1,17 +1,14 @@
 //! The last call of a driver.
-ghost use Rattle.std.specs.Prelude.{◌≡◌, ◌≤◌, ◌<◌, ◌+◌, ℕ, List, length, true, false, OnOk, OnErr};
+ghost use Rattle.std.specs.Prelude.{◌≡◌, ◌≤◌, ◌<◌, ◌+◌, length, true, false, OnOk, OnErr};
 ghost use Rattle.driver_progress.specs.Phases.{is_asking, is_ready};
-ghost use Rattle.period_writer.specs.Rings.{ring_bytes};
-ghost use Rattle.period_writer.specs.Writers.{tally_of};
-ghost use Rattle.wav_reader.specs.Supplies.{MayGive, EndsWith};
-ghost use Rattle.codec_bring_up.specs.Calls.{Ends, IsKept};
+ghost use Rattle.period_writer.specs.Writers.{KeepsRing, tally_of, ring_size};
+ghost use Rattle.codec_bring_up.specs.Calls.{IsKept};
 ghost use Rattle.codec_bring_up.specs.Told.{IsShut};
 ghost use Rattle.audio_driver.specs.States as states;
-ghost use Rattle.audio_driver.specs.Sounding.{EndsSound};
+ghost use Rattle.audio_driver.specs.Calls.{EndsAny, FinishesBy};
 
 use super::sounding::{is_open, plays_now};
 use codec_bring_up::BringUp;
-use driver_commands::TAG;
 use driver_stretches::shut;
 use hda_platform::Platform;
 use period_writer::Writer;
@@ -32,23 +29,22 @@ pub(super) fn end_call<P: Platform, T: Setter>(
     play: bool,
 ) -> Result<(), AllocError>
     requires few { bring_up.old.looks ≤ 1000000 }
-    requires free { length writer.old.runs.items < writer.old.records }
+    requires free { length writer.old.runs < writer.old.records }
     requires room { 298 ≤ P.spare_accesses platform.old }
-    requires bytes_room { ring_bytes writer.old.geometry.periods writer.old.geometry.period + 2040 ≤ P.spare_bytes platform.old }
-    ensures ends { states.plays_now play bring_up.old ≡ false → OnOk result (Ends (λ graph. T.IsPlanBy setter.now graph bring_up.old.agenda.format) (λ graph plan. T.verbs_by setter.now graph plan bring_up.old.agenda.format TAG) bring_up.old bring_up.new (P.told platform.old) (P.told platform.new)) }
+    requires bytes_room { ring_size writer.old + 2040 ≤ P.spare_bytes platform.old }
+    ensures ends { states.plays_now play bring_up.old ≡ false → OnOk result (FinishesBy T.IsPlanBy T.verbs_by
+        setter.now bring_up.old bring_up.new (P.told platform.old) (P.told platform.new)) }
     ensures recorded { states.plays_now play bring_up.old ≡ false → tally_of writer.new ≡ tally_of writer.old }
-    ensures sounds { states.plays_now play bring_up.old ≡ true → (sound : List ℕ) → MayGive supply.old sound → EndsWith supply.old sound
-        → EndsSound bring_up.old bring_up.new writer.old (tally_of writer.new) sound (P.told platform.old) (P.told platform.new) }
+    ensures sounds { states.plays_now play bring_up.old ≡ true → EndsAny bring_up.old bring_up.new
+        writer.old (tally_of writer.new) supply.old (P.told platform.old) (P.told platform.new) }
     ensures grows { writer.old.course.used ≤ writer.new.course.used }
     ensures kept { IsKept bring_up.old bring_up.new }
-    ensures geometry { writer.new.geometry ≡ writer.old.geometry }
-    ensures list { writer.new.list ≡ writer.old.list }
-    ensures periods { writer.new.periods.items ≡ writer.old.periods.items }
+    ensures keeps { KeepsRing writer.old writer.new }
     ensures cause { OnErr result (is_asking bring_up.old.phase ≡ true) }
     ensures shut { OnErr result (IsShut (P.told platform.new)) }
     ensures fixed { P.fixed platform.new ≡ P.fixed platform.old }
     ensures accesses { P.spare_accesses platform.old ≤ P.spare_accesses platform.new + 298 }
-    ensures bytes { P.spare_bytes platform.old ≤ P.spare_bytes platform.new + (ring_bytes writer.old.geometry.periods writer.old.geometry.period + 2040) }
+    ensures bytes { P.spare_bytes platform.old ≤ P.spare_bytes platform.new + (ring_size writer.old + 2040) }
 {
     if plays_now(play, bring_up) {
         end_sound(platform, bring_up, writer, supply);
@@ -67,19 +63,17 @@ fn end_sound<P: Platform>(
 )
     requires ready { is_ready bring_up.old.phase ≡ true }
     requires few { bring_up.old.looks ≤ 1000000 }
-    requires free { length writer.old.runs.items < writer.old.records }
+    requires free { length writer.old.runs < writer.old.records }
     requires room { 298 ≤ P.spare_accesses platform.old }
-    requires bytes_room { ring_bytes writer.old.geometry.periods writer.old.geometry.period + 2040 ≤ P.spare_bytes platform.old }
-    ensures sounds { (sound : List ℕ) → MayGive supply.old sound → EndsWith supply.old sound
-        → EndsSound bring_up.old bring_up.new writer.old (tally_of writer.new) sound (P.told platform.old) (P.told platform.new) }
+    requires bytes_room { ring_size writer.old + 2040 ≤ P.spare_bytes platform.old }
+    ensures sounds { EndsAny bring_up.old bring_up.new
+        writer.old (tally_of writer.new) supply.old (P.told platform.old) (P.told platform.new) }
     ensures grows { writer.old.course.used ≤ writer.new.course.used }
     ensures kept { IsKept bring_up.old bring_up.new }
-    ensures geometry { writer.new.geometry ≡ writer.old.geometry }
-    ensures list { writer.new.list ≡ writer.old.list }
-    ensures periods { writer.new.periods.items ≡ writer.old.periods.items }
+    ensures keeps { KeepsRing writer.old writer.new }
     ensures fixed { P.fixed platform.new ≡ P.fixed platform.old }
     ensures accesses { P.spare_accesses platform.old ≤ P.spare_accesses platform.new + 298 }
-    ensures bytes { P.spare_bytes platform.old ≤ P.spare_bytes platform.new + (ring_bytes writer.old.geometry.periods writer.old.geometry.period + 2040) }
+    ensures bytes { P.spare_bytes platform.old ≤ P.spare_bytes platform.new + (ring_size writer.old + 2040) }
 {
     if !writer.course().started || !is_open(writer) {
         shut(platform);

@@ -2,6 +2,7 @@
 ghost use Rattle.std.specs.Prelude.{◌≡◌, ◌≤◌, ◌+◌, ℕ, List, length, None};
 ghost use Rattle.wav_reader.specs.Fills.{FillsBy, IsBeside};
 ghost use Rattle.wav_reader.specs.Shelves.{seen_as};
+ghost use Rattle.audio_driver.specs.Drivers.{KeepsAllElse};
 
 use super::Driver;
 use hda_outside::{Cut, Shelf};
@@ -17,20 +18,17 @@ impl<T: Setter> Driver<T> {
     /// shelf answered that. From then on nothing more is read: what is held is all that is left.
     pub fn fill<S: Shelf>(&mut self, alloc: Global, shelf: &mut S) -> Result<(), Cut>
         ensures fills { FillsBy self.old.supply.source self.old.supply self.new.supply
-            (λ name. seen_as (S.told shelf.old) (S.faults shelf.old name) (S.empties shelf.old name) (S.given shelf.old))
-            (λ name. seen_as (S.told shelf.new) (S.faults shelf.new name) (S.empties shelf.new name) (S.given shelf.new)) result }
+            (λ name. seen_as
+            (S.told shelf.old) (S.faults shelf.old name) (S.empties shelf.old name) (S.given shelf.old))
+            (λ name. seen_as
+            (S.told shelf.new) (S.faults shelf.new name) (S.empties shelf.new name) (S.given shelf.new)) result }
         ensures whole { self.old.supply.source ≡ None → shelf.new ≡ shelf.old }
         ensures told { S.told shelf.new ≡ S.told shelf.old }
-        ensures asked { (other : List ℕ) → IsBeside self.old.supply.source other → S.asked shelf.new other ≡ S.asked shelf.old other }
+        ensures asked { (other : List ℕ) → IsBeside self.old.supply.source other
+            → S.asked shelf.new other ≡ S.asked shelf.old other }
         ensures later { (other : List ℕ) → S.faults shelf.old other ≤ S.faults shelf.new other }
         ensures empties_later { (other : List ℕ) → S.empties shelf.old other ≤ S.empties shelf.new other }
-        ensures bring_up { self.new.bring_up ≡ self.old.bring_up }
-        ensures writer { self.new.writer ≡ self.old.writer }
-        ensures pool { self.new.pool ≡ self.old.pool }
-        ensures setter { self.new.setter ≡ self.old.setter }
-        ensures play { self.new.play ≡ self.old.play }
-        ensures runs { self.new.runs ≡ self.old.runs }
-        ensures calls { self.new.calls ≡ self.old.calls }
+        ensures keeps { KeepsAllElse self.old self.new }
     {
         self.supply.fill(alloc, shelf)
     }

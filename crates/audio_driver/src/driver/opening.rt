@@ -2,7 +2,7 @@
 ghost use Rattle.std.specs.Prelude.{◌≡◌, ◌≤◌, IfOk, false};
 ghost use Rattle.command_engine.specs.declared.engine.OpenFault.TheVariants as engine_fault;
 ghost use Rattle.period_writer.specs.declared.writer.OpenFault.TheVariants as writer_fault;
-ghost use Rattle.period_writer.specs.Blocks.{addresses_of};
+ghost use Rattle.audio_driver.specs.Drivers.{TakesBlocks};
 ghost use Rattle.audio_driver.specs.Opening as spec;
 
 use super::Driver;
@@ -63,7 +63,7 @@ impl<T: Setter + Drop> Driver<T> {
         play: bool,
     ) -> Result<Driver<T>, OpenFault>
         requires few { runs ≤ 1000000 }
-        ensures takes { IfOk result (λ driver. spec.Opens geometry pool driver.bring_up.engine.corb.address driver.bring_up.engine.rirb.address driver.writer.list.address (addresses_of driver.writer.periods.items) driver.pool) }
+        ensures takes { IfOk result (λ driver. TakesBlocks geometry pool driver) }
         ensures opened { IfOk result (λ driver. spec.IsOpened geometry runs driver.bring_up driver.writer) }
         ensures supply { IfOk result (λ driver. driver.supply ≡ supply) }
         ensures setter { IfOk result (λ driver. driver.setter ≡ setter) }
@@ -119,7 +119,7 @@ impl Driver<Analog> {
         play: bool,
     ) -> Result<Driver<Analog>, OpenFault>
         requires few { runs ≤ 1000000 }
-        ensures takes { IfOk result (λ driver. spec.Opens geometry pool driver.bring_up.engine.corb.address driver.bring_up.engine.rirb.address driver.writer.list.address (addresses_of driver.writer.periods.items) driver.pool) }
+        ensures takes { IfOk result (λ driver. TakesBlocks geometry pool driver) }
         ensures opened { IfOk result (λ driver. spec.IsOpened geometry runs driver.bring_up driver.writer) }
         ensures supply { IfOk result (λ driver. driver.supply ≡ supply) }
         ensures play { IfOk result (λ driver. driver.play ≡ play) }

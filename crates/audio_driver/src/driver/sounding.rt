@@ -1,20 +1,20 @@
 //! How a driver plays.
-ghost use Rattle.std.specs.Prelude.{◌≡◌, ◌≤◌, ◌<◌, ◌+◌, ℕ, List, length, true, false};
-ghost use Rattle.period_writer.specs.Rings.{ring_bytes};
-ghost use Rattle.wav_reader.specs.Supplies.{Suffices, MayGive, IsTaken, sound_before};
+ghost use Rattle.std.specs.Prelude.{◌≡◌, ◌≤◌, ◌<◌, ◌+◌, length, true, false};
+ghost use Rattle.wav_reader.specs.Supplies.{IsTaken};
 ghost use Rattle.period_writer.specs.Accounts.{Accounts};
-ghost use Rattle.period_writer.specs.Writers.{measures_of};
+ghost use Rattle.period_writer.specs.Runs.{tally_opened};
+ghost use Rattle.period_writer.specs.Writers.{KeepsRing, measures_of, tally_of, ring_size};
+ghost use Rattle.driver_progress.specs.Phases.{is_ready};
 ghost use Rattle.codec_bring_up.specs.Calls.{IsKept};
 ghost use Rattle.audio_driver.specs.States as states;
-ghost use Rattle.audio_driver.specs.Sounding.{Sounds};
+ghost use Rattle.audio_driver.specs.Calls.{SufficesIfOpen, SoundsAny};
 
-use super::Driver;
 use codec_bring_up::BringUp;
 use driver_progress::Phase;
 use driver_stretches::has_interrupt;
 use hda_platform::Platform;
 use period_writer::{Ran, Writer};
-use route_setup::Setter;
+use wav_reader::Supply;
 
 /// How far the two of a driver have come.
 pub(super) fn phase_of(bring_up: &BringUp, writer: &Writer) -> Phase
@@ -49,70 +49,79 @@ pub(super) fn is_open(writer: &Writer) -> bool
     matches!(writer.course().ran, Ran::Playing)
 }
 
-impl<T: Setter> Driver<T> {
-    /// A run of the writer, the first where it was not started. Before each later one it reads what codecs told unasked. Nothing where a
-    /// run was late, or all sound was played.
-    pub(super) fn play_on<P: Platform>(&mut self, platform: &mut P, budget: u32)
-        requires plays { states.plays_now self.old.play self.old.bring_up ≡ true }
-        requires enough { states.is_open self.old.writer.course.ran ≡ true → Suffices (ring_bytes self.old.writer.geometry.periods self.old.writer.geometry.period) budget self.old.supply }
-        requires few { self.old.bring_up.looks < self.old.calls }
-        requires free { length self.old.writer.runs.items < self.old.calls }
-        requires room { 295 ≤ P.spare_accesses platform.old }
-        requires bytes_room { ring_bytes self.old.writer.geometry.periods self.old.writer.geometry.period + 2044 ≤ P.spare_bytes platform.old }
-        ensures sounds { (later : List ℕ) → MayGive self.new.supply later → states.EndsWhilePlaying self.old.writer.course self.old.supply (sound_before self.old.supply self.new.supply later)
-            → Sounds false budget self.old.bring_up self.new.bring_up self.old.writer self.new.writer (sound_before self.old.supply self.new.supply later) later (P.told platform.old) (P.told platform.new) }
-        ensures taken { IsTaken self.old.supply self.new.supply }
-        ensures accounts { Accounts (measures_of self.old.writer) self.old.supply self.new.supply self.old.writer.course self.new.writer.course }
-        ensures geometry { self.new.writer.geometry ≡ self.old.writer.geometry }
-        ensures kept { IsKept self.old.bring_up self.new.bring_up }
-        ensures pool { self.new.pool ≡ self.old.pool }
-        ensures setter { self.new.setter ≡ self.old.setter }
-        ensures play { self.new.play ≡ self.old.play }
-        ensures runs { self.new.runs ≡ self.old.runs }
-        ensures calls { self.new.calls ≡ self.old.calls }
-        ensures fixed { P.fixed platform.new ≡ P.fixed platform.old }
-        ensures accesses { P.spare_accesses platform.old ≤ P.spare_accesses platform.new + 295 }
-        ensures bytes { P.spare_bytes platform.old ≤ P.spare_bytes platform.new + (ring_bytes self.old.writer.geometry.periods self.old.writer.geometry.period + 2044) }
-    {
-        if !self.writer.course().started {
-            self.writer.start(platform, &mut self.supply, budget);
-            return;
-        }
-        if is_open(&self.writer) {
-            self.bring_up.listen(platform);
-            let _ran = self.writer.run(platform, &mut self.supply, budget);
-        }
+/// A run of the writer, the first where it was not started. Before each later one it reads what codecs told unasked. Nothing where a run
+/// was late, or all sound was played.
+pub(super) fn play_on<P: Platform>(
+    platform: &mut P,
+    bring_up: &mut BringUp,
+    writer: &mut Writer,
+    supply: &mut Supply,
+    budget: u32,
+)
+    requires ready { is_ready bring_up.old.phase ≡ true }
+    requires enough { SufficesIfOpen budget writer.old supply.old }
+    requires fresh { writer.old.course.started ≡ false → tally_of writer.old ≡ tally_opened }
+    requires few { bring_up.old.looks ≤ 1000000 }
+    requires free { length writer.old.runs < writer.old.records }
+    requires room { 295 ≤ P.spare_accesses platform.old }
+    requires bytes_room { ring_size writer.old + 2044 ≤ P.spare_bytes platform.old }
+    ensures sounds { SoundsAny false budget bring_up.old bring_up.new writer.old writer.new
+        supply.old supply.new (P.told platform.old) (P.told platform.new) }
+    ensures taken { IsTaken supply.old supply.new }
+    ensures accounts { Accounts (measures_of writer.old) supply.old supply.new
+        writer.old.course writer.new.course }
+    ensures keeps { KeepsRing writer.old writer.new }
+    ensures kept { IsKept bring_up.old bring_up.new }
+    ensures phase { bring_up.new.phase ≡ bring_up.old.phase }
+    ensures recorded { length writer.new.runs ≤ length writer.old.runs + 1 }
+    ensures fresh { writer.new.course.started ≡ false → tally_of writer.new ≡ tally_opened }
+    ensures fixed { P.fixed platform.new ≡ P.fixed platform.old }
+    ensures accesses { P.spare_accesses platform.old ≤ P.spare_accesses platform.new + 295 }
+    ensures bytes { P.spare_bytes platform.old ≤ P.spare_bytes platform.new + (ring_size writer.old + 2044) }
+{
+    if !writer.course().started {
+        writer.start(platform, supply, budget);
+        return;
     }
+    if is_open(writer) {
+        bring_up.listen(platform);
+        let _ran = writer.run(platform, supply, budget);
+    }
+}
 
-    /// Where there is an interrupt, a run of the writer as [`Driver::play_on`] makes it. Where no run comes next, interrupts are not looked
-    /// for.
-    pub(super) fn play_if_interrupted<P: Platform>(&mut self, platform: &mut P, budget: u32)
-        requires plays { states.plays_now self.old.play self.old.bring_up ≡ true }
-        requires enough { states.is_open self.old.writer.course.ran ≡ true → Suffices (ring_bytes self.old.writer.geometry.periods self.old.writer.geometry.period) budget self.old.supply }
-        requires few { self.old.bring_up.looks < self.old.calls }
-        requires free { length self.old.writer.runs.items < self.old.calls }
-        requires room { 298 ≤ P.spare_accesses platform.old }
-        requires bytes_room { ring_bytes self.old.writer.geometry.periods self.old.writer.geometry.period + 2044 ≤ P.spare_bytes platform.old }
-        ensures sounds { (later : List ℕ) → MayGive self.new.supply later → states.EndsWhilePlaying self.old.writer.course self.old.supply (sound_before self.old.supply self.new.supply later)
-            → Sounds true budget self.old.bring_up self.new.bring_up self.old.writer self.new.writer (sound_before self.old.supply self.new.supply later) later (P.told platform.old) (P.told platform.new) }
-        ensures taken { IsTaken self.old.supply self.new.supply }
-        ensures accounts { Accounts (measures_of self.old.writer) self.old.supply self.new.supply self.old.writer.course self.new.writer.course }
-        ensures geometry { self.new.writer.geometry ≡ self.old.writer.geometry }
-        ensures kept { IsKept self.old.bring_up self.new.bring_up }
-        ensures pool { self.new.pool ≡ self.old.pool }
-        ensures setter { self.new.setter ≡ self.old.setter }
-        ensures play { self.new.play ≡ self.old.play }
-        ensures runs { self.new.runs ≡ self.old.runs }
-        ensures calls { self.new.calls ≡ self.old.calls }
-        ensures fixed { P.fixed platform.new ≡ P.fixed platform.old }
-        ensures accesses { P.spare_accesses platform.old ≤ P.spare_accesses platform.new + 298 }
-        ensures bytes { P.spare_bytes platform.old ≤ P.spare_bytes platform.new + (ring_bytes self.old.writer.geometry.periods self.old.writer.geometry.period + 2044) }
-    {
-        if !is_open(&self.writer) {
-            return;
-        }
-        if has_interrupt(platform) {
-            self.play_on(platform, budget);
-        }
+/// Where there is an interrupt, a run of the writer as [`play_on`] makes it. Where no run comes next, interrupts are not looked for.
+pub(super) fn play_if_interrupted<P: Platform>(
+    platform: &mut P,
+    bring_up: &mut BringUp,
+    writer: &mut Writer,
+    supply: &mut Supply,
+    budget: u32,
+)
+    requires ready { is_ready bring_up.old.phase ≡ true }
+    requires enough { SufficesIfOpen budget writer.old supply.old }
+    requires fresh { writer.old.course.started ≡ false → tally_of writer.old ≡ tally_opened }
+    requires few { bring_up.old.looks ≤ 1000000 }
+    requires free { length writer.old.runs < writer.old.records }
+    requires room { 298 ≤ P.spare_accesses platform.old }
+    requires bytes_room { ring_size writer.old + 2044 ≤ P.spare_bytes platform.old }
+    ensures sounds { SoundsAny true budget bring_up.old bring_up.new writer.old writer.new
+        supply.old supply.new (P.told platform.old) (P.told platform.new) }
+    ensures taken { IsTaken supply.old supply.new }
+    ensures accounts { Accounts (measures_of writer.old) supply.old supply.new
+        writer.old.course writer.new.course }
+    ensures keeps { KeepsRing writer.old writer.new }
+    ensures kept { IsKept bring_up.old bring_up.new }
+    ensures phase { bring_up.new.phase ≡ bring_up.old.phase }
+    ensures recorded { length writer.new.runs ≤ length writer.old.runs + 1 }
+    ensures fresh { writer.new.course.started ≡ false → tally_of writer.new ≡ tally_opened }
+    ensures fixed { P.fixed platform.new ≡ P.fixed platform.old }
+    ensures accesses { P.spare_accesses platform.old ≤ P.spare_accesses platform.new + 298 }
+    ensures bytes { P.spare_bytes platform.old ≤ P.spare_bytes platform.new + (ring_size writer.old + 2044) }
+{
+    if !is_open(writer) {
+        return;
+    }
+    if has_interrupt(platform) {
+        play_on(platform, bring_up, writer, supply, budget);
     }
 }

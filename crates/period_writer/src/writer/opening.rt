@@ -1,9 +1,8 @@
 //! How a writer is opened and closed.
-ghost use Rattle.std.specs.Prelude.{◌≡◌, ◌≤◌, [], None, All, Contains, IfOk, OnErr, length, replicate, max, vec_len, vec_capacity};
-ghost use Rattle.dma_pool.specs.Blocks.{run_at};
-ghost use Rattle.period_writer.specs.Rings.{period_bytes, list_bytes};
-ghost use Rattle.period_writer.specs.Blocks.{addresses_of};
+ghost use Rattle.std.specs.Prelude.{◌≡◌, ◌≤◌, [], None, IfOk, OnErr, length, replicate, max, vec_capacity};
+ghost use Rattle.period_writer.specs.Rings.{period_bytes};
 ghost use Rattle.period_writer.specs.Runs.{course_opened};
+ghost use Rattle.period_writer.specs.Writers.{OwnsBlocks, periods_of};
 ghost use Rattle.period_writer.specs.Opening as spec;
 
 use super::{OpenFault, Records, Writer};
@@ -78,13 +77,13 @@ impl Writer {
         geometry: Geometry,
         runs: u32,
     ) -> Result<Writer, OpenFault>
-        ensures opens { IfOk result (λ writer. spec.Opens geometry pool.old writer.list.address (addresses_of writer.periods.items) pool.new) }
-        ensures owns_list { IfOk result (λ writer. Contains pool.new.taken (run_at writer.list.address (list_bytes geometry.periods))) }
-        ensures owns_periods { IfOk result (λ writer. All (λ lent. Contains pool.new.taken (run_at lent.address (period_bytes geometry.period))) writer.periods.items) }
+        ensures opens { IfOk result (λ writer.
+            spec.Opens geometry pool.old writer.list.address (periods_of writer) pool.new) }
+        ensures owns { IfOk result (λ writer. OwnsBlocks pool.new.taken writer) }
         ensures geometry { IfOk result (λ writer. writer.geometry ≡ geometry) }
         ensures records { IfOk result (λ writer. writer.records ≡ max runs 1) }
-        ensures runs { IfOk result (λ writer. writer.runs.items ≡ []) }
-        ensures silences { IfOk result (λ writer. writer.silences.items ≡ []) }
+        ensures runs { IfOk result (λ writer. writer.runs ≡ []) }
+        ensures silences { IfOk result (λ writer. writer.silences ≡ []) }
         ensures course { IfOk result (λ writer. writer.course ≡ course_opened) }
         ensures no_run { result ≡ Err OpenFault.NoRun → spec.HasNoRuns geometry pool.old }
         ensures unchanged { OnErr result (pool.new ≡ pool.old) }
@@ -124,9 +123,8 @@ impl Writer {
 
     /// Gives all blocks back to the pool that they were taken from: their runs are among its taken runs.
     pub fn close(self, pool: &mut Pool)
-        requires list { Contains pool.old.taken (run_at self.list.address (list_bytes self.geometry.periods)) }
-        requires periods { All (λ lent. Contains pool.old.taken (run_at lent.address (period_bytes self.geometry.period))) self.periods.items }
-        ensures { spec.GivesBack self.geometry pool.old self.list.address (addresses_of self.periods.items) pool.new }
+        requires { OwnsBlocks pool.old.taken self }
+        ensures { spec.GivesBack self.geometry pool.old self.list.address (periods_of self) pool.new }
     {
         let Records {
             runs: _,
@@ -136,11 +134,10 @@ impl Writer {
 
     /// What [`Writer::close`] does, and what was recorded.
     pub fn end(self, pool: &mut Pool) -> Records
-        requires list { Contains pool.old.taken (run_at self.list.address (list_bytes self.geometry.periods)) }
-        requires periods { All (λ lent. Contains pool.old.taken (run_at lent.address (period_bytes self.geometry.period))) self.periods.items }
-        ensures gives { spec.GivesBack self.geometry pool.old self.list.address (addresses_of self.periods.items) pool.new }
-        ensures runs { result.runs ≡ self.runs }
-        ensures silences { result.silences ≡ self.silences }
+        requires { OwnsBlocks pool.old.taken self }
+        ensures gives { spec.GivesBack self.geometry pool.old self.list.address (periods_of self) pool.new }
+        ensures runs { result.runs.items ≡ self.runs }
+        ensures silences { result.silences.items ≡ self.silences }
     {
         let Writer {
             geometry,

@@ -1,17 +1,16 @@
 //! How the stream plays on.
-ghost use Rattle.std.specs.Prelude.{◌≡◌, ◌≤◌, ◌<◌, ◌+◌, ℕ, List, true, drop, length, vec_len};
+ghost use Rattle.std.specs.Prelude.{◌≡◌, ◌≤◌, ◌<◌, ◌+◌, true, length};
 ghost use Rattle.hda_world.specs.Tellings.{Between, Makes};
-ghost use Rattle.wav_reader.specs.Supplies.{Suffices, MayGive, EndsWith, IsTaken, sound_before};
-ghost use Rattle.period_writer.specs.Rings.{ring_bytes};
-ghost use Rattle.period_writer.specs.Playing.{Plays, TakesTurn, Finishes, stop_accesses};
-ghost use Rattle.period_writer.specs.Outcomes.{RunTellsOf, FinishTellsOf};
+ghost use Rattle.wav_reader.specs.Supplies.{Suffices, IsTaken};
+ghost use Rattle.period_writer.specs.Playing.{stop_accesses};
 ghost use Rattle.period_writer.specs.Accounts.{Accounts};
-ghost use Rattle.period_writer.specs.Writers.{tally_of, measures_of, periods_of, ring_of};
+ghost use Rattle.period_writer.specs.Writers.{IsWriter, KeepsRing, measures_of, ring_size};
+ghost use Rattle.period_writer.specs.Calls as calls;
 
 use super::Writer;
 use crate::course::Ran;
 use crate::registers::{CONTROL, POSITION, STOP};
-use crate::turns::{Facts, turn_of};
+use crate::turns::Facts;
 use hda_platform::Platform;
 use hda_registers::{Width, places};
 use wav_reader::Supply;
@@ -46,26 +45,23 @@ impl Writer {
     pub fn run<P: Platform>(&mut self, platform: &mut P, supply: &mut Supply, budget: u32) -> Ran
         requires started { self.old.course.started ≡ true }
         requires playing { self.old.course.ran ≡ Ran.Playing }
-        requires enough { Suffices (ring_bytes self.old.geometry.periods self.old.geometry.period) budget supply.old }
-        requires free { vec_len self.old.runs < self.old.records }
+        requires enough { Suffices (ring_size self.old) budget supply.old }
+        requires free { length self.old.runs < self.old.records }
         requires room { 5 + self.old.geometry.periods ≤ P.spare_accesses platform.old }
-        requires bytes_room { ring_bytes self.old.geometry.periods self.old.geometry.period ≤ P.spare_bytes platform.old }
-        ensures plays { (later : List ℕ) → MayGive supply.new later → EndsWith supply.old (sound_before supply.old supply.new later)
-            → Plays self.old.geometry (periods_of self.old) budget (sound_before supply.old supply.new later) (tally_of self.old) result (tally_of self.new) later (P.told platform.old) (P.told platform.new) }
+        requires bytes_room { ring_size self.old ≤ P.spare_bytes platform.old }
+        ensures plays { calls.PlaysAny budget self.old self.new supply.old supply.new result
+            (P.told platform.old) (P.told platform.new) }
         ensures taken { IsTaken supply.old supply.new }
         ensures accounts { Accounts (measures_of self.old) supply.old supply.new self.old.course self.new.course }
-        ensures few { length self.new.runs.items ≤ length self.old.runs.items + 1 }
+        ensures few { length self.new.runs ≤ length self.old.runs + 1 }
         ensures on { self.new.course.started ≡ true }
-        ensures tells { (later : List ℕ) → MayGive supply.new later → EndsWith supply.old (sound_before supply.old supply.new later)
-            → (pcm : List ℕ) → sound_before supply.old supply.new later ≡ drop self.old.course.used pcm
-            → Between (RunTellsOf (ring_of self.old) pcm budget (tally_of self.old) result (tally_of self.new)) (P.told platform.old) (P.told platform.new) }
-        ensures geometry { self.new.geometry ≡ self.old.geometry }
-        ensures list { self.new.list ≡ self.old.list }
-        ensures periods { self.new.periods.items ≡ self.old.periods.items }
-        ensures records { self.new.records ≡ self.old.records }
+        ensures tells { calls.RunTellsAny budget self.old self.new supply.old supply.new result
+            (P.told platform.old) (P.told platform.new) }
+        ensures keeps { KeepsRing self.old self.new }
         ensures fixed { P.fixed platform.new ≡ P.fixed platform.old }
-        ensures accesses { P.spare_accesses platform.old ≤ P.spare_accesses platform.new + (5 + self.old.geometry.periods) }
-        ensures bytes { P.spare_bytes platform.old ≤ P.spare_bytes platform.new + ring_bytes self.old.geometry.periods self.old.geometry.period }
+        ensures accesses { P.spare_accesses platform.old
+            ≤ P.spare_accesses platform.new + (5 + self.old.geometry.periods) }
+        ensures bytes { P.spare_bytes platform.old ≤ P.spare_bytes platform.new + ring_size self.old }
     {
         let ran = self.take_turn(platform, supply, budget);
         stop_if(platform, ran);
@@ -86,22 +82,20 @@ impl Writer {
     pub fn finish<P: Platform>(&mut self, platform: &mut P, supply: &mut Supply) -> Ran
         requires started { self.old.course.started ≡ true }
         requires playing { self.old.course.ran ≡ Ran.Playing }
-        requires free { vec_len self.old.runs < self.old.records }
+        requires free { length self.old.runs < self.old.records }
         requires room { 5 + self.old.geometry.periods ≤ P.spare_accesses platform.old }
-        requires bytes_room { ring_bytes self.old.geometry.periods self.old.geometry.period ≤ P.spare_bytes platform.old }
-        ensures finishes { (sound : List ℕ) → MayGive supply.old sound → EndsWith supply.old sound
-            → Finishes self.old.geometry (periods_of self.old) sound (tally_of self.old) result (tally_of self.new) (P.told platform.old) (P.told platform.new) }
-        ensures tells { (sound : List ℕ) → MayGive supply.old sound → EndsWith supply.old sound → (pcm : List ℕ) → sound ≡ drop self.old.course.used pcm
-            → Between (FinishTellsOf (ring_of self.old) pcm (tally_of self.old) result (tally_of self.new)) (P.told platform.old) (P.told platform.new) }
+        requires bytes_room { ring_size self.old ≤ P.spare_bytes platform.old }
+        ensures finishes { calls.FinishesAny self.old self.new supply.old result
+            (P.told platform.old) (P.told platform.new) }
+        ensures tells { calls.FinishTellsAny self.old self.new supply.old result
+            (P.told platform.old) (P.told platform.new) }
         ensures supply { supply.new ≡ supply.old }
         ensures grows { self.old.course.used ≤ self.new.course.used }
-        ensures geometry { self.new.geometry ≡ self.old.geometry }
-        ensures list { self.new.list ≡ self.old.list }
-        ensures periods { self.new.periods.items ≡ self.old.periods.items }
-        ensures records { self.new.records ≡ self.old.records }
+        ensures keeps { KeepsRing self.old self.new }
         ensures fixed { P.fixed platform.new ≡ P.fixed platform.old }
-        ensures accesses { P.spare_accesses platform.old ≤ P.spare_accesses platform.new + (5 + self.old.geometry.periods) }
-        ensures bytes { P.spare_bytes platform.old ≤ P.spare_bytes platform.new + ring_bytes self.old.geometry.periods self.old.geometry.period }
+        ensures accesses { P.spare_accesses platform.old
+            ≤ P.spare_accesses platform.new + (5 + self.old.geometry.periods) }
+        ensures bytes { P.spare_bytes platform.old ≤ P.spare_bytes platform.new + ring_size self.old }
     {
         let ran = self.take_turn(platform, supply, 0);
         platform.write(CONTROL, Width::One, STOP);
@@ -112,24 +106,23 @@ impl Writer {
     fn take_turn<P: Platform>(&mut self, platform: &mut P, supply: &mut Supply, budget: u32) -> Ran
         requires started { self.old.course.started ≡ true }
         requires playing { self.old.course.ran ≡ Ran.Playing }
-        requires enough { Suffices (ring_bytes self.old.geometry.periods self.old.geometry.period) budget supply.old }
-        requires free { vec_len self.old.runs < self.old.records }
+        requires enough { Suffices (ring_size self.old) budget supply.old }
+        requires free { length self.old.runs < self.old.records }
         requires room { 4 + self.old.geometry.periods ≤ P.spare_accesses platform.old }
-        requires bytes_room { ring_bytes self.old.geometry.periods self.old.geometry.period ≤ P.spare_bytes platform.old }
-        ensures turn { (later : List ℕ) → MayGive supply.new later → EndsWith supply.old (sound_before supply.old supply.new later)
-            → TakesTurn self.old.geometry (periods_of self.old) budget (sound_before supply.old supply.new later) (tally_of self.old) result (tally_of self.new) later (P.told platform.old) (P.told platform.new) }
+        requires bytes_room { ring_size self.old ≤ P.spare_bytes platform.old }
+        ensures turn { calls.TakesAnyTurn budget self.old self.new supply.old supply.new result
+            (P.told platform.old) (P.told platform.new) }
         ensures taken { IsTaken supply.old supply.new }
         ensures accounts { Accounts (measures_of self.old) supply.old supply.new self.old.course self.new.course }
         ensures none { budget ≡ 0 → supply.new ≡ supply.old }
-        ensures few { length self.new.runs.items ≤ length self.old.runs.items + 1 }
+        ensures few { length self.new.runs ≤ length self.old.runs + 1 }
         ensures on { self.new.course.started ≡ true }
-        ensures geometry { self.new.geometry ≡ self.old.geometry }
-        ensures list { self.new.list ≡ self.old.list }
-        ensures periods { self.new.periods.items ≡ self.old.periods.items }
-        ensures records { self.new.records ≡ self.old.records }
+        ensures keeps { KeepsRing self.old self.new }
+        ensures writer { IsWriter self.old }
         ensures fixed { P.fixed platform.new ≡ P.fixed platform.old }
-        ensures accesses { P.spare_accesses platform.old ≤ P.spare_accesses platform.new + (4 + self.old.geometry.periods) }
-        ensures bytes { P.spare_bytes platform.old ≤ P.spare_bytes platform.new + ring_bytes self.old.geometry.periods self.old.geometry.period }
+        ensures accesses { P.spare_accesses platform.old
+            ≤ P.spare_accesses platform.new + (4 + self.old.geometry.periods) }
+        ensures bytes { P.spare_bytes platform.old ≤ P.spare_bytes platform.new + ring_size self.old }
     {
         let from = platform.read(places::WALCLK, Width::Four);
         let lpib = platform.read(POSITION, Width::Four);
@@ -139,7 +132,7 @@ impl Writer {
             from,
             lpib,
         };
-        let turn = turn_of(&self.geometry, self.course, facts);
+        let turn = self.next_turn(facts);
         self.write_turn(platform, supply, turn);
         let to = platform.read(places::WALCLK, Width::Four);
         self.conclude(turn, facts, to)

@@ -1,22 +1,35 @@
 //! What a run writes and records.
 ghost use Rattle.std.specs.Prelude.{◌≡◌, ◌≤◌, ◌<◌, ◌+◌, ◌-◌, ◌^◌, ◌==◌, if◌then◌else◌, length, vec_len, vec_capacity};
 ghost use Rattle.hda_world.specs.Tellings.{Between, Makes};
-ghost use Rattle.period_writer.specs.Rings.{period_bytes, ring_bytes};
-ghost use Rattle.period_writer.specs.Lines.{sound_and_silence};
-ghost use Rattle.period_writer.specs.Places.{line_writes, touched};
 ghost use Rattle.period_writer.specs.Runs as runs;
+ghost use Rattle.period_writer.specs.Turns.{facts_by};
 ghost use Rattle.wav_reader.specs.Supplies.{without};
-ghost use Rattle.period_writer.specs.Writers.{tally_of, measures_of, periods_of};
+ghost use Rattle.period_writer.specs.Writers.{IsWriter, KeepsRing, tally_of, measures_of, ring_size, touched_up_to, writes_up_to};
 
 use super::Writer;
 use crate::course::{Course, Ran, Run, Span};
 use crate::pieces::{Part, write_part};
 use crate::records::{note_run, note_silence};
-use crate::turns::{Facts, Turn, course_after, is_late};
+use crate::turns::{Facts, Turn, course_after, is_late, turn_of};
 use hda_platform::Platform;
 use wav_reader::Supply;
 
 impl Writer {
+    /// Where the next run stands that goes by these facts.
+    pub(super) fn next_turn(&self, facts: Facts) -> Turn
+        ensures at { result.at ≡ runs.run_at (measures_of self.now) self.now.course (facts_by facts 0) }
+        ensures reach { result.reach ≡ runs.run_reach (measures_of self.now) self.now.course (facts_by facts 0) }
+        ensures sound { result.sound ≡ runs.run_sound (measures_of self.now) self.now.course (facts_by facts 0) }
+        ensures ascends { self.now.course.reach ≤ result.reach }
+        ensures room { result.reach - self.now.course.reach ≤ ring_size self.now }
+        ensures fits { result.sound ≤ result.reach - self.now.course.reach }
+        ensures soon { result.at ≤ self.now.course.at + ring_size self.now }
+        ensures enough { result.sound ≤ facts.left }
+        ensures writer { IsWriter self.now }
+    {
+        turn_of(&self.geometry, self.course, facts)
+    }
+
     /// Writes what a run appends to the line.
     pub(super) fn write_turn<P: Platform>(
         &mut self,
@@ -25,24 +38,21 @@ impl Writer {
         turn: Turn,
     )
         requires ascends { self.old.course.reach ≤ turn.reach }
-        requires within { turn.reach - self.old.course.reach ≤ ring_bytes self.old.geometry.periods self.old.geometry.period }
+        requires within { turn.reach - self.old.course.reach ≤ ring_size self.old }
         requires small { turn.reach < 2 ^ 61 }
         requires sound { turn.sound ≤ turn.reach - self.old.course.reach }
         requires left { turn.sound ≤ length supply.old.held }
-        requires room { touched (period_bytes self.old.geometry.period) self.old.course.reach turn.reach ≤ P.spare_accesses platform.old }
+        requires room { touched_up_to self.old turn.reach ≤ P.spare_accesses platform.old }
         requires bytes_room { turn.reach - self.old.course.reach ≤ P.spare_bytes platform.old }
-        ensures made { Between (Makes (line_writes (period_bytes self.old.geometry.period) (periods_of self.old) self.old.course.reach turn.reach (sound_and_silence turn.sound (turn.reach - self.old.course.reach) supply.old.held))) (P.told platform.old) (P.told platform.new) }
+        ensures made { Between (Makes (writes_up_to self.old turn.reach turn.sound supply.old.held))
+            (P.told platform.old) (P.told platform.new) }
         ensures supply { supply.new ≡ without turn.sound supply.old }
-        ensures geometry { self.new.geometry ≡ self.old.geometry }
-        ensures list { self.new.list ≡ self.old.list }
-        ensures periods { self.new.periods.items ≡ self.old.periods.items }
-        ensures records { self.new.records ≡ self.old.records }
-        ensures runs { self.new.runs ≡ self.old.runs }
-        ensures silences { self.new.silences ≡ self.old.silences }
-        ensures course { self.new.course ≡ self.old.course }
+        ensures same { self.new ≡ self.old }
         ensures fixed { P.fixed platform.new ≡ P.fixed platform.old }
-        ensures accesses { P.spare_accesses platform.new + touched (period_bytes self.old.geometry.period) self.old.course.reach turn.reach ≡ P.spare_accesses platform.old }
-        ensures bytes { P.spare_bytes platform.new + (turn.reach - self.old.course.reach) ≡ P.spare_bytes platform.old }
+        ensures accesses { P.spare_accesses platform.new + touched_up_to self.old turn.reach
+            ≡ P.spare_accesses platform.old }
+        ensures bytes { P.spare_bytes platform.new + (turn.reach - self.old.course.reach)
+            ≡ P.spare_bytes platform.old }
     {
         let part = Part {
             from: self.course.reach,
@@ -54,19 +64,17 @@ impl Writer {
 
     /// Records a run, and how it ends; a late one is not recorded.
     pub(super) fn conclude(&mut self, turn: Turn, facts: Facts, to: u32) -> Ran
-        requires room { vec_len self.old.runs < self.old.records }
-        requires at { turn.at ≡ runs.run_at (measures_of self.old) self.old.course (runs.facts_of facts.budget facts.left facts.from facts.lpib 0) }
-        requires reach { turn.reach ≡ runs.run_reach (measures_of self.old) self.old.course (runs.facts_of facts.budget facts.left facts.from facts.lpib 0) }
-        requires sound { turn.sound ≡ runs.run_sound (measures_of self.old) self.old.course (runs.facts_of facts.budget facts.left facts.from facts.lpib 0) }
+        requires room { length self.old.runs < self.old.records }
+        requires at { turn.at ≡ runs.run_at (measures_of self.old) self.old.course (facts_by facts 0) }
+        requires reach { turn.reach ≡ runs.run_reach (measures_of self.old) self.old.course (facts_by facts 0) }
+        requires sound { turn.sound ≡ runs.run_sound (measures_of self.old) self.old.course (facts_by facts 0) }
         requires ascends { self.old.course.reach ≤ turn.reach }
         requires fits { turn.sound ≤ turn.reach - self.old.course.reach }
-        requires soon { turn.at ≤ self.old.course.at + ring_bytes self.old.geometry.periods self.old.geometry.period }
-        ensures tally { tally_of self.new ≡ runs.tally_after (measures_of self.old) (tally_of self.old) (runs.facts_of facts.budget facts.left facts.from facts.lpib to) }
+        requires soon { turn.at ≤ self.old.course.at + ring_size self.old }
+        ensures tally { tally_of self.new
+            ≡ runs.tally_after (measures_of self.old) (tally_of self.old) (facts_by facts to) }
         ensures answer { result ≡ self.new.course.ran }
-        ensures geometry { self.new.geometry ≡ self.old.geometry }
-        ensures list { self.new.list ≡ self.old.list }
-        ensures periods { self.new.periods ≡ self.old.periods }
-        ensures records { self.new.records ≡ self.old.records }
+        ensures keeps { KeepsRing self.old self.new }
     {
         let before = self.course;
         if is_late(&self.geometry, before, to) {
@@ -95,7 +103,8 @@ fn note_rest(silences: &mut Vec<Span>, before: Course, turn: Turn)
     requires room { vec_len silences.old < vec_capacity silences.old }
     requires small { before.reach + turn.sound < 2 ^ 64 }
     ensures items { let start = before.reach + turn.sound in
-        silences.new.items ≡ (if start == turn.reach then silences.old.items else runs.silent_too silences.old.items (record { start = start; end = turn.reach })) }
+        silences.new.items ≡ (if start == turn.reach then silences.old.items
+        else runs.silent_too silences.old.items (record { start = start; end = turn.reach })) }
     ensures len { vec_len silences.new ≤ vec_len silences.old + 1 }
     ensures capacity { vec_capacity silences.old ≤ vec_capacity silences.new }
 {

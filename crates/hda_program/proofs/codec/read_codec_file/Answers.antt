@@ -1,4 +1,4 @@
-use Rattle.std.proofs.Common.{◌≤◌, ℕ, List, length, rules, refl, inl, inr}
+use Rattle.std.proofs.Common.{◌≤◌, ◌+◌, ℕ, List, length, rules, refl, inl, inr}
 use Rattle.std.specs.Prelude.{codes}
 use Rattle.std.proofs.lemmas.Result.{IfOk-weaker}
 use Rattle.hda_outside.specs.Counts.{Rose}
@@ -11,11 +11,13 @@ returns-in-Ok-clause-read g c =
     let bytes = c.in-Ok.bytes.items in
     let told = g.S.Shelf.told c.args.shelf.now in
     let failed : List ℕ → Type 0 = λ name. Rose (g.S.Shelf.faults c.args.shelf.now name) (g.S.Shelf.faults c.read_all.new.shelf name) in
+    let gave : ℕ → Type 0 = λ n. g.S.Shelf.given c.read_all.new.shelf ≤ g.S.Shelf.given c.args.shelf.now + n in
     let file : IsFile told c.args.name.now bytes = search rules in
     let short : length bytes ≤ most_codec_bytes = search rules in
+    let given : gave (length bytes) = search rules in
     let read = rw c.as_slice.ensures.value at c.read_bytes.ensures in
-    IfOk-weaker c.read_bytes.result (AreCodecBytesRead bytes) (IsCodecRead told failed c.args.name.now)
-    (λ read h. codec_read told failed c.args.name.now bytes read file short h) read
+    IfOk-weaker c.read_bytes.result (AreCodecBytesRead bytes) (IsCodecRead told failed gave c.args.name.now)
+    (λ read h. codec_read told failed gave c.args.name.now bytes read file short given h) read
 
 pub returns-in_ok-codec_refused-in-Err-TooLong-clause-read : goal.returns-in_ok-codec_refused-in-Err-TooLong-clause-read
 returns-in_ok-codec_refused-in-Err-TooLong-clause-read g c =

@@ -2,14 +2,13 @@ use Rattle.std.proofs.Common.{[], length}
 use Rattle.rig.specs.Rigs.{setting_of, telling_of}
 use Rattle.rig.specs.Stretches.{IsStretchFrom}
 use Rattle.scheduled_runs.specs.Going.{Means, parts_with}
-use Rattle.scheduled_runs.proofs.Called.{may_held, ends_held}
 use Rattle.scheduled_runs.proofs.Goes.{Keeps}
 use Rattle.scheduled_runs.proofs.Ran.{stretched_from}
 use Rattle.scheduled_runs.proofs.Closes.{run_closes}
 use Rattle.scheduled_runs.proofs.calls.run_last.Goals as goal
 
 pub returns-clause-closed : goal.returns-clause-closed
-returns-clause-closed g c =
+returns-clause-closed g c sound may ends =
     let driver = c.args.driver in
     let format = driver.bring_up.agenda.format in
     let means : Means = record { IsPlanBy = g.T.Setter.IsPlanBy driver.setter; verbs_by = g.T.Setter.verbs_by driver.setter; IsOpenBy = g.T.Setter.IsOpenBy driver.setter } in
@@ -18,5 +17,5 @@ returns-clause-closed g c =
     let after = telling_of c.end.new.self in
     let stretched : IsStretchFrom (length before.journal) [] after.journal =
     stretched_from (setting_of c.close.new.platform) (setting_of c.begin.new.self) _ after.journal c.in_ok-closed.ensures.fixed c.in-Ok.ensures.setting c.end.ensures.stretch in
-    run_closes means format driver.play keeps c.runs_follow.ensures.closing c.runs_follow.ensures.accesses c.events_are_of_pins.ensures (parts_with driver.bring_up driver.writer driver.supply.held) c.in_ok-closed.closed
-    before (telling_of c.begin.new.self) (telling_of c.close.new.platform) after c.in-Ok.ensures.told.is (c.in_ok-closed.ensures.closes driver.supply.held (may_held driver.supply c.requires.whole) (ends_held driver.supply c.requires.whole)) c.end.ensures.told.is stretched
+    run_closes means format driver.play keeps c.runs_follow.ensures.closing c.runs_follow.ensures.accesses c.events_are_of_pins.ensures (parts_with driver.bring_up driver.writer sound) c.in_ok-closed.closed
+    before (telling_of c.begin.new.self) (telling_of c.close.new.platform) after c.in-Ok.ensures.told.is (c.in_ok-closed.ensures.closes sound may ends) c.end.ensures.told.is stretched

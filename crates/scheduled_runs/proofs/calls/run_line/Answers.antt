@@ -1,39 +1,26 @@
-use Rattle.std.proofs.Common.{List, length, ap, sym, subst, ◌∙◌}
-use Rattle.wav_reader.specs.Supplies.{sound_before}
-use Rattle.scheduled_runs.proofs.Called.{may_before, may_held, whole_on}
-use Rattle.hda_schedule.specs.declared.schedule.Group.{Group}
-use Rattle.rig.specs.declared.setting.Setting.{Setting}
-use Rattle.rig.specs.Rigs.{setting_of, telling_of}
-use Rattle.rig.specs.Stretches.{IsStretchFrom}
-use Rattle.scheduled_runs.specs.Going.{Means, parts_with}
-use Rattle.scheduled_runs.proofs.Goes.{Keeps, line_goes}
-use Rattle.scheduled_runs.proofs.Ran.{stretched_from}
+use Rattle.std.proofs.Common.{◌≡◌, ap, refl}
+use Rattle.scheduled_runs.specs.Feeding.{shelves_of}
+use Rattle.scheduled_runs.specs.Going.{Means, stand_of, parts_of}
+use Rattle.period_writer.specs.Writers.{measures_of}
+use Rattle.scheduled_runs.proofs.Feeds.{held_within}
+use Rattle.scheduled_runs.proofs.Ran.{on_ok_both, fed_so, ran_filled}
 use Rattle.scheduled_runs.proofs.calls.run_line.Goals as goal
 
 pub returns-clause-ran : goal.returns-clause-ran
 returns-clause-ran g c =
     let driver = c.args.driver.now in
-    let format = driver.bring_up.agenda.format in
+    let fed = c.feed.new.driver in
+    let next = c.run_filled.new.driver in
+    let feeds = c.in_ok-feed.ensures in
     let means : Means = record { IsPlanBy = g.T.Setter.IsPlanBy driver.setter; verbs_by = g.T.Setter.verbs_by driver.setter; IsOpenBy = g.T.Setter.IsOpenBy driver.setter } in
-    let keeps : Keeps means format = λ verbs graphs task is. c.drivers_keep_to_progress.ensures driver.setter format verbs graphs task is in
-    let now = c.call.new.driver in
-    let before = telling_of c.args.rig.now in
-    let after = telling_of c.end.new.self in
-    let calls = c.in_ok-call.ensures.leads now.supply.held (may_held now.supply (whole_on driver.supply now.supply c.in_ok-call.ensures.taken c.requires.whole)) in
-    let format_on = now.bring_up.formats ∙ calls.kept.format ∙ sym driver.bring_up.formats in
-    let begun = c.in_ok-call.ensures.fixed ∙ c.in_ok-begin.ensures.setting in
-    let stretched : IsStretchFrom (length before.journal) c.args.line.now.groups after.journal =
-    subst (λ (groups : List Group). IsStretchFrom (length before.journal) groups after.journal) c.as_slice.ensures
-    (stretched_from (setting_of c.call.new.platform) (setting_of c.begin.new.self) _ after.journal c.in_ok-call.ensures.fixed c.in_ok-begin.ensures.setting c.end.ensures.stretch) in
-    record {
-      goes = λ later may. (
-        sound_before driver.supply now.supply later,
-        may_before driver.supply now.supply later c.in_ok-call.ensures.taken c.requires.whole may,
-        line_goes means format driver.play keeps c.runs_follow.ensures.line c.args.line.now (parts_with driver.bring_up driver.writer (sound_before driver.supply now.supply later)) (parts_with now.bring_up now.writer later) before (telling_of c.begin.new.self)
-            (telling_of c.call.new.platform) after c.in_ok-begin.ensures.told.is (c.in_ok-call.ensures.leads later may) c.end.ensures.told.is stretched,
-      );
-      format_is = format_on;
-      whole = whole_on driver.supply now.supply c.in_ok-call.ensures.taken c.requires.whole;
-      between = ap (λ (setting : Setting). setting.in_run) c.end.ensures.setting;
-      machine = ap (λ (setting : Setting). setting.machine) c.end.ensures.setting ∙ ap (λ (setting : Setting). setting.machine) begun;
-    }
+    let means' : Means = record { IsPlanBy = g.T.Setter.IsPlanBy fed.setter; verbs_by = g.T.Setter.verbs_by fed.setter; IsOpenBy = g.T.Setter.IsOpenBy fed.setter } in
+    let same : means' ≡ means = ap (λ setter. record { IsPlanBy = g.T.Setter.IsPlanBy setter; verbs_by = g.T.Setter.verbs_by setter; IsOpenBy = g.T.Setter.IsOpenBy setter }) feeds.setter in
+    let shelf = shelves_of (g.S.Shelf.told c.args.shelf.now) (g.S.Shelf.faults c.args.shelf.now) (g.S.Shelf.empties c.args.shelf.now) (g.S.Shelf.given c.args.shelf.now) in
+    let shelf' = shelves_of (g.S.Shelf.told c.feed.new.shelf) (g.S.Shelf.faults c.feed.new.shelf) (g.S.Shelf.empties c.feed.new.shelf) (g.S.Shelf.given c.feed.new.shelf) in
+    let old = stand_of driver.bring_up driver.writer driver.supply shelf c.args.cut.now c.args.rig.now in
+    let rule = held_within (measures_of driver.writer) shelf' c.feed.new.cut fed.supply driver.writer.course
+    (fed_so (measures_of driver.writer) (measures_of driver.writer) shelf shelf' c.args.cut.now c.feed.new.cut driver.supply fed.supply driver.writer.course driver.writer.course feeds.fed c.requires.fed) in
+    on_ok_both c.run_filled.result (λ ring ran.
+    ran_filled means means' driver.bring_up.agenda.format driver.play fed.play c.args.line.now old (parts_of fed.bring_up fed.writer fed.supply) shelf' c.feed.new.cut (parts_of next.bring_up next.writer next.supply) c.run_filled.new.rig
+    same refl feeds.play feeds.bring_up feeds.writer feeds.fed feeds.took (λ name. feeds.told) rule ring ran)
+    c.run_filled.ensures.geometry c.run_filled.ensures.ran

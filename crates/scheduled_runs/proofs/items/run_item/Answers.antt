@@ -3,9 +3,10 @@ use Rattle.std.specs.Prelude.{OnOk}
 use Rattle.hda_schedule.specs.declared.schedule.Item.{Item}
 use Rattle.rig.specs.declared.setting.Setting.{Setting}
 use Rattle.rig.specs.Rigs.{telling_of}
-use Rattle.scheduled_runs.specs.Going.{Means, Ran, parts_of, sounded}
+use Rattle.scheduled_runs.specs.Going.{Means, Ran, parts_of, stand_of, sounded}
 use Rattle.scheduled_runs.proofs.Goes.{Keeps, step_goes}
-use Rattle.scheduled_runs.proofs.Ran.{on_ok}
+use Rattle.scheduled_runs.specs.Feeding.{shelves_of}
+use Rattle.scheduled_runs.proofs.Ran.{on_ok, took_none}
 use Rattle.scheduled_runs.proofs.items.run_item.Goals as goal
 
 pub returns-in-Device-clause-ran : goal.returns-in-Device-clause-ran
@@ -15,12 +16,17 @@ returns-in-Device-clause-ran g c =
     let means : Means = record { IsPlanBy = g.T.Setter.IsPlanBy driver.setter; verbs_by = g.T.Setter.verbs_by driver.setter; IsOpenBy = g.T.Setter.IsOpenBy driver.setter } in
     let keeps : Keeps means format = λ verbs graphs task is. c.drivers_keep_to_progress.ensures driver.setter format verbs graphs task is in
     let step = c.in-Device.step in
-    let parts = parts_of driver.bring_up driver.writer driver.supply in
-    subst (λ (item : Item). OnOk c.step.result (Ran means format driver.play (item ∷ []) parts parts c.args.rig.now c.step.new.self)) (sym c.in-Device.is)
+    let shelf = shelves_of (g.S.Shelf.told c.args.shelf.now) (g.S.Shelf.faults c.args.shelf.now) (g.S.Shelf.empties c.args.shelf.now) (g.S.Shelf.given c.args.shelf.now) in
+    let player = parts_of driver.bring_up driver.writer driver.supply in
+    let stand = stand_of driver.bring_up driver.writer driver.supply shelf c.args.cut.now in
+    subst (λ (item : Item). OnOk c.step.result (Ran means format driver.play (item ∷ []) (stand c.args.rig.now) (stand c.step.new.self))) (sym c.in-Device.is)
     (on_ok c.step.result (λ went. record {
-      goes = λ later may. (later, may, step_goes means format driver.play keeps step (sounded parts later) (telling_of c.args.rig.now) (telling_of c.step.new.self) (c.pieces_follow.ensures.step step) went);
+      gave = [];
+      took = took_none shelf driver.supply;
+      goes = λ later may. step_goes means format driver.play keeps step (sounded player later) (telling_of c.args.rig.now) (telling_of c.step.new.self) (c.pieces_follow.ensures.step step) went;
+      fed = λ source first fed. fed;
+      told_is = λ name. refl;
       format_is = refl;
-      whole = c.requires.whole;
       between = ap (λ (setting : Setting). setting.in_run) c.step.ensures.setting ∙ c.requires.between;
       machine = ap (λ (setting : Setting). setting.machine) c.step.ensures.setting;
     }) c.step.ensures.went)

@@ -1,4 +1,5 @@
-use Rattle.std.proofs.Common.{◌≡◌, ℕ, Bool, true, false, List, length, map, refl, sym, ap, subst, ◌∙◌, arith}
+use Rattle.std.proofs.Common.{◌≡◌, ◌≤◌, ◌+◌, ℕ, true, false, List, length, map, Some, refl, sym, ap, subst, ◌∙◌, arith}
+use Rattle.stream_format.specs.Cadence.{block_bytes}
 use Rattle.route_planner.specs.declared.routes.Plan.{Plan}
 use Rattle.hda_files.specs.declared.machine.CodecFile.{CodecFile}
 use Rattle.hda_files.specs.declared.machine.Machine.{Machine}
@@ -7,95 +8,191 @@ use Rattle.hda_world.specs.Events.{Event, AreHonest}
 use Rattle.hda_world.specs.Tellings.{world_of}
 use Rattle.hda_world.specs.JournalEvents.{events_of}
 use Rattle.sound_report.specs.declared.played.Played.{Played}
-use Rattle.wav_reader.specs.Supplies.{Supplied}
-use Rattle.driver_progress.specs.Tasks.{Task, Blocks}
 use Rattle.jack_counts.specs.Jacks.{Counts}
-use Rattle.told_playing.specs.Sounding.{Parts}
 use Rattle.told_playing.specs.Keeping.{state_left}
+use Rattle.period_writer.specs.Runs.{measures}
 use Rattle.rig.specs.Follows.{Follows}
 use Rattle.rig.specs.Rigs.{setting_of, telling_of}
 use Rattle.rig.specs.Replays.{AreHeardIn, start_of, telling_from}
 use Rattle.heard_lists.specs.Listings.{AreListsOf, graphs_in, handed_out}
 use Rattle.machine_tasks.specs.Tasks.{commands_of, blocks_of}
 use Rattle.scheduled_runs.specs.Events.{told_in}
+use Rattle.scheduled_runs.specs.Feeding.{Shelves, Streams, shelves_of}
+use Rattle.scheduled_runs.specs.FrameCounts.{written_by}
+use Rattle.scheduled_runs.specs.Reading.{frames_read}
 use Rattle.scheduled_runs.specs.Going.{parts_with}
 use Rattle.scheduled_runs.specs.Hearing.{lists_heard}
-use Rattle.scheduled_runs.specs.Plays.{IsPlayFault, played_task}
+use Rattle.scheduled_runs.specs.Plays.{IsPlayFault, played_task, sound_with}
 use Rattle.scheduled_runs.proofs.Counting.{few_lines}
-use Rattle.scheduled_runs.proofs.Gone.{CanGo, Gone, gone, opened_can_go}
+use Rattle.scheduled_runs.proofs.Feeds.{first_supply, block_four}
+use Rattle.scheduled_runs.proofs.Gone.{opened_can_go}
 use Rattle.scheduled_runs.proofs.Listed.{lists_are}
 use Rattle.scheduled_runs.proofs.LineRecorded.{RunLaws}
-use Rattle.scheduled_runs.proofs.Played.{driven, playing_ends, written_few}
+use Rattle.scheduled_runs.proofs.Played.{driven}
+use Rattle.scheduled_runs.proofs.PlayedFrom.{source_for, fed_at_open, beside_first, sound_is_read, cut_is_under, given_most, not_memory}
+use Rattle.scheduled_runs.proofs.PlayedOver.{CanPlayFrom, sound, streams, some_block, over, used, end_is, few}
+use Rattle.scheduled_runs.proofs.playing.play.Given.{Over}
+use Rattle.scheduled_runs.proofs.playing.play.Goals.{After-block_bytes-2, After-drop-closed-3}
 use Rattle.scheduled_runs.proofs.playing.play.Goals as goal
 
 pub open_driver-requires : goal.open_driver-requires
-open_driver-requires c =
+open_driver-requires g c =
     let lines = few_lines c.args.schedule.now in
     omega (arith, c.line_count.ensures, lines, c.requires.limits.steps)
 
--- the driver that was opened, and its task
-abbrev opened : goal.After-block_bytes → Parts
-opened c = (let driver = c.in_ok-driver.driver in parts_with driver.bring_up driver.writer driver.supply.held)
-
-abbrev blocks_for : goal.After-block_bytes → Blocks
-blocks_for c = blocks_of c.in_ok-driver.driver.bring_up c.in_ok-driver.driver.writer
-
-abbrev task_for : goal.After-block_bytes → Task
-task_for c = played_task c.args.machine c.args.plans.items c.args.wav c.args.geometry (blocks_for c)
-
-can_go : (c : goal.After-block_bytes) → CanGo c.args.machine c.args.wav.format c.args.plans.items c.in_ok-driver.driver.play (task_for c) (opened c)
-can_go c =
+pub drive-requires-clause-fed : goal.drive-requires-clause-fed
+drive-requires-clause-fed g c =
     let driver = c.in_ok-driver.driver in
-    let wav = c.args.wav in
-    opened_can_go c.args.machine wav.format c.args.plans.items c.args.geometry _ driver.play true wav.pcm driver.bring_up driver.writer driver.supply.held c.in_ok-driver.ensures.play
-    (λ plays. ap (λ (supply : Supplied). supply.held) c.in_ok-driver.ensures.supply ∙ ap (λ (supply : Supplied). supply.held) c.whole.ensures) c.in_ok-driver.ensures.opened c.in_ok-driver.ensures.apart c.requires.fifo c.requires.format
-    (c.machines_have_tasks.ensures wav.format c.args.machine c.args.plans.items c.args.geometry true wav.pcm (blocks_for c) c.requires.sound c.requires.read c.requires.plans c.requires.routed)
-    (c.opened_drivers_can_begin.ensures wav.format c.args.machine c.args.plans.items c.args.geometry true wav.pcm _ driver.bring_up driver.writer c.requires.sound c.requires.read c.in_ok-driver.ensures.opened)
-    (c.machines_rest.ensures c.args.machine)
+    let ring = (measures c.args.geometry).ring in
+    let shelf = shelves_of (g.S.Shelf.told c.args.shelf.now) (g.S.Shelf.faults c.args.shelf.now) (g.S.Shelf.empties c.args.shelf.now) (g.S.Shelf.given c.args.shelf.now) in
+    let supply : driver.supply ≡ first_supply (source_for c.args.name.now c.args.head ring) =
+    c.in_ok-driver.ensures.supply ∙ c.in_ok-supply.ensures ∙ ap (λ (ring : ℕ). first_supply (source_for c.args.name.now c.args.head ring)) c.ring.ensures in
+    record {
+      source = Some (source_for c.args.name.now c.args.head ring);
+      first = shelf;
+      is = fed_at_open c.args.name.now c.args.head c.args.geometry shelf driver.supply driver.writer supply c.in_ok-driver.ensures.opened.geometry_is c.requires.format;
+    }
 
--- where it has gone
-over : (c : goal.After-block_bytes) → Gone c.args.machine c.args.wav.format true (task_for c) c.args.schedule.now (opened c) c.in_ok-closed.closed (telling_of c.drive.new.rig).journal
-over c =
-    subst (λ (play : Bool). Gone c.args.machine c.args.wav.format play (task_for c) c.args.schedule.now (opened c) c.in_ok-closed.closed (telling_of c.drive.new.rig).journal) c.in_ok-driver.ensures.play
-    (gone (λ format verbs graphs task is. c.drivers_keep_to_progress.ensures c.in_ok-driver.driver.setter format verbs graphs task is) c.args.machine c.args.wav.format c.args.plans.items c.in_ok-driver.driver.play
-    (task_for c) c.args.schedule.now (opened c) c.in_ok-closed.closed (telling_of c.in_ok-rig.rig) (telling_of c.drive.new.rig) (telling_of c.drive.new.rig).journal (can_go c) c.requires.limits
-    c.in_ok-rig.ensures.told refl c.in_ok-closed.ensures.driven)
+pub returns-clause-asked : goal.returns-clause-asked
+returns-clause-asked g c other beside =
+    c.in_ok-driven.ensures.asked other
+    (beside_first c.args.name.now c.args.head (measures c.args.geometry).ring c.in_ok-driver.driver.supply other
+    (c.in_ok-driver.ensures.supply ∙ c.in_ok-supply.ensures ∙ ap (λ (ring : ℕ). first_supply (source_for c.args.name.now c.args.head ring)) c.ring.ensures) beside)
+
+pub returns-in_err-cut-clause-asked : goal.returns-in_err-cut-clause-asked
+returns-in_err-cut-clause-asked g c other beside =
+    c.in_ok-driven.ensures.asked other
+    (beside_first c.args.name.now c.args.head (measures c.args.geometry).ring c.in_ok-driver.driver.supply other
+    (c.in_ok-driver.ensures.supply ∙ c.in_ok-supply.ensures ∙ ap (λ (ring : ℕ). first_supply (source_for c.args.name.now c.args.head ring)) c.ring.ensures) beside)
+
+pub frames_read-read-requires : goal.frames_read-read-requires
+frames_read-read-requires g c =
+    let four = block_four c.args.head.format c.args.head.bits c.args.head.channels in
+    omega (arith, four, c.block_bytes.ensures)
+
+-- how the driver was opened, at the two places where it is asked for
+can_before : (g : Over) (c : After-block_bytes-2 g) → CanPlayFrom c.args.machine c.args.plans.items c.args.head c.args.name.now c.args.geometry c.args.schedule.now c.in_ok-driver.driver.bring_up c.in_ok-driver.driver.writer c.in_ok-driver.driver.supply c.in_ok-driver.driver.play c.in_ok-rig.rig
+can_before g c = record {
+  keeps = λ format verbs graphs task is. c.drivers_keep_to_progress.ensures c.in_ok-driver.driver.setter format verbs graphs task is;
+  plays = c.in_ok-driver.ensures.play;
+  supply_is = c.in_ok-driver.ensures.supply ∙ c.in_ok-supply.ensures ∙ ap (λ (ring : ℕ). first_supply (source_for c.args.name.now c.args.head ring)) c.ring.ensures;
+  ring_is = c.in_ok-driver.ensures.opened.geometry_is;
+  format_is = c.requires.format;
+  short = c.requires.short;
+  within = c.requires.within;
+  limited = c.requires.limits;
+  start = c.in_ok-rig.ensures.told;
+  can_go = λ pcm.
+      opened_can_go c.args.machine c.args.head.format c.args.plans.items c.args.geometry _ c.in_ok-driver.driver.play true pcm c.in_ok-driver.driver.bring_up
+      c.in_ok-driver.driver.writer pcm c.in_ok-driver.ensures.play (λ plays. refl) c.in_ok-driver.ensures.opened c.in_ok-driver.ensures.apart c.requires.fifo c.requires.format
+      (c.machines_have_tasks.ensures c.args.head.format c.args.machine c.args.plans.items c.args.geometry true pcm (blocks_of c.in_ok-driver.driver.bring_up c.in_ok-driver.driver.writer)
+      c.requires.sound c.requires.read c.requires.plans c.requires.routed)
+      (c.opened_drivers_can_begin.ensures c.args.head.format c.args.machine c.args.plans.items c.args.geometry true pcm _ c.in_ok-driver.driver.bring_up c.in_ok-driver.driver.writer
+      c.requires.sound c.requires.read c.in_ok-driver.ensures.opened)
+      (c.machines_rest.ensures c.args.machine);
+}
+
+can_after : (g : Over) (c : After-drop-closed-3 g) → CanPlayFrom c.args.machine c.args.plans.items c.args.head c.args.name.now c.args.geometry c.args.schedule.now c.in_ok-driver.driver.bring_up c.in_ok-driver.driver.writer c.in_ok-driver.driver.supply c.in_ok-driver.driver.play c.in_ok-rig.rig
+can_after g c = record {
+  keeps = λ format verbs graphs task is. c.drivers_keep_to_progress.ensures c.in_ok-driver.driver.setter format verbs graphs task is;
+  plays = c.in_ok-driver.ensures.play;
+  supply_is = c.in_ok-driver.ensures.supply ∙ c.in_ok-supply.ensures ∙ ap (λ (ring : ℕ). first_supply (source_for c.args.name.now c.args.head ring)) c.ring.ensures;
+  ring_is = c.in_ok-driver.ensures.opened.geometry_is;
+  format_is = c.requires.format;
+  short = c.requires.short;
+  within = c.requires.within;
+  limited = c.requires.limits;
+  start = c.in_ok-rig.ensures.told;
+  can_go = λ pcm.
+      opened_can_go c.args.machine c.args.head.format c.args.plans.items c.args.geometry _ c.in_ok-driver.driver.play true pcm c.in_ok-driver.driver.bring_up
+      c.in_ok-driver.driver.writer pcm c.in_ok-driver.ensures.play (λ plays. refl) c.in_ok-driver.ensures.opened c.in_ok-driver.ensures.apart c.requires.fifo c.requires.format
+      (c.machines_have_tasks.ensures c.args.head.format c.args.machine c.args.plans.items c.args.geometry true pcm (blocks_of c.in_ok-driver.driver.bring_up c.in_ok-driver.driver.writer)
+      c.requires.sound c.requires.read c.requires.plans c.requires.routed)
+      (c.opened_drivers_can_begin.ensures c.args.head.format c.args.machine c.args.plans.items c.args.geometry true pcm _ c.in_ok-driver.driver.bring_up c.in_ok-driver.driver.writer
+      c.requires.sound c.requires.read c.in_ok-driver.ensures.opened)
+      (c.machines_rest.ensures c.args.machine);
+}
 
 pub play_fault-fault-requires-clause-can_end : goal.play_fault-fault-requires-clause-can_end
-play_fault-fault-requires-clause-can_end c =
-    playing_ends c.args.machine c.args.plans.items c.args.wav c.args.geometry (blocks_for c) c.args.schedule.now (opened c) c.in_ok-closed.closed (telling_of c.drive.new.rig).journal (over c)
+play_fault-fault-requires-clause-can_end g c =
+    end_is c.args.machine c.args.plans.items c.args.head c.args.name.now c.args.geometry c.args.schedule.now c.in_ok-driver.driver.bring_up c.in_ok-driver.driver.writer c.in_ok-driver.driver.supply
+    c.in_ok-driver.driver.play c.in_ok-rig.rig c.drive.new.rig (shelves_of (g.S.Shelf.told c.args.shelf.now) (g.S.Shelf.faults c.args.shelf.now) (g.S.Shelf.empties c.args.shelf.now) (g.S.Shelf.given c.args.shelf.now)) (shelves_of (g.S.Shelf.told c.drive.new.shelf) (g.S.Shelf.faults c.drive.new.shelf) (g.S.Shelf.empties c.drive.new.shelf) (g.S.Shelf.given c.drive.new.shelf)) c.drive.new.cut c.in_ok-driven.driven.closed c.in_ok-driven.driven.read (can_before g c) c.in_ok-driven.ensures.driven
 
 pub play_fault-fault-requires-clause-few : goal.play_fault-fault-requires-clause-few
-play_fault-fault-requires-clause-few c =
-    let few = written_few c.args.machine c.args.plans.items c.args.wav c.args.geometry (blocks_for c) c.args.schedule.now (opened c) c.in_ok-closed.closed (telling_of c.drive.new.rig).journal (over c) in
-    omega (arith, few, c.len-bytes.ensures, c.len-bytes.type_inv)
+play_fault-fault-requires-clause-few g c =
+    few c.args.machine c.args.plans.items c.args.head c.args.name.now c.args.geometry c.args.schedule.now c.in_ok-driver.driver.bring_up c.in_ok-driver.driver.writer c.in_ok-driver.driver.supply
+    c.in_ok-driver.driver.play c.in_ok-rig.rig c.drive.new.rig (shelves_of (g.S.Shelf.told c.args.shelf.now) (g.S.Shelf.faults c.args.shelf.now) (g.S.Shelf.empties c.args.shelf.now) (g.S.Shelf.given c.args.shelf.now)) (shelves_of (g.S.Shelf.told c.drive.new.shelf) (g.S.Shelf.faults c.drive.new.shelf) (g.S.Shelf.empties c.drive.new.shelf) (g.S.Shelf.given c.drive.new.shelf)) c.drive.new.cut c.in_ok-driven.driven.closed c.in_ok-driven.driven.read (can_before g c) c.in_ok-driven.ensures.driven
 
--- the machine at the end
-machine_there : (c : goal.After-block_bytes) → (setting_of c.drive.new.rig).machine ≡ c.args.machine
-machine_there c = c.in_ok-closed.ensures.machine ∙ c.in_ok-rig.ensures.machine
+-- the reading was never cut for want of memory
+pub cut_line-requires : goal.cut_line-requires
+cut_line-requires g c =
+    let driver = c.in_ok-driver.driver in
+    let source = source_for c.args.name.now c.args.head (measures c.args.geometry).ring in
+    let first = (shelves_of (g.S.Shelf.told c.args.shelf.now) (g.S.Shelf.faults c.args.shelf.now) (g.S.Shelf.empties c.args.shelf.now) (g.S.Shelf.given c.args.shelf.now)) in
+    let now = (shelves_of (g.S.Shelf.told c.drive.new.shelf) (g.S.Shelf.faults c.drive.new.shelf) (g.S.Shelf.empties c.drive.new.shelf) (g.S.Shelf.given c.drive.new.shelf)) in
+    let supply = c.in_ok-driver.ensures.supply ∙ c.in_ok-supply.ensures ∙ ap (λ (ring : ℕ). first_supply (source_for c.args.name.now c.args.head ring)) c.ring.ensures in
+    let fed = c.in_ok-driven.ensures.driven.fed (Some source) first (fed_at_open c.args.name.now c.args.head c.args.geometry first driver.supply driver.writer supply c.in_ok-driver.ensures.opened.geometry_is c.requires.format) in
+    not_memory c.drive.new.cut source (first c.args.name.now) (now c.args.name.now) fed.cause
 
--- what the pins heard
-heard_is : (c : goal.After-block_bytes)
-    → map handed_out c.parts-machine.result.1 ≡ lists_heard (world_of (telling_from REGION_BYTES c.args.machine (telling_of c.drive.new.rig).journal)).carried c.args.machine.codecs c.args.plans.items
-heard_is c =
-    let journal = (telling_of c.drive.new.rig).journal in
-    lists_are c.one_order.ensures c.args.wav.format c.args.machine.codecs c.args.plans.items (world_of (telling_from REGION_BYTES c.args.machine journal)) c.parts-machine.result.1
-    (subst (λ (machine : Machine). AreHeardIn (world_of (telling_from REGION_BYTES machine journal)) c.parts-machine.result.1) (machine_there c) c.parts-machine.ensures.heard)
-    (subst (λ (machine : Machine). ∥ AreListsOf (graphs_in machine.codecs) c.parts-machine.result.1 ∥₁) (machine_there c) c.parts-machine.ensures.pins)
-    c.requires.plans
+module _ (g : Over) (c : After-drop-closed-3 g) where
+  abbrev first : Shelves
+  first = shelves_of (g.S.Shelf.told c.args.shelf.now) (g.S.Shelf.faults c.args.shelf.now) (g.S.Shelf.empties c.args.shelf.now) (g.S.Shelf.given c.args.shelf.now)
 
-pub returns : goal.returns
-returns c =
-    let earlier = c.before.before.before.before.before.before.before.before.before.before.before in
+  abbrev now : Shelves
+  now = shelves_of (g.S.Shelf.told c.drive.new.shelf) (g.S.Shelf.faults c.drive.new.shelf) (g.S.Shelf.empties c.drive.new.shelf) (g.S.Shelf.given c.drive.new.shelf)
+
+  abbrev sound_of : List ℕ
+  sound_of = sound c.args.machine c.args.plans.items c.args.head c.args.name.now c.args.geometry c.args.schedule.now c.in_ok-driver.driver.bring_up c.in_ok-driver.driver.writer c.in_ok-driver.driver.supply
+      c.in_ok-driver.driver.play c.in_ok-rig.rig c.drive.new.rig (shelves_of (g.S.Shelf.told c.args.shelf.now) (g.S.Shelf.faults c.args.shelf.now) (g.S.Shelf.empties c.args.shelf.now) (g.S.Shelf.given c.args.shelf.now)) (shelves_of (g.S.Shelf.told c.drive.new.shelf) (g.S.Shelf.faults c.drive.new.shelf) (g.S.Shelf.empties c.drive.new.shelf) (g.S.Shelf.given c.drive.new.shelf)) c.drive.new.cut c.in_ok-driven.driven.closed c.in_ok-driven.driven.read (can_after g c) c.in_ok-driven.ensures.driven
+
+  streamed : Streams (measures c.args.geometry) (source_for c.args.name.now c.args.head (measures c.args.geometry).ring) (first c.args.name.now) (now c.args.name.now) c.drive.new.cut
+      c.in_ok-driven.ensures.driven.last c.in_ok-driven.ensures.driven.course
+  streamed = streams c.args.machine c.args.plans.items c.args.head c.args.name.now c.args.geometry c.args.schedule.now c.in_ok-driver.driver.bring_up c.in_ok-driver.driver.writer c.in_ok-driver.driver.supply
+      c.in_ok-driver.driver.play c.in_ok-rig.rig c.drive.new.rig (shelves_of (g.S.Shelf.told c.args.shelf.now) (g.S.Shelf.faults c.args.shelf.now) (g.S.Shelf.empties c.args.shelf.now) (g.S.Shelf.given c.args.shelf.now)) (shelves_of (g.S.Shelf.told c.drive.new.shelf) (g.S.Shelf.faults c.drive.new.shelf) (g.S.Shelf.empties c.drive.new.shelf) (g.S.Shelf.given c.drive.new.shelf)) c.drive.new.cut c.in_ok-driven.driven.closed c.in_ok-driven.driven.read (can_after g c) c.in_ok-driven.ensures.driven
+
+  block_there : block_bytes c.args.head.format ≡ (measures c.args.geometry).block
+  block_there = ap block_bytes (sym c.requires.format)
+
+  block_some : 1 ≤ (measures c.args.geometry).block
+  block_some = some_block c.args.machine c.args.plans.items c.args.head c.args.name.now c.args.geometry c.args.schedule.now c.in_ok-driver.driver.bring_up c.in_ok-driver.driver.writer c.in_ok-driver.driver.supply
+      c.in_ok-driver.driver.play c.in_ok-rig.rig c.drive.new.rig (shelves_of (g.S.Shelf.told c.args.shelf.now) (g.S.Shelf.faults c.args.shelf.now) (g.S.Shelf.empties c.args.shelf.now) (g.S.Shelf.given c.args.shelf.now)) (shelves_of (g.S.Shelf.told c.drive.new.shelf) (g.S.Shelf.faults c.drive.new.shelf) (g.S.Shelf.empties c.drive.new.shelf) (g.S.Shelf.given c.drive.new.shelf)) c.drive.new.cut c.in_ok-driven.driven.closed c.in_ok-driven.driven.read (can_after g c) c.in_ok-driven.ensures.driven
+
+  -- the machine at the end
+  machine_there : (setting_of c.drive.new.rig).machine ≡ c.args.machine
+  machine_there = c.in_ok-driven.ensures.machine ∙ c.in_ok-rig.ensures.machine
+
+pub returns-clause-cut : goal.returns-clause-cut
+returns-clause-cut g c =
+    let driven = c.in_ok-driven.ensures.driven in
+    cut_is_under c.args.name.now c.args.head (measures c.args.geometry) driven.gave (first g c) (now g c) c.drive.new.cut c.in_ok-driver.driver.supply driven.last driven.course driven.took (can_after g c).supply_is (block_some g c) (streamed g c)
+    c.in_ok-cut.cut c.in_ok-cut.ensures
+
+pub returns-clause-given : goal.returns-clause-given
+returns-clause-given g c =
+    let driven = c.in_ok-driven.ensures.driven in
+    let written = used c.args.machine c.args.plans.items c.args.head c.args.name.now c.args.geometry c.args.schedule.now c.in_ok-driver.driver.bring_up c.in_ok-driver.driver.writer c.in_ok-driver.driver.supply
+    c.in_ok-driver.driver.play c.in_ok-rig.rig c.drive.new.rig (shelves_of (g.S.Shelf.told c.args.shelf.now) (g.S.Shelf.faults c.args.shelf.now) (g.S.Shelf.empties c.args.shelf.now) (g.S.Shelf.given c.args.shelf.now)) (shelves_of (g.S.Shelf.told c.drive.new.shelf) (g.S.Shelf.faults c.drive.new.shelf) (g.S.Shelf.empties c.drive.new.shelf) (g.S.Shelf.given c.drive.new.shelf)) c.drive.new.cut c.in_ok-driven.driven.closed c.in_ok-driven.driven.read (can_after g c) c.in_ok-driven.ensures.driven in
+    given_most c.args.name.now c.args.head (measures c.args.geometry) driven.gave (first g c) (now g c) c.drive.new.cut c.in_ok-driver.driver.supply driven.last driven.course driven.took (can_after g c).supply_is (block_some g c) (streamed g c)
+    (written_by c.from_vec-3.result) (subst (λ runs. driven.course.used ≤ written_by runs) (sym c.from_vec-3.ensures) written)
+
+pub returns-clause-played : goal.returns-clause-played
+returns-clause-played g c =
     let driver = c.in_ok-driver.driver in
     let machine = c.args.machine in
-    let wav = c.args.wav in
-    let gone = over earlier in
+    let head = c.args.head in
+    let wav = sound_with c.args.head (sound_of g c) in
+    let blocks = blocks_of driver.bring_up driver.writer in
+    let opened = parts_with driver.bring_up driver.writer (sound_of g c) in
+    let task = played_task c.args.machine c.args.plans.items wav c.args.geometry blocks in
+    let closed = c.in_ok-driven.driven.closed in
+    let was = over c.args.machine c.args.plans.items c.args.head c.args.name.now c.args.geometry c.args.schedule.now c.in_ok-driver.driver.bring_up c.in_ok-driver.driver.writer c.in_ok-driver.driver.supply c.in_ok-driver.driver.play c.in_ok-rig.rig c.drive.new.rig (shelves_of (g.S.Shelf.told c.args.shelf.now) (g.S.Shelf.faults c.args.shelf.now) (g.S.Shelf.empties c.args.shelf.now) (g.S.Shelf.given c.args.shelf.now)) (shelves_of (g.S.Shelf.told c.drive.new.shelf) (g.S.Shelf.faults c.drive.new.shelf) (g.S.Shelf.empties c.drive.new.shelf) (g.S.Shelf.given c.drive.new.shelf)) c.drive.new.cut c.in_ok-driven.driven.closed c.in_ok-driven.driven.read (can_after g c) c.in_ok-driven.ensures.driven in
     let told = c.parts-machine.ensures.journal in
+    let driven_so = c.in_ok-driven.ensures.driven in
     let played : Played = record {
       machine = c.parts-machine.result.0;
-      format = wav.format;
-      total = wav.frames;
+      format = head.format;
+      total = head.frames;
+      read = c.frames_read-read.result;
       commands = c.in_ok-commands.commands;
       plans = c.from_vec.result;
       graphs = c.from_vec-2.result;
@@ -106,6 +203,7 @@ returns c =
       journal = c.parts-machine.result.2;
       walk = false;
       fault = c.play_fault-fault.result;
+      cut = c.in_ok-cut.cut;
     } in
     let laws : RunLaws = record {
       opened = c.runs_keep_the_course.ensures.opened;
@@ -114,34 +212,48 @@ returns c =
       line_opened = c.runs_append_to_the_line.ensures.opened;
       line_kept = c.runs_append_to_the_line.ensures.kept;
     } in
-    let by = driven machine c.args.plans.items wav c.args.geometry (blocks_for earlier) c.args.schedule.now (opened earlier) c.in_ok-closed.closed (telling_of c.drive.new.rig).journal gone
-    laws played told (sym c.in_ok-driver.ensures.opened.geometry_is) c.requires.format c.requires.plans c.from_vec-2.ensures c.from_vec-3.ensures c.from_vec-4.ensures
-    (c.from_vec-5.ensures ∙ c.into_lists.ensures ∙ heard_is earlier)
-    (subst (λ (block : ℕ). IsPlayFault c.in_ok-closed.closed.phase c.in_ok-closed.closed.sent c.in_ok-commands.commands block wav.frames c.in_ok-closed.closed.runs.items c.in_ok-closed.closed.silences.items c.play_fault-fault.result)
-    c.block_bytes.ensures c.play_fault-fault.ensures) in
+    let journal = (telling_of c.drive.new.rig).journal in
+    let heard : map handed_out c.parts-machine.result.1 ≡ lists_heard (world_of (telling_from REGION_BYTES machine journal)).carried machine.codecs c.args.plans.items =
+    lists_are c.one_order.ensures head.format machine.codecs c.args.plans.items (world_of (telling_from REGION_BYTES machine journal)) c.parts-machine.result.1
+    (subst (λ (machine : Machine). AreHeardIn (world_of (telling_from REGION_BYTES machine journal)) c.parts-machine.result.1) (machine_there g c) c.parts-machine.ensures.heard)
+    (subst (λ (machine : Machine). ∥ AreListsOf (graphs_in machine.codecs) c.parts-machine.result.1 ∥₁) (machine_there g c) c.parts-machine.ensures.pins)
+    c.requires.plans in
+    let by = driven machine c.args.plans.items wav c.args.geometry blocks c.args.schedule.now opened closed journal was
+    laws played told (sym (can_after g c).ring_is) c.requires.format c.requires.plans c.from_vec-2.ensures c.from_vec-3.ensures c.from_vec-4.ensures
+    (c.from_vec-5.ensures ∙ c.into_lists.ensures ∙ heard)
+    (subst (λ (block : ℕ). IsPlayFault closed.phase closed.sent c.in_ok-commands.commands block head.frames closed.runs.items closed.silences.items c.play_fault-fault.result)
+    c.block_bytes-2.ensures c.play_fault-fault.ensures) in
     record {
-      input = record {
-        machine_is = c.parts-machine.ensures.machine ∙ c.in_ok-closed.ensures.machine ∙ c.in_ok-rig.ensures.machine;
-        plans_are = c.from_vec.ensures;
-        walk_is = refl;
-        format_is = refl;
-        frames_are = refl;
+      pcm = sound_of g c;
+      sound = sound_is_read c.args.name.now head (measures c.args.geometry) driven_so.gave (first g c) (now g c) c.drive.new.cut driver.supply driven_so.last driven_so.course driven_so.took (can_after g c).supply_is (block_some g c) (streamed g c)
+          played (block_there g c)
+          (c.frames_read-read.ensures ∙ ap (λ (bytes : ℕ). frames_read c.drive.new.cut bytes c.block_bytes.result head.frames) driven_so.read_is
+          ∙ ap (λ (block : ℕ). frames_read c.drive.new.cut (driven_so.last.taken + length driven_so.last.held) block head.frames) (c.block_bytes.ensures ∙ block_there g c))
+          c.in_ok-cut.ensures;
+      run = record {
+        input = record {
+          machine_is = c.parts-machine.ensures.machine ∙ c.in_ok-driven.ensures.machine ∙ c.in_ok-rig.ensures.machine;
+          plans_are = c.from_vec.ensures;
+          walk_is = refl;
+          format_is = refl;
+          frames_are = refl;
+        };
+        blocks = blocks;
+        first_fits = c.in_ok-driver.ensures.first_fits;
+        state = state_left task was.ended was.tally;
+        history = record {
+          replays = subst (λ (events : List Event). AreHonest events (start_of REGION_BYTES machine)) (sym told) was.replays;
+          follows = subst (Follows c.args.schedule.now) (sym told) was.follows;
+        };
+        progress = by.progress;
+        opened = by.opened;
+        runs = by.runs;
+        heard = by.heard;
+        jacks = subst (λ jacks. Counts (told_in (events_of c.parts-machine.result.2)) jacks) (sym c.from_vec-6.ensures)
+            (subst (λ (events : List Event). Counts (told_in events) closed.jacks.items) (sym told) was.jacks);
+        commands = c.in_ok-commands.ensures
+            ∙ ap (λ (codecs : List CodecFile). length (commands_of head.format codecs c.as_slice-2.result.now)) c.as_slice.ensures
+            ∙ ap (λ (plans : List Plan). length (commands_of head.format machine.codecs plans)) c.as_slice-2.ensures.value;
+        ended = by.ended;
       };
-      blocks = blocks_for earlier;
-      first_fits = c.in_ok-driver.ensures.first_fits;
-      state = state_left (task_for earlier) gone.ended gone.tally;
-      history = record {
-        replays = subst (λ (events : List Event). AreHonest events (start_of REGION_BYTES machine)) (sym told) gone.replays;
-        follows = subst (Follows c.args.schedule.now) (sym told) gone.follows;
-      };
-      progress = by.progress;
-      opened = by.opened;
-      runs = by.runs;
-      heard = by.heard;
-      jacks = subst (λ jacks. Counts (told_in (events_of c.parts-machine.result.2)) jacks) (sym c.from_vec-6.ensures)
-          (subst (λ (events : List Event). Counts (told_in events) c.in_ok-closed.closed.jacks.items) (sym told) gone.jacks);
-      commands = c.in_ok-commands.ensures
-          ∙ ap (λ (codecs : List CodecFile). length (commands_of wav.format codecs c.as_slice-2.result.now)) c.as_slice.ensures
-          ∙ ap (λ (plans : List Plan). length (commands_of wav.format machine.codecs plans)) c.as_slice-2.ensures.value;
-      ended = by.ended;
     }

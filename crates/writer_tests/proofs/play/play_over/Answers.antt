@@ -1,16 +1,6 @@
-use Rattle.std.proofs.Common.{◌≡◌, List, sym, subst, ◌∙◌}
-use Rattle.std.specs.Prelude.{All, Contains}
-use Rattle.dma_pool.specs.declared.blocks.Lent.{Lent}
-use Rattle.dma_pool.specs.Blocks.{run_at}
-use Rattle.period_writer.specs.Rings.{period_bytes}
-use Rattle.period_writer.specs.declared.geometry.Geometry.{Geometry}
+use Rattle.period_writer.proofs.Callers.{owns_on}
 use Rattle.writer_tests.proofs.play.play_over.Goals as goal
 
--- the periods are still the pool's
-pub close-requires-clause-periods : goal.close-requires-clause-periods
-close-requires-clause-periods c =
-    let geometry : c.play_all-outcome.new.writer.geometry ≡ c.args.geometry = c.play_all-outcome.ensures.geometry ∙ c.in-Ok.ensures.geometry in
-    subst (λ (items : List Lent). All (λ lent. Contains c.open.new.pool.taken (run_at lent.address (period_bytes c.play_all-outcome.new.writer.geometry.period))) items)
-    (sym c.play_all-outcome.ensures.periods)
-    (subst (λ (g : Geometry). All (λ lent. Contains c.open.new.pool.taken (run_at lent.address (period_bytes g.period))) c.in-Ok.writer.periods.items)
-    (sym geometry) c.in-Ok.ensures.owns_periods)
+-- the blocks are still the pool's
+pub close-requires : goal.close-requires
+close-requires c = owns_on _ _ _ c.play_all-outcome.ensures.keeps c.in-Ok.ensures.owns

@@ -1,4 +1,4 @@
-use Rattle.std.proofs.Common.{◌≡◌, List, ℕ, refl, sym, subst}
+use Rattle.std.proofs.Common.{List, ℕ, length, refl, sym, subst}
 use Rattle.wav_reader.specs.Supplies.{Supplied, MayGive, EndsWith}
 use Rattle.period_writer.specs.Playing.{Finishes}
 use Rattle.period_writer.specs.Rings.{ring_bytes}
@@ -21,8 +21,8 @@ returns-clause-finishes g c sound may ends =
 
 pub returns-clause-tells : goal.returns-clause-tells
 returns-clause-tells g c sound may ends pcm lent =
-    finish_tells_of (ring_of c.args.self.now) pcm c.args.self.now.runs.len (tally_of c.args.self.now) (tally_of c.take_turn-ran.new.self) c.take_turn-ran.result sound
-    (g.P.Platform.told c.args.platform.now) (g.P.Platform.told c.write.new.self) c.args.self.now.course_is lent (returns-clause-finishes g c sound may ends)
+    finish_tells_of (ring_of c.args.self.now) pcm (length c.args.self.now.runs) (tally_of c.args.self.now) (tally_of c.take_turn-ran.new.self) c.take_turn-ran.result sound
+    (g.P.Platform.told c.args.platform.now) (g.P.Platform.told c.write.new.self) c.take_turn-ran.ensures.writer.course_is lent (returns-clause-finishes g c sound may ends)
 
 pub returns-clause-supply : goal.returns-clause-supply
 returns-clause-supply g c = c.take_turn-ran.ensures.none refl
