@@ -1,5 +1,5 @@
 -- The events that a call makes are accesses.
-use Rattle.std.proofs.Common.{◌+◌, ◌/◌, ℕ, Bool, true, false, if◌then◌else◌, List, [], ◌∷◌, ◌++◌, map, length}
+use Rattle.std.proofs.Common.{◌+◌, ◌/◌, ℕ, Bool, true, false, if◌then◌else◌, List, [], ◌∷◌, ◌++◌, map, length, ◌-◌, min, drop}
 use Rattle.std.specs.List.{range_with_len}
 use Rattle.verb_codes.specs.Words.{has_bit}
 use Rattle.hda_registers.specs.declared.places.TheConstants.{RIRBSTS, WALCLK}
@@ -15,9 +15,10 @@ use Rattle.period_writer.specs.declared.geometry.Geometry.{Geometry}
 use Rattle.period_writer.specs.declared.registers.TheConstants.{CONTROL}
 use Rattle.period_writer.specs.Rings.{period_bytes, ring_bytes}
 use Rattle.period_writer.specs.Places.{line_writes, piece_write, touched}
-use Rattle.period_writer.specs.Runs.{RunFacts, measures, run_reach}
+use Rattle.period_writer.specs.Runs.{RunFacts, measures, run_reach, run_start, run_sound}
 use Rattle.period_writer.specs.Starting.{entry_write, entry_writes, run_accesses, start_accesses}
-use Rattle.period_writer.specs.Playing.{run_bytes, stop_accesses, play_accesses, finish_accesses}
+use Rattle.period_writer.specs.Lines.{sound_and_silence}
+use Rattle.period_writer.specs.Playing.{writes_by, run_writes, stop_accesses, play_accesses, finish_accesses}
 use Rattle.driver_stretches.specs.Interrupts.{clear_accesses, interrupt_accesses}
 use Rattle.driver_stretches.specs.Shutting.{shut_accesses}
 use Rattle.driver_stretches.specs.Unread.{IsAccess, AreAccesses}
@@ -82,18 +83,23 @@ start_are geometry list periods from in_reset ready to written =
     )
 
 -- up to the second clock, and after it
+rows_are : (bytes : ℕ) (periods : List ℕ) (start sound reach reach' : ℕ) (pcm : List ℕ) → AreAccesses (writes_by bytes periods start sound reach reach' pcm)
+rows_are bytes periods start sound reach reach' pcm =
+    let first = sound_and_silence (min reach (start + sound) - start) (min reach (start + sound) - start) pcm in
+    let second = sound_and_silence (sound - (min reach (start + sound) - start)) (reach' - reach) (drop (min reach (start + sound) - start) pcm) in
+    are_both (line_writes bytes periods start (min reach (start + sound)) first) (line_writes bytes periods reach reach' second)
+    (lines_are bytes periods start (min reach (start + sound)) first) (lines_are bytes periods reach reach' second)
+
 turn_are : (geometry : Geometry) (periods : List ℕ) (course : Course) (facts : RunFacts) (pcm : List ℕ) (later : List Event) → AreAccesses later
-    → AreAccesses (line_writes (period_bytes geometry.period) periods course.reach (run_reach (measures geometry) course facts) (run_bytes (measures geometry) course facts pcm) ++ Read WALCLK Four facts.to ∷ later)
+    → AreAccesses (run_writes (period_bytes geometry.period) periods (measures geometry) course facts pcm ++ Read WALCLK Four facts.to ∷ later)
 turn_are geometry periods course facts pcm later are =
-    let bytes = period_bytes geometry.period in
-    let reach = run_reach (measures geometry) course facts in
-    let written = run_bytes (measures geometry) course facts pcm in
-    are_both (line_writes bytes periods course.reach reach written) (Read WALCLK Four facts.to ∷ later) (lines_are bytes periods course.reach reach written) (tt {0}, are)
+    are_both (run_writes (period_bytes geometry.period) periods (measures geometry) course facts pcm) (Read WALCLK Four facts.to ∷ later)
+    (rows_are (period_bytes geometry.period) periods (run_start (measures geometry) course facts) (run_sound (measures geometry) course facts) course.reach (run_reach (measures geometry) course facts) pcm) (tt {0}, are)
 
 stop_are : (was : Ran) → AreAccesses (stop_accesses was)
 stop_are ran.Playing = tt {0}
 stop_are ran.Drained = (tt {0}, tt {0})
-stop_are (ran.Late from to) = (tt {0}, tt {0})
+stop_are (ran.Late from to limit) = (tt {0}, tt {0})
 
 pub play_are : (geometry : Geometry) (periods : List ℕ) (course : Course) (facts : RunFacts) (pcm : List ℕ) (was : Ran) → AreAccesses (play_accesses geometry periods course facts pcm was)
 play_are geometry periods course facts pcm was = (tt {0}, (tt {0}, turn_are geometry periods course facts pcm (stop_accesses was) (stop_are was)))

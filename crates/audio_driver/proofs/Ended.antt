@@ -11,10 +11,9 @@ use Rattle.period_writer.specs.declared.course.Ran.{Ran}
 use Rattle.period_writer.specs.declared.registers.TheConstants.{CONTROL}
 use Rattle.period_writer.specs.Courses.{IsCourse}
 use Rattle.period_writer.specs.Rings.{period_bytes}
-use Rattle.period_writer.specs.Places.{line_writes}
-use Rattle.period_writer.specs.Playing.{Finishes, run_bytes, finish_accesses}
+use Rattle.period_writer.specs.Playing.{run_writes, Finishes, finish_accesses}
 use Rattle.period_writer.specs.Outcomes.{FinishTellsOf}
-use Rattle.period_writer.specs.Runs.{Tally, facts_of, run_reach}
+use Rattle.period_writer.specs.Runs.{Tally, facts_of}
 use Rattle.period_writer.specs.Writers.{WriterState, tally_of, measures_of, periods_of, ring_of, ring_size}
 use Rattle.driver_progress.specs.declared.phase.Phase.{Phase}
 use Rattle.driver_progress.specs.declared.phase.Phase.TheVariants.{Ready}
@@ -35,19 +34,18 @@ use Rattle.audio_driver.proofs.Sounded.{IsSupply, told_each, counts_same, run_en
 
 pub ends_alone : (old : BringUp) (writer : WriterState) (supply : List ℕ) (before after : Option Telling) → old.phase ≡ Ready → is_playing writer.course ≡ false → Between (Makes shut_accesses) before after
     → EndsSound old old writer (tally_of writer) supply before after
-ends_alone old writer supply before after ready silent shut =
-    let limit = (measures_of writer).limit in record {
-      made = shut_accesses;
-      are = shut_are;
-      by = shut;
-      is = λ task of. same_found (sym (answer_none old.engine.rings shut_accesses refl))
-          (silent_stretch task (state_of old writer) limit writer.course.started writer.course.ran (ap (λ (phase : Phase). phase_if writer.course.started phase writer.course.ran limit) ready) silent);
-      counted = λ events counts. counts;
-      phase = refl;
-      sent = refl;
-      agenda = refl;
-      tells = told_map (λ before after made. inl (record { still = silent; made_is = refl; bring_up = refl; tally_is = refl })) shut;
-    }
+ends_alone old writer supply before after ready silent shut = record {
+  made = shut_accesses;
+  are = shut_are;
+  by = shut;
+  is = λ task of. same_found (sym (answer_none old.engine.rings shut_accesses refl))
+      (silent_stretch task (state_of old writer) writer.course.started writer.course.ran (ap (λ (phase : Phase). phase_if writer.course.started phase writer.course.ran) ready) silent);
+  counted = λ events counts. counts;
+  phase = refl;
+  sent = refl;
+  agenda = refl;
+  tells = told_map (λ before after made. inl (record { still = silent; made_is = refl; bring_up = refl; tally_is = refl })) shut;
+}
 
 -- ---- it plays
 
@@ -55,7 +53,7 @@ last_entries : (writer : WriterState) (from lpib to : ℕ) (supply : List ℕ) �
 last_entries writer from lpib to supply =
     let facts = facts_of 0 (length supply) from lpib to in
     let m = measures_of writer in
-    let writes = line_writes (period_bytes writer.geometry.period) (periods_of writer) writer.course.reach (run_reach m writer.course facts) (run_bytes m writer.course facts supply) in
+    let writes = run_writes (period_bytes writer.geometry.period) (periods_of writer) m writer.course facts supply in
     ap entries_in (append_assoc writes (Read WALCLK Four to ∷ Write CONTROL One 0 ∷ []) shut_accesses) ∙ run_entries writer facts supply (Write CONTROL One 0 ∷ shut_accesses) refl
 
 pub ends_playing : (old new : BringUp) (writer : WriterState) (tally' : Tally) (supply : List ℕ) (answer : Ran) (before listened stopped after : Option Telling) → IsCourse (ring_size writer) (length writer.runs) writer.course

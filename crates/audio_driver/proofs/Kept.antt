@@ -12,7 +12,7 @@ use Rattle.period_writer.specs.declared.course.Ran.{Ran}
 use Rattle.period_writer.specs.declared.course.Run.{Run}
 use Rattle.period_writer.specs.declared.course.Span.{Span}
 use Rattle.period_writer.specs.Runs.{Measures, RunFacts, Tally, run_of, is_late, tally_if, tally_after, course_opened, tally_opened}
-use Rattle.period_writer.specs.Writers.{WriterState, KeepsRing, tally_of, measures_of}
+use Rattle.period_writer.specs.Writers.{WriterState, KeepsRing, tally_of}
 use Rattle.driver_progress.specs.declared.phase.Phase.{Phase}
 use Rattle.driver_progress.specs.declared.phase.Phase.TheVariants.{Reset, Settling, Walking, SettingUp, Ready, Playing, Drained, NothingRouted, Unanswered, Late, Malformed, Failed}
 use Rattle.driver_progress.specs.Phases.{is_asking, is_ready}
@@ -97,15 +97,15 @@ over_started writer fresh over =
 
 -- ---- want of memory
 
-asking_if : (started : Bool) (phase : Phase) (was : Ran) (limit : ℕ) → (started ≡ true → is_ready phase ≡ true) → is_asking phase ≡ true → is_asking (phase_if started phase was limit) ≡ true
-asking_if true phase was limit ready asks = absurd (never (sym (ap is_asking (ready_is phase (ready refl))) ∙ asks))
-asking_if false phase was limit ready asks = asks
+asking_if : (started : Bool) (phase : Phase) (was : Ran) → (started ≡ true → is_ready phase ≡ true) → is_asking phase ≡ true → is_asking (phase_if started phase was) ≡ true
+asking_if true phase was ready asks = absurd (never (sym (ap is_asking (ready_is phase (ready refl))) ∙ asks))
+asking_if false phase was ready asks = asks
 
 -- where the bring-up sends commands the driver does
 pub asking_in : (play : Bool) (bring_up : BringUp) (writer : WriterState) → (writer.course.started ≡ true → plays_now play bring_up ≡ true)
     → is_asking bring_up.phase ≡ true → is_asking (phase_of bring_up writer) ≡ true
 asking_in play bring_up writer begun asks =
-    asking_if writer.course.started bring_up.phase writer.course.ran (measures_of writer).limit (λ started. plays_ready play bring_up (begun started)) asks
+    asking_if writer.course.started bring_up.phase writer.course.ran (λ started. plays_ready play bring_up (begun started)) asks
 
 -- ---- what is true of every driver
 

@@ -1,7 +1,6 @@
 -- A later run after a poll: what it saw, that its accesses are those that are expected, and where the tally and the rings stand.
-use Rattle.std.proofs.Common.{◌≡◌, ◌-◌, ◌/◌, ℕ, List, [], ◌∷◌, ◌++◌, length, true, Option, Some, None, refl, sym, ap, ◌∙◌}
+use Rattle.std.proofs.Common.{◌≡◌, ◌-◌, ℕ, List, [], ◌∷◌, ◌++◌, length, true, Option, Some, None, refl, sym, ap, ◌∙◌}
 use Rattle.std.specs.Prelude.{drop, slice_index}
-use Rattle.std.specs.List.{range_with_len}
 use Rattle.std.specs.Option.{is_some}
 use Rattle.std.proofs.lemmas.Grind.{flat_map-append}
 use Rattle.verb_codes.specs.Words.{has_bit}
@@ -14,9 +13,8 @@ use Rattle.period_writer.specs.declared.course.Ran.{Ran}
 use Rattle.period_writer.specs.declared.course.Ran.TheVariants as ran
 use Rattle.period_writer.specs.declared.registers.TheConstants.{POSITION}
 use Rattle.period_writer.specs.Rings.{period_bytes}
-use Rattle.period_writer.specs.Places.{line_writes, piece_write, touched}
-use Rattle.period_writer.specs.Playing.{run_bytes}
-use Rattle.period_writer.specs.Runs.{RunFacts, Tally, measures, facts_of, run_reach, tally_after, taken_up_if}
+use Rattle.period_writer.specs.Playing.{run_writes}
+use Rattle.period_writer.specs.Runs.{run_start, run_sound, RunFacts, Tally, measures, facts_of, run_reach, tally_after, taken_up_if}
 use Rattle.driver_progress.specs.Requests.{Request, Gets, requests_of, requests_in}
 use Rattle.driver_progress.specs.Tasks.{Task, DriverLine}
 use Rattle.driver_progress.specs.Seen.{Seen, seen_by, values_of}
@@ -25,7 +23,7 @@ use Rattle.driver_progress.specs.Expected.{polls, appends, plays_on}
 use Rattle.driver_progress.specs.Next.{outstanding_if, polled, tally_next, budget_of}
 use Rattle.driver_stretches.proofs.Callers.{poll_fits}
 use Rattle.driver_commands.proofs.Callers.{rings_same}
-use Rattle.audio_driver.proofs.Seeing.{poll_clocks, poll_positions, poll_pointer, clocks_around, writes_seen}
+use Rattle.audio_driver.proofs.Seeing.{poll_clocks, poll_positions, poll_pointer, turn_seen}
 
 -- what a run of a task goes by, and what it writes
 abbrev pub facts_in : Task → State → (budget from lpib to : ℕ) → RunFacts
@@ -40,7 +38,7 @@ tally_in task state facts = tally_after (measures task.geometry) state.tally fac
 abbrev pub writes_in : Task → State → RunFacts → List Event
 writes_in task state facts =
     let m = measures task.geometry in
-    line_writes (period_bytes task.geometry.period) task.blocks.periods state.tally.course.reach (run_reach m state.tally.course facts) (run_bytes m state.tally.course facts (pcm_in task state))
+    run_writes (period_bytes task.geometry.period) task.blocks.periods m state.tally.course facts (pcm_in task state)
 
 -- the accesses of a poll and the run, and what comes after it
 abbrev pub made_in : Task → State → PollReads → RunFacts → (later : List Event) → List Event
@@ -60,7 +58,7 @@ clocks_seen task state reads facts later none =
     let course = state.tally.course in
     let reach = run_reach m course facts in
     poll_clocks task.blocks.rirb state.rings reads (Read WALCLK Four facts.from ∷ Read POSITION Four facts.lpib ∷ (writes_in task state facts ++ Read WALCLK Four facts.to ∷ later))
-    ∙ clocks_around facts.from facts.to (piece_write bytes task.blocks.periods course.reach reach (run_bytes m course facts (pcm_in task state))) (range_with_len (course.reach / bytes) (touched bytes course.reach reach)) later (λ number. refl) none
+    ∙ ap (λ (values : List ℕ). facts.from ∷ values) (turn_seen WALCLK bytes task.blocks.periods (run_start m course facts) (run_sound m course facts) course.reach reach (pcm_in task state) (Read WALCLK Four facts.to ∷ later) ∙ ap (λ (values : List ℕ). facts.to ∷ values) none)
 
 positions_seen : (task : Task) (state : State) (reads : PollReads) (facts : RunFacts) (later : List Event) → values_of later POSITION ≡ [] → (seen_in task state reads facts later).positions ≡ facts.lpib ∷ []
 positions_seen task state reads facts later none =
@@ -70,7 +68,7 @@ positions_seen task state reads facts later none =
     let reach = run_reach m course facts in
     poll_positions task.blocks.rirb state.rings reads (Read WALCLK Four facts.from ∷ Read POSITION Four facts.lpib ∷ (writes_in task state facts ++ Read WALCLK Four facts.to ∷ later))
     ∙ ap (λ (values : List ℕ). facts.lpib ∷ values)
-    (writes_seen POSITION (piece_write bytes task.blocks.periods course.reach reach (run_bytes m course facts (pcm_in task state))) (range_with_len (course.reach / bytes) (touched bytes course.reach reach)) (Read WALCLK Four facts.to ∷ later) (λ number. refl) ∙ none)
+    (turn_seen POSITION bytes task.blocks.periods (run_start m course facts) (run_sound m course facts) course.reach reach (pcm_in task state) (Read WALCLK Four facts.to ∷ later) ∙ none)
 
 -- ---- where it leads
 

@@ -1,7 +1,11 @@
 -- What a stretch that plays saw, and which entries of RIRB it read.
-use Rattle.std.proofs.Common.{◌≡◌, ◌+◌, ℕ, List, [], ◌∷◌, ◌++◌, map, Bool, true, false, if◌then◌else◌, refl, ap, ◌∙◌}
+use Rattle.std.proofs.Common.{◌≡◌, ◌+◌, ℕ, List, [], ◌∷◌, ◌++◌, map, Bool, true, false, if◌then◌else◌, refl, ap, ◌∙◌, ◌-◌, ◌/◌, min, drop, append_assoc}
+use Rattle.period_writer.specs.Lines.{sound_and_silence}
+use Rattle.period_writer.specs.Places.{piece_write, line_writes, touched}
+use Rattle.std.specs.List.{range_with_len}
+use Rattle.period_writer.specs.Playing.{writes_by}
 use Rattle.verb_codes.specs.Words.{has_bit}
-use Rattle.hda_registers.specs.declared.shapes.Width.TheVariants.{One, Two, Four}
+use Rattle.hda_registers.specs.declared.shapes.Width.TheVariants.{One, Two}
 use Rattle.hda_registers.specs.declared.places.TheConstants.{WALCLK, RIRBWP, RIRBSTS}
 use Rattle.hda_registers.specs.Fields.{entries_of}
 use Rattle.hda_world.specs.Events.{Event, Read, Write}
@@ -57,8 +61,12 @@ poll_entries rirb rings reads rest new none = asked_entries rirb 0 rings reads r
 
 -- ---- the clock twice, with writes between
 
-pub clocks_around : (from to : ℕ) (write : ℕ → Event) (numbers : List ℕ) (later : List Event) → ((number : ℕ) → value_in WALCLK (write number) ≡ []) → values_of later WALCLK ≡ []
-    → values_of (Read WALCLK Four from ∷ (map write numbers ++ Read WALCLK Four to ∷ later)) WALCLK ≡ from ∷ to ∷ []
-clocks_around from to write numbers later none rest =
-    ap (λ (values : List ℕ). from ∷ values) (writes_seen WALCLK write numbers (Read WALCLK Four to ∷ later) none)
-    ∙ ap (λ (values : List ℕ). from ∷ to ∷ values) rest
+-- what a later run writes is not seen
+pub turn_seen : (register : ℕ) (bytes : ℕ) (periods : List ℕ) (start sound reach reach' : ℕ) (pcm : List ℕ) (rest : List Event)
+    → values_of (writes_by bytes periods start sound reach reach' pcm ++ rest) register ≡ values_of rest register
+turn_seen register bytes periods start sound reach reach' pcm rest =
+    let first = sound_and_silence (min reach (start + sound) - start) (min reach (start + sound) - start) pcm in
+    let second = sound_and_silence (sound - (min reach (start + sound) - start)) (reach' - reach) (drop (min reach (start + sound) - start) pcm) in
+    ap (λ (events : List Event). values_of events register) (append_assoc (line_writes bytes periods start (min reach (start + sound)) first) (line_writes bytes periods reach reach' second) rest)
+    ∙ writes_seen register (piece_write bytes periods start (min reach (start + sound)) first) (range_with_len (start / bytes) (touched bytes start (min reach (start + sound)))) (line_writes bytes periods reach reach' second ++ rest) (λ number. refl)
+    ∙ writes_seen register (piece_write bytes periods reach reach' second) (range_with_len (reach / bytes) (touched bytes reach reach')) rest (λ number. refl)

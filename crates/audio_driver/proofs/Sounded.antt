@@ -1,5 +1,6 @@
 -- A call of a driver that plays does what is said of it.
-use Rattle.std.proofs.Common.{◌≡◌, ◌+◌, ◌/◌, ℕ, List, [], ◌∷◌, ◌++◌, length, append-nil, Bool, true, false, Option, Some, None, refl, sym, ap, subst, inl, inr, ◌∙◌}
+use Rattle.std.proofs.Common.{◌≡◌, ◌+◌, ◌-◌, min, append_assoc, if◌then◌else◌, ◌/◌, ℕ, List, [], ◌∷◌, ◌++◌, length, append-nil, Bool, true, false, Option, Some, None, refl, sym, ap, subst, inl, inr, ◌∙◌}
+use Rattle.period_writer.specs.Lines.{sound_and_silence}
 use Rattle.std.specs.Prelude.{◌⊎◌, not, drop}
 use Rattle.std.specs.List.{range_with_len}
 use Rattle.std.specs.Option.{is_some}
@@ -20,9 +21,9 @@ use Rattle.period_writer.specs.declared.course.Ran.TheVariants as ran
 use Rattle.period_writer.specs.Rings.{period_bytes, ring_bytes}
 use Rattle.period_writer.specs.Places.{line_writes, piece_write, touched}
 use Rattle.period_writer.specs.Starting.{entry_write, run_accesses, start_accesses}
-use Rattle.period_writer.specs.Playing.{Starts, Plays, run_bytes, stop_accesses, play_accesses}
+use Rattle.period_writer.specs.Playing.{run_writes, Starts, Plays, run_bytes, stop_accesses, play_accesses}
 use Rattle.period_writer.specs.Outcomes.{StartTellsOf, RunTellsOf}
-use Rattle.period_writer.specs.Runs.{Measures, RunFacts, Tally, facts_of, run_reach, run_sound, is_late, tally_if, tally_after, tally_opened}
+use Rattle.period_writer.specs.Runs.{Measures, RunFacts, Tally, facts_of, run_reach, run_start, run_sound, is_late, is_late_since, tally_if, tally_after, tally_opened}
 use Rattle.period_writer.specs.Writers.{WriterState, KeepsRing, tally_of, measures_of, periods_of, ring_of}
 use Rattle.driver_progress.specs.declared.phase.Phase.{Phase}
 use Rattle.driver_progress.specs.declared.phase.Phase.TheVariants.{Ready}
@@ -62,7 +63,10 @@ pub record IsSupply (supply : List ℕ) (used : ℕ) : Type 0 where
 -- ---- the sound that is left
 
 used_by : (late : Bool) (m : Measures) (tally : Tally) (facts : RunFacts) → was_late (tally_if late m tally facts).course.ran ≡ false → tally.course.used + run_sound m tally.course facts ≡ (tally_if late m tally facts).course.used
-used_by true m tally facts on_time = cc
+used_by true m tally facts on_time = by (is_late_since m tally.course facts) on_time where
+  by : (since_first : Bool) → was_late (if since_first then ran.Late tally.course.from facts.to m.limit else ran.Late facts.from facts.to m.slack) ≡ false → tally.course.used + run_sound m tally.course facts ≡ tally.course.used
+  by true e = cc
+  by false e = cc
 used_by false m tally facts on_time = refl
 
 pub left_after : (pcm supply supply' : List ℕ) (m : Measures) (tally tally' : Tally) (facts : RunFacts) → was_late tally.course.ran ≡ false → tally' ≡ tally_after m tally facts → supply' ≡ drop (run_sound m tally.course facts) supply
@@ -82,15 +86,15 @@ answer_of rings entries = answer_among (asked_of rings.outstanding) (responses_i
 
 -- ---- no run comes
 
-over_phase : (old : BringUp) (writer : WriterState) → writer.course.started ≡ true → (state_of old writer).phase ≡ played_as writer.course.ran (measures_of writer).limit
-over_phase old writer started = ap (λ (started : Bool). phase_if started old.phase writer.course.ran (measures_of writer).limit) started
+over_phase : (old : BringUp) (writer : WriterState) → writer.course.started ≡ true → (state_of old writer).phase ≡ played_as writer.course.ran
+over_phase old writer started = ap (λ (started : Bool). phase_if started old.phase writer.course.ran) started
 
 pub over_sounds : (old : BringUp) (writer : WriterState) (supply : List ℕ) (budget : ℕ) (told : Option Telling) → writer.course.started ≡ true → is_open writer.course.ran ≡ false → Sounds false budget old old writer writer supply supply told told
 over_sounds old writer supply budget told started over = record {
   made = [];
   are = tt {0};
   by = made_none told;
-  is = λ task of. same_found (sym (answer_none old.engine.rings [] refl)) (over_stretch task (state_of old writer) budget (measures_of writer).limit writer.course.ran (over_phase old writer started) over);
+  is = λ task of. same_found (sym (answer_none old.engine.rings [] refl)) (over_stretch task (state_of old writer) budget writer.course.ran (over_phase old writer started) over);
   sound = λ pcm left. left;
   counted = λ events counts. counts;
   stays = record { corb = refl; rirb = refl; phase = refl; kept = refl; sent = refl; agenda = refl; geometry = refl; list = refl; periods = refl; records = refl };
@@ -104,7 +108,7 @@ over_sounds_irq old writer supply budget told started over = record {
   are = tt {0};
   by = made_none told;
   is = λ task of. same_found (sym (answer_none old.engine.rings [] refl))
-      (inactive_stretch task (state_of old writer) budget (ap is_active (over_phase old writer started) ∙ over_inactive (measures_of writer).limit writer.course.ran over));
+      (inactive_stretch task (state_of old writer) budget (ap is_active (over_phase old writer started) ∙ over_inactive writer.course.ran over));
   sound = λ pcm left. left;
   counted = λ events counts. counts;
   stays = record { corb = refl; rirb = refl; phase = refl; kept = refl; sent = refl; agenda = refl; geometry = refl; list = refl; periods = refl; records = refl };
@@ -157,15 +161,21 @@ start_sounds old writer writer' supply supply' budget before after ready fresh o
 no_stop_entries : (was : Ran) → entries_in (stop_accesses was) ≡ []
 no_stop_entries ran.Playing = refl
 no_stop_entries ran.Drained = refl
-no_stop_entries (ran.Late from to) = refl
+no_stop_entries (ran.Late from to limit) = refl
 
 -- a run reads no entry
 pub run_entries : (writer : WriterState) (facts : RunFacts) (supply : List ℕ) (later : List Event) → entries_in later ≡ []
-    → entries_in (line_writes (period_bytes writer.geometry.period) (periods_of writer) writer.course.reach (run_reach (measures_of writer) writer.course facts) (run_bytes (measures_of writer) writer.course facts supply) ++ Read WALCLK Four facts.to ∷ later) ≡ []
+    → entries_in (run_writes (period_bytes writer.geometry.period) (periods_of writer) (measures_of writer) writer.course facts supply ++ Read WALCLK Four facts.to ∷ later) ≡ []
 run_entries writer facts supply later none =
     let bytes = period_bytes writer.geometry.period in
-    let reach = run_reach (measures_of writer) writer.course facts in
-    writes_entries (piece_write bytes (periods_of writer) writer.course.reach reach (run_bytes (measures_of writer) writer.course facts supply)) (range_with_len (writer.course.reach / bytes) (touched bytes writer.course.reach reach)) (Read WALCLK Four facts.to ∷ later) (λ number. refl)
+    let m = measures_of writer in
+    let start = run_start (measures_of writer) writer.course facts in
+    let to = min writer.course.reach (run_start (measures_of writer) writer.course facts + run_sound (measures_of writer) writer.course facts) in
+    let first = sound_and_silence (to - start) (to - start) supply in
+    let second = sound_and_silence (run_sound (measures_of writer) writer.course facts - (to - start)) (run_reach (measures_of writer) writer.course facts - writer.course.reach) (drop (to - start) supply) in
+    ap entries_in (append_assoc (line_writes bytes (periods_of writer) start to first) (line_writes bytes (periods_of writer) writer.course.reach (run_reach (measures_of writer) writer.course facts) second) (Read WALCLK Four facts.to ∷ later))
+    ∙ writes_entries (piece_write bytes (periods_of writer) start to first) (range_with_len (start / bytes) (touched bytes start to)) (line_writes bytes (periods_of writer) writer.course.reach (run_reach (measures_of writer) writer.course facts) second ++ Read WALCLK Four facts.to ∷ later) (λ number. refl)
+    ∙ writes_entries (piece_write bytes (periods_of writer) writer.course.reach (run_reach (measures_of writer) writer.course facts) second) (range_with_len (writer.course.reach / bytes) (touched bytes writer.course.reach (run_reach (measures_of writer) writer.course facts))) (Read WALCLK Four facts.to ∷ later) (λ number. refl)
     ∙ none
 
 pub play_sounds : (old new : BringUp) (writer writer' : WriterState) (supply supply' : List ℕ) (budget : ℕ) (answer : Ran) (before middle after : Option Telling) → writer.course.started ≡ true → is_open writer.course.ran ≡ true
@@ -186,7 +196,7 @@ play_sounds old new writer writer' supply supply' budget answer before middle af
       made = poll ++ run;
       are = are_both poll run (poll_are old.engine.rirb.address old.engine.rings listens.reads) (play_are writer.geometry (periods_of writer) writer.course facts supply was);
       by = row_both listens.made run_made;
-      is = λ task of. same_found found (play_is task old new writer writer' supply budget plays.from plays.lpib plays.to listens.reads of goes same.geometry);
+      is = λ task of. same_found found (play_is task old new writer writer' supply budget plays.from plays.lpib plays.to listens.reads of goes);
       sound = λ pcm left. left_after pcm supply supply' (measures_of writer) (tally_of writer) (tally_of writer') facts (open_on_time writer.course.ran more) plays.tally_is plays.pcm_is left;
       counted = counts_same (poll ++ run) listens.reads.entries old new entries listens.counted;
       stays = record { corb = kept.corb; rirb = kept.rirb; phase = listens.phase; kept = listens.kept; sent = listens.sent; agenda = listens.agenda; geometry = same.geometry; list = same.list; periods = same.periods; records = same.records };
@@ -210,8 +220,8 @@ play_sounds old new writer writer' supply supply' budget answer before middle af
 
 active_phase : (old : BringUp) (writer : WriterState) → old.phase ≡ Ready → is_open writer.course.ran ≡ true → is_active (state_of old writer).phase ≡ true
 active_phase old writer ready more =
-    ap (λ (phase : Phase). is_active (phase_if writer.course.started phase writer.course.ran (measures_of writer).limit)) ready
-    ∙ open_active (measures_of writer).limit writer.course.started writer.course.ran more
+    ap (λ (phase : Phase). is_active (phase_if writer.course.started phase writer.course.ran)) ready
+    ∙ open_active writer.course.started writer.course.ran more
 
 -- there is none
 pub quiet_sounds : (old : BringUp) (writer : WriterState) (supply : List ℕ) (budget interrupts stream : ℕ) (before after : Option Telling) → old.phase ≡ Ready → is_open writer.course.ran ≡ true → has_bit interrupts 31 ≡ false

@@ -1,5 +1,8 @@
 -- The stretches of a driver whose calls play make the accesses that are expected, and lead where progress says.
-use Rattle.std.proofs.Common.{◌≡◌, ◌+◌, ◌/◌, ℕ, List, [], ◌∷◌, ◌++◌, length, Bool, true, false, if◌then◌else◌, Some, None, refl, sym, ap, ◌∙◌, arith}
+use Rattle.std.proofs.Common.{◌≡◌, ◌-◌, ◌/◌, ℕ, List, [], ◌∷◌, ◌++◌, length, Bool, true, false, if◌then◌else◌, Some, None, refl, sym, ap, ◌∙◌, arith}
+use Rattle.period_writer.proofs.FirstRuns.{opened_start}
+use Rattle.period_writer.proofs.RowsWritten.{writes_first}
+use Rattle.period_writer.specs.Lines.{sound_and_silence}
 use Rattle.std.specs.Prelude.{◌&&◌, slice_index}
 use Rattle.std.specs.List.{range_with_len}
 use Rattle.std.specs.Option.{is_some}
@@ -15,8 +18,8 @@ use Rattle.period_writer.specs.declared.registers.TheConstants.{CONTROL, POSITIO
 use Rattle.period_writer.specs.Rings.{period_bytes, ring_bytes}
 use Rattle.period_writer.specs.Places.{line_writes, piece_write, touched}
 use Rattle.period_writer.specs.Starting.{entry_write, entry_writes, run_accesses, start_accesses}
-use Rattle.period_writer.specs.Playing.{run_bytes, stop_accesses}
-use Rattle.period_writer.specs.Runs.{RunFacts, Tally, measures, run_reach, tally_opened}
+use Rattle.period_writer.specs.Playing.{run_writes, writes_by, run_bytes, stop_accesses}
+use Rattle.period_writer.specs.Runs.{run_start, run_sound, RunFacts, Tally, measures, run_reach, tally_opened}
 use Rattle.driver_progress.specs.declared.phase.Phase.{Phase}
 use Rattle.driver_progress.specs.declared.phase.Phase.TheVariants.{Ready, Playing}
 use Rattle.driver_progress.specs.Phases.{is_active}
@@ -41,7 +44,7 @@ state_after task state rings tally = record state { phase = phase_played task ta
 no_stop : (register : ℕ) (was : Ran) → values_of (stop_accesses was) register ≡ []
 no_stop register ran.Playing = refl
 no_stop register ran.Drained = refl
-no_stop register (ran.Late from to) = refl
+no_stop register (ran.Late from to limit) = refl
 
 pub plays_stretch : (task : Task) (state : State) (budget : ℕ) (reads : PollReads) (facts : RunFacts) → state.phase ≡ Playing → state.tally.course.ran ≡ ran.Playing → facts ≡ facts_in task state budget facts.from facts.lpib facts.to → AreNew state.rings reads
     → IsStretch task state (Some (run_of budget)) (made_in task state reads facts (stop_accesses (tally_in task state facts).course.ran)) (is_some (found_by state.rings reads))
@@ -97,11 +100,20 @@ start_reads register task state facts =
 line_opened : (task : Task) (state : State) (facts : RunFacts) → state.tally ≡ tally_opened
     → line_writes (period_bytes task.geometry.period) task.blocks.periods 0 (ring_bytes task.geometry.periods task.geometry.period) (run_bytes (measures task.geometry) state.tally.course facts (pcm_in task state)) ≡ writes_in task state facts
 line_opened task state facts opened =
-    let written = run_bytes (measures task.geometry) state.tally.course facts (pcm_in task state) in
-    let ring = ring_bytes task.geometry.periods task.geometry.period in
-    let same : ring ≡ 0 + ring = omega arith in
-    ap (λ (to : ℕ). line_writes (period_bytes task.geometry.period) task.blocks.periods 0 to written) same
-    ∙ ap (λ (tally : Tally). line_writes (period_bytes task.geometry.period) task.blocks.periods tally.course.reach (run_reach (measures task.geometry) tally.course facts) written) (sym opened)
+    sym (ap (λ (tally : Tally). run_writes (period_bytes task.geometry.period) task.blocks.periods (measures task.geometry) tally.course facts (pcm_in task state)) opened
+    ∙ ap (λ (n : ℕ). writes_by (period_bytes task.geometry.period) task.blocks.periods n (run_sound (measures task.geometry) tally_opened.course facts) 0 (run_reach (measures task.geometry) tally_opened.course facts) (pcm_in task state)) none
+    ∙ writes_first (period_bytes task.geometry.period) task.blocks.periods (run_sound (measures task.geometry) tally_opened.course facts) (run_reach (measures task.geometry) tally_opened.course facts) (pcm_in task state)
+    ∙ ap (λ (n : ℕ). line_writes (period_bytes task.geometry.period) task.blocks.periods 0 n (sound_and_silence (run_sound (measures task.geometry) tally_opened.course facts) n (pcm_in task state))) same
+    ∙ ap (λ (n : ℕ). line_writes (period_bytes task.geometry.period) task.blocks.periods 0 (ring_bytes task.geometry.periods task.geometry.period) (sound_and_silence (run_sound (measures task.geometry) tally_opened.course facts) n (pcm_in task state))) room
+    ∙ ap (λ (tally : Tally). line_writes (period_bytes task.geometry.period) task.blocks.periods 0 (ring_bytes task.geometry.periods task.geometry.period) (run_bytes (measures task.geometry) tally.course facts (pcm_in task state))) (sym opened)) where
+      none : run_start (measures task.geometry) tally_opened.course facts ≡ 0
+      none = opened_start (measures task.geometry) facts
+
+      same : run_reach (measures task.geometry) tally_opened.course facts ≡ ring_bytes task.geometry.periods task.geometry.period
+      same = omega arith
+
+      room : ring_bytes task.geometry.periods task.geometry.period ≡ run_reach (measures task.geometry) tally_opened.course facts - run_start (measures task.geometry) tally_opened.course facts
+      room = let none = none in let same = same in omega (arith, none, same)
 
 pub starts_stretch : (task : Task) (state : State) (budget in_reset ready : ℕ) (facts : RunFacts) → state.phase ≡ Ready → task.plays ≡ true → state.tally ≡ tally_opened → facts ≡ facts_in task state budget facts.from facts.lpib facts.to → facts.lpib ≡ 0
     → IsStretch task state (Some (run_of budget)) (started_in task state in_reset ready facts) false (record state { phase = Playing; tally = tally_in task state facts })
@@ -133,57 +145,57 @@ starts_stretch task state budget in_reset ready facts phase plays opened is lpib
 
 -- ---- the sound is over
 
-over_runs : (task : Task) (state : State) (budget limit : ℕ) (seen : Seen) (tally : Tally) (was : Ran) → is_open was ≡ false → runs task state budget seen tally (played_as was limit) ≡ []
-over_runs task state budget limit seen tally ran.Playing over = cc
-over_runs task state budget limit seen tally ran.Drained over = refl
-over_runs task state budget limit seen tally (ran.Late from to) over = refl
+over_runs : (task : Task) (state : State) (budget : ℕ) (seen : Seen) (tally : Tally) (was : Ran) → is_open was ≡ false → runs task state budget seen tally (played_as was) ≡ []
+over_runs task state budget seen tally ran.Playing over = cc
+over_runs task state budget seen tally ran.Drained over = refl
+over_runs task state budget seen tally (ran.Late from to limit) over = refl
 
-over_led : (task : Task) (state : State) (limit : ℕ) (seen : Seen) (tally : Tally) (was : Ran) → is_open was ≡ false → led task state seen tally (played_as was limit) ≡ state
-over_led task state limit seen tally ran.Playing over = cc
-over_led task state limit seen tally ran.Drained over = refl
-over_led task state limit seen tally (ran.Late from to) over = refl
+over_led : (task : Task) (state : State) (seen : Seen) (tally : Tally) (was : Ran) → is_open was ≡ false → led task state seen tally (played_as was) ≡ state
+over_led task state seen tally ran.Playing over = cc
+over_led task state seen tally ran.Drained over = refl
+over_led task state seen tally (ran.Late from to limit) over = refl
 
-pub over_stretch : (task : Task) (state : State) (budget limit : ℕ) (was : Ran) → state.phase ≡ played_as was limit → is_open was ≡ false → IsStretch task state (Some (run_of budget)) [] false state
-over_stretch task state budget limit was phase over =
+pub over_stretch : (task : Task) (state : State) (budget : ℕ) (was : Ran) → state.phase ≡ played_as was → is_open was ≡ false → IsStretch task state (Some (run_of budget)) [] false state
+over_stretch task state budget was phase over =
     let seen = seen_by (values_of []) false in
     let tally = tally_next task state (Some (run_of budget)) seen in record {
-      fits = sym (ap (λ (phase : Phase). runs task state budget seen tally phase) phase ∙ over_runs task state budget limit seen tally was over);
+      fits = sym (ap (λ (phase : Phase). runs task state budget seen tally phase) phase ∙ over_runs task state budget seen tally was over);
       leads = sym (ap (λ (phase : Phase). record (led task state seen tally phase) { tally = tally }) phase
-          ∙ ap (λ (after : State). record after { tally = tally }) (over_led task state limit seen tally was over)
+          ∙ ap (λ (after : State). record after { tally = tally }) (over_led task state seen tally was over)
           ∙ ap (λ (tally : Tally). record state { tally = tally }) (none_read state.tally.course.ran _ _ _ state.tally));
     }
 
-pub over_inactive : (limit : ℕ) (was : Ran) → is_open was ≡ false → is_active (played_as was limit) ≡ false
-over_inactive limit ran.Playing over = cc
-over_inactive limit ran.Drained over = refl
-over_inactive limit (ran.Late from to) over = refl
+pub over_inactive : (was : Ran) → is_open was ≡ false → is_active (played_as was) ≡ false
+over_inactive ran.Playing over = cc
+over_inactive ran.Drained over = refl
+over_inactive (ran.Late from to limit) over = refl
 
-pub open_active : (limit : ℕ) (started : Bool) (was : Ran) → is_open was ≡ true → is_active (phase_if started Ready was limit) ≡ true
-open_active limit false was more = refl
-open_active limit true ran.Playing more = refl
-open_active limit true ran.Drained more = cc
-open_active limit true (ran.Late from to) more = cc
+pub open_active : (started : Bool) (was : Ran) → is_open was ≡ true → is_active (phase_if started Ready was) ≡ true
+open_active false was more = refl
+open_active true ran.Playing more = refl
+open_active true ran.Drained more = cc
+open_active true (ran.Late from to limit) more = cc
 
 -- ---- the last call where the stream does not play
 
-silent_closes : (task : Task) (state : State) (limit : ℕ) (seen : Seen) (started : Bool) (was : Ran) → (started && is_open was) ≡ false → closes task state seen (phase_if started Ready was limit) ≡ shuts
-silent_closes task state limit seen false was silent = refl
-silent_closes task state limit seen true ran.Playing silent = cc
-silent_closes task state limit seen true ran.Drained silent = refl
-silent_closes task state limit seen true (ran.Late from to) silent = refl
+silent_closes : (task : Task) (state : State) (seen : Seen) (started : Bool) (was : Ran) → (started && is_open was) ≡ false → closes task state seen (phase_if started Ready was) ≡ shuts
+silent_closes task state seen false was silent = refl
+silent_closes task state seen true ran.Playing silent = cc
+silent_closes task state seen true ran.Drained silent = refl
+silent_closes task state seen true (ran.Late from to limit) silent = refl
 
-silent_closed : (task : Task) (state : State) (limit : ℕ) (seen : Seen) (tally : Tally) (started : Bool) (was : Ran) → (started && is_open was) ≡ false → closed task state seen tally (phase_if started Ready was limit) ≡ state
-silent_closed task state limit seen tally false was silent = refl
-silent_closed task state limit seen tally true ran.Playing silent = cc
-silent_closed task state limit seen tally true ran.Drained silent = refl
-silent_closed task state limit seen tally true (ran.Late from to) silent = refl
+silent_closed : (task : Task) (state : State) (seen : Seen) (tally : Tally) (started : Bool) (was : Ran) → (started && is_open was) ≡ false → closed task state seen tally (phase_if started Ready was) ≡ state
+silent_closed task state seen tally false was silent = refl
+silent_closed task state seen tally true ran.Playing silent = cc
+silent_closed task state seen tally true ran.Drained silent = refl
+silent_closed task state seen tally true (ran.Late from to limit) silent = refl
 
-pub silent_stretch : (task : Task) (state : State) (limit : ℕ) (started : Bool) (was : Ran) → state.phase ≡ phase_if started Ready was limit → (started && is_open was) ≡ false → IsStretch task state None shut_accesses false state
-silent_stretch task state limit started was phase silent =
+pub silent_stretch : (task : Task) (state : State) (started : Bool) (was : Ran) → state.phase ≡ phase_if started Ready was → (started && is_open was) ≡ false → IsStretch task state None shut_accesses false state
+silent_stretch task state started was phase silent =
     let seen = seen_by (values_of shut_accesses) false in
     let tally = tally_next task state None seen in record {
-      fits = sym (ap (λ (phase : Phase). closes task state seen phase) phase ∙ silent_closes task state limit seen started was silent);
+      fits = sym (ap (λ (phase : Phase). closes task state seen phase) phase ∙ silent_closes task state seen started was silent);
       leads = sym (ap (λ (phase : Phase). record (closed task state seen tally phase) { tally = tally }) phase
-          ∙ ap (λ (after : State). record after { tally = tally }) (silent_closed task state limit seen tally started was silent)
+          ∙ ap (λ (after : State). record after { tally = tally }) (silent_closed task state seen tally started was silent)
           ∙ ap (λ (tally : Tally). record state { tally = tally }) (none_read state.tally.course.ran _ _ _ state.tally));
     }

@@ -14,7 +14,7 @@ use Rattle.jack_counts.specs.Jacks.{IsOfPin, Counts}
 use Rattle.codec_bring_up.specs.declared.bringing.BringUp.{BringUp}
 use Rattle.codec_bring_up.specs.Calls.{Ends}
 use Rattle.period_writer.specs.Runs.{Tally}
-use Rattle.period_writer.specs.Writers.{WriterState, tally_of, measures_of}
+use Rattle.period_writer.specs.Writers.{WriterState, tally_of}
 use Rattle.audio_driver.specs.States.{plays_now, phase_with}
 use Rattle.audio_driver.specs.Sounding.{EndsSound}
 use Rattle.audio_driver.specs.declared.driver.closing.Closed.{Closed}
@@ -34,7 +34,7 @@ pub record Closes (IsPlanBy : RawCodec → Plan → Type 0) (verbs_by : RawCodec
   pub recorded : plays_now play bring_up ≡ false → tally ≡ tally_of writer
   pub sounds : plays_now play bring_up ≡ true → EndsSound bring_up ended writer tally supply before after
   pub grows : writer.course.used ≤ tally.course.used
-  pub phase : closed.phase ≡ phase_with ended tally (measures_of writer).limit
+  pub phase : closed.phase ≡ phase_with ended tally
   pub sent : closed.sent ≡ ended.sent
   pub graphs : closed.graphs ≡ ended.agenda.graphs
   pub plans : closed.plans ≡ ended.agenda.plans

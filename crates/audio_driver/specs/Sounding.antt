@@ -7,7 +7,7 @@ use Rattle.command_engine.specs.declared.answers.Event as told
 use Rattle.command_engine.specs.Polling.{PollReads, poll_accesses, rings_polled}
 use Rattle.period_writer.specs.Courses.{IsCourse}
 use Rattle.period_writer.specs.Runs.{Tally}
-use Rattle.period_writer.specs.Writers.{WriterState, tally_of, measures_of, ring_of, ring_size}
+use Rattle.period_writer.specs.Writers.{WriterState, tally_of, ring_of, ring_size}
 use Rattle.period_writer.specs.Outcomes.{StartTellsOf, RunTellsOf, FinishTellsOf}
 use Rattle.driver_progress.specs.Tasks.{Task}
 use Rattle.driver_stretches.specs.Interrupts.{interrupt_accesses}
@@ -127,7 +127,7 @@ pub record EndsSound (old ended : BringUp) (writer : WriterState) (tally' : Tall
   pub are : AreAccesses made
   pub by : Between (Makes made) before after
   pub is : (task : Task) → IsTaskOf old writer supply task
-      → IsStretch task (state_of old writer) None made (is_some (answer_in old.engine.rings made)) (state_with ended tally' (measures_of writer).limit)
+      → IsStretch task (state_of old writer) None made (is_some (answer_in old.engine.rings made)) (state_with ended tally')
   pub counted : (events : List told.Event) → IsCount events old.jacks → IsCount (with_told events (entries_in made)) ended.jacks
   pub phase : ended.phase ≡ old.phase
   pub sent : ended.sent ≡ old.sent

@@ -4,7 +4,7 @@ use Rattle.period_writer.specs.declared.course.Ran.{Ran}
 use Rattle.period_writer.specs.declared.course.Ran.TheVariants as ran
 use Rattle.period_writer.specs.declared.course.Course.{Course}
 use Rattle.period_writer.specs.Runs.{Tally}
-use Rattle.period_writer.specs.Writers.{WriterState, tally_of, measures_of, periods_of}
+use Rattle.period_writer.specs.Writers.{WriterState, tally_of, periods_of}
 use Rattle.driver_progress.specs.declared.phase.Phase.{Phase}
 use Rattle.driver_progress.specs.declared.phase.Phase.TheVariants.{Playing, Drained, Late}
 use Rattle.driver_progress.specs.Phases.{is_ready}
@@ -15,28 +15,28 @@ use Rattle.wav_reader.specs.Supplies.{Supplied, EndsWith}
 use Rattle.codec_bring_up.specs.Calls as bringing
 
 -- the phase: that of the bring-up until the first run, and from then on by how the last run ended
-abbrev pub played_as : Ran → (limit : ℕ) → Phase
-played_as ran.Playing limit = Playing
-played_as ran.Drained limit = Drained
-played_as (ran.Late from to) limit = Late from to limit
+abbrev pub played_as : Ran → Phase
+played_as ran.Playing = Playing
+played_as ran.Drained = Drained
+played_as (ran.Late from to limit) = Late from to limit
 
-abbrev pub phase_if : (started : Bool) → Phase → Ran → (limit : ℕ) → Phase
-phase_if false phase ran limit = phase
-phase_if true phase ran limit = played_as ran limit
+abbrev pub phase_if : (started : Bool) → Phase → Ran → Phase
+phase_if false phase ran = phase
+phase_if true phase ran = played_as ran
 
--- with a tally of runs whose geometry has this limit
-abbrev pub phase_with : BringUp → Tally → (limit : ℕ) → Phase
-phase_with bring_up tally limit = phase_if tally.course.started bring_up.phase tally.course.ran limit
+-- with a tally of runs
+abbrev pub phase_with : BringUp → Tally → Phase
+phase_with bring_up tally = phase_if tally.course.started bring_up.phase tally.course.ran
 
-abbrev pub state_with : BringUp → Tally → (limit : ℕ) → State
-state_with bring_up tally limit = record (bringing.state_of bring_up) { phase = phase_with bring_up tally limit; tally = tally }
+abbrev pub state_with : BringUp → Tally → State
+state_with bring_up tally = record (bringing.state_of bring_up) { phase = phase_with bring_up tally; tally = tally }
 
 -- with a writer
 abbrev pub phase_of : BringUp → WriterState → Phase
-phase_of bring_up writer = phase_with bring_up (tally_of writer) (measures_of writer).limit
+phase_of bring_up writer = phase_with bring_up (tally_of writer)
 
 abbrev pub state_of : BringUp → WriterState → State
-state_of bring_up writer = state_with bring_up (tally_of writer) (measures_of writer).limit
+state_of bring_up writer = state_with bring_up (tally_of writer)
 
 -- whether a driver that plays has come so far that its calls play
 abbrev pub plays_now : (play : Bool) → BringUp → Bool
@@ -46,7 +46,7 @@ plays_now play bring_up = play && is_ready bring_up.phase
 abbrev pub is_open : Ran → Bool
 is_open ran.Playing = true
 is_open ran.Drained = false
-is_open (ran.Late from to) = false
+is_open (ran.Late from to limit) = false
 
 -- whether the stream plays
 abbrev pub is_playing : Course → Bool
@@ -56,7 +56,7 @@ is_playing course = course.started && is_open course.ran
 abbrev pub was_late : Ran → Bool
 was_late ran.Playing = false
 was_late ran.Drained = false
-was_late (ran.Late from to) = true
+was_late (ran.Late from to limit) = true
 
 -- of this sound what was not written yet is left. After a late run, which is not recorded and after which none comes, nothing is said of it
 abbrev pub IsLeft : (pcm : List ℕ) → Course → (supply : List ℕ) → Type 0

@@ -16,8 +16,8 @@ use route_setup::Setter;
 use std::marker::Model;
 use wav_reader::Supply;
 
-/// The driver of a controller: the bring-up of its codecs, the ring of periods with the sound to play, and the pool that their blocks
-/// were taken from. Contracts see each of them. This project's own.
+/// The driver of a controller: the bring-up of its codecs, the ring of periods with the sound to play, and the pool
+/// that their blocks were taken from. Contracts see each of them. This project's own.
 pub struct Driver<T: Setter> {
     bring_up: BringUp,
     writer: Writer,

@@ -57,7 +57,7 @@ still_led task state seen tally Failed asking reset settling early silent = refl
 pub none_read : (was : Ran) (m : Measures) (total : ℕ) (stretch : Stretch) (tally : Tally) → taken_up_if was [] m total stretch tally ≡ tally
 none_read ran.Playing m total stretch tally = refl
 none_read ran.Drained m total stretch tally = refl
-none_read (ran.Late from to) m total stretch tally = refl
+none_read (ran.Late from to limit) m total stretch tally = refl
 
 pub still_stretch : (task : Task) (state : State) (budget : ℕ) → is_asking state.phase ≡ false → is_reset state.phase ≡ false → is_settling state.phase ≡ false → is_early state.phase ≡ true
     → (state.phase ≡ Ready → task.plays ≡ false) → IsStretch task state (Some (run_of budget)) [] false state

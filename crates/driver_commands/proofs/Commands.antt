@@ -67,7 +67,7 @@ led_asks task state seen tally Failed is = cc
 one_read : (was : Ran) (clock : ℕ) (m : Measures) (total : ℕ) (stretch : Stretch) (tally : Tally) → taken_up_if was (clock ∷ []) m total stretch tally ≡ tally
 one_read ran.Playing clock m total stretch tally = refl
 one_read ran.Drained clock m total stretch tally = refl
-one_read (ran.Late from to) clock m total stretch tally = refl
+one_read (ran.Late from to limit) clock m total stretch tally = refl
 
 -- ---- where it leads
 

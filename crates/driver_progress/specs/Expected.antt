@@ -14,10 +14,9 @@ use Rattle.command_engine.specs.Submitting.{command_place}
 use Rattle.command_engine.specs.Polling.{new_entries}
 use Rattle.period_writer.specs.declared.registers.TheConstants.{CONTROL, POSITION}
 use Rattle.period_writer.specs.Rings.{period_bytes}
-use Rattle.period_writer.specs.Places.{line_writes}
 use Rattle.period_writer.specs.Starting.{entry_writes, run_accesses}
-use Rattle.period_writer.specs.Playing.{run_bytes, stop_accesses}
-use Rattle.period_writer.specs.Runs.{RunFacts, Tally, measures, facts_of, run_reach}
+use Rattle.period_writer.specs.Playing.{run_writes, stop_accesses}
+use Rattle.period_writer.specs.Runs.{RunFacts, Tally, measures, facts_of}
 use Rattle.driver_progress.specs.declared.phase.Phase.{Phase}
 use Rattle.driver_progress.specs.declared.phase.Phase.TheVariants.{Reset, Settling, Walking, SettingUp, Ready, Playing, Drained, NothingRouted, Unanswered, Late, Malformed, Failed}
 use Rattle.driver_progress.specs.declared.registers.TheConstants.{STREAM_STATUS}
@@ -98,13 +97,10 @@ abbrev pub facts_seen : Task → State → (budget : ℕ) → Seen → RunFacts
 facts_seen task state budget seen =
     facts_of budget (length task.pcm - state.tally.course.used) (slice_index seen.clocks 0) (slice_index seen.positions 0) (slice_index seen.clocks 1)
 
--- what it appends to the line, written where that belongs in the ring
+-- what it writes: over silence that it takes back, and from the line's end on
 abbrev pub appends : Task → State → (budget : ℕ) → Seen → List Request
 appends task state budget seen =
-    let facts = facts_seen task state budget seen in
-    let m = measures task.geometry in
-    requests_of (line_writes (period_bytes task.geometry.period) task.blocks.periods state.tally.course.reach (run_reach m state.tally.course facts)
-    (run_bytes m state.tally.course facts (drop state.tally.course.used task.pcm)))
+    requests_of (run_writes (period_bytes task.geometry.period) task.blocks.periods (measures task.geometry) state.tally.course (facts_seen task state budget seen) (drop state.tally.course.used task.pcm))
 
 -- the first run: the stream is reset, the list and the first bytes of the line are written, and the stream is set going (4.5.3)
 abbrev pub starts : Task → State → (budget : ℕ) → Seen → List Request

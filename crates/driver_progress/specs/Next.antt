@@ -78,7 +78,7 @@ after_commands task state seen = submitted_if (next_order task state seen) (cloc
 abbrev pub phase_played : Task → Ran → Phase
 phase_played task ran.Playing = Playing
 phase_played task ran.Drained = Drained
-phase_played task (ran.Late from to) = Late from to (measures task.geometry).limit
+phase_played task (ran.Late from to limit) = Late from to limit
 
 -- after a later run that left this tally
 abbrev pub after_run : Task → State → Seen → Tally → State

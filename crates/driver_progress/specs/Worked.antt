@@ -135,7 +135,7 @@ abbrev pub first_tally : Ran → Tally
 first_tally how = record {
   runs = run_at 0 12500 8 8 ∷ [];
   silences = record { start = 8; end = 768 } ∷ [];
-  course = record { started = true; at = 0; from = 12500; reach = 768; used = 8; sound_end = 8; ran = how };
+  course = record { started = true; at = 0; from = 12500; reach = 768; sure = 768; used = 8; sound_end = 8; ran = how };
 }
 
 abbrev pub plays : Phase → Tally → State
@@ -151,7 +151,7 @@ abbrev pub second_tally : (clock : ℕ) → Tally
 second_tally clock = record {
   runs = run_at 0 12500 8 8 ∷ run_at 16 clock 0 0 ∷ [];
   silences = record { start = 8; end = 784 } ∷ [];
-  course = record { started = true; at = 16; from = clock; reach = 784; used = 8; sound_end = 8; ran = ran.Drained };
+  course = record { started = true; at = 16; from = clock; reach = 784; sure = 784; used = 8; sound_end = 8; ran = ran.Drained };
 }
 
 abbrev pub stopping : List Event

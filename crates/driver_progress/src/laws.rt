@@ -69,7 +69,7 @@ pub fn runs_are_worked()
     ensures drained { worked.IsStretch (worked.plays Playing (worked.first_tally ran.Playing)) (worked.run 0) (worked.playing 84500 worked.stopping) []
         (worked.plays Drained (worked.second_tally 84500)) }
     ensures late { worked.IsStretch (worked.plays Playing (worked.first_tally ran.Playing)) (worked.run 0) (worked.playing 84501 worked.stopping) []
-        (worked.plays (Late 12500 84501 144) (worked.first_tally (ran.Late 12500 84501))) }
+        (worked.plays (Late 12500 84501 144) (worked.first_tally (ran.Late 12500 84501 144))) }
 {}
 
 /// Steps of the device leave a course as it is.

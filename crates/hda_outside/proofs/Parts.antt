@@ -1,12 +1,13 @@
 -- A piece of a file that is read part by part.
-use Rattle.std.proofs.Common.{◌≡◌, ℕ, ◌+◌, ◌≤◌, List, ◌++◌, take, drop, length, Option, Some, sym, ap, ◌∙◌, arith, length-take}
+use Rattle.std.proofs.Common.{◌≡◌, ℕ, ◌+◌, ◌≤◌, List, ◌++◌, take, drop, length, Option, Some, None, sym, ap, subst, ◌∙◌, arith, length-take}
+use Rattle.std.specs.Prelude.{IsSomeAnd}
 use Rattle.std.proofs.Math.Seq.{take-add, take-append-add}
 use Rattle.std.proofs.lemmas.List.{drop-drop, take-append-le}
 use Rattle.std.proofs.lemmas.Slice.{take-put_mid_below}
 use borrow.Rule.Slice.PartMut.{put_mid, post_of}
-use Rattle.hda_outside.specs.Shelf.{Files, file_of}
+use Rattle.hda_outside.specs.Shelf.{Files, file_of, IsPiece}
 use Rattle.hda_outside.specs.Pieces.{HoldsFront}
-use Rattle.hda_outside.proofs.PieceLemmas.{GivesPiece, piece_of}
+use Rattle.hda_outside.proofs.PieceLemmas.{GivesPiece, piece_in, piece_of}
 
 -- where the files are told and hold one of that name, a buffer begins with so many bytes of it
 abbrev pub Gained : Option Files → (name : List ℕ) → (from : ℕ) → (buffer : List ℕ) → (count : ℕ) → Type 0
@@ -45,3 +46,10 @@ gained_more before then name from count rest n at buffer part same place within 
   where
     turned : (at : ℕ) → at ≡ from + count → (file : List ℕ) → drop at file ≡ drop count (drop from file)
     turned at place file = ap (λ (at : ℕ). drop at file) place ∙ sym (drop-drop count from file)
+
+-- where the file is not there no part of it is given
+pub nothing_there : (before then : Option Files) (name : List ℕ) (at n : ℕ) (part : List ℕ) → then ≡ before → GivesPiece then name at part n
+    → (files : Files) → before ≡ Some files → file_of files name ≡ None → ⊥
+nothing_there before then name at n part same gives files told none =
+    let At : Option (List ℕ) → Type 0 = λ o. IsSomeAnd o (λ file. IsPiece file at part n) in
+    subst At none (piece_in then name part at n files (same ∙ told) gives)

@@ -23,7 +23,7 @@ some_and_cases : {A C : Type 0} (o : Option A) (P : A → Type 0) → IsSomeAnd 
 some_and_cases None P h f = absurd h
 some_and_cases (Some x) P h f = f x refl h
 
-piece_in : (told : Option Files) (name buffer : List ℕ) (from n : ℕ) (files : Files) → told ≡ Some files
+pub piece_in : (told : Option Files) (name buffer : List ℕ) (from n : ℕ) (files : Files) → told ≡ Some files
     → GivesPiece told name from buffer n → IsSomeAnd (file_of files name) (λ file. IsPiece file from buffer n)
 piece_in told name buffer from n files here gives =
     let At : Option Files → Type 0 = λ t. GivesPiece t name from buffer n in subst At here gives

@@ -14,6 +14,9 @@ pub record MachineShelf : Type 0 where
 
 -- the counts after a call for so many bytes
 abbrev pub after_machine_read : MachineShelf → (asked : ℕ) → Result ℕ Fault → MachineShelf
-after_machine_read shelf asked (Ok n) = record shelf { given = count_with shelf.given n; empties = empty_with shelf.empties asked n }
+after_machine_read shelf asked (Ok n) = record shelf {
+  given = count_with shelf.given n;
+  empties = empty_with shelf.empties asked n;
+}
 after_machine_read shelf asked (Err Failed) = record shelf { faults = counted shelf.faults }
 after_machine_read shelf asked (Err OutOfMemory) = shelf

@@ -30,7 +30,11 @@ pub record PlannedShelf : Type 0 where
 
 -- a planned shelf after a call under that name for so many bytes
 abbrev pub after_planned_read : PlannedShelf → List ℕ → (asked : ℕ) → Result ℕ Fault → PlannedShelf
-after_planned_read shelf name asked (Ok n) = record shelf { calls = counted shelf.calls; given = count_with shelf.given n; empties = empty_with shelf.empties asked n }
+after_planned_read shelf name asked (Ok n) = record shelf {
+  calls = counted shelf.calls;
+  given = count_with shelf.given n;
+  empties = empty_with shelf.empties asked n;
+}
 after_planned_read shelf name asked (Err _) =
     record shelf {
       calls = counted shelf.calls;
@@ -49,5 +53,8 @@ pub record SteadyShelf : Type 0 where
 
 -- a steady shelf after a call for so many bytes
 abbrev pub after_steady_read : SteadyShelf → (asked : ℕ) → Result ℕ Fault → SteadyShelf
-after_steady_read shelf asked (Ok n) = record shelf { given = count_with shelf.given n; empties = empty_with shelf.empties asked n }
+after_steady_read shelf asked (Ok n) = record shelf {
+  given = count_with shelf.given n;
+  empties = empty_with shelf.empties asked n;
+}
 after_steady_read shelf asked (Err _) = record shelf { missing = counted shelf.missing }

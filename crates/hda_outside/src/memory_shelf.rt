@@ -1,4 +1,5 @@
-ghost use Rattle.std.specs.Prelude.{◌≡◌, ℕ, ◌≤◌, List, length, option_copied, Some, IfOk, IfSome, IsNone, IsSome, IsOk, Contains};
+ghost use Rattle.std.specs.Prelude.{◌≡◌, ℕ, ◌≤◌, List, length, option_copied, Some, IfOk, IfSome, IsNone, IsSome, IsOk};
+ghost use Rattle.std.specs.Prelude.{Contains};
 ghost use Rattle.hda_outside.specs.Shelf.{file_of, IsPiece};
 ghost use Rattle.hda_outside.specs.MemoryShelf.{plain_files, fault_count, after_planned_read, after_steady_read};
 
@@ -133,7 +134,13 @@ impl Model for SureShelf {
 
     ghost Value = { SteadyShelf };
 
-    ghost view = { λ s. record { files = plain_files s.files.items; missing = s.missing; given = s.given; empties = s.empties } };
+    ghost view = { λ s. record {
+      files = plain_files s.files.items;
+      missing = s.missing;
+      given = s.given;
+      empties
+          = s.empties;
+    } };
 }
 
 impl SureShelf {

@@ -39,11 +39,12 @@ pub struct Piece {
     pub cut: Option<Cut>,
 }
 
-/// Reads the bytes of the file `name` from place `from` on, as many as `buf` has, to the front of it. It asks the shelf until it has them all,
-/// and takes no memory of its own. What `buf` holds beyond them is left open.
+/// Reads the bytes of the file `name` from place `from` on, as many as `buf` has, to the front of it. It asks the shelf
+/// until it has them all, and takes no memory of its own. What `buf` holds beyond them is left open.
 ///
-/// The piece is cut with `Failed` where the shelf failed, with `Short` and the place at which the shelf answered that there was no byte more, and
-/// with `OutOfMemory` where the shelf answered that. It then has the bytes before that, maybe none.
+/// The piece is cut with `Failed` where the shelf failed, with `Short` and the place at which the shelf answered that
+/// there was no byte more, and with `OutOfMemory` where the shelf answered that. It then has the bytes before that,
+/// maybe none.
 pub fn read_piece<S: Shelf>(
     alloc: Global,
     shelf: &mut S,
@@ -58,8 +59,10 @@ pub fn read_piece<S: Shelf>(
     ensures within { result.count ≤ length buf.new }
     ensures all { result.cut ≡ None → result.count ≡ length buf.new }
     ensures early { result.cut ≢ None → result.count < length buf.new }
-    ensures front { (files : Files) → S.told shelf.old ≡ Some files → (file : List ℕ) → file_of files name.now ≡ Some file
+    ensures front { (files : Files) → S.told shelf.old ≡ Some files → (file : List ℕ)
+        → file_of files name.now ≡ Some file
         → HoldsFront file from buf.new result.count }
+    ensures there { (files : Files) → S.told shelf.old ≡ Some files → file_of files name.now ≡ None → result.count ≡ 0 }
 
     // No more bytes are given than that.
     ensures given { S.given shelf.new ≤ S.given shelf.old + result.count }
@@ -67,9 +70,12 @@ pub fn read_piece<S: Shelf>(
 
     ensures failed { result.cut ≡ Some Cut.Failed → Rose (S.faults shelf.old name.now) (S.faults shelf.new name.now) }
     ensures short { (place : ℕ) → result.cut ≡ Some (Cut.Short place)
-        → IsCutShort from (length buf.new) result.count place (S.empties shelf.old name.now) (S.empties shelf.new name.now) }
-    ensures not_short { ((place : ℕ) → result.cut ≢ Some (Cut.Short place)) → S.empties shelf.new name.now ≡ S.empties shelf.old name.now }
-    ensures whole { (files : Files) → S.told shelf.old ≡ Some files → (file : List ℕ) → file_of files name.now ≡ Some file
+        → IsCutShort from (length buf.new) result.count place (S.empties shelf.old name.now)
+        (S.empties shelf.new name.now) }
+    ensures not_short { ((place : ℕ) → result.cut ≢ Some (Cut.Short place))
+        → S.empties shelf.new name.now ≡ S.empties shelf.old name.now }
+    ensures whole { (files : Files) → S.told shelf.old ≡ Some files → (file : List ℕ)
+        → file_of files name.now ≡ Some file
         → from + length buf.new ≤ length file → (place : ℕ) → result.cut ≢ Some (Cut.Short place) }
 
     // It asks under this name alone, and no count falls.

@@ -1,4 +1,5 @@
-ghost use Rattle.std.specs.Prelude.{◌≡◌, ◌≢◌, ℕ, ◌+◌, ◌<◌, ◌≤◌, List, length, vec_len, nat_lt, if◌then◌else◌, Some, IfSome, IsSomeAnd, IfOk};
+ghost use Rattle.std.specs.Prelude.{◌≡◌, ◌≢◌, ℕ, ◌+◌, ◌<◌, ◌≤◌, List, length, vec_len, nat_lt, if◌then◌else◌, Some};
+ghost use Rattle.std.specs.Prelude.{IfSome, IsSomeAnd, IfOk};
 ghost use Rattle.hda_outside.specs.Counts.{Rose};
 ghost use Rattle.hda_outside.specs.Shelf.{file_of};
 ghost use Rattle.hda_outside.specs.Reading.{of_fault, is_yes};
@@ -111,7 +112,8 @@ const HALVINGS: u32 = 64;
 /// The shelf's fault.
 fn has_byte<S: Shelf>(alloc: Global, shelf: &mut S, name: &str, at: u64) -> Result<bool, ReadAll>
     ensures told { S.told shelf.new ≡ S.told shelf.old }
-    ensures exact { IfSome (S.told shelf.old) (λ files. IfOk result (λ has. IsSomeAnd (file_of files name.now) (λ file. has ≡ nat_lt at (length file)))) }
+    ensures exact { IfSome (S.told shelf.old)
+        (λ files. IfOk result (λ has. IsSomeAnd (file_of files name.now) (λ file. has ≡ nat_lt at (length file)))) }
     ensures given { S.given shelf.new ≤ S.given shelf.old + (if is_yes result then 1 else 0) }
     ensures given_rises { S.given shelf.old ≤ S.given shelf.new }
     ensures asked { (other : List ℕ) → other ≢ name.now → S.asked shelf.new other ≡ S.asked shelf.old other }
@@ -129,7 +131,8 @@ fn has_byte<S: Shelf>(alloc: Global, shelf: &mut S, name: &str, at: u64) -> Resu
 ///
 /// # Errors
 ///
-/// `TooLong` where the file has more than `most` bytes, `Failed` where the shelf failed, and `OutOfMemory` where memory is short.
+/// `TooLong` where the file has more than `most` bytes, `Failed` where the shelf failed, and `OutOfMemory` where memory
+/// is short.
 pub fn file_length<S: Shelf>(
     alloc: Global,
     shelf: &mut S,
@@ -138,7 +141,8 @@ pub fn file_length<S: Shelf>(
 ) -> Result<u64, ReadAll>
     ensures told { S.told shelf.new ≡ S.told shelf.old }
     ensures within { IfOk result (λ len. len ≤ most) }
-    ensures exact { IfSome (S.told shelf.old) (λ files. IfOk result (λ len. IsSomeAnd (file_of files name.now) (λ file. len ≡ length file))) }
+    ensures exact { IfSome (S.told shelf.old)
+        (λ files. IfOk result (λ len. IsSomeAnd (file_of files name.now) (λ file. len ≡ length file))) }
     ensures too_long { IfSome (S.told shelf.old) (λ files.
         result ≡ Err ReadAll.TooLong → IsSomeAnd (file_of files name.now) (λ file. most < length file)) }
     ensures given { S.given shelf.new ≤ S.given shelf.old + 64 }

@@ -48,8 +48,10 @@ pub trait Shelf {
         ensures given_rises { given self.old ≤ given self.new }
 
         // An answer of no byte is counted under the name, where the buffer is not empty, and no other answer is.
-        ensures empty { 0 < length buf.old → result ≡ Ok 0 → Rose (empties self.old name.now) (empties self.new name.now) }
-        ensures not_empty { (0 < length buf.old → result ≢ Ok 0) → empties self.new name.now ≡ empties self.old name.now }
+        ensures empty { 0 < length buf.old → result ≡ Ok 0
+            → Rose (empties self.old name.now) (empties self.new name.now) }
+        ensures not_empty { (0 < length buf.old → result ≢ Ok 0)
+            → empties self.new name.now ≡ empties self.old name.now }
         ensures empties_later { (other : List ℕ) → empties self.old other ≤ empties self.new other }
 
         // It is asked under this name alone.

@@ -1,5 +1,5 @@
 -- The ways in which something is meant by words.
-use Rattle.std.proofs.Common.{◌≡◌, ℕ, ◌+◌, List, length, Bool, true, false, inl, inr, Option, Some, refl, sym, ap, subst, arith, option_map}
+use Rattle.std.proofs.Common.{◌≡◌, ◌≢◌, ℕ, ◌+◌, ◌++◌, List, [], ◌∷◌, length, Bool, true, false, inl, inr, Option, Some, refl, sym, ap, subst, arith, option_map}
 use Rattle.std.specs.Prelude.{if◌then◌else◌}
 use Rattle.std.specs.List.{Contains}
 use Rattle.stream_format.specs.declared.format.Format.{Format}
@@ -17,11 +17,12 @@ use Rattle.sound_report.specs.PlanLines.{plans_lines}
 use Rattle.hda_program.specs.Answers.{IsMeant, RouteAnswers, WalkAnswers, MachineWalks, PlansWalk, PlayAnswers, MachinePlays, SoundPlays, SchedulePlays, PlansPlay}
 use Rattle.hda_program.specs.Asks.{IsNoCommand, IsRouteOf, IsWalkOf, IsPlayOf, Names, NamesCodecFile, codec_of, files_asked, files_of}
 use Rattle.scheduled_runs.specs.Walks.{walk_format}
-use Rattle.hda_program.specs.Causes.{HasBadCodecFile, HasBadRing, HasBadSchedule, HasBadWav, HasPlanned, HasUnreadFile, WantsRun, WantsSound}
+use Rattle.hda_program.specs.Causes.{HasBadCodecFile, HasBadRing, HasBadSchedule, HasBadWav, HasPlanned, HasStoppedUnread, HasUnreadFile, WantsRun, WantsSound}
 use Rattle.hda_program.specs.Promises.{HasRun}
 use Rattle.hda_program.specs.Files.{CodecStops, IsHeadOf, IsMachineOf, IsScheduleOf, ScheduleStops, bytes_before}
 use Rattle.hda_program.specs.Meanings.{Meant, of_run, telling, unrouted}
 use Rattle.hda_program.specs.Rings.{IsRingOf}
+use Rattle.hda_program.proofs.WalkLemmas.{other_first, other_one, other_second}
 use Rattle.machine_tasks.specs.Tasks.{HavePlans}
 use Rattle.codec_agenda.specs.Planned.{have_route}
 
@@ -30,67 +31,75 @@ abbrev pub IsRouted : Option Files → List (List ℕ) → Type 0
 IsRouted told words = (name : List ℕ) × (format : Format) × IsRouteOf words name format × HasPlanned told words true
 
 -- why no more than a text is meant, with this status
-abbrev pub Cause : Option Files → (List ℕ → Type 0) → List (List ℕ) → Status → Type 0
-Cause told failed words Done = IsRouted told words
-Cause told failed words WordsRefused = IsNoCommand words
-Cause told failed words ShelfFailed = HasUnreadFile failed words
-Cause told failed words SinkFailed = ⊥
-Cause told failed words CodecRefused = HasBadCodecFile told words
-Cause told failed words WavRefused = HasBadWav told words
-Cause told failed words ScheduleRefused = HasBadSchedule told words
-Cause told failed words NothingRouted = HasPlanned told words false
-Cause told failed words Unanswered = ⊥
-Cause told failed words Late = ⊥
-Cause told failed words ScheduleEnded = ⊥
-Cause told failed words OutOfMemory = ⊥
-Cause told failed words GeometryRefused = HasBadRing told words
-Cause told failed words WavShrank = ⊥
+abbrev pub Cause : Option Files → (failed unasked : List ℕ → Type 0) → List (List ℕ) → Status → Type 0
+Cause told failed unasked words Done = IsRouted told words
+Cause told failed unasked words WordsRefused = IsNoCommand words
+Cause told failed unasked words ShelfFailed = HasUnreadFile failed words × HasStoppedUnread failed unasked (files_asked (request_of words))
+Cause told failed unasked words SinkFailed = ⊥
+Cause told failed unasked words CodecRefused = HasBadCodecFile told words
+Cause told failed unasked words WavRefused = HasBadWav told words
+Cause told failed unasked words ScheduleRefused = HasBadSchedule told words
+Cause told failed unasked words NothingRouted = HasPlanned told words false
+Cause told failed unasked words Unanswered = ⊥
+Cause told failed unasked words Late = ⊥
+Cause told failed unasked words ScheduleEnded = ⊥
+Cause told failed unasked words OutOfMemory = ⊥
+Cause told failed unasked words GeometryRefused = HasBadRing told words
+Cause told failed unasked words WavShrank = ⊥
 
 -- a text alone, for a cause, or a run
 pub data Case (Cause : Status → Type 0) (Run : Played → Type 0) (meant : Meant) : Type 0 where
   said : (status : Status) → Cause status → (text : List ℕ) → meant ≡ telling status text → Case Cause Run meant
   ran : (played : Played) → Run played → meant ≡ of_run played → Case Cause Run meant
 
-abbrev pub WordsCase : Option Files → (failed emptied : List ℕ → Type 0) → (gave : ℕ → Type 0) → List (List ℕ) → Meant → Type 0
-WordsCase told failed emptied gave words meant = Case (Cause told failed words) (HasRun told failed emptied gave words) meant
+abbrev pub WordsCase : Option Files → (failed emptied unasked : List ℕ → Type 0) → (gave : ℕ → Type 0) → List (List ℕ) → Meant → Type 0
+WordsCase told failed emptied unasked gave words meant = Case (Cause told failed unasked words) (HasRun told failed emptied gave words) meant
 
-module _ (told : Option Files) (failed emptied : List ℕ → Type 0) (gave : ℕ → Type 0) (words : List (List ℕ)) where
+module _ (told : Option Files) (failed emptied unasked : List ℕ → Type 0) (gave : ℕ → Type 0) (words : List (List ℕ)) where
   -- the words name the files of what they ask
   names_of : (asked : Asked) (name : List ℕ) → request_of words ≡ Some asked → Contains (files_of asked) name → Names words name
   names_of asked name is among = let P : Option Asked → Type 0 = λ asks. Contains (files_asked asks) name in subst P (sym is) among
 
   -- ---- the ends at a file, and at a ring
 
-  codec_stop : (name : List ℕ) (meant : Meant) → Names words name → NamesCodecFile words name → CodecStops told failed name meant → WordsCase told failed emptied gave words meant
-  codec_stop name meant names codec (inl stop) = said ShelfFailed (name, names, stop.0) _ stop.1
-  codec_stop name meant names codec (inr stop) = said CodecRefused (name, stop.0, codec, stop.1) _ stop.2
+  -- there is no name among none
+  none_after : {X : Type 0} (other : List ℕ) → Contains [] other → X
+  none_after other among = absurd (omega (arith, among.1))
 
-  schedule_stop : (codec name : List ℕ) (machine : Machine) (meant : Meant) → WantsRun told words codec name → Names words name → IsMachineOf told codec machine
-      → ScheduleStops told failed name meant → WordsCase told failed emptied gave words meant
-  schedule_stop codec name machine meant wants names file (inl stop) = said ShelfFailed (name, names, stop.0) _ stop.1
-  schedule_stop codec name machine meant wants names file (inr stop) =
+  codec_stop : (name : List ℕ) (after : List (List ℕ)) (meant : Meant) → Names words name → files_asked (request_of words) ≡ name ∷ after → NamesCodecFile words name
+      → ((other : List ℕ) → Contains after other → (Contains (name ∷ []) other → ⊥) → unasked other) → CodecStops told failed name meant → WordsCase told failed emptied unasked gave words meant
+  codec_stop name after meant names among codec stopped (inl stop) =
+      said ShelfFailed ((name, names, stop.0), record { before = []; name = name; after = after; among = among; unread = stop.0; stopped = stopped }) _ stop.1
+  codec_stop name after meant names among codec stopped (inr stop) = said CodecRefused (name, stop.0, codec, stop.1) _ stop.2
+
+  schedule_stop : (before : List (List ℕ)) (codec name : List ℕ) (machine : Machine) (meant : Meant) → files_asked (request_of words) ≡ before ++ name ∷ [] → WantsRun told words codec name → Names words name → IsMachineOf told codec machine
+      → ScheduleStops told failed name meant → WordsCase told failed emptied unasked gave words meant
+  schedule_stop before codec name machine meant among wants names file (inl stop) =
+      said ShelfFailed ((name, names, stop.0), record { before = before; name = name; after = []; among = among; unread = stop.0; stopped = λ other within apart. none_after other within }) _ stop.1
+  schedule_stop before codec name machine meant among wants names file (inr stop) =
       said ScheduleRefused (record { codec_name = codec; schedule_name = name; machine = machine; text = stop.0; wants = wants; codec_file = file; refused = stop.1 }) _ stop.2
 
   -- ---- `route`
 
   route_plans : (name : List ℕ) (format : Format) (machine : Machine) (plans : List Plan) (meant : Meant) → IsRouteOf words name format → IsMachineOf told name machine
       → HavePlans format machine.codecs plans → (some : Bool) → have_route plans ≡ some
-      → meant ≡ (if some then telling Done (plans_lines machine.codecs plans) else unrouted machine.codecs plans) → WordsCase told failed emptied gave words meant
+      → meant ≡ (if some then telling Done (plans_lines machine.codecs plans) else unrouted machine.codecs plans) → WordsCase told failed emptied unasked gave words meant
   route_plans name format machine plans meant is file planned true some e =
       said Done (name, format, is, record { codec_name = name; format = format; machine = machine; plans = plans; wants = inl is; codec_file = file; planned = planned; routed = some }) _ e
   route_plans name format machine plans meant is file planned false some e =
       said NothingRouted (record { codec_name = name; format = format; machine = machine; plans = plans; wants = inl is; codec_file = file; planned = planned; routed = some }) _ e
 
-  route_cases : (name : List ℕ) (format : Format) (meant : Meant) → IsRouteOf words name format → RouteAnswers told failed name format meant → WordsCase told failed emptied gave words meant
+  route_cases : (name : List ℕ) (format : Format) (meant : Meant) → IsRouteOf words name format → RouteAnswers told failed name format meant → WordsCase told failed emptied unasked gave words meant
   route_cases name format meant is (inl stop) =
-      codec_stop name meant (names_of (route name (hertz format.rate) (bits_of format.bits) format.channels) name is (0, omega arith, refl)) (ap (option_map codec_of) is) stop
+      codec_stop name [] meant (names_of (route name (hertz format.rate) (bits_of format.bits) format.channels) name is (0, omega arith, refl)) (ap files_asked is) (ap (option_map codec_of) is)
+      (λ other within apart. none_after other within) stop
   route_cases name format meant is (inr answers) =
       route_plans name format answers.0 answers.2.0 meant is answers.1 answers.2.1 (have_route answers.2.0) refl answers.2.2
 
   -- ---- `walk`
 
   walk_plans : (codec name : List ℕ) (machine : Machine) (schedule : Schedule) (plans : List Plan) (meant : Meant) → IsWalkOf words codec name → IsMachineOf told codec machine
-      → IsScheduleOf told name schedule → HavePlans walk_format machine.codecs plans → PlansWalk machine schedule plans meant → WordsCase told failed emptied gave words meant
+      → IsScheduleOf told name schedule → HavePlans walk_format machine.codecs plans → PlansWalk machine schedule plans meant → WordsCase told failed emptied unasked gave words meant
   walk_plans codec name machine schedule plans meant is file steps planned (inl none) =
       said NothingRouted (record {
         codec_name = codec;
@@ -118,14 +127,16 @@ module _ (told : Option Files) (failed emptied : List ℕ → Type 0) (gave : �
       })) run.3
 
   walk_machine : (codec name : List ℕ) (machine : Machine) (meant : Meant) → IsWalkOf words codec name → IsMachineOf told codec machine → MachineWalks told failed machine name meant
-      → WordsCase told failed emptied gave words meant
+      → WordsCase told failed emptied unasked gave words meant
   walk_machine codec name machine meant is file (inl stop) =
-      schedule_stop codec name machine meant (inl is) (names_of (walk codec name) name is (1, omega arith, refl)) file stop
+      schedule_stop (codec ∷ []) codec name machine meant (ap files_asked is) (inl is) (names_of (walk codec name) name is (1, omega arith, refl)) file stop
   walk_machine codec name machine meant is file (inr answers) =
       walk_plans codec name machine answers.0 answers.2.0 meant is file answers.1 answers.2.1 answers.2.2
 
-  walk_cases : (codec name : List ℕ) (meant : Meant) → IsWalkOf words codec name → WalkAnswers told failed codec name meant → WordsCase told failed emptied gave words meant
-  walk_cases codec name meant is (inl stop) = codec_stop codec meant (names_of (walk codec name) codec is (0, omega arith, refl)) (ap (option_map codec_of) is) stop
+  walk_cases : (codec name : List ℕ) (meant : Meant) → IsWalkOf words codec name → WalkAnswers told failed unasked codec name meant → WordsCase told failed emptied unasked gave words meant
+  walk_cases codec name meant is (inl stop) =
+      codec_stop codec (name ∷ []) meant (names_of (walk codec name) codec is (0, omega arith, refl)) (ap files_asked is) (ap (option_map codec_of) is)
+      (λ other within apart. stop.1 other (other_one codec other apart)) stop.0
   walk_cases codec name meant is (inr answers) = walk_machine codec name answers.0 meant is answers.1 answers.2
 
   -- ---- `play`
@@ -141,12 +152,16 @@ module _ (told : Option Files) (failed emptied : List ℕ → Type 0) (gave : �
     abbrev steps_gave : (machine : Machine) (head : WavHead) (schedule : Schedule) → IsMachineOf told codec machine → IsScheduleOf told name schedule → ℕ → Type 0
     steps_gave machine head schedule file steps bytes = head_gave machine head file (length steps.bytes + bytes)
 
+    -- the names other than the codec file's under which it was not asked
+    abbrev beside : List ℕ → Type 0
+    beside other = other ≢ codec → unasked other
+
     play_wants : (head : WavHead) → IsHeadOf told wav head → WantsSound told words codec name head
     play_wants head file = record { wav_name = wav; periods = periods; period = period; asks = is; wav_file = file }
 
     play_plans : (machine : Machine) (head : WavHead) (schedule : Schedule) (geometry : Geometry) (plans : List Plan) → (file : IsMachineOf told codec machine) → IsHeadOf told wav head
         → (steps : IsScheduleOf told name schedule) → IsRingOf periods period machine head geometry → HavePlans head.format machine.codecs plans
-        → PlansPlay told failed emptied (steps_gave machine head schedule file steps) wav machine head geometry schedule plans meant → WordsCase told failed emptied gave words meant
+        → PlansPlay told failed emptied (steps_gave machine head schedule file steps) wav machine head geometry schedule plans meant → WordsCase told failed emptied unasked gave words meant
     play_plans machine head schedule geometry plans file wav_file steps ring planned (inl none) =
         said NothingRouted (record {
           codec_name = codec;
@@ -181,11 +196,12 @@ module _ (told : Option Files) (failed emptied : List ℕ → Type 0) (gave : �
             run = run.2;
             cut = run.4;
             reads_little = run.5;
+            reads_frames = run.6;
           };
         })) run.3
 
     play_schedule : (machine : Machine) (head : WavHead) (schedule : Schedule) → (file : IsMachineOf told codec machine) → IsHeadOf told wav head → (steps : IsScheduleOf told name schedule)
-        → SchedulePlays told failed emptied (steps_gave machine head schedule file steps) periods period wav machine head schedule meant → WordsCase told failed emptied gave words meant
+        → SchedulePlays told failed emptied (steps_gave machine head schedule file steps) periods period wav machine head schedule meant → WordsCase told failed emptied unasked gave words meant
     play_schedule machine head schedule file wav_file steps (inl stop) =
         said GeometryRefused (record {
           codec_name = codec;
@@ -207,14 +223,25 @@ module _ (told : Option Files) (failed emptied : List ℕ → Type 0) (gave : �
         play_plans machine head schedule answers.0 answers.2.0 file wav_file steps answers.1 answers.2.1 answers.2.2
 
     play_sound : (machine : Machine) (head : WavHead) → (file : IsMachineOf told codec machine) → IsHeadOf told wav head → SoundPlays told failed emptied (head_gave machine head file) periods period wav machine head name meant
-        → WordsCase told failed emptied gave words meant
+        → WordsCase told failed emptied unasked gave words meant
     play_sound machine head file wav_file (inl stop) =
-        schedule_stop codec name machine meant (inr (head, play_wants head wav_file)) (names_of (play codec wav name periods period) name is (2, omega arith, refl)) file stop
+        schedule_stop (codec ∷ wav ∷ []) codec name machine meant (ap files_asked is) (inr (head, play_wants head wav_file)) (names_of (play codec wav name periods period) name is (2, omega arith, refl)) file stop
     play_sound machine head file wav_file (inr answers) = play_schedule machine head answers.0 file wav_file answers.1 answers.2
 
-    play_machine : (machine : Machine) → (file : IsMachineOf told codec machine) → MachinePlays told failed emptied (codec_gave machine file) periods period machine wav name meant → WordsCase told failed emptied gave words meant
-    play_machine machine file (inl (inl stop)) = said ShelfFailed (wav, names_of (play codec wav name periods period) wav is (1, omega arith, refl), stop.0) _ stop.1
-    play_machine machine file (inl (inr stop)) =
+    play_machine : (machine : Machine) → (file : IsMachineOf told codec machine) → MachinePlays told failed emptied beside (codec_gave machine file) periods period machine wav name meant → WordsCase told failed emptied unasked gave words meant
+    play_machine machine file (inl (inl stop, alone)) =
+        said ShelfFailed (
+          (wav, names_of (play codec wav name periods period) wav is (1, omega arith, refl), stop.0),
+          record {
+            before = codec ∷ [];
+            name = wav;
+            after = name ∷ [];
+            among = ap files_asked is;
+            unread = stop.0;
+            stopped = λ other within apart. alone other (other_second codec wav other apart) (other_first codec wav other apart);
+          },
+        ) _ stop.1
+    play_machine machine file (inl (inr stop, alone)) =
         said WavRefused (record {
           codec_name = codec;
           wav_name = wav;
@@ -229,13 +256,15 @@ module _ (told : Option Files) (failed emptied : List ℕ → Type 0) (gave : �
         }) _ stop.2
     play_machine machine file (inr answers) = play_sound machine answers.0 file answers.1 answers.2
 
-    play_cases : PlayAnswers told failed emptied gave codec wav name periods period meant → WordsCase told failed emptied gave words meant
-    play_cases (inl stop) = codec_stop codec meant (names_of (play codec wav name periods period) codec is (0, omega arith, refl)) (ap (option_map codec_of) is) stop
+    play_cases : PlayAnswers told failed emptied unasked gave codec wav name periods period meant → WordsCase told failed emptied unasked gave words meant
+    play_cases (inl stop) =
+        codec_stop codec (wav ∷ name ∷ []) meant (names_of (play codec wav name periods period) codec is (0, omega arith, refl)) (ap files_asked is) (ap (option_map codec_of) is)
+        (λ other within apart. stop.1 other (other_one codec other apart)) stop.0
     play_cases (inr answers) = play_machine answers.0 answers.1 answers.2
 
   -- ---- all commands
 
-  pub cases : (meant : Meant) → IsMeant told failed emptied gave words meant → WordsCase told failed emptied gave words meant
+  pub cases : (meant : Meant) → IsMeant told failed emptied unasked gave words meant → WordsCase told failed emptied unasked gave words meant
   cases meant (inl refused) = said WordsRefused refused.0 _ refused.1
   cases meant (inr (inl asked)) = route_cases asked.0 asked.1 meant asked.2 asked.3
   cases meant (inr (inr (inl asked))) = walk_cases asked.0 asked.1 meant asked.2 asked.3

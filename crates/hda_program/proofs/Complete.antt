@@ -1,5 +1,5 @@
 -- Where nothing is refused, `play` and `walk` come to their runs.
-use Rattle.std.proofs.Common.{◌≡◌, ◌∙◌, ◌+◌, ℕ, List, length, true, false, inl, inr, Option, Some, None, refl, sym, ap, subst}
+use Rattle.std.proofs.Common.{◌≡◌, ◌≢◌, ◌∙◌, ◌+◌, ℕ, List, length, true, false, inl, inr, Option, Some, None, refl, sym, ap, subst}
 use Rattle.std.specs.Prelude.{◌⊎◌, if◌then◌else◌, Bool}
 use Rattle.stream_format.specs.declared.format.Rate.{Rate}
 use Rattle.stream_format.specs.declared.format.Bits.{Bits}
@@ -72,11 +72,11 @@ walk_end machine plans schedule played walked =
     (of_walk walked.state.phase walked.state.sent played.commands played.fault walked.ended)
 
 -- a run whose reading was cut by nothing ends so
-uncut : (name : List ℕ) (head : WavHead) (failed emptied : Type 0) (cut : Option CutLine) (end : Option PlayFault) → IsCutUnder name head failed emptied cut → (failed → ⊥) → (IsShortCut cut → ⊥)
+uncut : (name : List ℕ) (head : WavHead) (read : ℕ) (failed emptied : Type 0) (cut : Option CutLine) (end : Option PlayFault) → IsCutUnder name head read failed emptied cut → (failed → ⊥) → (IsShortCut cut → ⊥)
     → IsOfPlay (number_of (end_status cut end))
-uncut name head failed emptied None end under good long = of_play end
-uncut name head failed emptied (Some (cuts.Failed text)) end under good long = absurd (good under.1)
-uncut name head failed emptied (Some (cuts.Short place)) end under good long = absurd (long tt)
+uncut name head read failed emptied None end under good long = of_play end
+uncut name head read failed emptied (Some (cuts.Failed text)) end under good long = absurd (good under.1)
+uncut name head read failed emptied (Some (cuts.Short place)) end under good long = absurd (long tt)
 
 -- ---- what is meant is a run
 
@@ -103,7 +103,7 @@ module _ (told : Option Files) (failed emptied : List ℕ → Type 0) (codec wav
       absurd (same_routes head.format machine can.plans plans (subst Q same (subst P format can.planned)) planned can.routed none.0)
   play_plans gave machine head schedule geometry plans same format file planned (inr run) =
       let long : IsShortCut run.0.cut → ⊥ = λ short. never_short can.files wav head machine plans geometry schedule run.0 file run.2 short in
-      (run.0, uncut wav head (failed wav) (emptied wav) run.0.cut run.0.fault run.4 can.wav_given long, run.3)
+      (run.0, uncut wav head run.0.read (failed wav) (emptied wav) run.0.cut run.0.fault run.4 can.wav_given long, run.3)
 
   ring_good : (machine : Machine) (head : WavHead) (end : GeometryFault) → can.machine ≡ machine → can.head.format ≡ head.format
       → fault_of periods period machine.fifo head.format ≡ Some end → ⊥
@@ -126,25 +126,25 @@ module _ (told : Option Files) (failed emptied : List ℕ → Type 0) (codec wav
   play_sound gave machine head same format file (inr (schedule, steps, plays)) =
       play_schedule (λ bytes. gave (length steps.bytes + bytes)) machine head schedule same format file plays
 
-  play_machine : (gave : ℕ → Type 0) (machine : Machine) → can.machine ≡ machine → MachinePlays Here failed emptied gave periods period machine wav name meant → IsRunOf IsOfPlay meant
-  play_machine gave machine same (inl (inl stop)) = absurd (can.wav_given stop.0)
-  play_machine gave machine same (inl (inr stop)) = absurd (wav_unrefused can.files wav stop.0 can.head can.wav_file stop.1)
-  play_machine gave machine same (inr (head, of, plays)) =
+  play_machine : (unasked : List ℕ → Type 0) (gave : ℕ → Type 0) (machine : Machine) → can.machine ≡ machine → MachinePlays Here failed emptied unasked gave periods period machine wav name meant → IsRunOf IsOfPlay meant
+  play_machine unasked gave machine same (inl (inl stop, alone)) = absurd (can.wav_given stop.0)
+  play_machine unasked gave machine same (inl (inr stop, alone)) = absurd (wav_unrefused can.files wav stop.0 can.head can.wav_file stop.1)
+  play_machine unasked gave machine same (inr (head, of, plays)) =
       play_sound (λ bytes. gave (bytes_before head + bytes)) machine head same (one_wav_format can.files wav head can.head of.file can.wav_file) of.file plays
 
-  play_files : (gave : ℕ → Type 0) → PlayAnswers Here failed emptied gave codec wav name periods period meant → IsRunOf IsOfPlay meant
-  play_files gave (inl (inl stop)) = absurd (can.codec_given stop.0)
-  play_files gave (inl (inr stop)) = absurd (codec_unrefused can.files codec stop.0 can.machine can.codec_file stop.1)
-  play_files gave (inr (machine, file, plays)) =
-      play_machine (λ bytes. gave (length file.bytes + bytes)) machine (one_machine can.files codec machine can.machine file can.codec_file) plays
+  play_files : (unasked : List ℕ → Type 0) (gave : ℕ → Type 0) → PlayAnswers Here failed emptied unasked gave codec wav name periods period meant → IsRunOf IsOfPlay meant
+  play_files unasked gave (inl (inl stop, alone)) = absurd (can.codec_given stop.0)
+  play_files unasked gave (inl (inr stop, alone)) = absurd (codec_unrefused can.files codec stop.0 can.machine can.codec_file stop.1)
+  play_files unasked gave (inr (machine, file, plays)) =
+      play_machine (λ other. other ≢ codec → unasked other) (λ bytes. gave (length file.bytes + bytes)) machine (one_machine can.files codec machine can.machine file can.codec_file) plays
 
-  play_meant : (gave : ℕ → Type 0) → PlayAnswers told failed emptied gave codec wav name periods period meant → IsRunOf IsOfPlay meant
-  play_meant gave answers =
-      let P : Option Files → Type 0 = λ t. PlayAnswers t failed emptied gave codec wav name periods period meant in play_files gave (subst P can.tells answers)
+  play_meant : (unasked : List ℕ → Type 0) (gave : ℕ → Type 0) → PlayAnswers told failed emptied unasked gave codec wav name periods period meant → IsRunOf IsOfPlay meant
+  play_meant unasked gave answers =
+      let P : Option Files → Type 0 = λ t. PlayAnswers t failed emptied unasked gave codec wav name periods period meant in play_files unasked gave (subst P can.tells answers)
 
 -- ---- `walk`
 
-module _ (told : Option Files) (failed : List ℕ → Type 0) (codec name : List ℕ) (can : CanWalk told failed codec name) (meant : Meant) where
+module _ (told : Option Files) (failed unasked : List ℕ → Type 0) (codec name : List ℕ) (can : CanWalk told failed codec name) (meant : Meant) where
   abbrev HereWalk : Option Files
   HereWalk = Some can.files
 
@@ -160,13 +160,13 @@ module _ (told : Option Files) (failed : List ℕ → Type 0) (codec name : List
   walk_machine machine same (inl (inr stop)) = absurd (schedule_unrefused can.files name stop.0 can.schedule can.schedule_file stop.1)
   walk_machine machine same (inr (schedule, steps, (plans, planned, walks))) = walk_plans machine schedule plans same planned walks
 
-  walk_files : WalkAnswers HereWalk failed codec name meant → IsRunOf IsOfWalk meant
-  walk_files (inl (inl stop)) = absurd (can.codec_given stop.0)
-  walk_files (inl (inr stop)) = absurd (codec_unrefused can.files codec stop.0 can.machine can.codec_file stop.1)
+  walk_files : WalkAnswers HereWalk failed unasked codec name meant → IsRunOf IsOfWalk meant
+  walk_files (inl (inl stop, alone)) = absurd (can.codec_given stop.0)
+  walk_files (inl (inr stop, alone)) = absurd (codec_unrefused can.files codec stop.0 can.machine can.codec_file stop.1)
   walk_files (inr answers) = walk_machine answers.0 (one_machine can.files codec answers.0 can.machine answers.1 can.codec_file) answers.2
 
-  walk_meant : WalkAnswers told failed codec name meant → IsRunOf IsOfWalk meant
-  walk_meant answers = let P : Option Files → Type 0 = λ t. WalkAnswers t failed codec name meant in walk_files (subst P can.tells answers)
+  walk_meant : WalkAnswers told failed unasked codec name meant → IsRunOf IsOfWalk meant
+  walk_meant answers = let P : Option Files → Type 0 = λ t. WalkAnswers t failed unasked codec name meant in walk_files (subst P can.tells answers)
 
 -- ---- `route`
 
@@ -204,50 +204,50 @@ same_format one other rates bits channels =
     let third : record (layout other) { rate = one.rate; bits = one.bits } ≡ layout one = ap (λ (n : ℕ). record (layout other) { rate = one.rate; bits = one.bits; channels = n }) channels in
     one_format one other (first ∙ second ∙ third)
 
-route_of_words : (told : Option Files) (failed emptied : List ℕ → Type 0) (gave : ℕ → Type 0) (words : List (List ℕ)) (name : List ℕ) (format : Format) (meant : Meant) → IsRouteOf words name format
-    → IsMeant told failed emptied gave words meant → RouteAnswers told failed name format meant
-route_of_words told failed emptied gave words name format meant routes (inl refused) =
+route_of_words : (told : Option Files) (failed emptied unasked : List ℕ → Type 0) (gave : ℕ → Type 0) (words : List (List ℕ)) (name : List ℕ) (format : Format) (meant : Meant) → IsRouteOf words name format
+    → IsMeant told failed emptied unasked gave words meant → RouteAnswers told failed name format meant
+route_of_words told failed emptied unasked gave words name format meant routes (inl refused) =
     let bad : None ≡ Some (route name (hertz format.rate) (bits_of format.bits) format.channels) = sym refused.0 ∙ routes in cc
-route_of_words told failed emptied gave words name format meant routes (inr (inl (first, other, asks, answers))) =
+route_of_words told failed emptied unasked gave words name format meant routes (inr (inl (first, other, asks, answers))) =
     let same : route first (hertz other.rate) (bits_of other.bits) other.channels ≡ route name (hertz format.rate) (bits_of format.bits) format.channels = same_asked words _ _ asks routes in
     let name_is : first ≡ name = cc in
     let rates : hertz other.rate ≡ hertz format.rate = cc in
     let bits : bits_of other.bits ≡ bits_of format.bits = cc in
     let channels : other.channels ≡ format.channels = cc in
     subst (λ (f : Format). RouteAnswers told failed name f meant) (same_format format other rates bits channels) (subst (λ (n : List ℕ). RouteAnswers told failed n other meant) name_is answers)
-route_of_words told failed emptied gave words name format meant routes (inr (inr (inl (codec, schedule, asks, answers)))) = absurd (not_route_and_walk words name format codec schedule routes asks)
-route_of_words told failed emptied gave words name format meant routes (inr (inr (inr (codec, wav, schedule, most, units, asks, answers)))) =
+route_of_words told failed emptied unasked gave words name format meant routes (inr (inr (inl (codec, schedule, asks, answers)))) = absurd (not_route_and_walk words name format codec schedule routes asks)
+route_of_words told failed emptied unasked gave words name format meant routes (inr (inr (inr (codec, wav, schedule, most, units, asks, answers)))) =
     absurd (not_route_and_play words name format codec wav schedule most units routes asks)
 
-walk_of_words : (told : Option Files) (failed emptied : List ℕ → Type 0) (gave : ℕ → Type 0) (words : List (List ℕ)) (codec name : List ℕ) (meant : Meant) → IsWalkOf words codec name
-    → IsMeant told failed emptied gave words meant → WalkAnswers told failed codec name meant
-walk_of_words told failed emptied gave words codec name meant walks (inl refused) = let bad : None ≡ Some (walk codec name) = sym refused.0 ∙ walks in cc
-walk_of_words told failed emptied gave words codec name meant walks (inr (inl asked)) = absurd (not_route_and_walk words asked.0 asked.1 codec name asked.2 walks)
-walk_of_words told failed emptied gave words codec name meant walks (inr (inr (inl (first, second, asks, answers)))) =
+walk_of_words : (told : Option Files) (failed emptied unasked : List ℕ → Type 0) (gave : ℕ → Type 0) (words : List (List ℕ)) (codec name : List ℕ) (meant : Meant) → IsWalkOf words codec name
+    → IsMeant told failed emptied unasked gave words meant → WalkAnswers told failed unasked codec name meant
+walk_of_words told failed emptied unasked gave words codec name meant walks (inl refused) = let bad : None ≡ Some (walk codec name) = sym refused.0 ∙ walks in cc
+walk_of_words told failed emptied unasked gave words codec name meant walks (inr (inl asked)) = absurd (not_route_and_walk words asked.0 asked.1 codec name asked.2 walks)
+walk_of_words told failed emptied unasked gave words codec name meant walks (inr (inr (inl (first, second, asks, answers)))) =
     let same : walk first second ≡ walk codec name = same_asked words _ _ asks walks in
     let codec_is : first ≡ codec = cc in
     let name_is : second ≡ name = cc in
-    subst (λ (n : List ℕ). WalkAnswers told failed codec n meant) name_is (subst (λ (n : List ℕ). WalkAnswers told failed n second meant) codec_is answers)
-walk_of_words told failed emptied gave words codec name meant walks (inr (inr (inr (first, second, third, most, units, asks, answers)))) =
+    subst (λ (n : List ℕ). WalkAnswers told failed unasked codec n meant) name_is (subst (λ (n : List ℕ). WalkAnswers told failed unasked n second meant) codec_is answers)
+walk_of_words told failed emptied unasked gave words codec name meant walks (inr (inr (inr (first, second, third, most, units, asks, answers)))) =
     let bad : play first second third most units ≡ walk codec name = same_asked words _ _ asks walks in cc
 
 -- what is answered to these words for a play
-abbrev PlayAnswersTo : Option Files → (failed emptied : List ℕ → Type 0) → (gave : ℕ → Type 0) → Meant → Asked → Type 0
-PlayAnswersTo told failed emptied gave meant (route codec rate bits channels) = ⊥
-PlayAnswersTo told failed emptied gave meant (walk codec name) = ⊥
-PlayAnswersTo told failed emptied gave meant (play codec wav name periods period) = PlayAnswers told failed emptied gave codec wav name periods period meant
+abbrev PlayAnswersTo : Option Files → (failed emptied unasked : List ℕ → Type 0) → (gave : ℕ → Type 0) → Meant → Asked → Type 0
+PlayAnswersTo told failed emptied unasked gave meant (route codec rate bits channels) = ⊥
+PlayAnswersTo told failed emptied unasked gave meant (walk codec name) = ⊥
+PlayAnswersTo told failed emptied unasked gave meant (play codec wav name periods period) = PlayAnswers told failed emptied unasked gave codec wav name periods period meant
 
-play_of_words : (told : Option Files) (failed emptied : List ℕ → Type 0) (gave : ℕ → Type 0) (words : List (List ℕ)) (codec wav name : List ℕ) (periods period : ℕ) (meant : Meant)
-    → IsPlayOf words codec wav name periods period → IsMeant told failed emptied gave words meant → PlayAnswers told failed emptied gave codec wav name periods period meant
-play_of_words told failed emptied gave words codec wav name periods period meant plays (inl refused) =
+play_of_words : (told : Option Files) (failed emptied unasked : List ℕ → Type 0) (gave : ℕ → Type 0) (words : List (List ℕ)) (codec wav name : List ℕ) (periods period : ℕ) (meant : Meant)
+    → IsPlayOf words codec wav name periods period → IsMeant told failed emptied unasked gave words meant → PlayAnswers told failed emptied unasked gave codec wav name periods period meant
+play_of_words told failed emptied unasked gave words codec wav name periods period meant plays (inl refused) =
     let bad : None ≡ Some (play codec wav name periods period) = sym refused.0 ∙ plays in cc
-play_of_words told failed emptied gave words codec wav name periods period meant plays (inr (inl asked)) =
+play_of_words told failed emptied unasked gave words codec wav name periods period meant plays (inr (inl asked)) =
     absurd (not_route_and_play words asked.0 asked.1 codec wav name periods period asked.2 plays)
-play_of_words told failed emptied gave words codec wav name periods period meant plays (inr (inr (inl (first, second, asks, answers)))) =
+play_of_words told failed emptied unasked gave words codec wav name periods period meant plays (inr (inr (inl (first, second, asks, answers)))) =
     let bad : walk first second ≡ play codec wav name periods period = same_asked words _ _ asks plays in cc
-play_of_words told failed emptied gave words codec wav name periods period meant plays (inr (inr (inr (first, second, third, most, units, asks, answers)))) =
+play_of_words told failed emptied unasked gave words codec wav name periods period meant plays (inr (inr (inr (first, second, third, most, units, asks, answers)))) =
     let same : play first second third most units ≡ play codec wav name periods period = same_asked words _ _ asks plays in
-    subst (λ (a : Asked). PlayAnswersTo told failed emptied gave meant a) same answers
+    subst (λ (a : Asked). PlayAnswersTo told failed emptied unasked gave meant a) same answers
 
 -- ---- the end
 
@@ -268,25 +268,25 @@ module _ (before after : Option (List ℕ)) (sink_failed : Type 0) (given : Opti
   written_done meant is (inr (inl sink)) = absurd (sink_good sink.1)
   written_done meant is (inr (inr memory)) = inr memory.0
 
-  module _ (told : Option Files) (failed emptied : List ℕ → Type 0) (gave : ℕ → Type 0) where
+  module _ (told : Option Files) (failed emptied unasked : List ℕ → Type 0) (gave : ℕ → Type 0) where
     pub route_complete : (words : List (List ℕ)) (name : List ℕ) (format : Format) → IsRouteOf words name format → CanRoute told failed name format
-        → HasEnded told failed emptied gave words before after sink_failed given status → HasRoutes status
+        → HasEnded told failed emptied unasked gave words before after sink_failed given status → HasRoutes status
     route_complete words name format routes can (inl answered) =
-        written_done answered.meant (route_meant told failed name format can answered.meant (route_of_words told failed emptied gave words name format answered.meant routes answered.is)) answered.written
+        written_done answered.meant (route_meant told failed name format can answered.meant (route_of_words told failed emptied unasked gave words name format answered.meant routes answered.is)) answered.written
     route_complete words name format routes can (inr memory) = inr memory.0
 
     pub files_complete : (codec wav name : List ℕ) (periods period : ℕ) → CanPlay told failed codec wav name periods period
-        → HasEndedPlay told failed emptied gave codec wav name periods period before after sink_failed given status → HasPlayedOn status
+        → HasEndedPlay told failed emptied unasked gave codec wav name periods period before after sink_failed given status → HasPlayedOn status
     files_complete codec wav name periods period can ended =
-        ended_run (PlayAnswers told failed emptied gave codec wav name periods period) IsOfPlay (λ meant is. play_meant told failed emptied codec wav name periods period can meant gave is) ended
+        ended_run (PlayAnswers told failed emptied unasked gave codec wav name periods period) IsOfPlay (λ meant is. play_meant told failed emptied codec wav name periods period can meant unasked gave is) ended
 
     pub play_complete : (words : List (List ℕ)) (codec wav name : List ℕ) (periods period : ℕ) → IsPlayOf words codec wav name periods period
-        → CanPlay told failed codec wav name periods period → HasEnded told failed emptied gave words before after sink_failed given status → HasPlayedOn status
+        → CanPlay told failed codec wav name periods period → HasEnded told failed emptied unasked gave words before after sink_failed given status → HasPlayedOn status
     play_complete words codec wav name periods period plays can ended =
-        ended_run (IsMeant told failed emptied gave words) IsOfPlay
-        (λ meant is. play_meant told failed emptied codec wav name periods period can meant gave (play_of_words told failed emptied gave words codec wav name periods period meant plays is)) ended
+        ended_run (IsMeant told failed emptied unasked gave words) IsOfPlay
+        (λ meant is. play_meant told failed emptied codec wav name periods period can meant unasked gave (play_of_words told failed emptied unasked gave words codec wav name periods period meant plays is)) ended
 
     pub walk_complete : (words : List (List ℕ)) (codec name : List ℕ) → IsWalkOf words codec name → CanWalk told failed codec name
-        → HasEnded told failed emptied gave words before after sink_failed given status → HasWalkedOn status
+        → HasEnded told failed emptied unasked gave words before after sink_failed given status → HasWalkedOn status
     walk_complete words codec name walks can ended =
-        ended_run (IsMeant told failed emptied gave words) IsOfWalk (λ meant is. walk_meant told failed codec name can meant (walk_of_words told failed emptied gave words codec name meant walks is)) ended
+        ended_run (IsMeant told failed emptied unasked gave words) IsOfWalk (λ meant is. walk_meant told failed unasked codec name can meant (walk_of_words told failed emptied unasked gave words codec name meant walks is)) ended

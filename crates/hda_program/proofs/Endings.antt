@@ -22,7 +22,7 @@ use Rattle.hda_program.specs.Answers.{HasEnded, HasEndedWith, HasWritten, IsMean
 use Rattle.scheduled_runs.specs.Plays.{IsCutUnder, IsPlayedFrom}
 use Rattle.hda_program.specs.Asks.{IsNoCommand, IsPlayOf, IsRouteOf, IsWalkOf, Names, files_asked, files_of}
 use Rattle.hda_program.specs.Files.{IsHeadIn}
-use Rattle.hda_program.specs.Causes.{HasBadCodecFile, HasBadRing, HasBadSchedule, HasBadWav, HasPlanned, HasUnreadFile, IsFailedCut, IsOfSound, IsOfWalk, IsRunless, IsShortCut, OfItsWav, WasShortened, WasUnread}
+use Rattle.hda_program.specs.Causes.{HasBadCodecFile, HasBadRing, HasBadSchedule, HasBadWav, HasPlanned, HasStoppedUnread, HasUnreadFile, IsFailedCut, IsOfSound, IsOfWalk, IsRunless, IsShortCut, OfItsWav, WasShortened, WasUnread}
 use Rattle.hda_program.specs.Promises.{HasPlayedFiles, HasRun, KeepsPromise}
 use Rattle.hda_program.specs.Meanings.{Meant, end_status, fault_status, of_run, status_of, telling}
 use Rattle.hda_program.proofs.Cases.{Case, Cause as CauseOf, IsRouted, WordsCase, cases, ran, said}
@@ -90,25 +90,25 @@ run_differs meant played n e number no_end =
 -- ---- a cut
 
 -- a run ends with 3 where its reading was cut by a fault, and with 14 where it was cut by the file's end
-failed_cut : (name : List ℕ) (head : WavHead) (failed emptied : Type 0) (cut : Option CutLine) (end : Option PlayFault) → IsCutUnder name head failed emptied cut
+failed_cut : (name : List ℕ) (head : WavHead) (read : ℕ) (failed emptied : Type 0) (cut : Option CutLine) (end : Option PlayFault) → IsCutUnder name head read failed emptied cut
     → number_of (end_status cut end) ≡ 3 → IsFailedCut name cut × failed
-failed_cut name head failed emptied (Some (cuts.Failed text)) end under number = under
-failed_cut name head failed emptied (Some (cuts.Short place)) end under number = absurd (omega (arith, number))
-failed_cut name head failed emptied None None under number = absurd (omega (arith, number))
-failed_cut name head failed emptied None (Some (fault.Unanswered codec command issued noticed)) under number = absurd (omega (arith, number))
-failed_cut name head failed emptied None (Some (fault.Late from to limit)) under number = absurd (omega (arith, number))
-failed_cut name head failed emptied None (Some (fault.CommandsLeft sent of)) under number = absurd (omega (arith, number))
-failed_cut name head failed emptied None (Some (fault.FramesLeft written heard of)) under number = absurd (omega (arith, number))
+failed_cut name head read failed emptied (Some (cuts.Failed text)) end under number = under
+failed_cut name head read failed emptied (Some (cuts.Short place)) end under number = absurd (omega (arith, number))
+failed_cut name head read failed emptied None None under number = absurd (omega (arith, number))
+failed_cut name head read failed emptied None (Some (fault.Unanswered codec command issued noticed)) under number = absurd (omega (arith, number))
+failed_cut name head read failed emptied None (Some (fault.Late from to limit)) under number = absurd (omega (arith, number))
+failed_cut name head read failed emptied None (Some (fault.CommandsLeft sent of)) under number = absurd (omega (arith, number))
+failed_cut name head read failed emptied None (Some (fault.FramesLeft written heard of)) under number = absurd (omega (arith, number))
 
-short_cut : (name : List ℕ) (head : WavHead) (failed emptied : Type 0) (cut : Option CutLine) (end : Option PlayFault) → IsCutUnder name head failed emptied cut
+short_cut : (name : List ℕ) (head : WavHead) (read : ℕ) (failed emptied : Type 0) (cut : Option CutLine) (end : Option PlayFault) → IsCutUnder name head read failed emptied cut
     → number_of (end_status cut end) ≡ 14 → IsShortCut cut × emptied
-short_cut name head failed emptied (Some (cuts.Failed text)) end under number = absurd (omega (arith, number))
-short_cut name head failed emptied (Some (cuts.Short place)) end under number = (tt, under.1)
-short_cut name head failed emptied None None under number = absurd (omega (arith, number))
-short_cut name head failed emptied None (Some (fault.Unanswered codec command issued noticed)) under number = absurd (omega (arith, number))
-short_cut name head failed emptied None (Some (fault.Late from to limit)) under number = absurd (omega (arith, number))
-short_cut name head failed emptied None (Some (fault.CommandsLeft sent of)) under number = absurd (omega (arith, number))
-short_cut name head failed emptied None (Some (fault.FramesLeft written heard of)) under number = absurd (omega (arith, number))
+short_cut name head read failed emptied (Some (cuts.Failed text)) end under number = absurd (omega (arith, number))
+short_cut name head read failed emptied (Some (cuts.Short place)) end under number = (tt, under.1)
+short_cut name head read failed emptied None None under number = absurd (omega (arith, number))
+short_cut name head read failed emptied None (Some (fault.Unanswered codec command issued noticed)) under number = absurd (omega (arith, number))
+short_cut name head read failed emptied None (Some (fault.Late from to limit)) under number = absurd (omega (arith, number))
+short_cut name head read failed emptied None (Some (fault.CommandsLeft sent of)) under number = absurd (omega (arith, number))
+short_cut name head read failed emptied None (Some (fault.FramesLeft written heard of)) under number = absurd (omega (arith, number))
 
 -- a walk ends with neither
 uncut_end : (cut : Option CutLine) (end : Option PlayFault) → cut ≡ None → number_of (end_status cut end) ≡ number_of (fault_status end)
@@ -143,12 +143,12 @@ module _ (failed emptied : List ℕ → Type 0) (gave : ℕ → Type 0) where
   pub played_unread : {told : Option Files} {codec name : List ℕ} {periods period : ℕ} (wav : List ℕ) (played : Played) → HasPlayedFiles told failed emptied gave codec wav name periods period played
       → number_of (status_of played) ≡ 3 → WasUnread failed wav played
   played_unread wav played run number =
-      let cut = failed_cut wav run.head (failed wav) (emptied wav) played.cut played.fault run.cut number in record { cut = cut.0; cause = cut.1 }
+      let cut = failed_cut wav run.head played.read (failed wav) (emptied wav) played.cut played.fault run.cut number in record { cut = cut.0; cause = cut.1 }
 
   pub played_short : {told : Option Files} {codec name : List ℕ} {periods period : ℕ} (wav : List ℕ) (played : Played) → HasPlayedFiles told failed emptied gave codec wav name periods period played
       → number_of (status_of played) ≡ 14 → WasShortened emptied wav played
   played_short wav played run number =
-      let cut = short_cut wav run.head (failed wav) (emptied wav) played.cut played.fault run.cut number in record { cut = cut.0; cause = cut.1 }
+      let cut = short_cut wav run.head played.read (failed wav) (emptied wav) played.cut played.fault run.cut number in record { cut = cut.0; cause = cut.1 }
 
   pub told_never_short : (files : Files) {codec name : List ℕ} {periods period : ℕ} (wav : List ℕ) (played : Played) → HasPlayedFiles (Some files) failed emptied gave codec wav name periods period played
       → number_of (status_of played) ≡ 14 → ⊥
@@ -259,11 +259,11 @@ module _ (Cause : Status → Type 0) (Run : Played → Type 0) where
   cause_at n no_end meant (ran played run e) number = run_differs meant played n e number no_end
 
 -- some pin has a route, of a route or of a run
-some_routed : (told : Option Files) (failed emptied : List ℕ → Type 0) (gave : ℕ → Type 0) (words : List (List ℕ)) (meant : Meant) → WordsCase told failed emptied gave words meant → number_of meant.status ≡ 0
+some_routed : (told : Option Files) (failed emptied unasked : List ℕ → Type 0) (gave : ℕ → Type 0) (words : List (List ℕ)) (meant : Meant) → WordsCase told failed emptied unasked gave words meant → number_of meant.status ≡ 0
     → HasPlanned told words true
-some_routed told failed emptied gave words meant (said status cause text e) number =
-    let routed : IsRouted told words = said_cause (CauseOf told failed words) (HasRun told failed emptied gave words) 0 meant status text e number cause in routed.3
-some_routed told failed emptied gave words meant (ran played run e) number = was_planned run
+some_routed told failed emptied unasked gave words meant (said status cause text e) number =
+    let routed : IsRouted told words = said_cause (CauseOf told failed unasked words) (HasRun told failed emptied gave words) 0 meant status text e number cause in routed.3
+some_routed told failed emptied unasked gave words meant (ran played run e) number = was_planned run
 
 -- ---- an end, by the case of what was meant
 
@@ -358,6 +358,18 @@ module _ (Cause : Status → Type 0) (Run : Played → Type 0) (before after : O
       run_case n none answered.meant answered.is answered.given (meant_number answered.meant n answered.written is no_sink no_memory)
   run_at n none (inr memory) is no_sink no_memory = absurd (no_memory (sym is ∙ memory.0))
 
+  -- a text alone was meant where no run is given
+  said_case : (n : ℕ) → (meant : Meant) → Case Cause Run meant → play ≡ meant.play → number_of meant.status ≡ n → IsNone play → Cause (status_with n)
+  said_case n meant (said of cause text e) is number none = said_cause Cause Run n meant of text e number cause
+  said_case n meant (ran played run e) is number none =
+      let some : play ≡ Some played = is ∙ ap (λ (m : Meant). m.play) e in
+      let bad : true ≡ false = subst (λ (o : Option Played). IsNone o) some none in cc
+
+  pub said_at : (n : ℕ) → Ends → status ≡ n → (n ≢ 4) → (n ≢ 12) → IsNone play → Cause (status_with n)
+  said_at n (inl answered) is no_sink no_memory none =
+      said_case n answered.meant answered.is answered.given (meant_number answered.meant n answered.written is no_sink no_memory) none
+  said_at n (inr memory) is no_sink no_memory none = absurd (no_memory (sym is ∙ memory.0))
+
   pub some_at : (Cause Done → ⊥) → (Cause Unanswered → ⊥) → (Cause Late → ⊥) → (Cause ScheduleEnded → ⊥) → (Cause WavShrank → ⊥) → Ends → IsOfSound status → IsSome play
   some_at done unanswered late left shrank ended (inl (inl (inl is))) = run_at 0 done ended is (λ e. absurd (omega (arith, e))) (λ e. absurd (omega (arith, e)))
   some_at done unanswered late left shrank ended (inl (inl (inr (inl is)))) = run_at 9 unanswered ended is (λ e. absurd (omega (arith, e))) (λ e. absurd (omega (arith, e)))
@@ -387,100 +399,109 @@ module _ (Cause : Status → Type 0) (Run : Played → Type 0) (before after : O
 
 -- ---- an end of the program
 
-module _ (told : Option Files) (failed emptied : List ℕ → Type 0) (gave : ℕ → Type 0) (words : List (List ℕ)) (before after : Option (List ℕ)) (sink_failed : Type 0) (play : Option Played) (status : ℕ) where
+module _ (told : Option Files) (failed emptied unasked : List ℕ → Type 0) (gave : ℕ → Type 0) (words : List (List ℕ)) (before after : Option (List ℕ)) (sink_failed : Type 0) (play : Option Played) (status : ℕ) where
   abbrev CauseHere : Status → Type 0
-  CauseHere of = CauseOf told failed words of
+  CauseHere of = CauseOf told failed unasked words of
 
   abbrev RunHere : Played → Type 0
   RunHere played = HasRun told failed emptied gave words played
 
-  by_words : HasEnded told failed emptied gave words before after sink_failed play status → HasEndedWith (Case CauseHere RunHere) before after sink_failed play status
-  by_words ended = by_cases (IsMeant told failed emptied gave words) (Case CauseHere RunHere) before after sink_failed play status (cases told failed emptied gave words) ended
+  by_words : HasEnded told failed emptied unasked gave words before after sink_failed play status → HasEndedWith (Case CauseHere RunHere) before after sink_failed play status
+  by_words ended = by_cases (IsMeant told failed emptied unasked gave words) (Case CauseHere RunHere) before after sink_failed play status (cases told failed emptied unasked gave words) ended
 
-  cause_of : (n : ℕ) → IsNoEnd n → (n ≡ 4 → ⊥) → (n ≡ 12 → ⊥) → HasEnded told failed emptied gave words before after sink_failed play status → status ≡ n → CauseHere (status_with n)
+  cause_of : (n : ℕ) → IsNoEnd n → (n ≡ 4 → ⊥) → (n ≡ 12 → ⊥) → HasEnded told failed emptied unasked gave words before after sink_failed play status → status ≡ n → CauseHere (status_with n)
   cause_of n no_end no_sink no_memory ended is =
       caused CauseHere RunHere before after sink_failed play status n (cause_at CauseHere RunHere n no_end) no_sink no_memory (by_words ended) is
 
-  pub refused_words : HasEnded told failed emptied gave words before after sink_failed play status → status ≡ 2 → IsNoCommand words
+  pub refused_words : HasEnded told failed emptied unasked gave words before after sink_failed play status → status ≡ 2 → IsNoCommand words
   refused_words = cause_of 2 refl (λ e. absurd (omega (arith, e))) (λ e. absurd (omega (arith, e)))
 
-  unread_name : (meant : Meant) → WordsCase told failed emptied gave words meant → number_of meant.status ≡ 3 → HasUnreadFile failed words
-  unread_name meant (said of cause text e) number = said_cause CauseHere RunHere 3 meant of text e number cause
+  unread_name : (meant : Meant) → WordsCase told failed emptied unasked gave words meant → number_of meant.status ≡ 3 → HasUnreadFile failed words
+  unread_name meant (said of cause text e) number =
+      let both : CauseHere ShelfFailed = said_cause CauseHere RunHere 3 meant of text e number cause in both.0
   unread_name meant (ran played run e) number =
       let of = run_unread failed emptied gave played run (sym (number_run meant played e) ∙ number) in
       (of.wav_name, named words of.codec_name of.wav_name of.schedule_name of.periods of.period of.asks, of.cut.cause)
 
-  pub shelf_failed : HasEnded told failed emptied gave words before after sink_failed play status → status ≡ 3 → HasUnreadFile failed words
+  pub shelf_failed : HasEnded told failed emptied unasked gave words before after sink_failed play status → status ≡ 3 → HasUnreadFile failed words
   shelf_failed ended is =
       caused CauseHere RunHere before after sink_failed play status 3 unread_name (λ e. absurd (omega (arith, e))) (λ e. absurd (omega (arith, e))) (by_words ended) is
 
+  -- the file at which it stopped where no run is given
+  pub stopped_unread : HasEnded told failed emptied unasked gave words before after sink_failed play status → status ≡ 3 → IsNone play
+      → HasStoppedUnread failed unasked (files_asked (request_of words))
+  stopped_unread ended is none =
+      let both : CauseHere ShelfFailed =
+      said_at CauseHere RunHere before after sink_failed play status 3 (by_words ended) is (λ e. absurd (omega (arith, e))) (λ e. absurd (omega (arith, e))) none in
+      both.1
+
   -- the run that is given where the reading of its sound was cut
-  pub unread_run : HasEnded told failed emptied gave words before after sink_failed play status → status ≡ 3
+  pub unread_run : HasEnded told failed emptied unasked gave words before after sink_failed play status → status ≡ 3
       → IfSome play (λ played. OfItsWav (λ wav. WasUnread failed wav played) words)
   unread_run ended is =
       of_run_at CauseHere RunHere before after sink_failed play status 3 (λ played. OfItsWav (λ wav. WasUnread failed wav played) words)
       (λ played run number. run_unread failed emptied gave played run number) (by_words ended) is (λ e. absurd (omega (arith, e))) (λ e. absurd (omega (arith, e)))
 
-  pub shrunk_run : HasEnded told failed emptied gave words before after sink_failed play status → status ≡ 14
+  pub shrunk_run : HasEnded told failed emptied unasked gave words before after sink_failed play status → status ≡ 14
       → IsSomeAnd play (λ played. OfItsWav (λ wav. WasShortened emptied wav played) words)
   shrunk_run ended is =
       shrunk_at CauseHere RunHere before after sink_failed play status (λ played. OfItsWav (λ wav. WasShortened emptied wav played) words)
       (λ played run number. run_short failed emptied gave played run number) (λ none. none) (by_words ended) is
 
-  pub refused_codec : HasEnded told failed emptied gave words before after sink_failed play status → status ≡ 5 → HasBadCodecFile told words
+  pub refused_codec : HasEnded told failed emptied unasked gave words before after sink_failed play status → status ≡ 5 → HasBadCodecFile told words
   refused_codec = cause_of 5 refl (λ e. absurd (omega (arith, e))) (λ e. absurd (omega (arith, e)))
 
-  pub refused_wav : HasEnded told failed emptied gave words before after sink_failed play status → status ≡ 6 → HasBadWav told words
+  pub refused_wav : HasEnded told failed emptied unasked gave words before after sink_failed play status → status ≡ 6 → HasBadWav told words
   refused_wav = cause_of 6 refl (λ e. absurd (omega (arith, e))) (λ e. absurd (omega (arith, e)))
 
-  pub refused_schedule : HasEnded told failed emptied gave words before after sink_failed play status → status ≡ 7 → HasBadSchedule told words
+  pub refused_schedule : HasEnded told failed emptied unasked gave words before after sink_failed play status → status ≡ 7 → HasBadSchedule told words
   refused_schedule = cause_of 7 refl (λ e. absurd (omega (arith, e))) (λ e. absurd (omega (arith, e)))
 
-  pub refused_geometry : HasEnded told failed emptied gave words before after sink_failed play status → status ≡ 13 → HasBadRing told words
+  pub refused_geometry : HasEnded told failed emptied unasked gave words before after sink_failed play status → status ≡ 13 → HasBadRing told words
   refused_geometry = cause_of 13 refl (λ e. absurd (omega (arith, e))) (λ e. absurd (omega (arith, e)))
 
-  pub was_routed : HasEnded told failed emptied gave words before after sink_failed play status → status ≡ 0 → HasPlanned told words true
+  pub was_routed : HasEnded told failed emptied unasked gave words before after sink_failed play status → status ≡ 0 → HasPlanned told words true
   was_routed ended is =
-      caused CauseHere RunHere before after sink_failed play status 0 (some_routed told failed emptied gave words) (λ e. absurd (omega (arith, e))) (λ e. absurd (omega (arith, e))) (by_words ended) is
+      caused CauseHere RunHere before after sink_failed play status 0 (some_routed told failed emptied unasked gave words) (λ e. absurd (omega (arith, e))) (λ e. absurd (omega (arith, e))) (by_words ended) is
 
-  pub was_unrouted : HasEnded told failed emptied gave words before after sink_failed play status → status ≡ 8 → HasPlanned told words false
+  pub was_unrouted : HasEnded told failed emptied unasked gave words before after sink_failed play status → status ≡ 8 → HasPlanned told words false
   was_unrouted = cause_of 8 refl (λ e. absurd (omega (arith, e))) (λ e. absurd (omega (arith, e)))
 
-  pub sink_faulted : HasEnded told failed emptied gave words before after sink_failed play status → status ≡ 4 → sink_failed
+  pub sink_faulted : HasEnded told failed emptied unasked gave words before after sink_failed play status → status ≡ 4 → sink_failed
   sink_faulted ended four = sink_at_fault CauseHere RunHere before after sink_failed play status (λ none. none) (by_words ended) four
 
-  pub run_promised : HasEnded told failed emptied gave words before after sink_failed play status → IfSome play (KeepsPromise (HasRun told failed emptied gave words) before after sink_failed status)
+  pub run_promised : HasEnded told failed emptied unasked gave words before after sink_failed play status → IfSome play (KeepsPromise (HasRun told failed emptied gave words) before after sink_failed status)
   run_promised ended = promise_kept CauseHere RunHere before after sink_failed play status (by_words ended)
 
-  pub runless : HasEnded told failed emptied gave words before after sink_failed play status → IsRunless status → IsNone play
+  pub runless : HasEnded told failed emptied unasked gave words before after sink_failed play status → IsRunless status → IsNone play
   runless ended is = none_at CauseHere RunHere before after sink_failed play status (by_words ended) is
 
   -- `route` makes no run
-  pub route_runless : HasEnded told failed emptied gave words before after sink_failed play status → (name : List ℕ) (format : Format) → IsRouteOf words name format → IsNone play
+  pub route_runless : HasEnded told failed emptied unasked gave words before after sink_failed play status → (name : List ℕ) (format : Format) → IsRouteOf words name format → IsNone play
   route_runless ended name format routes =
       none_meant CauseHere RunHere before after sink_failed play status (λ played run. no_run_of_route told failed emptied gave words name format played routes run) (by_words ended)
 
   -- `walk` and `play` give their run at the statuses of a run, since nothing else is meant with them by their words
-  runs : HasEnded told failed emptied gave words before after sink_failed play status → (IsRouted told words → ⊥) → IsOfSound status → IsSome play
+  runs : HasEnded told failed emptied unasked gave words before after sink_failed play status → (IsRouted told words → ⊥) → IsOfSound status → IsSome play
   runs ended unrouted is = some_at CauseHere RunHere before after sink_failed play status unrouted (λ none. none) (λ none. none) (λ none. none) (λ none. none) (by_words ended) is
 
-  pub walk_runs : HasEnded told failed emptied gave words before after sink_failed play status → (codec name : List ℕ) → IsWalkOf words codec name → IsOfWalk status → IsSome play
+  pub walk_runs : HasEnded told failed emptied unasked gave words before after sink_failed play status → (codec name : List ℕ) → IsWalkOf words codec name → IsOfWalk status → IsSome play
   walk_runs ended codec name walks is = runs ended (λ routed. not_route_and_walk words routed.0 routed.1 codec name routed.2 walks) (inl (inl is))
 
-  pub play_runs : HasEnded told failed emptied gave words before after sink_failed play status → (codec wav name : List ℕ) (periods period : ℕ) → IsPlayOf words codec wav name periods period
+  pub play_runs : HasEnded told failed emptied unasked gave words before after sink_failed play status → (codec wav name : List ℕ) (periods period : ℕ) → IsPlayOf words codec wav name periods period
       → IsOfSound status → IsSome play
   play_runs ended codec wav name periods period plays is =
       runs ended (λ routed. not_route_and_play words routed.0 routed.1 codec wav name periods period routed.2 plays) is
 
 -- where the files are told no WAV file gets shorter
-module _ (failed emptied : List ℕ → Type 0) (gave : ℕ → Type 0) (words : List (List ℕ)) (before after : Option (List ℕ)) (sink_failed : Type 0) (play : Option Played) (status : ℕ) where
-  never_told : (files : Files) → HasEnded (Some files) failed emptied gave words before after sink_failed play status → status ≡ 14 → ⊥
+module _ (failed emptied unasked : List ℕ → Type 0) (gave : ℕ → Type 0) (words : List (List ℕ)) (before after : Option (List ℕ)) (sink_failed : Type 0) (play : Option Played) (status : ℕ) where
+  never_told : (files : Files) → HasEnded (Some files) failed emptied unasked gave words before after sink_failed play status → status ≡ 14 → ⊥
   never_told files ended is =
-      never_shrunk (CauseHere (Some files) failed emptied gave words before after sink_failed play status) (RunHere (Some files) failed emptied gave words before after sink_failed play status) before after sink_failed play status
+      never_shrunk (CauseHere (Some files) failed emptied unasked gave words before after sink_failed play status) (RunHere (Some files) failed emptied unasked gave words before after sink_failed play status) before after sink_failed play status
       (λ played run number. run_told failed emptied gave files played run number) (λ none. none)
-      (by_words (Some files) failed emptied gave words before after sink_failed play status ended) is
+      (by_words (Some files) failed emptied unasked gave words before after sink_failed play status ended) is
 
-  pub never_shrinks : (told : Option Files) → HasEnded told failed emptied gave words before after sink_failed play status → IfSome told (λ files. status ≢ 14)
+  pub never_shrinks : (told : Option Files) → HasEnded told failed emptied unasked gave words before after sink_failed play status → IfSome told (λ files. status ≢ 14)
   never_shrinks None ended = tt
   never_shrinks (Some files) ended = never_told files ended
 

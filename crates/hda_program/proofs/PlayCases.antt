@@ -1,5 +1,5 @@
 -- The ways in which something is meant by `play` of three files.
-use Rattle.std.proofs.Common.{ℕ, ◌+◌, List, length, inl, inr, Option}
+use Rattle.std.proofs.Common.{◌≡◌, ◌≢◌, ℕ, ◌+◌, List, [], ◌∷◌, length, inl, inr, Option, refl, arith}
 use Rattle.route_planner.specs.declared.routes.Plan.{Plan}
 use Rattle.hda_outside.specs.Shelf.{Files}
 use Rattle.hda_files.specs.declared.machine.Machine.{Machine}
@@ -10,32 +10,38 @@ use Rattle.sound_report.specs.declared.status.Status.{Status}
 use Rattle.sound_report.specs.declared.status.Status.TheVariants.{Done, WordsRefused, ShelfFailed, SinkFailed, CodecRefused, WavRefused, ScheduleRefused, NothingRouted, Unanswered, Late, ScheduleEnded, OutOfMemory, GeometryRefused, WavShrank}
 use Rattle.machine_tasks.specs.Tasks.{HavePlans}
 use Rattle.hda_program.specs.Answers.{MachinePlays, PlansPlay, PlayAnswers, SchedulePlays, SoundPlays}
+use Rattle.hda_program.specs.Causes.{HasStoppedUnread}
 use Rattle.hda_program.specs.Promises.{HasPlayedFiles}
 use Rattle.hda_program.specs.Files.{IsHeadOf, IsMachineOf, IsScheduleOf, bytes_before}
 use Rattle.hda_program.specs.Meanings.{Meant}
 use Rattle.hda_program.specs.Rings.{IsRingOf}
 use Rattle.hda_program.proofs.Cases.{Case, ran, said}
+use Rattle.hda_program.proofs.WalkLemmas.{other_first, other_one, other_second}
 
--- a status with which a text alone is meant
-abbrev pub IsRefusal : Status → Type 0
-IsRefusal Done = ⊥
-IsRefusal WordsRefused = Unit {0}
-IsRefusal ShelfFailed = Unit {0}
-IsRefusal SinkFailed = ⊥
-IsRefusal CodecRefused = Unit {0}
-IsRefusal WavRefused = Unit {0}
-IsRefusal ScheduleRefused = Unit {0}
-IsRefusal NothingRouted = Unit {0}
-IsRefusal Unanswered = ⊥
-IsRefusal Late = ⊥
-IsRefusal ScheduleEnded = ⊥
-IsRefusal OutOfMemory = ⊥
-IsRefusal GeometryRefused = Unit {0}
-IsRefusal WavShrank = ⊥
+-- a status with which a text alone is meant: that of a file that could not be read has this cause
+abbrev pub IsRefusal : (Unread : Type 0) → Status → Type 0
+IsRefusal Unread Done = ⊥
+IsRefusal Unread WordsRefused = Unit {0}
+IsRefusal Unread ShelfFailed = Unread
+IsRefusal Unread SinkFailed = ⊥
+IsRefusal Unread CodecRefused = Unit {0}
+IsRefusal Unread WavRefused = Unit {0}
+IsRefusal Unread ScheduleRefused = Unit {0}
+IsRefusal Unread NothingRouted = Unit {0}
+IsRefusal Unread Unanswered = ⊥
+IsRefusal Unread Late = ⊥
+IsRefusal Unread ScheduleEnded = ⊥
+IsRefusal Unread OutOfMemory = ⊥
+IsRefusal Unread GeometryRefused = Unit {0}
+IsRefusal Unread WavShrank = ⊥
 
-module _ (told : Option Files) (failed emptied : List ℕ → Type 0) (gave : ℕ → Type 0) (codec wav name : List ℕ) (periods period : ℕ) (meant : Meant) where
+-- the shelf failed under one of the three names, and none after it was asked for
+abbrev pub UnreadOf : (failed unasked : List ℕ → Type 0) → (codec wav name : List ℕ) → Type 0
+UnreadOf failed unasked codec wav name = HasStoppedUnread failed unasked (codec ∷ wav ∷ name ∷ [])
+
+module _ (told : Option Files) (failed emptied unasked : List ℕ → Type 0) (gave : ℕ → Type 0) (codec wav name : List ℕ) (periods period : ℕ) (meant : Meant) where
   abbrev PlayCase : Type 0
-  PlayCase = Case IsRefusal (HasPlayedFiles told failed emptied gave codec wav name periods period) meant
+  PlayCase = Case (IsRefusal (UnreadOf failed unasked codec wav name)) (HasPlayedFiles told failed emptied gave codec wav name periods period) meant
 
   -- what the files gave at most
   abbrev of_codec : (machine : Machine) → IsMachineOf told codec machine → ℕ → Type 0
@@ -67,6 +73,7 @@ module _ (told : Option Files) (failed emptied : List ℕ → Type 0) (gave : �
         run = run.2;
         cut = run.4;
         reads_little = run.5;
+        reads_frames = run.6;
       }) run.3
 
   of_schedule : (machine : Machine) (head : WavHead) (schedule : Schedule) → (file : IsMachineOf told codec machine) → IsHeadOf told wav head
@@ -77,16 +84,40 @@ module _ (told : Option Files) (failed emptied : List ℕ → Type 0) (gave : �
 
   of_sound : (machine : Machine) (head : WavHead) → (file : IsMachineOf told codec machine) → IsHeadOf told wav head
       → SoundPlays told failed emptied (of_head machine head file) periods period wav machine head name meant → PlayCase
-  of_sound machine head file wav_file (inl (inl stop)) = said ShelfFailed tt _ stop.1
+  of_sound machine head file wav_file (inl (inl stop)) =
+      said ShelfFailed (record {
+        before = codec ∷ wav ∷ [];
+        name = name;
+        after = [];
+        among = refl;
+        unread = stop.0;
+        stopped = λ other within apart. absurd (omega (arith, within.1));
+      }) _ stop.1
   of_sound machine head file wav_file (inl (inr stop)) = said ScheduleRefused tt _ stop.2
   of_sound machine head file wav_file (inr answers) = of_schedule machine head answers.0 file wav_file answers.1 answers.2
 
-  of_machine : (machine : Machine) → (file : IsMachineOf told codec machine) → MachinePlays told failed emptied (of_codec machine file) periods period machine wav name meant → PlayCase
-  of_machine machine file (inl (inl stop)) = said ShelfFailed tt _ stop.1
-  of_machine machine file (inl (inr stop)) = said WavRefused tt _ stop.2
+  of_machine : (machine : Machine) → (file : IsMachineOf told codec machine) → MachinePlays told failed emptied (λ other. other ≢ codec → unasked other) (of_codec machine file) periods period machine wav name meant → PlayCase
+  of_machine machine file (inl (inl stop, alone)) =
+      said ShelfFailed (record {
+        before = codec ∷ [];
+        name = wav;
+        after = name ∷ [];
+        among = refl;
+        unread = stop.0;
+        stopped = λ other within apart. alone other (other_second codec wav other apart) (other_first codec wav other apart);
+      }) _ stop.1
+  of_machine machine file (inl (inr stop, alone)) = said WavRefused tt _ stop.2
   of_machine machine file (inr answers) = of_sound machine answers.0 file answers.1 answers.2
 
-  pub play_cases : PlayAnswers told failed emptied gave codec wav name periods period meant → PlayCase
-  play_cases (inl (inl stop)) = said ShelfFailed tt _ stop.1
-  play_cases (inl (inr stop)) = said CodecRefused tt _ stop.2
+  pub play_cases : PlayAnswers told failed emptied unasked gave codec wav name periods period meant → PlayCase
+  play_cases (inl (inl stop, alone)) =
+      said ShelfFailed (record {
+        before = [];
+        name = codec;
+        after = wav ∷ name ∷ [];
+        among = refl;
+        unread = stop.0;
+        stopped = λ other within apart. alone other (other_one codec other apart);
+      }) _ stop.1
+  play_cases (inl (inr stop, alone)) = said CodecRefused tt _ stop.2
   play_cases (inr answers) = of_machine answers.0 answers.1 answers.2

@@ -14,18 +14,18 @@ use Rattle.hda_program.specs.Files.{bytes_before}
 use Rattle.hda_program.specs.Meanings.{Meant}
 
 -- a cause of a cut
-cut_both : (name : List ℕ) (head : WavHead) (failed emptied both_failed both_emptied : Type 0) (cut : Option CutLine) → (failed → both_failed) → (emptied → both_emptied)
-    → IsCutUnder name head failed emptied cut → IsCutUnder name head both_failed both_emptied cut
-cut_both name head failed emptied both_failed both_emptied None rose more under = tt
-cut_both name head failed emptied both_failed both_emptied (Some (cuts.Failed text)) rose more under = (under.0, rose under.1)
-cut_both name head failed emptied both_failed both_emptied (Some (cuts.Short place)) rose more under = (under.0, more under.1)
+cut_both : (name : List ℕ) (head : WavHead) (read : ℕ) (failed emptied both_failed both_emptied : Type 0) (cut : Option CutLine) → (failed → both_failed) → (emptied → both_emptied)
+    → IsCutUnder name head read failed emptied cut → IsCutUnder name head read both_failed both_emptied cut
+cut_both name head read failed emptied both_failed both_emptied None rose more under = tt
+cut_both name head read failed emptied both_failed both_emptied (Some (cuts.Failed text)) rose more under = (under.0, rose under.1)
+cut_both name head read failed emptied both_failed both_emptied (Some (cuts.Short place)) rose more under = (under.0, more under.1)
 
 module _ (told : Option Files) (failed emptied both_failed both_emptied : List ℕ → Type 0) (meant : Meant) (rose : (n : List ℕ) → failed n → both_failed n) (more : (n : List ℕ) → emptied n → both_emptied n) where
   plans_both : (gave given : ℕ → Type 0) → ((n : ℕ) → gave n → given n) → (wav : List ℕ) (machine : Machine) (head : WavHead) (geometry : Geometry) (schedule : Schedule) (plans : List Plan)
       → PlansPlay told failed emptied gave wav machine head geometry schedule plans meant → PlansPlay told both_failed both_emptied given wav machine head geometry schedule plans meant
   plans_both gave given give wav machine head geometry schedule plans (inl none) = inl none
   plans_both gave given give wav machine head geometry schedule plans (inr run) =
-      inr (run.0, run.1, run.2, run.3, cut_both wav head (failed wav) (emptied wav) (both_failed wav) (both_emptied wav) run.0.cut (rose wav) (more wav) run.4, give _ run.5)
+      inr (run.0, run.1, run.2, run.3, cut_both wav head run.0.read (failed wav) (emptied wav) (both_failed wav) (both_emptied wav) run.0.cut (rose wav) (more wav) run.4, give _ run.5, give _ run.6)
 
   schedule_both : (gave given : ℕ → Type 0) → ((n : ℕ) → gave n → given n) → (periods period : ℕ) (wav : List ℕ) (machine : Machine) (head : WavHead) (schedule : Schedule)
       → SchedulePlays told failed emptied gave periods period wav machine head schedule meant → SchedulePlays told both_failed both_emptied given periods period wav machine head schedule meant
@@ -44,9 +44,12 @@ module _ (told : Option Files) (failed emptied both_failed both_emptied : List �
       → SchedulePlays told failed emptied gave periods period wav machine head schedule meant → SchedulePlays told both_failed both_emptied given periods period wav machine head schedule meant
   SchedulePlays-both = schedule_both
 
-  pub MachinePlays-both : (gave given : ℕ → Type 0) → ((n : ℕ) → gave n → given n) → (periods period : ℕ) (machine : Machine) (wav name : List ℕ)
-      → MachinePlays told failed emptied gave periods period machine wav name meant → MachinePlays told both_failed both_emptied given periods period machine wav name meant
-  MachinePlays-both gave given give periods period machine wav name (inl (inl unread)) = inl (inl (rose wav unread.0, unread.1))
-  MachinePlays-both gave given give periods period machine wav name (inl (inr refused)) = inl (inr refused)
-  MachinePlays-both gave given give periods period machine wav name (inr (head, file, plays)) =
+  pub MachinePlays-both : (unasked both : List ℕ → Type 0) → ((n : List ℕ) → unasked n → both n) → (gave given : ℕ → Type 0) → ((n : ℕ) → gave n → given n)
+      → (periods period : ℕ) (machine : Machine) (wav name : List ℕ)
+      → MachinePlays told failed emptied unasked gave periods period machine wav name meant → MachinePlays told both_failed both_emptied both given periods period machine wav name meant
+  MachinePlays-both unasked both still gave given give periods period machine wav name (inl (inl unread, alone)) =
+      inl (inl (rose wav unread.0, unread.1), λ other apart. still other (alone other apart))
+  MachinePlays-both unasked both still gave given give periods period machine wav name (inl (inr refused, alone)) =
+      inl (inr refused, λ other apart. still other (alone other apart))
+  MachinePlays-both unasked both still gave given give periods period machine wav name (inr (head, file, plays)) =
       inr (head, file, SoundPlays-both (λ n. gave (bytes_before head + n)) (λ n. given (bytes_before head + n)) (λ n g. give (bytes_before head + n) g) periods period wav machine head name plays)

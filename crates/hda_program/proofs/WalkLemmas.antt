@@ -29,11 +29,11 @@ MachineWalks-both told later failed both machine name meant same rose (inr walke
     let P : Option Files → Type 0 = λ files. MachineWalks files both machine name meant in subst P same (inr walked)
 
 -- an answer to a request of the words is meant by them
-pub request_meant : (told : Option Files) (failed emptied : List ℕ → Type 0) (gave : ℕ → Type 0) (words : List (List ℕ)) (asked : Request) (meant : Meant)
-    → request_of words ≡ Some (asked_by asked) → RequestAnswers told failed emptied gave asked meant → IsMeant told failed emptied gave words meant
-request_meant told failed emptied gave words (request.Route codec format) meant is answers = inr (inl (codec.now, format, is, answers))
-request_meant told failed emptied gave words (request.Walk codec schedule) meant is answers = inr (inr (inl (codec.now, schedule.now, is, answers)))
-request_meant told failed emptied gave words (request.Play codec wav schedule periods period) meant is answers =
+pub request_meant : (told : Option Files) (failed emptied unasked : List ℕ → Type 0) (gave : ℕ → Type 0) (words : List (List ℕ)) (asked : Request) (meant : Meant)
+    → request_of words ≡ Some (asked_by asked) → RequestAnswers told failed emptied unasked gave asked meant → IsMeant told failed emptied unasked gave words meant
+request_meant told failed emptied unasked gave words (request.Route codec format) meant is answers = inr (inl (codec.now, format, is, answers))
+request_meant told failed emptied unasked gave words (request.Walk codec schedule) meant is answers = inr (inr (inl (codec.now, schedule.now, is, answers)))
+request_meant told failed emptied unasked gave words (request.Play codec wav schedule periods period) meant is answers =
     inr (inr (inr (codec.now, wav.now, schedule.now, periods, period, is, answers)))
 
 -- a name that the words do not name is none of the request's files

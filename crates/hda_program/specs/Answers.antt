@@ -1,5 +1,5 @@
 -- What the program answers, and how it ends. This project's own.
-use Rattle.std.specs.Prelude.{◌≡◌, ◌⊎◌, ◌+◌, ℕ, true, false, if◌then◌else◌, List, length, Option, None}
+use Rattle.std.specs.Prelude.{◌≡◌, ◌≢◌, ◌⊎◌, ◌+◌, ℕ, true, false, if◌then◌else◌, List, length, Option, None}
 use Rattle.stream_format.specs.declared.format.Format.{Format}
 use Rattle.route_planner.specs.declared.routes.Plan.{Plan}
 use Rattle.hda_words.specs.declared.request.Request.{Request}
@@ -17,8 +17,9 @@ use Rattle.sound_report.specs.PlanLines.{plans_lines}
 use Rattle.sound_report.specs.Statuses.{number_of}
 use Rattle.hda_program.specs.Asks.{IsNoCommand, IsRouteOf, IsWalkOf, IsPlayOf}
 use Rattle.scheduled_runs.specs.Walks.{walk_format, IsWalked}
-use Rattle.scheduled_runs.specs.Plays.{IsCutUnder, IsPlayedFrom, most_read}
-use Rattle.hda_program.specs.Files.{IsMachineOf, IsHeadOf, IsScheduleOf, CodecStops, WavStops, ScheduleStops, bytes_before}
+use Rattle.scheduled_runs.specs.Plays.{IsCutUnder, IsPlayedFrom, most_of_frames, most_read}
+use Rattle.hda_program.specs.Files.{IsMachineOf, IsHeadOf, IsScheduleOf, CodecStops, WavStops, ScheduleStops}
+use Rattle.hda_program.specs.Files.{IsAskedAlone, bytes_before}
 use Rattle.hda_program.specs.Rings.{IsRingOf, RingStops}
 use Rattle.hda_program.specs.Meanings.{Meant, telling, unrouted, of_run}
 use Rattle.machine_tasks.specs.Tasks.{HavePlans}
@@ -32,12 +33,14 @@ abbrev pub plans_meant : List CodecFile → List Plan → Meant
 plans_meant files plans = if have_route plans then telling Done (plans_lines files plans) else unrouted files plans
 
 abbrev pub MachineAnswers : Format → Machine → Meant → Type 0
-MachineAnswers format machine meant = (plans : List Plan) × HavePlans format machine.codecs plans × (meant ≡ plans_meant machine.codecs plans)
+MachineAnswers format machine meant =
+    (plans : List Plan) × HavePlans format machine.codecs plans × (meant ≡ plans_meant machine.codecs plans)
 
 -- it ends at the codec file, or answers for the machine that this reads as
 abbrev pub RouteAnswers : Option Files → (List ℕ → Type 0) → List ℕ → Format → Meant → Type 0
 RouteAnswers told failed name format meant =
-    CodecStops told failed name meant ⊎ ((machine : Machine) × IsMachineOf told name machine × MachineAnswers format machine meant)
+    CodecStops told failed name meant
+    ⊎ ((machine : Machine) × IsMachineOf told name machine × MachineAnswers format machine meant)
 
 -- ---- `walk`
 
@@ -48,28 +51,32 @@ PlansWalk machine schedule plans meant =
     ⊎ ((played : Played) × (have_route plans ≡ true) × IsWalked machine plans schedule played × (meant ≡ of_run played))
 
 abbrev pub ScheduleAnswers : Machine → Schedule → Meant → Type 0
-ScheduleAnswers machine schedule meant = (plans : List Plan) × HavePlans walk_format machine.codecs plans × PlansWalk machine schedule plans meant
+ScheduleAnswers machine schedule meant =
+    (plans : List Plan) × HavePlans walk_format machine.codecs plans × PlansWalk machine schedule plans meant
 
 -- it ends at the schedule, or answers for what this reads as
 abbrev pub MachineWalks : Option Files → (List ℕ → Type 0) → Machine → List ℕ → Meant → Type 0
 MachineWalks told failed machine name meant =
-    ScheduleStops told failed name meant ⊎ ((schedule : Schedule) × IsScheduleOf told name schedule × ScheduleAnswers machine schedule meant)
+    ScheduleStops told failed name meant
+    ⊎ ((schedule : Schedule) × IsScheduleOf told name schedule × ScheduleAnswers machine schedule meant)
 
--- it ends at the codec file, or goes on with the machine that this reads as
-abbrev pub WalkAnswers : Option Files → (List ℕ → Type 0) → List ℕ → List ℕ → Meant → Type 0
-WalkAnswers told failed codec name meant =
-    CodecStops told failed codec meant ⊎ ((machine : Machine) × IsMachineOf told codec machine × MachineWalks told failed machine name meant)
+-- it ends at the codec file and has asked for no other, or goes on with the machine that this reads as
+abbrev pub WalkAnswers : Option Files → (failed unasked : List ℕ → Type 0) → (codec schedule : List ℕ) → Meant → Type 0
+WalkAnswers told failed unasked codec name meant =
+    (CodecStops told failed codec meant × IsAskedAlone unasked codec)
+    ⊎ ((machine : Machine) × IsMachineOf told codec machine × MachineWalks told failed machine name meant)
 
 -- ---- `play`
 
--- what it answers for plans: nothing is run where no pin has a route, and else the sound of the WAV file of this name is played
--- through the ring by the schedule, and read meanwhile
+-- what it answers for plans: nothing is run where no pin has a route, and else the sound of the WAV file of this name
+-- is played through the ring by the schedule, and read meanwhile
 abbrev pub PlansPlay : Option Files → (failed emptied : List ℕ → Type 0) → (gave : ℕ → Type 0) → (wav : List ℕ)
     → Machine → WavHead → Geometry → Schedule → List Plan → Meant → Type 0
 PlansPlay told failed emptied gave wav machine head geometry schedule plans meant =
     ((have_route plans ≡ false) × (meant ≡ unrouted machine.codecs plans))
     ⊎ ((played : Played) × (have_route plans ≡ true) × IsPlayedFrom told wav head machine plans geometry schedule played
-    × (meant ≡ of_run played) × IsCutUnder wav head (failed wav) (emptied wav) played.cut × gave (most_read geometry played))
+    × (meant ≡ of_run played) × IsCutUnder wav head played.read (failed wav) (emptied wav) played.cut
+    × gave (most_read geometry played) × gave (most_of_frames head played.read))
 
 -- the plans are for the sound's format
 abbrev pub RingPlays : Option Files → (failed emptied : List ℕ → Type 0) → (gave : ℕ → Type 0) → (wav : List ℕ)
@@ -92,46 +99,57 @@ abbrev pub SoundPlays : Option Files → (failed emptied : List ℕ → Type 0) 
 SoundPlays told failed emptied gave periods period wav machine head name meant =
     ScheduleStops told failed name meant
     ⊎ ((schedule : Schedule) × (file : IsScheduleOf told name schedule)
-    × SchedulePlays told failed emptied (λ bytes. gave (length file.bytes + bytes)) periods period wav machine head schedule meant)
+    × SchedulePlays told failed emptied (λ bytes. gave (length file.bytes + bytes)) periods period wav machine head
+    schedule meant)
 
--- it ends at the WAV file, or goes on with what this says before its sound
-abbrev pub MachinePlays : Option Files → (failed emptied : List ℕ → Type 0) → (gave : ℕ → Type 0)
+-- it ends at the WAV file and has asked for no other, or goes on with what this says before its sound
+abbrev pub MachinePlays : Option Files → (failed emptied unasked : List ℕ → Type 0) → (gave : ℕ → Type 0)
     → (periods period : ℕ) → Machine → (wav schedule : List ℕ) → Meant → Type 0
-MachinePlays told failed emptied gave periods period machine wav name meant =
-    WavStops told failed wav meant
+MachinePlays told failed emptied unasked gave periods period machine wav name meant =
+    (WavStops told failed wav meant × IsAskedAlone unasked wav)
     ⊎ ((head : WavHead) × IsHeadOf told wav head
-    × SoundPlays told failed emptied (λ bytes. gave (bytes_before head + bytes)) periods period wav machine head name meant)
+    × SoundPlays told failed emptied (λ bytes. gave (bytes_before head + bytes)) periods period wav machine head name
+    meant)
 
--- it ends at the codec file, or goes on with the machine that this reads as
-abbrev pub PlayAnswers : Option Files → (failed emptied : List ℕ → Type 0) → (gave : ℕ → Type 0)
+-- it ends at the codec file and has asked for no other, or goes on with the machine that this reads as
+abbrev pub PlayAnswers : Option Files → (failed emptied unasked : List ℕ → Type 0) → (gave : ℕ → Type 0)
     → (codec wav schedule : List ℕ) → (periods period : ℕ) → Meant → Type 0
-PlayAnswers told failed emptied gave codec wav name periods period meant =
-    CodecStops told failed codec meant
+PlayAnswers told failed emptied unasked gave codec wav name periods period meant =
+    (CodecStops told failed codec meant × IsAskedAlone unasked codec)
     ⊎ ((machine : Machine) × (file : IsMachineOf told codec machine)
-    × MachinePlays told failed emptied (λ bytes. gave (length file.bytes + bytes)) periods period machine wav name meant)
+    × MachinePlays told failed emptied (λ other. other ≢ codec → unasked other)
+    (λ bytes. gave (length file.bytes + bytes))
+    periods period machine wav name meant)
 
 -- ---- all commands
 
 -- what is answered to a request of the words
-abbrev pub RequestAnswers : Option Files → (failed emptied : List ℕ → Type 0) → (gave : ℕ → Type 0) → Request → Meant → Type 0
-RequestAnswers told failed emptied gave (request.Route codec format) meant = RouteAnswers told failed codec.now format meant
-RequestAnswers told failed emptied gave (request.Walk codec schedule) meant = WalkAnswers told failed codec.now schedule.now meant
-RequestAnswers told failed emptied gave (request.Play codec wav schedule periods period) meant =
-    PlayAnswers told failed emptied gave codec.now wav.now schedule.now periods period meant
+abbrev pub RequestAnswers : Option Files → (failed emptied unasked : List ℕ → Type 0) → (gave : ℕ → Type 0) → Request
+    → Meant → Type 0
+RequestAnswers told failed emptied unasked gave (request.Route codec format) meant =
+    RouteAnswers told failed codec.now format meant
+RequestAnswers told failed emptied unasked gave (request.Walk codec schedule) meant =
+    WalkAnswers told failed unasked codec.now schedule.now meant
+RequestAnswers told failed emptied unasked gave (request.Play codec wav schedule periods period) meant =
+    PlayAnswers told failed emptied unasked gave codec.now wav.now schedule.now periods period meant
 
--- what the program answers to its words, where the shelf told these files, failed under some names, answered under some with no
--- byte, and gave no more than some numbers of bytes
-abbrev pub IsMeant : Option Files → (failed emptied : List ℕ → Type 0) → (gave : ℕ → Type 0) → List (List ℕ) → Meant → Type 0
-IsMeant told failed emptied gave words meant =
+-- what the program answers to its words, where the shelf told these files, failed under some names, answered under some
+-- with no byte, was not asked under some, and gave no more than some numbers of bytes
+abbrev pub IsMeant : Option Files → (failed emptied unasked : List ℕ → Type 0) → (gave : ℕ → Type 0) → List (List ℕ)
+    → Meant → Type 0
+IsMeant told failed emptied unasked gave words meant =
     (IsNoCommand words × (meant ≡ telling WordsRefused usage_line))
     ⊎ (((name : List ℕ) × (format : Format) × IsRouteOf words name format × RouteAnswers told failed name format meant)
-    ⊎ (((codec : List ℕ) × (name : List ℕ) × IsWalkOf words codec name × WalkAnswers told failed codec name meant)
-    ⊎ ((codec : List ℕ) × (wav : List ℕ) × (name : List ℕ) × (periods : ℕ) × (period : ℕ) × IsPlayOf words codec wav name periods period
-    × PlayAnswers told failed emptied gave codec wav name periods period meant)))
+    ⊎ (((codec : List ℕ) × (name : List ℕ) × IsWalkOf words codec name
+    × WalkAnswers told failed unasked codec name meant)
+    ⊎ ((codec : List ℕ) × (wav : List ℕ) × (name : List ℕ) × (periods : ℕ) × (period : ℕ)
+    × IsPlayOf words codec wav name periods period
+    × PlayAnswers told failed emptied unasked gave codec wav name periods period meant)))
 
 -- ---- the end
 
--- the text was written whole and the status is its own; or the sink failed or memory was wanting, and the sink took the front
+-- the text was written whole and the status is its own; or the sink failed or memory was wanting, and the sink took the
+-- front
 abbrev pub HasWritten : Option (List ℕ) → Option (List ℕ) → Type 0 → Meant → ℕ → Type 0
 HasWritten before after sink_failed meant status =
     ((status ≡ number_of meant.status) × (after ≡ taken_with before meant.text))
@@ -139,26 +157,32 @@ HasWritten before after sink_failed meant status =
     ⊎ ((status ≡ number_of OutOfMemory) × TookFront before after meant.text))
 
 -- something that can be meant was written so, and its run is given, if it has one
-pub record HasAnswered (CanMean : Meant → Type 0) (before after : Option (List ℕ)) (sink_failed : Type 0) (play : Option Played) (status : ℕ) : Type 0 where
+pub record HasAnswered (CanMean : Meant → Type 0) (before after : Option (List ℕ)) (sink_failed : Type 0)
+    (play : Option Played) (status : ℕ) : Type 0 where
   pub meant : Meant
   pub is : CanMean meant
   pub given : play ≡ meant.play
   pub written : HasWritten before after sink_failed meant status
 
--- it has answered with something that can be meant, or memory was wanting before anything was meant, and nothing was written
+-- it has answered with something that can be meant, or memory was wanting before anything was meant, and nothing was
+-- written
 abbrev pub HasEndedWith : (Meant → Type 0) → Option (List ℕ) → Option (List ℕ) → Type 0 → Option Played → ℕ → Type 0
 HasEndedWith CanMean before after sink_failed play status =
     HasAnswered CanMean before after sink_failed play status
     ⊎ ((status ≡ number_of OutOfMemory) × (play ≡ None) × (after ≡ before))
 
 -- the program has ended so, with what it answers to its words
-abbrev pub HasEnded : Option Files → (failed emptied : List ℕ → Type 0) → (gave : ℕ → Type 0) → (words : List (List ℕ))
+abbrev pub HasEnded : Option Files → (failed emptied unasked : List ℕ → Type 0) → (gave : ℕ → Type 0)
+    → (words : List (List ℕ))
     → (before after : Option (List ℕ)) → (sink_failed : Type 0) → Option Played → (status : ℕ) → Type 0
-HasEnded told failed emptied gave words before after sink_failed play status =
-    HasEndedWith (IsMeant told failed emptied gave words) before after sink_failed play status
+HasEnded told failed emptied unasked gave words before after sink_failed play status =
+    HasEndedWith (IsMeant told failed emptied unasked gave words) before after sink_failed play status
 
 -- it has ended so, with what `play` answers for the files of these names and a ring of these numbers
-abbrev pub HasEndedPlay : Option Files → (failed emptied : List ℕ → Type 0) → (gave : ℕ → Type 0) → (codec wav schedule : List ℕ)
-    → (periods period : ℕ) → (before after : Option (List ℕ)) → (sink_failed : Type 0) → Option Played → (status : ℕ) → Type 0
-HasEndedPlay told failed emptied gave codec wav name periods period before after sink_failed play status =
-    HasEndedWith (PlayAnswers told failed emptied gave codec wav name periods period) before after sink_failed play status
+abbrev pub HasEndedPlay : Option Files → (failed emptied unasked : List ℕ → Type 0) → (gave : ℕ → Type 0)
+    → (codec wav schedule : List ℕ)
+    → (periods period : ℕ) → (before after : Option (List ℕ)) → (sink_failed : Type 0) → Option Played → (status : ℕ)
+    → Type 0
+HasEndedPlay told failed emptied unasked gave codec wav name periods period before after sink_failed play status =
+    HasEndedWith (PlayAnswers told failed emptied unasked gave codec wav name periods period) before after sink_failed
+    play status

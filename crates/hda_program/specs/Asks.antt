@@ -9,13 +9,15 @@ IsNoCommand words = request_of words ≡ None
 
 -- the words ask for the routes of the codec file of this name, for this format
 abbrev pub IsRouteOf : List (List ℕ) → List ℕ → Format → Type 0
-IsRouteOf words name format = request_of words ≡ Some (route name (hertz format.rate) (bits_of format.bits) format.channels)
+IsRouteOf words name format =
+    request_of words ≡ Some (route name (hertz format.rate) (bits_of format.bits) format.channels)
 
 -- the words ask for a walk over the codecs of the first file, by the schedule of the second
 abbrev pub IsWalkOf : List (List ℕ) → List ℕ → List ℕ → Type 0
 IsWalkOf words codec schedule = request_of words ≡ Some (walk codec schedule)
 
--- the words ask for the sound of the second file, through the codecs of the first, by the schedule of the third, and a ring of these numbers
+-- the words ask for the sound of the second file, through the codecs of the first, by the schedule of the third, and a
+-- ring of these numbers
 abbrev pub IsPlayOf : List (List ℕ) → (codec wav schedule : List ℕ) → (periods period : ℕ) → Type 0
 IsPlayOf words codec wav schedule periods period = request_of words ≡ Some (play codec wav schedule periods period)
 

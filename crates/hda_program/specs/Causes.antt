@@ -1,5 +1,6 @@
 -- The causes of single statuses, and when a run is given. This project's own.
-use Rattle.std.specs.Prelude.{◌≡◌, ◌⊎◌, ℕ, Bool, List, Option, Some, None, string_bytes}
+use Rattle.std.specs.List.{Contains}
+use Rattle.std.specs.Prelude.{◌≡◌, ◌⊎◌, ◌++◌, ◌∷◌, [], ℕ, Bool, List, Option, Some, None, string_bytes}
 use Rattle.stream_format.specs.declared.format.Format.{Format}
 use Rattle.route_planner.specs.declared.routes.Plan.{Plan}
 use Rattle.hda_files.specs.declared.machine.Machine.{Machine}
@@ -10,11 +11,14 @@ use Rattle.wav_reader.specs.declared.opened.WavHead.{WavHead}
 use Rattle.sound_report.specs.declared.played.Played.{Played}
 use Rattle.sound_report.specs.declared.played.CutLine.{CutLine}
 use Rattle.sound_report.specs.declared.played.CutLine.TheVariants as cuts
-use Rattle.sound_report.specs.declared.status.Status.TheVariants.{Done, WordsRefused, CodecRefused, WavRefused, ScheduleRefused, NothingRouted, Unanswered, Late, ScheduleEnded, GeometryRefused, WavShrank}
+use Rattle.sound_report.specs.declared.status.Status.TheVariants.{Done, WordsRefused, CodecRefused, WavRefused}
+use Rattle.sound_report.specs.declared.status.Status.TheVariants.{ScheduleRefused, NothingRouted, Unanswered, Late}
+use Rattle.sound_report.specs.declared.status.Status.TheVariants.{ScheduleEnded, GeometryRefused, WavShrank}
 use Rattle.sound_report.specs.Statuses.{number_of}
 use Rattle.hda_program.specs.Asks.{Names, NamesCodecFile, IsRouteOf, IsWalkOf, IsPlayOf}
 use Rattle.scheduled_runs.specs.Walks.{walk_format}
-use Rattle.hda_program.specs.Files.{IsMachineOf, IsHeadOf, IsScheduleOf, IsCodecRefused, IsWavRefused, IsScheduleRefused}
+use Rattle.hda_program.specs.Files.{IsMachineOf, IsHeadOf, IsScheduleOf, IsCodecRefused, IsWavRefused}
+use Rattle.hda_program.specs.Files.{IsScheduleRefused}
 use Rattle.hda_program.specs.Rings.{IsBadRing}
 use Rattle.machine_tasks.specs.Tasks.{HavePlans}
 use Rattle.codec_agenda.specs.Planned.{have_route}
@@ -23,12 +27,23 @@ use Rattle.codec_agenda.specs.Planned.{have_route}
 abbrev pub HasUnreadFile : (List ℕ → Type 0) → List (List ℕ) → Type 0
 HasUnreadFile failed words = (name : List ℕ) × Names words name × failed name
 
+-- the shelf failed under one of these names, and none after it was asked for, unless it is one of those before
+pub record HasStoppedUnread (failed unasked : List ℕ → Type 0) (names : List (List ℕ)) : Type 0 where
+  pub before : List (List ℕ)
+  pub name : List ℕ
+  pub after : List (List ℕ)
+  pub among : names ≡ before ++ name ∷ after
+  pub unread : failed name
+  pub stopped : (other : List ℕ) → Contains after other → (Contains (before ++ name ∷ []) other → ⊥) → unasked other
+
 -- the words name a codec file that is too long, or whose bytes read as a fault
 abbrev pub HasBadCodecFile : Option Files → List (List ℕ) → Type 0
-HasBadCodecFile told words = (name : List ℕ) × (text : List ℕ) × NamesCodecFile words name × IsCodecRefused told name text
+HasBadCodecFile told words =
+    (name : List ℕ) × (text : List ℕ) × NamesCodecFile words name × IsCodecRefused told name text
 
 -- the words ask for a sound by the schedule of the second name, and their WAV file says this before it
-pub record WantsSound (told : Option Files) (words : List (List ℕ)) (codec_name schedule_name : List ℕ) (head : WavHead) : Type 0 where
+pub record WantsSound (told : Option Files) (words : List (List ℕ)) (codec_name schedule_name : List ℕ) (head : WavHead)
+    : Type 0 where
   pub wav_name : List ℕ
   pub periods : ℕ
   pub period : ℕ
@@ -37,14 +52,17 @@ pub record WantsSound (told : Option Files) (words : List (List ℕ)) (codec_nam
 
 -- the words want a run by the schedule of the second name: a walk, or a sound
 abbrev pub WantsRun : Option Files → List (List ℕ) → (codec_name schedule_name : List ℕ) → Type 0
-WantsRun told words codec_name schedule_name = IsWalkOf words codec_name schedule_name ⊎ ((head : WavHead) × WantsSound told words codec_name schedule_name head)
+WantsRun told words codec_name schedule_name =
+    IsWalkOf words codec_name schedule_name
+    ⊎ ((head : WavHead) × WantsSound told words codec_name schedule_name head)
 
 -- the words want plans of the codec file of this name, for this format: a sound for its own
 abbrev pub WantsPlans : Option Files → List (List ℕ) → (codec_name : List ℕ) → Format → Type 0
 WantsPlans told words codec_name format =
     IsRouteOf words codec_name format
     ⊎ (((schedule_name : List ℕ) × IsWalkOf words codec_name schedule_name × (format ≡ walk_format))
-    ⊎ ((schedule_name : List ℕ) × (head : WavHead) × WantsSound told words codec_name schedule_name head × (format ≡ head.format)))
+    ⊎ ((schedule_name : List ℕ) × (head : WavHead) × WantsSound told words codec_name schedule_name head
+    × (format ≡ head.format)))
 
 -- the words name a codec file that reads as a machine, and a WAV file that is too long, or has a fault before its sound
 pub record HasBadWav (told : Option Files) (words : List (List ℕ)) : Type 0 where
@@ -59,8 +77,8 @@ pub record HasBadWav (told : Option Files) (words : List (List ℕ)) : Type 0 wh
   pub codec_file : IsMachineOf told codec_name machine
   pub refused : IsWavRefused told wav_name text
 
--- the words name a codec file that reads as a machine, for a sound a WAV file that says it, and a schedule that is too long, or
--- whose bytes read as a fault
+-- the words name a codec file that reads as a machine, for a sound a WAV file that says it, and a schedule that is too
+-- long, or whose bytes read as a fault
 pub record HasBadSchedule (told : Option Files) (words : List (List ℕ)) : Type 0 where
   pub codec_name : List ℕ
   pub schedule_name : List ℕ
@@ -70,7 +88,8 @@ pub record HasBadSchedule (told : Option Files) (words : List (List ℕ)) : Type
   pub codec_file : IsMachineOf told codec_name machine
   pub refused : IsScheduleRefused told schedule_name text
 
--- the words name files that read as a machine and a schedule, and one that says a sound, and the ring of their numbers has a fault
+-- the words name files that read as a machine and a schedule, and one that says a sound, and the ring of their numbers
+-- has a fault
 pub record HasBadRing (told : Option Files) (words : List (List ℕ)) : Type 0 where
   pub codec_name : List ℕ
   pub wav_name : List ℕ

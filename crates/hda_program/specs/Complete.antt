@@ -15,9 +15,10 @@ use Rattle.hda_program.specs.Causes.{IsOfPlay, IsOfWalk}
 use Rattle.hda_program.specs.Files.{IsHeadIn, IsMachineOf, IsScheduleOf}
 use Rattle.codec_agenda.specs.Planned.{have_route}
 
--- the shelf tells its files and failed under none of the three names. The files read as a machine and a schedule, and say a sound;
--- the ring of these numbers has no fault, and some pin has a route for the sound's format
-pub record CanPlay (told : Option Files) (failed : List ℕ → Type 0) (codec_name wav_name schedule_name : List ℕ) (periods period : ℕ) : Type 0 where
+-- the shelf tells its files and failed under none of the three names. The files read as a machine and a schedule, and
+-- say a sound; the ring of these numbers has no fault, and some pin has a route for the sound's format
+pub record CanPlay (told : Option Files) (failed : List ℕ → Type 0) (codec_name wav_name schedule_name : List ℕ)
+    (periods period : ℕ) : Type 0 where
   pub files : Files
   pub machine : Machine
   pub head : WavHead
@@ -34,19 +35,21 @@ pub record CanPlay (told : Option Files) (failed : List ℕ → Type 0) (codec_n
   pub planned : HavePlans head.format machine.codecs plans
   pub routed : have_route plans ≡ true
 
--- the shelf tells its files and did not fail under this name, whose file reads as a machine, and some pin has a route for the format
-pub record CanRoute (told : Option Files) (failed : List ℕ → Type 0) (codec_name : List ℕ) (format : Format) : Type 0 where
-  pub files : Files
-  pub machine : Machine
-  pub plans : List Plan
-  pub tells : told ≡ Some files
-  pub codec_given : failed codec_name → ⊥
-  pub codec_file : IsMachineOf (Some files) codec_name machine
-  pub planned : HavePlans format machine.codecs plans
-  pub routed : have_route plans ≡ true
+-- the shelf tells its files and did not fail under this name, whose file reads as a machine, and some pin has a route
+-- for the format
+pub record CanRoute (told : Option Files) (failed : List ℕ → Type 0) (codec_name : List ℕ) (format : Format) : Type 0
+  where
+    pub files : Files
+    pub machine : Machine
+    pub plans : List Plan
+    pub tells : told ≡ Some files
+    pub codec_given : failed codec_name → ⊥
+    pub codec_file : IsMachineOf (Some files) codec_name machine
+    pub planned : HavePlans format machine.codecs plans
+    pub routed : have_route plans ≡ true
 
--- the shelf tells its files and failed under neither name, whose files read as a machine and a schedule, and some pin has a route for the
--- format of walks
+-- the shelf tells its files and failed under neither name, whose files read as a machine and a schedule, and some pin
+-- has a route for the format of walks
 pub record CanWalk (told : Option Files) (failed : List ℕ → Type 0) (codec_name schedule_name : List ℕ) : Type 0 where
   pub files : Files
   pub machine : Machine

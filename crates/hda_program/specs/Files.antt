@@ -1,5 +1,6 @@
 -- What the files that the words name come to. This project's own.
-use Rattle.std.specs.Prelude.{◌≡◌, ◌≢◌, ◌⊎◌, ◌<◌, ◌≤◌, ◌+◌, ◌*◌, ℕ, List, length, Option, Some, None, Result, Ok, Err, codes}
+use Rattle.std.specs.Prelude.{◌≡◌, ◌≢◌, ◌⊎◌, ◌<◌, ◌≤◌, ◌+◌, ◌*◌, ℕ, List, length, Option, Some, None, Result, Ok, Err}
+use Rattle.std.specs.Prelude.{codes}
 use Rattle.hda_outside.specs.Counts.{Rose}
 use Rattle.hda_outside.specs.Shelf.{Files, file_of}
 use Rattle.hda_files.specs.declared.machine.Machine.{Machine}
@@ -17,11 +18,13 @@ use Rattle.wav_reader.specs.declared.opened.WavHead.{WavHead}
 use Rattle.wav_reader.specs.Heads.{frame_length, head_of}
 use Rattle.wav_reader.specs.Opening.{head_in_file, most_wav_bytes}
 use Rattle.sound_report.specs.declared.status.Status.{Status}
-use Rattle.sound_report.specs.declared.status.Status.TheVariants.{ShelfFailed, CodecRefused, WavRefused, ScheduleRefused}
+use Rattle.sound_report.specs.declared.status.Status.TheVariants.{ShelfFailed, CodecRefused, WavRefused}
+use Rattle.sound_report.specs.declared.status.Status.TheVariants.{ScheduleRefused}
 use Rattle.hda_program.specs.declared.message.Message.{Message}
 use Rattle.hda_program.specs.Meanings.{Meant, telling, message_meant}
 use Rattle.sound_report.specs.Texts.{unreadable_line}
-use Rattle.hda_program.specs.Text.{fault_text, wav_fault_text, schedule_fault_text, codec_refused_line, wav_refused_line, schedule_refused_line}
+use Rattle.hda_program.specs.Text.{fault_text, wav_fault_text, schedule_fault_text, codec_refused_line}
+use Rattle.hda_program.specs.Text.{wav_refused_line, schedule_refused_line}
 
 -- how long a codec file and a schedule may be
 abbrev pub most_codec_bytes : ℕ
@@ -53,6 +56,14 @@ FailedUnder before after name = Rose (before name) (after name)
 abbrev pub EmptiedUnder : (before after : List ℕ → ℕ) → List ℕ → Type 0
 EmptiedUnder before after name = Rose (before name) (after name)
 
+-- or it was not asked under it
+abbrev pub UnaskedUnder : (before after : List ℕ → ℕ) → List ℕ → Type 0
+UnaskedUnder before after name = after name ≡ before name
+
+-- of all names it was asked under this alone
+abbrev pub IsAskedAlone : (unasked : List ℕ → Type 0) → (name : List ℕ) → Type 0
+IsAskedAlone unasked name = (other : List ℕ) → other ≢ name → unasked other
+
 -- between two counts of the bytes that it gave, it gave no more than so many
 abbrev pub GivenAtMost : (before after bytes : ℕ) → Type 0
 GivenAtMost before after bytes = after ≤ before + bytes
@@ -61,14 +72,17 @@ GivenAtMost before after bytes = after ≤ before + bytes
 abbrev pub IsUnread : (List ℕ → Type 0) → List ℕ → Meant → Type 0
 IsUnread failed name meant = failed name × (meant ≡ telling ShelfFailed (unreadable_line name))
 
--- a file that may have so many bytes at most is refused: it is too long, or its bytes read as a fault; the text says which
-abbrev pub IsRefused : (most : ℕ) → (IsFault : (bytes text : List ℕ) → Type 0) → Option Files → (name text : List ℕ) → Type 0
+-- a file that may have so many bytes at most is refused: it is too long, or its bytes read as a fault; the text says
+-- which
+abbrev pub IsRefused : (most : ℕ) → (IsFault : (bytes text : List ℕ) → Type 0) → Option Files → (name text : List ℕ)
+    → Type 0
 IsRefused most IsFault told name text =
     (IsLonger most told name × (text ≡ codes "TooLong"))
     ⊎ ((bytes : List ℕ) × IsShortFile most told name bytes × IsFault bytes text)
 
 -- a command ends at a file: the shelf failed, or the file is refused, with this status and a line of this kind
-abbrev pub StopsAt : (IsRefusedAs : (text : List ℕ) → Type 0) → Status → (line : List ℕ → List ℕ) → (failed : List ℕ → Type 0)
+abbrev pub StopsAt : (IsRefusedAs : (text : List ℕ) → Type 0) → Status → (line : List ℕ → List ℕ)
+    → (failed : List ℕ → Type 0)
     → (name : List ℕ) → Meant → Type 0
 StopsAt IsRefusedAs status line failed name meant =
     IsUnread failed name meant ⊎ ((text : List ℕ) × IsRefusedAs text × (meant ≡ telling status (line text)))
@@ -94,8 +108,10 @@ IsCodecRefused told name text = IsRefused most_codec_bytes IsCodecFault told nam
 abbrev pub CodecStops : Option Files → (List ℕ → Type 0) → (name : List ℕ) → Meant → Type 0
 CodecStops told failed name meant = StopsAt (IsCodecRefused told name) CodecRefused codec_refused_line failed name meant
 
--- what reading the codec file gives: a sound machine, where no more bytes were given than the file has, or the end of the command
-abbrev pub IsCodecRead : Option Files → (failed : List ℕ → Type 0) → (gave : ℕ → Type 0) → List ℕ → Result Machine Message → Type 0
+-- what reading the codec file gives: a sound machine, where no more bytes were given than the file has, or the end of
+-- the command
+abbrev pub IsCodecRead : Option Files → (failed : List ℕ → Type 0) → (gave : ℕ → Type 0) → List ℕ
+    → Result Machine Message → Type 0
 IsCodecRead told failed gave name (Ok machine) =
     (file : IsMachineOf told name machine) × IsSound machine × gave (length file.bytes)
 IsCodecRead told failed gave name (Err message) = CodecStops told failed name (message_meant message)
@@ -103,7 +119,8 @@ IsCodecRead told failed gave name (Err message) = CodecStops told failed name (m
 -- what its bytes give
 abbrev pub AreCodecBytesRead : List ℕ → Result Machine Message → Type 0
 AreCodecBytesRead bytes (Ok machine) = Reads bytes (Ok machine) × IsSound machine
-AreCodecBytesRead bytes (Err message) = (text : List ℕ) × IsCodecFault bytes text × (message_meant message ≡ telling CodecRefused (codec_refused_line text))
+AreCodecBytesRead bytes (Err message) = (text : List ℕ) × IsCodecFault bytes text
+    × (message_meant message ≡ telling CodecRefused (codec_refused_line text))
 
 -- ---- the WAV file
 
@@ -156,7 +173,8 @@ abbrev pub bytes_before : WavHead → ℕ
 bytes_before head = head.from + 64
 
 -- what opening the WAV file gives: what it says before its sound, of which no byte was given, or the end of the command
-abbrev pub IsWavOpened : Option Files → (failed : List ℕ → Type 0) → (gave : ℕ → Type 0) → List ℕ → Result WavHead Message → Type 0
+abbrev pub IsWavOpened : Option Files → (failed : List ℕ → Type 0) → (gave : ℕ → Type 0) → List ℕ
+    → Result WavHead Message → Type 0
 IsWavOpened told failed gave name (Ok head) = IsHeadOf told name head × gave (bytes_before head)
 IsWavOpened told failed gave name (Err message) = WavStops told failed name (message_meant message)
 
@@ -178,15 +196,18 @@ abbrev pub IsScheduleRefused : Option Files → (name text : List ℕ) → Type 
 IsScheduleRefused told name text = IsRefused most_schedule_bytes IsScheduleFault told name text
 
 abbrev pub ScheduleStops : Option Files → (List ℕ → Type 0) → (name : List ℕ) → Meant → Type 0
-ScheduleStops told failed name meant = StopsAt (IsScheduleRefused told name) ScheduleRefused schedule_refused_line failed name meant
+ScheduleStops told failed name meant = StopsAt (IsScheduleRefused told name) ScheduleRefused schedule_refused_line
+    failed name meant
 
 -- a schedule as it is read keeps its ranges and limits
 pub record IsGoodSchedule (schedule : Schedule) : Type 0 where
   pub ranges : IsInRange schedule
   pub limits : IsLimited schedule
 
--- what reading the schedule gives: a schedule, where no more bytes were given than the file has, or the end of the command
-abbrev pub IsScheduleRead : Option Files → (failed : List ℕ → Type 0) → (gave : ℕ → Type 0) → List ℕ → Result Schedule Message → Type 0
+-- what reading the schedule gives: a schedule, where no more bytes were given than the file has, or the end of the
+-- command
+abbrev pub IsScheduleRead : Option Files → (failed : List ℕ → Type 0) → (gave : ℕ → Type 0) → List ℕ
+    → Result Schedule Message → Type 0
 IsScheduleRead told failed gave name (Ok schedule) =
     (file : IsScheduleOf told name schedule) × IsGoodSchedule schedule × gave (length file.bytes)
 IsScheduleRead told failed gave name (Err message) = ScheduleStops told failed name (message_meant message)
@@ -195,4 +216,5 @@ IsScheduleRead told failed gave name (Err message) = ScheduleStops told failed n
 abbrev pub AreScheduleBytesRead : List ℕ → Result Schedule Message → Type 0
 AreScheduleBytesRead bytes (Ok schedule) = (schedule_of bytes ≡ Ok schedule) × IsGoodSchedule schedule
 AreScheduleBytesRead bytes (Err message) =
-    (text : List ℕ) × IsScheduleFault bytes text × (message_meant message ≡ telling ScheduleRefused (schedule_refused_line text))
+    (text : List ℕ) × IsScheduleFault bytes text
+    × (message_meant message ≡ telling ScheduleRefused (schedule_refused_line text))

@@ -1,4 +1,5 @@
--- What a command comes to: a status and a text, and the run of the driver that it made, if it made one. This project's own.
+-- What a command comes to: a status and a text, and the run of the driver that it made, if it made one. This project's
+-- own.
 use Rattle.std.specs.Prelude.{ℕ, List, ◌++◌, string_bytes, Option, Some, None, Result, Ok, Err}
 use Rattle.route_planner.specs.declared.routes.Plan.{Plan}
 use Rattle.hda_files.specs.declared.machine.CodecFile.{CodecFile}
@@ -10,7 +11,9 @@ use Rattle.sound_report.specs.declared.played.PlayFault.TheVariants as fault
 use Rattle.sound_report.specs.declared.played.CutLine.{CutLine}
 use Rattle.sound_report.specs.declared.played.CutLine.TheVariants as cuts
 use Rattle.sound_report.specs.declared.status.Status.{Status}
-use Rattle.sound_report.specs.declared.status.Status.TheVariants.{Done, ShelfFailed, SinkFailed, NothingRouted, Unanswered, Late, ScheduleEnded, OutOfMemory, WavShrank}
+use Rattle.sound_report.specs.declared.status.Status.TheVariants.{Done, ShelfFailed, SinkFailed, NothingRouted}
+use Rattle.sound_report.specs.declared.status.Status.TheVariants.{Unanswered, Late, ScheduleEnded, OutOfMemory}
+use Rattle.sound_report.specs.declared.status.Status.TheVariants.{WavShrank}
 use Rattle.sound_report.specs.PlanLines.{plans_lines}
 use Rattle.sound_report.specs.Texts.{text_of}
 use Rattle.hda_program.specs.declared.message.Message.{Message}

@@ -1,4 +1,5 @@
--- The promises of `walk` and of `play`: what the run is that is given, part by part, and the text that was written of it. This project's own.
+-- The promises of `walk` and of `play`: what the run is that is given, part by part, and the text that was written of
+-- it. This project's own.
 use Rattle.std.specs.Prelude.{◌≡◌, ◌⊎◌, ◌+◌, ℕ, true, List, length, Option}
 use Rattle.route_planner.specs.declared.routes.Plan.{Plan}
 use Rattle.hda_files.specs.declared.machine.Machine.{Machine}
@@ -9,7 +10,7 @@ use Rattle.wav_reader.specs.declared.opened.WavHead.{WavHead}
 use Rattle.sound_report.specs.declared.played.Played.{Played}
 use Rattle.hda_program.specs.Asks.{IsWalkOf, IsPlayOf}
 use Rattle.scheduled_runs.specs.Walks.{walk_format, IsWalked}
-use Rattle.scheduled_runs.specs.Plays.{IsCutUnder, IsPlayedFrom, most_read}
+use Rattle.scheduled_runs.specs.Plays.{IsCutUnder, IsPlayedFrom, most_of_frames, most_read}
 use Rattle.hda_program.specs.Files.{IsMachineOf, IsHeadOf, IsScheduleOf, bytes_before}
 use Rattle.hda_program.specs.Rings.{IsRingOf}
 use Rattle.hda_program.specs.Answers.{HasWritten}
@@ -17,7 +18,8 @@ use Rattle.hda_program.specs.Meanings.{of_run}
 use Rattle.machine_tasks.specs.Tasks.{HavePlans}
 use Rattle.codec_agenda.specs.Planned.{have_route}
 
--- the run is that for which the words ask: of the machine that their codec file reads as, with its plans, by their schedule
+-- the run is that for which the words ask: of the machine that their codec file reads as, with its plans, by their
+-- schedule
 pub record HasWalked (told : Option Files) (words : List (List ℕ)) (played : Played) : Type 0 where
   pub codec_name : List ℕ
   pub schedule_name : List ℕ
@@ -33,8 +35,8 @@ pub record HasWalked (told : Option Files) (words : List (List ℕ)) (played : P
   -- one history, progress, open routes, and how it ended
   pub run : IsWalked machine plans schedule played
 
--- the run is that of the sound of the WAV file of the second name, through the machine that the codec file of the first reads as
--- and a ring of these numbers, with the plans for that sound, by the schedule of the third
+-- the run is that of the sound of the WAV file of the second name, through the machine that the codec file of the first
+-- reads as and a ring of these numbers, with the plans for that sound, by the schedule of the third
 pub record HasPlayedFiles (told : Option Files) (failed emptied : List ℕ → Type 0) (gave : ℕ → Type 0)
     (codec_name wav_name schedule_name : List ℕ) (periods period : ℕ) (played : Played) : Type 0 where
   pub machine : Machine
@@ -42,8 +44,8 @@ pub record HasPlayedFiles (told : Option Files) (failed emptied : List ℕ → T
   pub schedule : Schedule
   pub geometry : Geometry
   pub plans : List Plan
-  -- the input: what the codec file and the schedule read as, what the WAV file says before its sound, the ring, and the plans of the
-  -- machine's codecs, of which some has a route
+  -- the input: what the codec file and the schedule read as, what the WAV file says before its sound, the ring, and the
+  -- plans of the machine's codecs, of which some has a route
   pub codec_file : IsMachineOf told codec_name machine
   pub wav_file : IsHeadOf told wav_name head
   pub schedule_file : IsScheduleOf told schedule_name schedule
@@ -53,12 +55,18 @@ pub record HasPlayedFiles (told : Option Files) (failed emptied : List ℕ → T
   -- the sound that was read, one history, progress, open routes, the runs of the ring, what was heard, and how it ended
   pub run : IsPlayedFrom told wav_name head machine plans geometry schedule played
   -- why the reading of the sound was cut, where it was
-  pub cut : IsCutUnder wav_name head (failed wav_name) (emptied wav_name) played.cut
-  -- no more bytes were given than the codec file and the schedule have, than stand before the sound, and than its playing takes
-  pub reads_little : gave (length codec_file.bytes + (bytes_before head + (length schedule_file.bytes + most_read geometry played)))
+  pub cut : IsCutUnder wav_name head played.read (failed wav_name) (emptied wav_name) played.cut
+  -- no more bytes were given than the codec file and the schedule have, than stand before the sound, and than its
+  -- playing takes
+  pub reads_little : gave (
+      length codec_file.bytes + (bytes_before head + (length schedule_file.bytes + most_read geometry played)))
+  -- of the sound no more than the frames that were read, and at a cut a part of one more
+  pub reads_frames : gave (
+      length codec_file.bytes + (bytes_before head + (length schedule_file.bytes + most_of_frames head played.read)))
 
 -- the run is that for which the words ask: of the files that they name, and the ring of their numbers
-pub record HasPlayed (told : Option Files) (failed emptied : List ℕ → Type 0) (gave : ℕ → Type 0) (words : List (List ℕ))
+pub record HasPlayed (told : Option Files) (failed emptied : List ℕ → Type 0) (gave : ℕ → Type 0)
+    (words : List (List ℕ))
     (played : Played) : Type 0 where
   pub codec_name : List ℕ
   pub wav_name : List ℕ
@@ -69,11 +77,14 @@ pub record HasPlayed (told : Option Files) (failed emptied : List ℕ → Type 0
   pub files : HasPlayedFiles told failed emptied gave codec_name wav_name schedule_name periods period played
 
 -- the run is the walk for which the words ask, or the play
-abbrev pub HasRun : Option Files → (failed emptied : List ℕ → Type 0) → (gave : ℕ → Type 0) → List (List ℕ) → Played → Type 0
-HasRun told failed emptied gave words played = HasWalked told words played ⊎ HasPlayed told failed emptied gave words played
+abbrev pub HasRun : Option Files → (failed emptied : List ℕ → Type 0) → (gave : ℕ → Type 0) → List (List ℕ) → Played
+    → Type 0
+HasRun told failed emptied gave words played = HasWalked told words played
+    ⊎ HasPlayed told failed emptied gave words played
 
--- the promise of a run: it is the one that was asked for, and its report was written whole, with the status of its end, or its front at the status of
--- a fault of the sink or of want of memory
-pub record KeepsPromise (IsRun : Played → Type 0) (before after : Option (List ℕ)) (sink_failed : Type 0) (status : ℕ) (played : Played) : Type 0 where
+-- the promise of a run: it is the one that was asked for, and its report was written whole, with the status of its end,
+-- or its front at the status of a fault of the sink or of want of memory
+pub record KeepsPromise (IsRun : Played → Type 0) (before after : Option (List ℕ)) (sink_failed : Type 0) (status : ℕ)
+    (played : Played) : Type 0 where
   pub run : IsRun played
   pub text : HasWritten before after sink_failed (of_run played) status

@@ -21,4 +21,5 @@ IsBadRing periods period machine head fault = fault_of periods period machine.fi
 -- a command ends at its ring, whose fault the text names
 abbrev pub RingStops : (periods period : ℕ) → Machine → WavHead → Meant → Type 0
 RingStops periods period machine head meant =
-    (fault : GeometryFault) × IsBadRing periods period machine head fault × (meant ≡ telling GeometryRefused (geometry_refused_line (geometry_fault_text fault)))
+    (fault : GeometryFault) × IsBadRing periods period machine head fault
+    × (meant ≡ telling GeometryRefused (geometry_refused_line (geometry_fault_text fault)))

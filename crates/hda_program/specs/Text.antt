@@ -1,14 +1,17 @@
 -- The lines that the program writes. This project's own.
 use Rattle.std.specs.Prelude.{ℕ, List, [], ◌++◌, codes, decimal}
 use Rattle.codec_graph.specs.declared.fault.GraphFault.{GraphFault}
-use Rattle.codec_graph.specs.declared.fault.GraphFault.TheVariants.{NoAudioGroup, BadCount, ConnectionOutside, ListTooLong, AmpOffset, Cycle}
+use Rattle.codec_graph.specs.declared.fault.GraphFault.TheVariants.{NoAudioGroup, BadCount, ConnectionOutside}
+use Rattle.codec_graph.specs.declared.fault.GraphFault.TheVariants.{ListTooLong, AmpOffset, Cycle}
 use Rattle.verb_codes.specs.declared.entries.ListFault.{ListFault}
-use Rattle.verb_codes.specs.declared.entries.ListFault.TheVariants.{Zero, Beyond, FirstIsRange, RangeAfterRange, RangeBackward}
+use Rattle.verb_codes.specs.declared.entries.ListFault.TheVariants.{Zero, Beyond, FirstIsRange, RangeAfterRange}
+use Rattle.verb_codes.specs.declared.entries.ListFault.TheVariants.{RangeBackward}
 use Rattle.hda_files.specs.declared.fault.Place.{Place}
 use Rattle.hda_files.specs.declared.fault.Place.TheVariants as place
 use Rattle.hda_files.specs.declared.fault.Key.{Key}
 use Rattle.hda_files.specs.declared.fault.FileFault.{FileFault}
-use Rattle.hda_files.specs.declared.fault.FileFault.TheVariants.{Toml, MissingKey, WrongType, OutOfRange, Doubled, List as InList, Graph, TooManyPins, OutOfMemory}
+use Rattle.hda_files.specs.declared.fault.FileFault.TheVariants.{Toml, MissingKey, WrongType, OutOfRange, Doubled}
+use Rattle.hda_files.specs.declared.fault.FileFault.TheVariants.{List as InList, Graph, TooManyPins, OutOfMemory}
 use Rattle.hda_files.specs.Keys.{key_name}
 use Rattle.hda_schedule.specs.declared.fault.SchedFault.{SchedFault}
 use Rattle.hda_schedule.specs.declared.fault.SchedFault.TheVariants as schedule

@@ -4,7 +4,7 @@ ghost use Rattle.hda_words.specs.Asked.{asked_by, IsInRange};
 ghost use Rattle.hda_program.specs.Answers.{IsMeant, RequestAnswers};
 ghost use Rattle.hda_program.specs.Asks.{AsksForItsFiles, files_of};
 ghost use Rattle.hda_program.specs.Meanings.{answer_meant};
-ghost use Rattle.hda_program.specs.Files.{EmptiedUnder, FailedUnder, GivenAtMost};
+ghost use Rattle.hda_program.specs.Files.{EmptiedUnder, FailedUnder, GivenAtMost, UnaskedUnder};
 
 use crate::message::{Message, words_refused};
 use crate::play::answer_play;
@@ -33,13 +33,16 @@ pub(crate) fn answer_words<S: Shelf>(
     words: &[String],
     shelf: &mut S,
 ) -> Result<Answer, AllocError>
-    ensures meant { IfOk result (λ answer. IsMeant (S.told shelf.old) (FailedUnder (S.faults shelf.old) (S.faults shelf.new))
+    ensures meant { IfOk result (λ answer. IsMeant (S.told shelf.old)
+        (FailedUnder (S.faults shelf.old) (S.faults shelf.new))
         (EmptiedUnder (S.empties shelf.old) (S.empties shelf.new))
+        (UnaskedUnder (S.asked shelf.old) (S.asked shelf.new))
         (GivenAtMost (S.given shelf.old) (S.given shelf.new))
         (map string_bytes words.now) (answer_meant answer)) }
     ensures asked { AsksForItsFiles (map string_bytes words.now) (S.asked shelf.old) (S.asked shelf.new) }
     ensures told { S.told shelf.new ≡ S.told shelf.old }
     ensures later { (name : List ℕ) → S.faults shelf.old name ≤ S.faults shelf.new name }
+    ensures empties_later { (name : List ℕ) → S.empties shelf.old name ≤ S.empties shelf.new name }
 {
     match read_words(alloc, words) {
         Ok(request) => answer_request(alloc, shelf, request),
@@ -58,13 +61,17 @@ fn answer_request<S: Shelf>(
     request: Request<'_>,
 ) -> Result<Answer, AllocError>
     requires ranges { IsInRange request }
-    ensures answers { IfOk result (λ answer. RequestAnswers (S.told shelf.old) (FailedUnder (S.faults shelf.old) (S.faults shelf.new))
+    ensures answers { IfOk result (λ answer. RequestAnswers (S.told shelf.old)
+        (FailedUnder (S.faults shelf.old) (S.faults shelf.new))
         (EmptiedUnder (S.empties shelf.old) (S.empties shelf.new))
+        (UnaskedUnder (S.asked shelf.old) (S.asked shelf.new))
         (GivenAtMost (S.given shelf.old) (S.given shelf.new))
         request.entry (answer_meant answer)) }
-    ensures asked { (other : List ℕ) → (Contains (files_of (asked_by request.entry)) other → ⊥) → S.asked shelf.new other ≡ S.asked shelf.old other }
+    ensures asked { (other : List ℕ) → (Contains (files_of (asked_by request.entry)) other → ⊥)
+        → S.asked shelf.new other ≡ S.asked shelf.old other }
     ensures told { S.told shelf.new ≡ S.told shelf.old }
     ensures later { (other : List ℕ) → S.faults shelf.old other ≤ S.faults shelf.new other }
+    ensures empties_later { (other : List ℕ) → S.empties shelf.old other ≤ S.empties shelf.new other }
 {
     match request {
         Request::Route { codec, format } => {

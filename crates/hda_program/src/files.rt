@@ -1,13 +1,13 @@
 //! What `play` does with three files, for callers that have no words.
-ghost use Rattle.std.specs.Prelude.{◌≡◌, ◌≢◌, ◌≤◌, ℕ, List, IfSome, IsNone, IsSome, IsSomeAnd};
+ghost use Rattle.std.specs.Prelude.{◌≡◌, ◌≢◌, ◌≤◌, ◌∷◌, [], ℕ, List, IfSome, IsNone, IsSome, IsSomeAnd};
 ghost use Rattle.hda_outside.specs.Counts.{Rose};
 ghost use Rattle.hda_words.specs.Asked.{IsRingInRange};
 ghost use Rattle.sound_report.specs.Statuses.{number_of};
 ghost use Rattle.hda_program.specs.Answers.{HasEndedPlay};
-ghost use Rattle.hda_program.specs.Causes.{IsOfSound, IsRunless, WasShortened, WasUnread};
+ghost use Rattle.hda_program.specs.Causes.{HasStoppedUnread, IsOfSound, IsRunless, WasShortened, WasUnread};
 ghost use Rattle.hda_program.specs.Promises.{HasPlayedFiles, KeepsPromise};
 ghost use Rattle.hda_program.specs.Complete.{CanPlay, HasPlayedOn};
-ghost use Rattle.hda_program.specs.Files.{EmptiedUnder, FailedUnder, GivenAtMost};
+ghost use Rattle.hda_program.specs.Files.{EmptiedUnder, FailedUnder, GivenAtMost, UnaskedUnder};
 
 use crate::play::answer_play;
 use crate::run::{Ended, write_answer};
@@ -15,11 +15,12 @@ use hda_outside::{Shelf, Sink};
 use sound_report::Status;
 use std::alloc::Global;
 
-/// Plays the sound of the WAV file through the machine of the codec file, by the schedule, and writes its text, as `play` does with
-/// these names. The ring has 2 to 32 periods of 1 to 128 units, each of 384 bytes.
+/// Plays the sound of the WAV file through the machine of the codec file, by the schedule, and writes its text, as
+/// `play` does with these names. The ring has 2 to 32 periods of 1 to 128 units, each of 384 bytes.
 ///
-/// It ends with a status of [`Status`]: 0 where all frames of sound were played. Its run of the driver is given also where its text could
-/// not be written. The sound is read while it is played; where its reading is cut the run goes on over what was read.
+/// It ends with a status of [`Status`]: 0 where all frames of sound were played. Its run of the driver is given also
+/// where its text could not be written. The sound is read while it is played; where its reading is cut the run goes on
+/// over what was read.
 pub fn play_files<S: Shelf, K: Sink>(
     alloc: Global,
     shelf: &mut S,
@@ -35,11 +36,13 @@ pub fn play_files<S: Shelf, K: Sink>(
     // The meant text was written whole, or its front at a fault of the sink or at want of memory.
     ensures ended { HasEndedPlay (S.told shelf.old) (FailedUnder (S.faults shelf.old) (S.faults shelf.new))
         (EmptiedUnder (S.empties shelf.old) (S.empties shelf.new))
+        (UnaskedUnder (S.asked shelf.old) (S.asked shelf.new))
         (GivenAtMost (S.given shelf.old) (S.given shelf.new))
-        codec.now wav.now schedule.now periods period (K.taken out.old) (K.taken out.new) (Rose (K.faults out.old) (K.faults out.new)) result.play result.status }
+        codec.now wav.now schedule.now periods period (K.taken out.old) (K.taken out.new)
+        (Rose (K.faults out.old) (K.faults out.new)) result.play result.status }
 
-    // The promise of `play`: the run that is given is that of these files and this ring, few bytes were read for it, and its report
-    // was written.
+    // The promise of `play`: the run that is given is that of these files and this ring, few bytes were read for it,
+    // and its report was written.
     ensures promise { IfSome result.play (KeepsPromise (HasPlayedFiles (S.told shelf.old)
         (FailedUnder (S.faults shelf.old) (S.faults shelf.new))
         (EmptiedUnder (S.empties shelf.old) (S.empties shelf.new))
@@ -58,16 +61,25 @@ pub fn play_files<S: Shelf, K: Sink>(
         → IsSomeAnd result.play (WasShortened (EmptiedUnder (S.empties shelf.old) (S.empties shelf.new)) wav.now) }
     ensures never_shrinks { IfSome (S.told shelf.old) (λ files. result.status ≢ number_of Status.WavShrank) }
 
+    // A command that ends at a file has asked for none after it: no run is left untold.
+    ensures stopped_unread { result.status ≡ number_of Status.ShelfFailed → IsNone result.play
+        → HasStoppedUnread (FailedUnder (S.faults shelf.old) (S.faults shelf.new))
+        (UnaskedUnder (S.asked shelf.old) (S.asked shelf.new))
+        (codec.now ∷ wav.now ∷ schedule.now ∷ []) }
+
     // Good files and a good ring are not refused.
-    ensures completes { CanPlay (S.told shelf.old) (FailedUnder (S.faults shelf.old) (S.faults shelf.new)) codec.now wav.now schedule.now periods period
+    ensures completes { CanPlay (S.told shelf.old) (FailedUnder (S.faults shelf.old) (S.faults shelf.new)) codec.now
+        wav.now schedule.now periods period
         → (Rose (K.faults out.old) (K.faults out.new) → ⊥) → HasPlayedOn result.status }
 
     // The shelf is asked under the three names alone.
-    ensures asked { (other : List ℕ) → other ≢ codec.now → other ≢ wav.now → other ≢ schedule.now → S.asked shelf.new other ≡ S.asked shelf.old other }
+    ensures asked { (other : List ℕ) → other ≢ codec.now → other ≢ wav.now → other ≢ schedule.now
+        → S.asked shelf.new other ≡ S.asked shelf.old other }
 
-    // The shelf's files stay as they are, and no count of faults falls.
+    // The shelf's files stay as they are, and no count of faults or of empty answers falls.
     ensures told { S.told shelf.new ≡ S.told shelf.old }
     ensures shelf_later { (name : List ℕ) → S.faults shelf.old name ≤ S.faults shelf.new name }
+    ensures empties_later { (name : List ℕ) → S.empties shelf.old name ≤ S.empties shelf.new name }
     ensures sink_later { K.faults out.old ≤ K.faults out.new }
 {
     match answer_play(alloc, shelf, codec, wav, schedule, periods, period) {

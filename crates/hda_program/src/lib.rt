@@ -1,5 +1,5 @@
-//! The program over any shelf and sink: it plans the routes of a codec's output pins, drives a machine until its codecs are set up, and
-//! plays sound through it. This project's own.
+//! The program over any shelf and sink: it plans the routes of a codec's output pins, drives a machine until its codecs
+//! are set up, and plays sound through it. This project's own.
 #![tactic(auto)]
 
 mod answer;

@@ -1,7 +1,8 @@
 //! Texts with a status, and the lines of refusals.
 ghost use Rattle.std.specs.Prelude.{◌≡◌, IfOk, string_bytes};
 ghost use Rattle.hda_program.specs.Meanings.{telling, message_meant};
-ghost use Rattle.hda_program.specs.Text.{codec_refused_line, geometry_refused_line, refused_line, schedule_refused_line, usage_line, wav_refused_line};
+ghost use Rattle.hda_program.specs.Text.{codec_refused_line, geometry_refused_line, refused_line};
+ghost use Rattle.hda_program.specs.Text.{schedule_refused_line, usage_line, wav_refused_line};
 ghost use Rattle.sound_report.specs.Texts.{unreadable_line};
 
 use crate::text::USAGE;
@@ -58,7 +59,8 @@ fn refused(alloc: Global, status: Status, what: &str, fault: &str) -> Result<Mes
 /// # Errors
 /// Want of memory.
 pub(crate) fn codec_refused(alloc: Global, fault: &str) -> Result<Message, AllocError>
-    ensures { IfOk result (λ message. message_meant message ≡ telling Status.CodecRefused (codec_refused_line fault.now)) }
+    ensures { IfOk result (λ message. message_meant message ≡ telling Status.CodecRefused
+        (codec_refused_line fault.now)) }
 {
     refused(alloc, Status::CodecRefused, "codec", fault)
 }
@@ -78,7 +80,8 @@ pub(crate) fn wav_refused(alloc: Global, fault: &str) -> Result<Message, AllocEr
 /// # Errors
 /// Want of memory.
 pub(crate) fn schedule_refused(alloc: Global, fault: &str) -> Result<Message, AllocError>
-    ensures { IfOk result (λ message. message_meant message ≡ telling Status.ScheduleRefused (schedule_refused_line fault.now)) }
+    ensures { IfOk result (λ message. message_meant message ≡ telling Status.ScheduleRefused
+        (schedule_refused_line fault.now)) }
 {
     refused(alloc, Status::ScheduleRefused, "schedule", fault)
 }
@@ -88,7 +91,8 @@ pub(crate) fn schedule_refused(alloc: Global, fault: &str) -> Result<Message, Al
 /// # Errors
 /// Want of memory.
 pub(crate) fn geometry_refused(alloc: Global, fault: &str) -> Result<Message, AllocError>
-    ensures { IfOk result (λ message. message_meant message ≡ telling Status.GeometryRefused (geometry_refused_line fault.now)) }
+    ensures { IfOk result (λ message. message_meant message ≡ telling Status.GeometryRefused
+        (geometry_refused_line fault.now)) }
 {
     refused(alloc, Status::GeometryRefused, "geometry", fault)
 }

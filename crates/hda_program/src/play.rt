@@ -5,6 +5,7 @@ ghost use Rattle.hda_words.specs.Asked.{IsRingInRange};
 ghost use Rattle.hda_program.specs.Answers.{MachinePlays, PlayAnswers, RingPlays, SchedulePlays, SoundPlays};
 ghost use Rattle.machine_tasks.specs.Reading.{IsRead};
 ghost use Rattle.hda_program.specs.Files.{EmptiedUnder, FailedUnder, GivenAtMost, IsGoodSchedule, IsHeadOf};
+ghost use Rattle.hda_program.specs.Files.{UnaskedUnder};
 ghost use Rattle.hda_program.specs.Meanings.{answer_meant};
 
 use crate::answer::Answer;
@@ -37,11 +38,14 @@ pub(crate) fn answer_play<S: Shelf>(
     period: u8,
 ) -> Result<Answer, AllocError>
     requires ring { IsRingInRange periods period }
-    ensures answers { IfOk result (λ answer. PlayAnswers (S.told shelf.old) (FailedUnder (S.faults shelf.old) (S.faults shelf.new))
+    ensures answers { IfOk result (λ answer. PlayAnswers (S.told shelf.old)
+        (FailedUnder (S.faults shelf.old) (S.faults shelf.new))
         (EmptiedUnder (S.empties shelf.old) (S.empties shelf.new))
+        (UnaskedUnder (S.asked shelf.old) (S.asked shelf.new))
         (GivenAtMost (S.given shelf.old) (S.given shelf.new))
         codec.now wav.now schedule.now periods period (answer_meant answer)) }
-    ensures asked { (other : List ℕ) → other ≢ codec.now → other ≢ wav.now → other ≢ schedule.now → S.asked shelf.new other ≡ S.asked shelf.old other }
+    ensures asked { (other : List ℕ) → other ≢ codec.now → other ≢ wav.now → other ≢ schedule.now
+        → S.asked shelf.new other ≡ S.asked shelf.old other }
     ensures told { S.told shelf.new ≡ S.told shelf.old }
     ensures later { (other : List ℕ) → S.faults shelf.old other ≤ S.faults shelf.new other }
     ensures empties_later { (other : List ℕ) → S.empties shelf.old other ≤ S.empties shelf.new other }
@@ -68,11 +72,14 @@ fn play_machine<S: Shelf>(
     requires sound { IsSound machine }
     requires read { IsRead machine }
     requires ring { IsRingInRange periods period }
-    ensures answers { IfOk result (λ answer. MachinePlays (S.told shelf.old) (FailedUnder (S.faults shelf.old) (S.faults shelf.new))
+    ensures answers { IfOk result (λ answer. MachinePlays (S.told shelf.old)
+        (FailedUnder (S.faults shelf.old) (S.faults shelf.new))
         (EmptiedUnder (S.empties shelf.old) (S.empties shelf.new))
+        (UnaskedUnder (S.asked shelf.old) (S.asked shelf.new))
         (GivenAtMost (S.given shelf.old) (S.given shelf.new))
         periods period machine wav.now schedule.now (answer_meant answer)) }
-    ensures asked { (other : List ℕ) → other ≢ wav.now → other ≢ schedule.now → S.asked shelf.new other ≡ S.asked shelf.old other }
+    ensures asked { (other : List ℕ) → other ≢ wav.now → other ≢ schedule.now
+        → S.asked shelf.new other ≡ S.asked shelf.old other }
     ensures told { S.told shelf.new ≡ S.told shelf.old }
     ensures later { (other : List ℕ) → S.faults shelf.old other ≤ S.faults shelf.new other }
     ensures empties_later { (other : List ℕ) → S.empties shelf.old other ≤ S.empties shelf.new other }
@@ -101,11 +108,13 @@ fn play_sound<S: Shelf>(
     requires read { IsRead machine }
     requires file { IsHeadOf (S.told shelf.old) wav.now head }
     requires ring { IsRingInRange periods period }
-    ensures answers { IfOk result (λ answer. SoundPlays (S.told shelf.old) (FailedUnder (S.faults shelf.old) (S.faults shelf.new))
+    ensures answers { IfOk result (λ answer. SoundPlays (S.told shelf.old)
+        (FailedUnder (S.faults shelf.old) (S.faults shelf.new))
         (EmptiedUnder (S.empties shelf.old) (S.empties shelf.new))
         (GivenAtMost (S.given shelf.old) (S.given shelf.new))
         periods period wav.now machine head schedule.now (answer_meant answer)) }
-    ensures asked { (other : List ℕ) → other ≢ wav.now → other ≢ schedule.now → S.asked shelf.new other ≡ S.asked shelf.old other }
+    ensures asked { (other : List ℕ) → other ≢ wav.now → other ≢ schedule.now
+        → S.asked shelf.new other ≡ S.asked shelf.old other }
     ensures told { S.told shelf.new ≡ S.told shelf.old }
     ensures later { (other : List ℕ) → S.faults shelf.old other ≤ S.faults shelf.new other }
     ensures empties_later { (other : List ℕ) → S.empties shelf.old other ≤ S.empties shelf.new other }
@@ -116,7 +125,8 @@ fn play_sound<S: Shelf>(
     }
 }
 
-/// What `play` answers for a machine, a WAV file and a schedule: it plays through the ring of these numbers, if it is good.
+/// What `play` answers for a machine, a WAV file and a schedule: it plays through the ring of these numbers, if it is
+/// good.
 ///
 /// # Errors
 /// Want of memory.

@@ -23,11 +23,13 @@ pub(crate) fn answer_route<S: Shelf>(
     name: &str,
     format: Format,
 ) -> Result<Message, AllocError>
-    ensures answers { IfOk result (λ message. RouteAnswers (S.told shelf.old) (FailedUnder (S.faults shelf.old) (S.faults shelf.new))
+    ensures answers { IfOk result (λ message. RouteAnswers (S.told shelf.old)
+        (FailedUnder (S.faults shelf.old) (S.faults shelf.new))
         name.now format (message_meant message)) }
     ensures asked { (other : List ℕ) → other ≢ name.now → S.asked shelf.new other ≡ S.asked shelf.old other }
     ensures told { S.told shelf.new ≡ S.told shelf.old }
     ensures later { (other : List ℕ) → S.faults shelf.old other ≤ S.faults shelf.new other }
+    ensures empties_later { (other : List ℕ) → S.empties shelf.old other ≤ S.empties shelf.new other }
 {
     match read_codec_file(alloc, shelf, name)? {
         Ok(machine) => answer_machine(alloc, &machine, format),

@@ -1,15 +1,19 @@
 //! The program over any shelf and sink.
-ghost use Rattle.std.specs.Prelude.{◌≡◌, ◌≢◌, ◌≤◌, ℕ, List, map, string_bytes, IfSome, IsNone, IsSome, IsSomeAnd, true, false};
+ghost use Rattle.std.specs.Prelude.{◌≡◌, ◌≢◌, ◌≤◌, ℕ, List, map, string_bytes, IfSome, IsNone, IsSome, IsSomeAnd, true};
+ghost use Rattle.std.specs.Prelude.{false};
 ghost use Rattle.stream_format.specs.declared.format.Format.{Format};
 ghost use Rattle.hda_outside.specs.Counts.{Rose};
 ghost use Rattle.sound_report.specs.Statuses.{number_of};
 ghost use Rattle.hda_program.specs.Answers.{HasEnded, HasWritten};
-ghost use Rattle.hda_program.specs.Asks.{AsksForItsFiles, IsNoCommand, IsPlayOf, IsRouteOf, IsWalkOf};
-ghost use Rattle.hda_program.specs.Causes.{HasBadCodecFile, HasBadRing, HasBadSchedule, HasBadWav, HasPlanned, HasUnreadFile, IsOfSound, IsOfWalk, IsRunless, OfItsWav, WasShortened, WasUnread};
+ghost use Rattle.hda_words.specs.Asked.{request_of};
+ghost use Rattle.hda_program.specs.Asks.{AsksForItsFiles, IsNoCommand, IsPlayOf, IsRouteOf, IsWalkOf, files_asked};
+ghost use Rattle.hda_program.specs.Causes.{HasBadCodecFile, HasBadRing, HasBadSchedule, HasBadWav, HasPlanned};
+ghost use Rattle.hda_program.specs.Causes.{HasStoppedUnread, HasUnreadFile, IsOfSound, IsOfWalk, IsRunless};
+ghost use Rattle.hda_program.specs.Causes.{OfItsWav, WasShortened, WasUnread};
 ghost use Rattle.hda_program.specs.Promises.{HasRun, KeepsPromise};
 ghost use Rattle.hda_program.specs.Complete.{CanPlay, CanRoute, CanWalk, HasPlayedOn, HasRoutes, HasWalkedOn};
 ghost use Rattle.hda_program.specs.Meanings.{answer_meant, fault_status, of_run, status_of, telling, written_status};
-ghost use Rattle.hda_program.specs.Files.{EmptiedUnder, FailedUnder, GivenAtMost};
+ghost use Rattle.hda_program.specs.Files.{EmptiedUnder, FailedUnder, GivenAtMost, UnaskedUnder};
 
 use crate::answer::{Answer, answer_words};
 use hda_outside::{Fault, Shelf, Sink, write_all};
@@ -27,10 +31,11 @@ pub struct Ended {
 
 /// Runs the command of these words, those after the program's name, and writes its text.
 ///
-/// The statuses are those of [`Status`]. `route` ends with 0 where some pin has a route, `walk` where all codecs were set up, `play`
-/// where all frames of sound were played. `walk` and `play` give their run of the driver, also where its text could not be written. Where
-/// the files and the ring are good, some pin has a route and neither shelf nor sink fails, nothing is refused. `play` reads the sound
-/// while it is played; where its reading is cut the run goes on over what was read.
+/// The statuses are those of [`Status`]. `route` ends with 0 where some pin has a route, `walk` where all codecs were
+/// set up, `play` where all frames of sound were played. `walk` and `play` give their run of the driver, also where its
+/// text could not be written. Where the files and the ring are good, some pin has a route and neither shelf nor sink
+/// fails, nothing is refused. `play` reads the sound while it is played; where its reading is cut the run goes on over
+/// what was read.
 pub fn hda_main<S: Shelf, K: Sink>(
     alloc: Global,
     words: &[String],
@@ -40,11 +45,13 @@ pub fn hda_main<S: Shelf, K: Sink>(
     // The meant text was written whole, or its front at a fault of the sink or at want of memory.
     ensures ended { HasEnded (S.told shelf.old) (FailedUnder (S.faults shelf.old) (S.faults shelf.new))
         (EmptiedUnder (S.empties shelf.old) (S.empties shelf.new))
+        (UnaskedUnder (S.asked shelf.old) (S.asked shelf.new))
         (GivenAtMost (S.given shelf.old) (S.given shelf.new))
-        (map string_bytes words.now) (K.taken out.old) (K.taken out.new) (Rose (K.faults out.old) (K.faults out.new)) result.play result.status }
+        (map string_bytes words.now) (K.taken out.old) (K.taken out.new) (Rose (K.faults out.old) (K.faults out.new))
+        result.play result.status }
 
-    // The promise of `walk` and of `play`: the run that is given is the one that the words ask for, few bytes were read for a sound,
-    // and its report was written.
+    // The promise of `walk` and of `play`: the run that is given is the one that the words ask for, few bytes were read
+    // for a sound, and its report was written.
     ensures promise { IfSome result.play (KeepsPromise (HasRun (S.told shelf.old)
         (FailedUnder (S.faults shelf.old) (S.faults shelf.new))
         (EmptiedUnder (S.empties shelf.old) (S.empties shelf.new))
@@ -54,9 +61,12 @@ pub fn hda_main<S: Shelf, K: Sink>(
 
     // When a run is given.
     ensures runless { IsRunless result.status → IsNone result.play }
-    ensures route_runless { (name : List ℕ) (format : Format) → IsRouteOf (map string_bytes words.now) name format → IsNone result.play }
-    ensures walk_runs { (codec schedule : List ℕ) → IsWalkOf (map string_bytes words.now) codec schedule → IsOfWalk result.status → IsSome result.play }
-    ensures play_runs { (codec wav schedule : List ℕ) (periods period : ℕ) → IsPlayOf (map string_bytes words.now) codec wav schedule periods period
+    ensures route_runless { (name : List ℕ) (format : Format) → IsRouteOf (map string_bytes words.now) name format
+        → IsNone result.play }
+    ensures walk_runs { (codec schedule : List ℕ) → IsWalkOf (map string_bytes words.now) codec schedule
+        → IsOfWalk result.status → IsSome result.play }
+    ensures play_runs { (codec wav schedule : List ℕ) (periods period : ℕ)
+        → IsPlayOf (map string_bytes words.now) codec wav schedule periods period
         → IsOfSound result.status → IsSome result.play }
 
     // Where the reading of a sound was cut. A shelf that tells its files lets none get shorter.
@@ -72,12 +82,23 @@ pub fn hda_main<S: Shelf, K: Sink>(
     ensures refused_words { result.status ≡ number_of Status.WordsRefused → IsNoCommand (map string_bytes words.now) }
     ensures unread { result.status ≡ number_of Status.ShelfFailed
         → HasUnreadFile (FailedUnder (S.faults shelf.old) (S.faults shelf.new)) (map string_bytes words.now) }
-    ensures refused_codec { result.status ≡ number_of Status.CodecRefused → HasBadCodecFile (S.told shelf.old) (map string_bytes words.now) }
-    ensures refused_wav { result.status ≡ number_of Status.WavRefused → HasBadWav (S.told shelf.old) (map string_bytes words.now) }
-    ensures refused_schedule { result.status ≡ number_of Status.ScheduleRefused → HasBadSchedule (S.told shelf.old) (map string_bytes words.now) }
-    ensures refused_geometry { result.status ≡ number_of Status.GeometryRefused → HasBadRing (S.told shelf.old) (map string_bytes words.now) }
-    ensures routed { result.status ≡ number_of Status.Done → HasPlanned (S.told shelf.old) (map string_bytes words.now) true }
-    ensures nothing_routed { result.status ≡ number_of Status.NothingRouted → HasPlanned (S.told shelf.old) (map string_bytes words.now) false }
+    // A command that ends at a file has asked for none after it: no run is left untold.
+    ensures stopped_unread { result.status ≡ number_of Status.ShelfFailed → IsNone result.play
+        → HasStoppedUnread (FailedUnder (S.faults shelf.old) (S.faults shelf.new))
+        (UnaskedUnder (S.asked shelf.old) (S.asked shelf.new))
+        (files_asked (request_of (map string_bytes words.now))) }
+    ensures refused_codec { result.status ≡ number_of Status.CodecRefused
+        → HasBadCodecFile (S.told shelf.old) (map string_bytes words.now) }
+    ensures refused_wav { result.status ≡ number_of Status.WavRefused
+        → HasBadWav (S.told shelf.old) (map string_bytes words.now) }
+    ensures refused_schedule { result.status ≡ number_of Status.ScheduleRefused
+        → HasBadSchedule (S.told shelf.old) (map string_bytes words.now) }
+    ensures refused_geometry { result.status ≡ number_of Status.GeometryRefused
+        → HasBadRing (S.told shelf.old) (map string_bytes words.now) }
+    ensures routed { result.status ≡ number_of Status.Done → HasPlanned (S.told shelf.old) (map string_bytes words.now)
+        true }
+    ensures nothing_routed { result.status ≡ number_of Status.NothingRouted
+        → HasPlanned (S.told shelf.old) (map string_bytes words.now) false }
     ensures unwritten { result.status ≡ number_of Status.SinkFailed → Rose (K.faults out.old) (K.faults out.new) }
 
     // Good files and a good ring are not refused.
@@ -87,16 +108,19 @@ pub fn hda_main<S: Shelf, K: Sink>(
     ensures walk_completes { (codec schedule : List ℕ) → IsWalkOf (map string_bytes words.now) codec schedule
         → CanWalk (S.told shelf.old) (FailedUnder (S.faults shelf.old) (S.faults shelf.new)) codec schedule
         → (Rose (K.faults out.old) (K.faults out.new) → ⊥) → HasWalkedOn result.status }
-    ensures play_completes { (codec wav schedule : List ℕ) (periods period : ℕ) → IsPlayOf (map string_bytes words.now) codec wav schedule periods period
-        → CanPlay (S.told shelf.old) (FailedUnder (S.faults shelf.old) (S.faults shelf.new)) codec wav schedule periods period
+    ensures play_completes { (codec wav schedule : List ℕ) (periods period : ℕ)
+        → IsPlayOf (map string_bytes words.now) codec wav schedule periods period
+        → CanPlay (S.told shelf.old) (FailedUnder (S.faults shelf.old) (S.faults shelf.new)) codec wav schedule periods
+        period
         → (Rose (K.faults out.old) (K.faults out.new) → ⊥) → HasPlayedOn result.status }
 
     // The shelf is asked under the names of the words alone.
     ensures asked { AsksForItsFiles (map string_bytes words.now) (S.asked shelf.old) (S.asked shelf.new) }
 
-    // The shelf's files stay as they are, and no count of faults falls.
+    // The shelf's files stay as they are, and no count of faults or of empty answers falls.
     ensures told { S.told shelf.new ≡ S.told shelf.old }
     ensures shelf_later { (name : List ℕ) → S.faults shelf.old name ≤ S.faults shelf.new name }
+    ensures empties_later { (name : List ℕ) → S.empties shelf.old name ≤ S.empties shelf.new name }
     ensures sink_later { K.faults out.old ≤ K.faults out.new }
 {
     match answer_words(alloc, words, shelf) {
@@ -110,7 +134,8 @@ pub fn hda_main<S: Shelf, K: Sink>(
 
 /// Writes the text of an answer, and gives its status and its run.
 pub(crate) fn write_answer<K: Sink>(alloc: Global, out: &mut K, answer: Answer) -> Ended
-    ensures written { HasWritten (K.taken out.old) (K.taken out.new) (Rose (K.faults out.old) (K.faults out.new)) (answer_meant answer) result.status }
+    ensures written { HasWritten (K.taken out.old) (K.taken out.new) (Rose (K.faults out.old) (K.faults out.new))
+        (answer_meant answer) result.status }
     ensures play { result.play ≡ (answer_meant answer).play }
     ensures later { K.faults out.old ≤ K.faults out.new }
 {
@@ -128,7 +153,8 @@ pub(crate) fn write_answer<K: Sink>(alloc: Global, out: &mut K, answer: Answer) 
 
 /// Writes a text, and gives its status, or that of the fault.
 fn write_text<K: Sink>(alloc: Global, out: &mut K, text: &[u8], status: Status) -> Status
-    ensures written { HasWritten (K.taken out.old) (K.taken out.new) (Rose (K.faults out.old) (K.faults out.new)) (telling status text.now) (number_of result) }
+    ensures written { HasWritten (K.taken out.old) (K.taken out.new) (Rose (K.faults out.old) (K.faults out.new))
+        (telling status text.now) (number_of result) }
     ensures later { K.faults out.old ≤ K.faults out.new }
 {
     written_status(write_all(alloc, out, text), status)
@@ -136,7 +162,8 @@ fn write_text<K: Sink>(alloc: Global, out: &mut K, text: &[u8], status: Status) 
 
 /// Writes the report of a run, and gives the status of its end, or that of the fault.
 fn write_run<K: Sink>(alloc: Global, out: &mut K, played: &Played) -> Status
-    ensures written { HasWritten (K.taken out.old) (K.taken out.new) (Rose (K.faults out.old) (K.faults out.new)) (of_run played.now) (number_of result) }
+    ensures written { HasWritten (K.taken out.old) (K.taken out.new) (Rose (K.faults out.old) (K.faults out.new))
+        (of_run played.now) (number_of result) }
     ensures later { K.faults out.old ≤ K.faults out.new }
 {
     written_status(write_report(alloc, out, played), status_of(played))

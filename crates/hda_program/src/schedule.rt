@@ -17,7 +17,8 @@ pub(crate) fn read_schedule_file<S: Shelf>(
     shelf: &mut S,
     name: &str,
 ) -> Result<Result<Schedule, Message>, AllocError>
-    ensures read { IfOk result (IsScheduleRead (S.told shelf.old) (FailedUnder (S.faults shelf.old) (S.faults shelf.new))
+    ensures read { IfOk result (IsScheduleRead (S.told shelf.old)
+        (FailedUnder (S.faults shelf.old) (S.faults shelf.new))
         (GivenAtMost (S.given shelf.old) (S.given shelf.new)) name.now) }
     ensures asked { (other : List ℕ) → other ≢ name.now → S.asked shelf.new other ≡ S.asked shelf.old other }
     ensures told { S.told shelf.new ≡ S.told shelf.old }

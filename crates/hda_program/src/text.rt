@@ -55,7 +55,8 @@ fn push_list_fault(
     nid: u8,
     fault: ListFault,
 ) -> Result<(), AllocError>
-    ensures { OnOk result (string_bytes out.new ≡ string_bytes out.old ++ text.fault_text (FileFault.List address nid fault)) }
+    ensures { OnOk result (string_bytes out.new ≡ string_bytes out.old ++ text.fault_text
+        (FileFault.List address nid fault)) }
 {
     let name = match fault {
         ListFault::Zero => "Zero",
@@ -69,7 +70,8 @@ fn push_list_fault(
 
 /// A fault of a graph, with the codec's address.
 fn push_graph_fault(out: &mut String, address: u8, fault: GraphFault) -> Result<(), AllocError>
-    ensures { OnOk result (string_bytes out.new ≡ string_bytes out.old ++ text.fault_text (FileFault.Graph address fault)) }
+    ensures { OnOk result (string_bytes out.new ≡ string_bytes out.old ++ text.fault_text
+        (FileFault.Graph address fault)) }
 {
     let (name, nid) = match fault {
         GraphFault::NoAudioGroup(nid) => ("NoAudioGroup", nid),

@@ -3,7 +3,7 @@ ghost use Rattle.std.specs.Prelude.{◌≡◌, ◌≢◌, ◌≤◌, ℕ, List, 
 ghost use Rattle.hda_files.specs.Machines.{IsSound};
 ghost use Rattle.hda_program.specs.Answers.{MachineWalks, ScheduleAnswers, WalkAnswers};
 ghost use Rattle.machine_tasks.specs.Reading.{IsRead};
-ghost use Rattle.hda_program.specs.Files.{FailedUnder, IsGoodSchedule};
+ghost use Rattle.hda_program.specs.Files.{FailedUnder, IsGoodSchedule, UnaskedUnder};
 ghost use Rattle.hda_program.specs.Meanings.{answer_meant};
 
 use crate::answer::Answer;
@@ -27,11 +27,14 @@ pub(crate) fn answer_walk<S: Shelf>(
     codec: &str,
     schedule: &str,
 ) -> Result<Answer, AllocError>
-    ensures answers { IfOk result (λ answer. WalkAnswers (S.told shelf.old) (FailedUnder (S.faults shelf.old) (S.faults shelf.new))
-        codec.now schedule.now (answer_meant answer)) }
-    ensures asked { (other : List ℕ) → other ≢ codec.now → other ≢ schedule.now → S.asked shelf.new other ≡ S.asked shelf.old other }
+    ensures answers { IfOk result (λ answer. WalkAnswers (S.told shelf.old)
+        (FailedUnder (S.faults shelf.old) (S.faults shelf.new))
+        (UnaskedUnder (S.asked shelf.old) (S.asked shelf.new)) codec.now schedule.now (answer_meant answer)) }
+    ensures asked { (other : List ℕ) → other ≢ codec.now → other ≢ schedule.now
+        → S.asked shelf.new other ≡ S.asked shelf.old other }
     ensures told { S.told shelf.new ≡ S.told shelf.old }
     ensures later { (other : List ℕ) → S.faults shelf.old other ≤ S.faults shelf.new other }
+    ensures empties_later { (other : List ℕ) → S.empties shelf.old other ≤ S.empties shelf.new other }
 {
     match read_codec_file(alloc, shelf, codec)? {
         Ok(machine) => walk_machine(alloc, shelf, machine, schedule),
@@ -51,11 +54,13 @@ fn walk_machine<S: Shelf>(
 ) -> Result<Answer, AllocError>
     requires sound { IsSound machine }
     requires read { IsRead machine }
-    ensures answers { IfOk result (λ answer. MachineWalks (S.told shelf.old) (FailedUnder (S.faults shelf.old) (S.faults shelf.new))
+    ensures answers { IfOk result (λ answer. MachineWalks (S.told shelf.old)
+        (FailedUnder (S.faults shelf.old) (S.faults shelf.new))
         machine name.now (answer_meant answer)) }
     ensures asked { (other : List ℕ) → other ≢ name.now → S.asked shelf.new other ≡ S.asked shelf.old other }
     ensures told { S.told shelf.new ≡ S.told shelf.old }
     ensures later { (other : List ℕ) → S.faults shelf.old other ≤ S.faults shelf.new other }
+    ensures empties_later { (other : List ℕ) → S.empties shelf.old other ≤ S.empties shelf.new other }
 {
     match read_schedule_file(alloc, shelf, name)? {
         Ok(schedule) => walk_schedule(alloc, machine, &schedule),

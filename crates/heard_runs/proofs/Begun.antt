@@ -159,7 +159,7 @@ module _ (laws : FirstLaws) (on : Laws) (codecs : List CodecState) (ring : Ring)
         journal = tells.went.journal ∙ ap (λ (journal : List Event). journal ++ tells.events) journal ∙ append_assoc (old.journal ++ here.during) (sets_going ∷ []) tells.events;
         silent = subst (Along HasNotBegun (old.journal ++ here.during)) (sym (tells.went.start ∙ here.went.start)) (Along-append HasNotBegun old.journal here.during old.start along here.still);
         runs = subst (Along Runs tells.events) (ap (λ (journal : List Event). after journal tells.risen.start) journal ∙ ap (after ((old.journal ++ here.during) ++ sets_going ∷ [])) (sym tells.went.start))
-            (runs_each ring (line_of tally' pcm) tally'.course.reach 0 0 tally'.course.from tells.events (world_of tells.risen) tells.moments
+            (runs_each ring (line_of tally' pcm) tally'.course.reach tally'.course.from (record { from = 0; to = 0; start = tally'.course.reach; reach = tally'.course.reach }) tells.events (world_of tells.risen) tells.moments
             (subst Runs (world_of-went tells.risen new tells.events tells.went) (record { running = tells.plays.stands.set.runs; no_error = tells.plays.stands.set.no_error })));
       }
 

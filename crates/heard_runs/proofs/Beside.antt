@@ -110,7 +110,7 @@ leaves_ring ring at value width (one, inr (flag, set)) = inl (omega (arith, flag
 -- ---- a stream that was stopped
 
 pub drained_stopped : (ring : Ring) (pcm : List ℕ) (tally : Tally) (world : World) → HasDrained ring pcm tally world → WasStopped ring pcm tally world
-drained_stopped ring pcm tally world drained = record { stopped = drained.stopped; no_error = drained.no_error; written = drained.written; fetched = drained.fetched }
+drained_stopped ring pcm tally world drained = record { stopped = drained.stopped; no_error = drained.no_error; written = drained.written; fetched = λ at below under. let sure = drained.written.sure in drained.fetched at below (omega (arith, under, sure)) }
 
 pub stopped_along : (ring : Ring) (pcm : List ℕ) (tally : Tally) (events : List Event) (world : World) → All LeavesStopped events → WasStopped ring pcm tally world → Along IsStopped events world
 stopped_along ring pcm tally [] world all was = record { stopped = was.stopped; no_error = was.no_error }
@@ -141,7 +141,7 @@ module _ (laws : Laws) (ring : Ring) (pcm : List ℕ) (tally : Tally) where
   stream_on ran.Playing event world beside stream = playing_on event world beside stream
   stream_on ran.Drained event world beside stream =
       drained_events ring pcm tally (event ∷ []) world (All-cons LeavesStopped event [] (leaves_stopped event beside) (All-nil LeavesStopped)) stream
-  stream_on (ran.Late from to) event world beside stream =
+  stream_on (ran.Late from to limit) event world beside stream =
       stopped_events ring pcm tally (event ∷ []) world (All-cons LeavesStopped event [] (leaves_stopped event beside) (All-nil LeavesStopped)) stream
 
   pub streams_on : (ran : Ran) (events : List Event) (world : World) → All IsBeside events → StreamIs ran ring pcm tally world → StreamIs ran ring pcm tally (after events world)
@@ -161,7 +161,7 @@ module _ (laws : Laws) (ring : Ring) (pcm : List ℕ) (tally : Tally) where
   lives_on : (ran : Ran) (old new : Telling) (events : List Event) → Went old new events → All IsBeside events → StreamIs ran ring pcm tally (world_of old) → Lives (is_open ran) old → Lives (is_open ran) new
   lives_on ran.Playing old new events went all stream lives = goes_more old new events went lives (runs_along events (world_of old) all stream)
   lives_on ran.Drained old new events went all stream lives = stays_stopped old new events went lives (stopped_along ring pcm tally events (world_of old) (All-weaker IsBeside LeavesStopped leaves_stopped events all) (drained_stopped ring pcm tally (world_of old) stream))
-  lives_on (ran.Late from to) old new events went all stream lives = stays_stopped old new events went lives (stopped_along ring pcm tally events (world_of old) (All-weaker IsBeside LeavesStopped leaves_stopped events all) stream)
+  lives_on (ran.Late from to limit) old new events went all stream lives = stays_stopped old new events went lives (stopped_along ring pcm tally events (world_of old) (All-weaker IsBeside LeavesStopped leaves_stopped events all) stream)
 
 -- ---- what is heard
 

@@ -18,7 +18,7 @@ use Rattle.period_writer.specs.declared.course.Ran.TheVariants as ran
 use Rattle.period_writer.specs.declared.geometry.Geometry.{Geometry}
 use Rattle.period_writer.specs.Runs.{Tally}
 use Rattle.period_writer.specs.Standing.{Ring}
-use Rattle.period_writer.specs.Writers.{WriterState, tally_of, measures_of, ring_of}
+use Rattle.period_writer.specs.Writers.{WriterState, tally_of, ring_of}
 use Rattle.period_writer.specs.Blocks.{addresses_of}
 use Rattle.period_writer.specs.Outcomes.{HasNotWrapped}
 use Rattle.driver_progress.specs.declared.registers.TheConstants.{STREAM_STATUS}
@@ -118,29 +118,28 @@ none_called : (seen : Seen) (called : List Request) (on : Bool) → not on ≡ t
 none_called seen called true none = absurd (not_true none)
 none_called seen called false none = tt {0}
 
-module _ (task : Task) (state : State) (budget limit : ℕ) (tally : Tally) (made : List Event) (found : Bool) where
+module _ (task : Task) (state : State) (budget : ℕ) (tally : Tally) (made : List Event) (found : Bool) where
   abbrev seen : Seen
   seen = seen_by (values_of made) found
 
   still_by : (was : Ran) (irq : Bool) → (found_none irq made ≡ true) ⊎ (is_open was ≡ false)
-      → AreGets (interrupted_if (irq && is_active (played_as was limit)) (seen_by (values_of made) found) (runs task state budget (seen_by (values_of made) found) tally (played_as was limit)))
+      → AreGets (interrupted_if (irq && is_active (played_as was)) (seen_by (values_of made) found) (runs task state budget (seen_by (values_of made) found) tally (played_as was)))
   still_by ran.Playing true (inl none) = none_called (seen_by (values_of made) found) _ (has_bit (slice_index (values_of made INTSTS) 0) interrupts_at) none
   still_by ran.Playing false (inl none) = absurd (not_true none)
   still_by ran.Playing irq (inr over) = absurd (not_true (sym over))
   still_by ran.Drained true cause = tt {0}
   still_by ran.Drained false cause = tt {0}
-  still_by (ran.Late from to) true cause = tt {0}
-  still_by (ran.Late from to) false cause = tt {0}
+  still_by (ran.Late from to limit) true cause = tt {0}
+  still_by (ran.Late from to limit) false cause = tt {0}
 
 still_beside : (irq : Bool) (budget : ℕ) (old new : BringUp) (writer writer' : WriterState) (made : List Event) (task : Task) (found : Bool) → IsStill irq old new writer writer' made
     → IsStretch task (state_of old writer) (Some (record { irq = irq; budget = budget })) made found (state_of new writer') → writer.course.started ≡ true → All IsBeside made
 still_beside irq budget old new writer writer' made task found still stretch started =
-    let limit = (measures_of writer).limit in
     let tally = tally_next task (state_of old writer) (Some (record { irq = irq; budget = budget })) (seen_by (values_of made) found) in
-    let phase : (state_of old writer).phase ≡ played_as writer.course.ran (measures_of writer).limit = ap (λ (started : Bool). phase_if started old.phase writer.course.ran (measures_of writer).limit) started in
+    let phase : (state_of old writer).phase ≡ played_as writer.course.ran = ap (λ (started : Bool). phase_if started old.phase writer.course.ran) started in
     gets_beside made (subst AreGets (sym stretch.fits)
     (subst (λ (phase : Phase). AreGets (interrupted_if (irq && is_active phase) (seen_by (values_of made) found) (runs task (state_of old writer) budget (seen_by (values_of made) found) tally phase))) (sym phase)
-    (still_by task (state_of old writer) budget (measures_of writer).limit tally made found writer.course.ran irq still.cause)))
+    (still_by task (state_of old writer) budget tally made found writer.course.ran irq still.cause)))
 
 -- ---- a call
 
@@ -154,7 +153,7 @@ ring_same old new writer writer' stays = same_rings _ _ _ _ _ _ stays.geometry (
 pub open_plays : (was : Ran) → is_open was ≡ true → was ≡ ran.Playing
 open_plays ran.Playing is = refl
 open_plays ran.Drained is = absurd (not_true is)
-open_plays (ran.Late from to) is = absurd (not_true is)
+open_plays (ran.Late from to limit) is = absurd (not_true is)
 
 module _ (laws : Laws) (codecs : List CodecState) (pcm : List ℕ) (irq : Bool) (budget : ℕ) (old new : BringUp) (writer writer' : WriterState) (supply : List ℕ) (made : List Event) (before after : Telling) where
   still_sounds : (task : Task) (found : Bool) → IsStill irq old new writer writer' made → Makes made before after

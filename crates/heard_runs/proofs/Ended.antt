@@ -1,5 +1,5 @@
 -- The last run stops the stream, and pins heard the line.
-use Rattle.std.proofs.Common.{◌≡◌, inl, inr, ◌≤◌, ◌+◌, ◌-◌, ◌*◌, ◌/◌, ◌&&◌, ℕ, Bool, true, false, List, [], ◌∷◌, ◌++◌, length, map, drop, Some, refl, sym, ap, subst, ◌∙◌, arith, rules}
+use Rattle.std.proofs.Common.{◌≡◌, inl, inr, ◌≤◌, ◌+◌, ◌-◌, ◌*◌, ◌/◌, ◌==◌, ◌&&◌, ◌||◌, not, ℕ, min, Bool, true, false, if◌then◌else◌, List, [], ◌∷◌, ◌++◌, append_assoc, length, map, drop, Some, refl, sym, ap, subst, ◌∙◌, arith, rules}
 use Rattle.std.specs.Prelude.{All, nat_lt}
 use Rattle.std.specs.List.{range_with_len}
 use Rattle.std.proofs.Math.Nat.{mod-eq_of_lt, div-mul-le_self}
@@ -9,6 +9,7 @@ use Rattle.codec_graph.specs.CodecStates.{CodecState}
 use Rattle.hda_registers.specs.declared.shapes.Width.TheVariants.{One, Four}
 use Rattle.hda_registers.specs.declared.places.TheConstants.{WALCLK}
 use Rattle.hda_registers.specs.Access.{value_at}
+use Rattle.hda_registers.specs.Fields.{Fields}
 use Rattle.hda_registers.proofs.Callers.{read-wall_clock}
 use Rattle.stream_format.specs.Layouts.{Layout, layout, layout_of}
 use Rattle.stream_format.specs.Words.{format_word}
@@ -23,20 +24,21 @@ use Rattle.hda_world.specs.Streaming.{HasSent}
 use Rattle.hda_world.specs.Tellings.{Telling, world_of, Went, Makes}
 use Rattle.hda_world.proofs.Callers.{world_of-went, went_both, Weaving, woven}
 use Rattle.command_engine.specs.Polling.{poll_accesses}
+use Rattle.period_writer.specs.declared.course.Course.{Course}
 use Rattle.period_writer.specs.declared.course.Ran.{Ran}
 use Rattle.period_writer.specs.declared.course.Ran.TheVariants as ran
 use Rattle.period_writer.specs.declared.registers.TheConstants.{CONTROL}
-use Rattle.period_writer.specs.Rings.{period_bytes}
+use Rattle.period_writer.specs.Rings.{period_bytes, whole_blocks}
 use Rattle.period_writer.specs.Courses.{IsCourse}
-use Rattle.period_writer.specs.Runs.{RunFacts, Tally, Measures, measures, run_at, run_reach, is_late, tally_if, tally_after}
-use Rattle.period_writer.specs.Lines.{IsLine, line_of}
-use Rattle.period_writer.specs.Places.{piece_write, touched}
-use Rattle.period_writer.specs.Playing.{run_bytes, turn_accesses, finish_accesses}
+use Rattle.period_writer.specs.Runs.{RunFacts, Tally, Measures, measures, run_cut, run_reach, run_room, run_start, run_sound, run_sure, takes_back, is_late, is_late_since, is_slow, tally_if, tally_after}
+use Rattle.period_writer.specs.Lines.{IsLine, line_of, sound_and_silence}
+use Rattle.period_writer.specs.Places.{line_writes, piece_write, touched}
+use Rattle.period_writer.specs.Playing.{run_bytes, writes_by, turn_accesses, finish_accesses}
 use Rattle.period_writer.specs.Standing.{Ring, size_of, limit_in}
 use Rattle.period_writer.specs.Owning.{IsPlaying}
 use Rattle.period_writer.specs.Beside.{LeavesStopped}
 use Rattle.period_writer.specs.Writers.{WriterState, tally_of, ring_of}
-use Rattle.period_writer.specs.Outcomes.{HasNotWrapped, HasDrained, WasStopped, EndsLast, FinishTells}
+use Rattle.period_writer.specs.Outcomes.{HasNotWrapped, HasDrained, WasStopped, EndsLast, FinishTells, allowed_in}
 use Rattle.driver_stretches.specs.Shutting.{shut_accesses}
 use Rattle.codec_bring_up.specs.declared.bringing.BringUp.{BringUp}
 use Rattle.line_heard.specs.Plays.{Plays, PlaysBelow, WasSent, IsSilent, without_holes}
@@ -49,7 +51,7 @@ use Rattle.heard_runs.specs.Ending.{HeardAs, HearTheLine}
 use Rattle.heard_runs.proofs.Rows.{woven_all, woven_alone, carried_alone, all_front, all_back, went_same}
 use Rattle.heard_runs.proofs.Lives.{Along-end, Along-front, stays_stopped}
 use Rattle.heard_runs.proofs.Beside.{Laws, heard_row, drained_stopped, stopped_along}
-use Rattle.heard_runs.proofs.Runs.{finish_steady, finish_is, late_records, stopped_by}
+use Rattle.heard_runs.proofs.Runs.{finish_steady, finish_is, stopped_by}
 use Rattle.heard_runs.proofs.Calls.{row_sounds, poll_beside, open_plays}
 
 not_true : false ≡ true → ⊥
@@ -66,7 +68,7 @@ pub record HearLaws : Type 0 where
       → Plays layout pair (line_of tally pcm) true (heard address pin (drop from world.carried))
   pub stopped : (codecs : List CodecState) (tag word : ℕ) (layout : Layout) (from : ℕ) (world : World) (address pin pair : ℕ) (ring : Ring) (pcm : List ℕ) (tally : Tally) → layout_of word ≡ Some layout
       → Steady codecs tag word (block_size layout) from world → HasSent from world → signal_with (codec_at address codecs) tag word (Some layout) pin ≡ Pair pair → WasStopped ring pcm tally world
-      → PlaysBelow layout pair (line_of tally pcm) tally.course.reach (heard address pin (drop from world.carried))
+      → PlaysBelow layout pair (line_of tally pcm) tally.course.sure (heard address pin (drop from world.carried))
   pub count : (codecs : List CodecState) (tag word : ℕ) (layout : Layout) (from : ℕ) (world : World) (address pin pair : ℕ) → layout_of word ≡ Some layout → Steady codecs tag word (block_size layout) from world
       → HasSent from world → signal_with (codec_at address codecs) tag word (Some layout) pin ≡ Pair pair → length (without_holes (heard address pin (drop from world.carried))) ≡ world.output.left / block_size layout
   pub longer : (layout : Layout) (pair : ℕ) (line more : List ℕ) (list : List Heard) → Plays layout pair line false list → Plays layout pair (line ++ more) false list
@@ -75,7 +77,7 @@ pub record HearLaws : Type 0 where
   pub silent : (codecs : List CodecState) (tag word : ℕ) (layout : Layout) (from : ℕ) (world : World) (address pin : ℕ) → layout_of word ≡ Some layout → Steady codecs tag word (block_size layout) from world
       → signal_with (codec_at address codecs) tag word (Some layout) pin ≡ Silence → All IsSilent (heard address pin (drop from world.carried))
   pub grows : (m : Measures) (runs : ℕ) (tally : Tally) (facts : RunFacts) (pcm : List ℕ) → IsCourse m.ring runs tally.course → IsLine tally
-      → line_of (tally_if false m tally facts) pcm ≡ line_of tally pcm ++ run_bytes m tally.course facts (drop tally.course.used pcm)
+      → takes_back m tally.course facts ≡ false → line_of (tally_if false m tally facts) pcm ≡ line_of tally pcm ++ run_bytes m tally.course facts (drop tally.course.used pcm)
 
 -- ---- the end of a stream that was stopped
 
@@ -91,14 +93,14 @@ shut_stopped ring pcm tally old new makes was lives =
 over_stopped : (was : Ran) (ring : Ring) (pcm : List ℕ) (tally : Tally) (world : World) → is_open was ≡ false → StreamIs was ring pcm tally world → WasStopped ring pcm tally world
 over_stopped ran.Playing ring pcm tally world over stream = absurd (not_true (sym over))
 over_stopped ran.Drained ring pcm tally world over stream = drained_stopped ring pcm tally world stream
-over_stopped (ran.Late from to) ring pcm tally world over stream = stream
+over_stopped (ran.Late from to limit) ring pcm tally world over stream = stream
 
 -- ---- what pins heard
 
 abbrev is_drained : Ran → Bool
 is_drained ran.Playing = false
 is_drained ran.Drained = true
-is_drained (ran.Late from to) = false
+is_drained (ran.Late from to limit) = false
 
 never_drained : (was : Ran) → is_drained was ≡ false → was ≡ ran.Drained → ⊥
 never_drained was not same = not_true (sym not ∙ ap is_drained same)
@@ -110,22 +112,22 @@ more_blocks some many block whole more = let fewer = div-mul-le_self some block 
 over_past : (was : Ran) (ring : Ring) (pcm : List ℕ) (tally : Tally) (world : World) → StreamIs was ring pcm tally world → was ≡ ran.Drained → tally.course.at ≤ world.output.left
 over_past ran.Playing ring pcm tally world stream drained = absurd (never_drained ran.Playing refl drained)
 over_past ran.Drained ring pcm tally world stream drained = stream.sent
-over_past (ran.Late from to) ring pcm tally world stream drained = absurd (never_drained (ran.Late from to) refl drained)
+over_past (ran.Late from to limit) ring pcm tally world stream drained = absurd (never_drained (ran.Late from to limit) refl drained)
 
 module _ (laws : HearLaws) (codecs : List CodecState) (ring : Ring) (pcm : List ℕ) (tally : Tally) (world : World) (hears : IsHeardBy codecs ring world) where
   -- of a stream that was over
   over_heard : (was : Ran) → is_open was ≡ false → StreamIs was ring pcm tally world → (address pin pair : ℕ)
       → signal_with (codec_at address codecs) 1 (format_word ring.geometry.format) (Some (layout ring.geometry.format)) pin ≡ Pair pair
-      → HeardAs was (layout ring.geometry.format) pair (line_of tally pcm) tally.course.reach (heard address pin world.carried)
+      → HeardAs was (layout ring.geometry.format) pair (line_of tally pcm) tally.course.sure (heard address pin world.carried)
   over_heard ran.Playing over stream address pin pair is = absurd (not_true (sym over))
   over_heard ran.Drained over stream address pin pair is =
       laws.drained codecs 1 (format_word ring.geometry.format) (layout ring.geometry.format) 0 world address pin pair ring pcm tally (read_back ring.geometry.format) hears.steady hears.sent is stream
-  over_heard (ran.Late from to) over stream address pin pair is =
+  over_heard (ran.Late from to limit) over stream address pin pair is =
       laws.stopped codecs 1 (format_word ring.geometry.format) (layout ring.geometry.format) 0 world address pin pair ring pcm tally (read_back ring.geometry.format) hears.steady hears.sent is stream
 
   hear : (carried : List CarriedFrame) → carried ≡ world.carried
       → ((address pin pair : ℕ) → signal_with (codec_at address codecs) 1 (format_word ring.geometry.format) (Some (layout ring.geometry.format)) pin ≡ Pair pair
-      → HeardAs tally.course.ran (layout ring.geometry.format) pair (line_of tally pcm) tally.course.reach (heard address pin world.carried))
+      → HeardAs tally.course.ran (layout ring.geometry.format) pair (line_of tally pcm) tally.course.sure (heard address pin world.carried))
       → (tally.course.ran ≡ ran.Drained → tally.course.at ≤ world.output.left) → HearTheLine codecs ring.geometry.format pcm tally carried
   hear carried same plays past = subst (HearTheLine codecs ring.geometry.format pcm tally) (sym same) (record {
     plays = plays;
@@ -140,10 +142,10 @@ module _ (laws : HearLaws) (codecs : List CodecState) (ring : Ring) (pcm : List 
 -- ---- the last run
 
 ends_stopped : (answer : Ran) (ring : Ring) (pcm : List ℕ) (tally tally' : Tally) (facts : RunFacts) (world : World) → tally' ≡ tally_after (measures ring.geometry) tally facts → answer ≡ tally'.course.ran
-    → EndsLast answer ring pcm tally tally' world → WasStopped ring pcm tally' world
+    → EndsLast answer ring pcm tally' world → WasStopped ring pcm tally' world
 ends_stopped ran.Playing ring pcm tally tally' facts world recorded is ends = ends
 ends_stopped ran.Drained ring pcm tally tally' facts world recorded is ends = drained_stopped ring pcm tally' world ends
-ends_stopped (ran.Late from to) ring pcm tally tally' facts world recorded is ends = late_records ring pcm tally tally' facts from to world recorded is ends
+ends_stopped (ran.Late from to limit) ring pcm tally tally' facts world recorded is ends = ends
 
 -- a run leaves the stream set going in its tally
 still_going : (late : Bool) (m : Measures) (tally : Tally) (facts : RunFacts) → tally.course.started ≡ true → (tally_if late m tally facts).course.started ≡ true
@@ -151,13 +153,41 @@ still_going true m tally facts is = is
 still_going false m tally facts is = refl
 
 -- the clock that it reads last, where the device makes no step
-clock_read : (bytes : ℕ) (periods : List ℕ) (from to : ℕ) (written : List ℕ) (xs : List ℕ) (clock : ℕ) (later : List Event) (world : World)
-    → AreHonest (map (piece_write bytes periods from to written) xs ++ (Read WALCLK Four clock ∷ later)) world → clock ≡ value_at world.registers WALCLK Four
-clock_read bytes periods from to written [] clock later world honest = honest.0
-clock_read bytes periods from to written (x ∷ xs) clock later world honest = clock_read bytes periods from to written xs clock later (happens world (piece_write bytes periods from to written x)) honest.1
+row_read : (bytes : ℕ) (periods : List ℕ) (from to : ℕ) (written : List ℕ) (xs : List ℕ) (rest : List Event) (world : World) {A : Type 0}
+    → ((later : World) → later.registers ≡ world.registers → AreHonest rest later → A) → AreHonest (map (piece_write bytes periods from to written) xs ++ rest) world → A
+row_read bytes periods from to written [] rest world goes honest = goes world refl honest
+row_read bytes periods from to written (x ∷ xs) rest world goes honest = row_read bytes periods from to written xs rest (happens world (piece_write bytes periods from to written x)) goes honest.1
+
+clock_read : (bytes : ℕ) (periods : List ℕ) (start sound reach reach' : ℕ) (pcm : List ℕ) (clock : ℕ) (later : List Event) (world : World)
+    → AreHonest (writes_by bytes periods start sound reach reach' pcm ++ (Read WALCLK Four clock ∷ later)) world → clock ≡ value_at world.registers WALCLK Four
+clock_read bytes periods start sound reach reach' pcm clock later world honest =
+    row_read bytes periods start (min reach (start + sound)) _ (range_with_len (start / bytes) (touched bytes start (min reach (start + sound)))) (line_writes bytes periods reach reach' (sound_and_silence (sound - (min reach (start + sound) - start)) (reach' - reach) (drop (min reach (start + sound) - start) pcm)) ++ (Read WALCLK Four clock ∷ later)) world
+    (λ middle same honest. row_read bytes periods reach reach' _ (range_with_len (reach / bytes) (touched bytes reach reach')) (Read WALCLK Four clock ∷ later) middle (λ last same' honest. honest.0 ∙ ap (λ (fields : Fields). value_at fields WALCLK Four) (same' ∙ same)) honest)
+    (subst (λ (events : List Event). AreHonest events world) (append_assoc (line_writes bytes periods start (min reach (start + sound)) (sound_and_silence (min reach (start + sound) - start) (min reach (start + sound) - start) pcm)) (line_writes bytes periods reach reach' (sound_and_silence (sound - (min reach (start + sound) - start)) (reach' - reach) (drop (min reach (start + sound) - start) pcm))) (Read WALCLK Four clock ∷ later)) honest)
+
+or_first : (a b : Bool) → (a || b) ≡ false → a ≡ false
+or_first true b e = cc
+or_first false b e = refl
+
+-- with a budget of 0 nothing is taken back
+no_budget : (m : Measures) (course : Course) (facts : RunFacts) → facts.budget ≡ 0 → takes_back m course facts ≡ false
+no_budget m course facts none = by (nat_lt (run_cut m course facts) course.reach) where
+  least : (block budget n : ℕ) → budget ≡ 0 → whole_blocks block (min budget n) ≡ 0
+  least block budget n e = grind (arith, e)
+
+  silent : (run_sound m course facts == 0) ≡ true
+  silent = ap (λ (n : ℕ). n == 0) (least m.block facts.budget (min (run_room m course facts) facts.left) none)
+
+  by : (below : Bool) → (below && not (run_sound m course facts == 0)) ≡ false
+  by true = ap not silent
+  by false = refl
+
+never_late : (since_first : Bool) (course_from from to limit slack : ℕ) → ran.Playing ≡ (if since_first then ran.Late course_from to limit else ran.Late from to slack) → ⊥
+never_late true course_from from to limit slack is = cc
+never_late false course_from from to limit slack is = cc
 
 playing_late : (late : Bool) (m : Measures) (tally : Tally) (facts : RunFacts) → is_late m tally.course facts ≡ late → ran.Playing ≡ (tally_if late m tally facts).course.ran → is_late m tally.course facts ≡ false
-playing_late true m tally facts is plays = cc
+playing_late true m tally facts is plays = absurd (never_late (is_late_since m tally.course facts) tally.course.from facts.from facts.to m.limit m.slack plays)
 playing_late false m tally facts is plays = is
 
 not_more : (a b : ℕ) → nat_lt a b ≡ false → b ≤ a
@@ -175,10 +205,13 @@ module _ (laws : HearLaws) (codecs : List CodecState) (ring : Ring) (pcm : List 
   in_time : is_late m tally.course run.facts ≡ false
   in_time = playing_late (is_late m tally.course run.facts) m tally run.facts refl (plays ∙ ap (λ (tally : Tally). tally.course.ran) run.recorded)
 
+  back_none : takes_back m tally.course run.facts ≡ false
+  back_none = no_budget m tally.course run.facts run.budget_is
+
   line_is : line_of tally' pcm ≡ line_of tally pcm ++ run_bytes m tally.course run.facts (drop tally.course.used pcm)
   line_is =
       ap (λ (tally : Tally). line_of tally pcm) (run.recorded ∙ ap (λ (late : Bool). tally_if late m tally run.facts) in_time)
-      ∙ laws.grows m runs tally run.facts pcm course playing.written.line
+      ∙ laws.grows m runs tally run.facts pcm course playing.written.line back_none
 
   -- where the device makes no step
   module _ (events : List Event) (went : Went begins ends events) (alone : All IsNoStep events) where
@@ -189,20 +222,19 @@ module _ (laws : HearLaws) (codecs : List CodecState) (ring : Ring) (pcm : List 
         let made : weaving.events ≡ finish_accesses ring.geometry ring.periods tally.course run.facts (drop tally.course.used pcm) =
         woven_alone (finish_accesses ring.geometry ring.periods tally.course run.facts (drop tally.course.used pcm)) weaving.events weaving.woven (subst (All IsNoStep) (sym same) alone) in
         let honest = subst (λ (events : List Event). AreHonest events (world_of begins)) made weaving.went.honest in
-        clock_read (period_bytes ring.geometry.period) ring.periods tally.course.reach (run_reach m tally.course run.facts) (run_bytes m tally.course run.facts (drop tally.course.used pcm))
-        (range_with_len (tally.course.reach / period_bytes ring.geometry.period) (touched (period_bytes ring.geometry.period) tally.course.reach (run_reach m tally.course run.facts))) run.facts.to (Write CONTROL One 0 ∷ []) (world_of begins) honest.1.1
+        clock_read (period_bytes ring.geometry.period) ring.periods (run_start m tally.course run.facts) (run_sound m tally.course run.facts) tally.course.reach (run_reach m tally.course run.facts) (drop tally.course.used pcm) run.facts.to (Write CONTROL One 0 ∷ []) (world_of begins) honest.1.1
         ∙ read-wall_clock (world_of begins).registers ∙ playing.stands.clock_is ∙ mod-eq_of_lt small
 
     few : 500 * (world_of begins).frames ≤ tally.course.from + 500 * limit_in ring
     few =
         let late : nat_lt (500 * m.limit) (run.facts.to - tally.course.from) ≡ false =
-        sym (ap (λ (started : Bool). started && nat_lt (500 * m.limit) (run.facts.to - tally.course.from)) playing.started) ∙ in_time in
+        (let first = or_first (is_late_since m tally.course run.facts) (is_slow m tally.course run.facts) in_time in sym (ap (λ (started : Bool). started && nat_lt (500 * m.limit) (run.facts.to - tally.course.from)) playing.started) ∙ first) in
         few_frames (world_of begins).frames run.facts.to tally.course.from (limit_in ring) clock_is (not_more (500 * limit_in ring) (run.facts.to - tally.course.from) late)
 
     playing_heard : (address pin pair : ℕ) → signal_with (codec_at address codecs) 1 (format_word ring.geometry.format) (Some (layout ring.geometry.format)) pin ≡ Pair pair
-        → HeardAs tally'.course.ran (layout ring.geometry.format) pair (line_of tally' pcm) tally'.course.reach (heard address pin (world_of begins).carried)
+        → HeardAs tally'.course.ran (layout ring.geometry.format) pair (line_of tally' pcm) tally'.course.sure (heard address pin (world_of begins).carried)
     playing_heard address pin pair is =
-        subst (λ (was : Ran). HeardAs was (layout ring.geometry.format) pair (line_of tally' pcm) tally'.course.reach (heard address pin (world_of begins).carried)) plays
+        subst (λ (was : Ran). HeardAs was (layout ring.geometry.format) pair (line_of tally' pcm) tally'.course.sure (heard address pin (world_of begins).carried)) plays
         (subst (λ (line : List ℕ). Plays (layout ring.geometry.format) pair line false (heard address pin (world_of begins).carried)) (sym line_is)
         (laws.longer (layout ring.geometry.format) pair (line_of tally pcm) (run_bytes m tally.course run.facts (drop tally.course.used pcm)) (heard address pin (world_of begins).carried)
         (laws.playing codecs 1 (format_word ring.geometry.format) (layout ring.geometry.format) 0 (world_of begins) address pin pair ring pcm tally (read_back ring.geometry.format) hears.steady hears.sent is playing few)))
@@ -299,7 +331,7 @@ module _ (on : Laws) (laws : HearLaws) (codecs : List CodecState) (pcm : List �
       has_stopped =
           let stop : IsStopped (world_of ends) = record { stopped = stopped.stopped; no_error = stopped.no_error } in
           shut_stopped ring pcm tally' ends after stops_sound.shut stopped
-          (stopped_by ring (line_of tally pcm) tally.course.reach tally.course.at (run_at (measures ring.geometry) tally.course run.facts) tally.course.from
+          (stopped_by ring (line_of tally pcm) (run_sure (measures ring.geometry) tally.course run.facts) tally.course.from (allowed_in ring tally run.facts)
           (finish_accesses ring.geometry ring.periods tally.course run.facts (drop tally.course.used pcm)) (turn_accesses ring.geometry ring.periods tally.course run.facts (drop tally.course.used pcm))
           run.events begins ends run.made (finish_is ring tally run.facts (drop tally.course.used pcm)) run.went run.moments going stop)
 
@@ -324,7 +356,7 @@ module _ (on : Laws) (laws : HearLaws) (codecs : List CodecState) (pcm : List �
     abbrev HeardAt : Ran → Type 0
     HeardAt was =
         (address pin pair : ℕ) → signal_with (codec_at address codecs) 1 (format_word writer.geometry.format) (Some (layout writer.geometry.format)) pin ≡ Pair pair
-        → HeardAs was (layout writer.geometry.format) pair (line_of tally' pcm) tally'.course.reach (heard address pin (world_of ends).carried)
+        → HeardAs was (layout writer.geometry.format) pair (line_of tally' pcm) tally'.course.sure (heard address pin (world_of ends).carried)
 
     ends_by : (answer : Ran) → answer ≡ tally'.course.ran → FinishTells ring pcm tally answer tally' begins ends → Ends
     ends_by ran.Playing is run = (
@@ -341,12 +373,12 @@ module _ (on : Laws) (laws : HearLaws) (codecs : List CodecState) (pcm : List �
           (subst HeardAt is (over_heard laws codecs ring pcm tally' (world_of ends) (hears_ends ran.Drained is run) ran.Drained refl run.ends))
           (λ drained. run.ends.sent),
     )
-    ends_by (ran.Late from to) is run = (
-      set_going (ran.Late from to) is run,
-      has_stopped (ran.Late from to) is run,
-      λ alone. hear laws codecs ring pcm tally' (world_of ends) (hears_ends (ran.Late from to) is run) (world_of after).carried (carried_ends alone)
-          (subst HeardAt is (over_heard laws codecs ring pcm tally' (world_of ends) (hears_ends (ran.Late from to) is run) (ran.Late from to) refl (stopped (ran.Late from to) is run)))
-          (λ drained. absurd (never_drained (ran.Late from to) refl (is ∙ drained))),
+    ends_by (ran.Late from to limit) is run = (
+      set_going (ran.Late from to limit) is run,
+      has_stopped (ran.Late from to limit) is run,
+      λ alone. hear laws codecs ring pcm tally' (world_of ends) (hears_ends (ran.Late from to limit) is run) (world_of after).carried (carried_ends alone)
+          (subst HeardAt is (over_heard laws codecs ring pcm tally' (world_of ends) (hears_ends (ran.Late from to limit) is run) (ran.Late from to limit) refl (stopped (ran.Late from to limit) is run)))
+          (λ drained. absurd (never_drained (ran.Late from to limit) refl (is ∙ drained))),
     )
 
     sound_ends : Ends

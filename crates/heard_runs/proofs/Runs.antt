@@ -1,5 +1,5 @@
 -- A run leaves a stream that played as it ended.
-use Rattle.std.proofs.Common.{◌≡◌, inr, ℕ, Bool, true, false, if◌then◌else◌, List, [], ◌∷◌, ◌++◌, drop, refl, sym, ap, subst, ◌∙◌, append_assoc, arith}
+use Rattle.std.proofs.Common.{◌≡◌, ◌+◌, ◌-◌, min, inr, ℕ, Bool, true, false, List, [], ◌∷◌, ◌++◌, drop, refl, sym, ap, subst, ◌∙◌, append_assoc, arith}
 use Rattle.std.specs.Prelude.{All}
 use Rattle.std.proofs.lemmas.List.Elements.{All-append, All-cons, All-nil}
 use Rattle.std.specs.List.{range_with_len}
@@ -15,13 +15,13 @@ use Rattle.period_writer.specs.declared.course.Ran.{Ran}
 use Rattle.period_writer.specs.declared.course.Ran.TheVariants as ran
 use Rattle.period_writer.specs.declared.registers.TheConstants.{CONTROL, POSITION}
 use Rattle.period_writer.specs.Rings.{period_bytes}
-use Rattle.period_writer.specs.Runs.{RunFacts, Tally, Measures, measures, run_at, run_reach, is_late, has_drained, tally_if, tally_after}
-use Rattle.period_writer.specs.Lines.{line_of}
+use Rattle.period_writer.specs.Runs.{RunFacts, Tally, Measures, measures, run_sure, is_late, tally_if, tally_after, run_start, run_sound, run_reach}
+use Rattle.period_writer.specs.Lines.{line_of, sound_and_silence}
 use Rattle.period_writer.specs.Places.{line_writes, piece_write}
-use Rattle.period_writer.specs.Playing.{run_bytes, turn_accesses, play_accesses, finish_accesses, stop_accesses}
+use Rattle.period_writer.specs.Playing.{run_writes, turn_accesses, play_accesses, finish_accesses, stop_accesses}
 use Rattle.period_writer.specs.Standing.{Ring}
-use Rattle.period_writer.specs.Owning.{IsWritten, IsOwned, IsPlaying}
-use Rattle.period_writer.specs.Outcomes.{WasStopped, RunTells}
+use Rattle.period_writer.specs.Owning.{IsOwned, Allowed, IsPlaying}
+use Rattle.period_writer.specs.Outcomes.{RunTells, allowed_in}
 use Rattle.line_heard.specs.Steady.{LeavesSteady}
 use Rattle.audio_driver.specs.States.{is_open}
 use Rattle.heard_runs.specs.Lives.{Runs, IsStopped, Along, stops, IsGoing, HasStopped, Lives}
@@ -41,18 +41,27 @@ stop_steady = All-cons LeavesSteady (Write CONTROL One 0) [] (record { control =
 stops_steady : (was : Ran) → All LeavesSteady (stop_accesses was)
 stops_steady ran.Playing = All-nil LeavesSteady
 stops_steady ran.Drained = stop_steady
-stops_steady (ran.Late from to) = stop_steady
+stops_steady (ran.Late from to limit) = stop_steady
 
 module _ (ring : Ring) (tally : Tally) (facts : RunFacts) (pcm : List ℕ) where
   abbrev pub lines : List Event
-  lines =
-      line_writes (period_bytes ring.geometry.period) ring.periods tally.course.reach (run_reach (measures ring.geometry) tally.course facts)
-      (run_bytes (measures ring.geometry) tally.course facts pcm)
+  lines = run_writes (period_bytes ring.geometry.period) ring.periods (measures ring.geometry) tally.course facts pcm
+
+  row_steady : (from to : ℕ) (written : List ℕ) → All LeavesSteady (line_writes (period_bytes ring.geometry.period) ring.periods from to written)
+  row_steady from to written = all_map LeavesSteady (piece_write (period_bytes ring.geometry.period) ring.periods from to written) (λ period. tt {0}) (range_with_len _ _)
 
   lines_steady : All LeavesSteady lines
   lines_steady =
-      all_map LeavesSteady (piece_write (period_bytes ring.geometry.period) ring.periods tally.course.reach (run_reach (measures ring.geometry) tally.course facts) (run_bytes (measures ring.geometry) tally.course facts pcm))
-      (λ period. tt {0}) (range_with_len _ _)
+      let bytes = period_bytes ring.geometry.period in
+      let m = measures ring.geometry in
+      let start = run_start m tally.course facts in
+      let sound = run_sound m tally.course facts in
+      let reach = tally.course.reach in
+      let reach' = run_reach m tally.course facts in
+      let to = min reach (start + sound) in
+      let over = to - start in
+      All-append LeavesSteady (line_writes bytes ring.periods start to (sound_and_silence over over pcm)) (line_writes bytes ring.periods reach reach' (sound_and_silence (sound - over) (reach' - reach) (drop over pcm)))
+      (row_steady start to (sound_and_silence over over pcm)) (row_steady reach reach' (sound_and_silence (sound - over) (reach' - reach) (drop over pcm)))
 
   run_steady : (later : List Event) → All LeavesSteady later → All LeavesSteady (Read WALCLK Four facts.from ∷ Read POSITION Four facts.lpib ∷ (lines ++ (Read WALCLK Four facts.to ∷ later)))
   run_steady later all =
@@ -71,9 +80,9 @@ module _ (ring : Ring) (tally : Tally) (facts : RunFacts) (pcm : List ℕ) where
 
 -- ---- its moments
 
-module _ (ring : Ring) (line : List ℕ) (reach from to clock : ℕ) where
+module _ (ring : Ring) (line : List ℕ) (sure clock : ℕ) (allowed : Allowed) where
   abbrev pub Owned : World → Event → Type 0
-  Owned = IsOwned ring line reach from to clock
+  Owned = IsOwned ring line sure clock allowed
 
   runs_here : (world : World) (event : Event) → Owned world event → Runs world
   runs_here world event owned = record { running = owned.owns.runs; no_error = owned.owns.no_error }
@@ -88,37 +97,17 @@ module _ (ring : Ring) (line : List ℕ) (reach from to clock : ℕ) where
   runs_before (event ∷ during) last world each = (runs_here world event each.0, runs_before during last (happens world event) each.1)
 
 -- where it stops the stream at last
-pub stopped_by : (ring : Ring) (line : List ℕ) (reach from to clock : ℕ) (made front events : List Event) (old new : Telling) → Makes made old new → made ≡ front ++ stops ∷ [] → Went old new events
-    → AtEach (Owned ring line reach from to clock) events (world_of old) → IsGoing old → IsStopped (world_of new) → HasStopped new
-stopped_by ring line reach from to clock made front events old new makes ends went moments going stopped =
+pub stopped_by : (ring : Ring) (line : List ℕ) (sure clock : ℕ) (allowed : Allowed) (made front events : List Event) (old new : Telling) → Makes made old new → made ≡ front ++ stops ∷ [] → Went old new events
+    → AtEach (Owned ring line sure clock allowed) events (world_of old) → IsGoing old → IsStopped (world_of new) → HasStopped new
+stopped_by ring line sure clock allowed made front events old new makes ends went moments going stopped =
     let weaving = woven makes in
     let (during, is) = woven_last front stops weaving.events (subst (λ (made : List Event). AreWoven made weaving.events) ends weaving.woven) in
     let same : events ≡ during ++ stops ∷ [] = went_same old new events weaving.events went weaving.went ∙ is in
     stops_now old new during (subst (Went old new) same went) going
-    (runs_before ring line reach from to clock during stops (world_of old) (subst (λ (events : List Event). AtEach (Owned ring line reach from to clock) events (world_of old)) same moments))
+    (runs_before ring line sure clock allowed during stops (world_of old) (subst (λ (events : List Event). AtEach (Owned ring line sure clock allowed) events (world_of old)) same moments))
     stopped
 
 -- ---- what is recorded
-
-written_late : (m : Measures) (pcm : List ℕ) (tally : Tally) (facts : RunFacts) → IsWritten pcm tally → IsWritten pcm (tally_if true m tally facts)
-written_late m pcm tally facts written = record { line = record { maximal = written.line.maximal; used = written.line.used }; whole = written.whole; quiet = written.quiet }
-
-no_late : {A : Type 0} (from to : ℕ) (drained : Bool) → ran.Late from to ≡ (if drained then ran.Drained else ran.Playing) → A
-no_late from to true is = cc
-no_late from to false is = cc
-
-stopped_late : (late : Bool) (m : Measures) (ring : Ring) (pcm : List ℕ) (tally : Tally) (facts : RunFacts) (from to : ℕ) (world : World) → ran.Late from to ≡ (tally_if late m tally facts).course.ran
-    → WasStopped ring pcm tally world → WasStopped ring pcm (tally_if late m tally facts) world
-stopped_late true m ring pcm tally facts from to world is was = record { stopped = was.stopped; no_error = was.no_error; written = written_late m pcm tally facts was.written; fetched = was.fetched }
-stopped_late false m ring pcm tally facts from to world is was = no_late from to (has_drained m tally.course facts) is
-
--- a late run records nothing
-pub late_records : (ring : Ring) (pcm : List ℕ) (tally tally' : Tally) (facts : RunFacts) (from to : ℕ) (world : World) → tally' ≡ tally_after (measures ring.geometry) tally facts → ran.Late from to ≡ tally'.course.ran
-    → WasStopped ring pcm tally world → WasStopped ring pcm tally' world
-late_records ring pcm tally tally' facts from to world recorded is was =
-    let m = measures ring.geometry in
-    subst (λ (tally : Tally). WasStopped ring pcm tally world) (sym recorded)
-    (stopped_late (is_late (measures ring.geometry) tally.course facts) (measures ring.geometry) ring pcm tally facts from to world (is ∙ ap (λ (tally : Tally). tally.course.ran) recorded) was)
 
 started_if : (late : Bool) (m : Measures) (tally : Tally) (facts : RunFacts) → tally.course.started ≡ true → (tally_if late m tally facts).course.started ≡ true
 started_if true m tally facts started = started
@@ -142,14 +131,14 @@ module _ (laws : Laws) (codecs : List CodecState) (ring : Ring) (pcm : List ℕ)
     stopped_after : play_accesses ring.geometry ring.periods tally.course run.facts (drop tally.course.used pcm) answer ≡ turn_accesses ring.geometry ring.periods tally.course run.facts (drop tally.course.used pcm) ++ stops ∷ []
         → IsStopped (world_of new) → HasStopped new
     stopped_after ends stopped =
-        stopped_by ring (line_of tally pcm) tally.course.reach tally.course.at (run_at (measures ring.geometry) tally.course run.facts) tally.course.from
+        stopped_by ring (line_of tally pcm) (run_sure (measures ring.geometry) tally.course run.facts) tally.course.from (allowed_in ring tally run.facts)
         (play_accesses ring.geometry ring.periods tally.course run.facts (drop tally.course.used pcm) answer) (turn_accesses ring.geometry ring.periods tally.course run.facts (drop tally.course.used pcm))
         run.events old new run.made ends run.went run.moments going stopped
 
     going_after : IsPlaying ring pcm tally' (world_of new) → IsGoing new
     going_after playing =
         goes_more old new run.events run.went going
-        (runs_each ring (line_of tally pcm) tally.course.reach tally.course.at (run_at (measures ring.geometry) tally.course run.facts) tally.course.from run.events (world_of old) run.moments
+        (runs_each ring (line_of tally pcm) (run_sure (measures ring.geometry) tally.course run.facts) tally.course.from (allowed_in ring tally run.facts) run.events (world_of old) run.moments
         (subst Runs there (record { running = playing.stands.set.runs; no_error = playing.stands.set.no_error })))
 
   stream_after : (answer : Ran) → answer ≡ tally'.course.ran → RunTells ring pcm budget tally answer tally' old new → StreamIs answer ring pcm tally' (world_of new) × Lives (is_open answer) new
@@ -157,9 +146,9 @@ module _ (laws : Laws) (codecs : List CodecState) (ring : Ring) (pcm : List ℕ)
   stream_after ran.Drained is run =
       let drained = run.ends in
       (drained, stopped_after ran.Drained run (finish_is ring tally run.facts (drop tally.course.used pcm)) (record { stopped = drained.stopped; no_error = drained.no_error }))
-  stream_after (ran.Late from to) is run =
+  stream_after (ran.Late from to limit) is run =
       let was = run.ends in
-      (late_records ring pcm tally tally' run.facts from to (world_of new) run.recorded is was, stopped_after (ran.Late from to) run (finish_is ring tally run.facts (drop tally.course.used pcm)) (record { stopped = was.stopped; no_error = was.no_error }))
+      (was, stopped_after (ran.Late from to limit) run (finish_is ring tally run.facts (drop tally.course.used pcm)) (record { stopped = was.stopped; no_error = was.no_error }))
 
   pub run_sounds : (answer : Ran) → answer ≡ tally'.course.ran → RunTells ring pcm budget tally answer tally' old new → Sounds codecs ring pcm tally' new
   run_sounds answer is run =

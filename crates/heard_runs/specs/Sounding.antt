@@ -21,7 +21,7 @@ use Rattle.heard_runs.specs.Lives.{Lives}
 abbrev pub StreamIs : Ran → Ring → (pcm : List ℕ) → Tally → World → Type 0
 StreamIs ran.Playing ring pcm tally world = IsPlaying ring pcm tally world
 StreamIs ran.Drained ring pcm tally world = HasDrained ring pcm tally world
-StreamIs (ran.Late from to) ring pcm tally world = WasStopped ring pcm tally world
+StreamIs (ran.Late from to limit) ring pcm tally world = WasStopped ring pcm tally world
 
 -- these codecs were as they are in every link frame that carried something, and what link frames carried is what was fetched
 pub record IsHeardBy (codecs : List CodecState) (ring : Ring) (world : World) : Type 0 where

@@ -89,11 +89,12 @@ module _ (codecs : List CodecState) (tag word : ℕ) (layout : Layout) (known : 
           each at below = by at below (order at)
 
     -- after a stop the line below the last recorded reach
-    pub stopped_heard : (ring : Ring) (pcm : List ℕ) (tally : Tally) → WasStopped ring pcm tally world → PlaysBelow layout pair (line_of tally pcm) tally.course.reach list
+    pub stopped_heard : (ring : Ring) (pcm : List ℕ) (tally : Tally) → WasStopped ring pcm tally world → PlaysBelow layout pair (line_of tally pcm) tally.course.sure list
     stopped_heard ring pcm tally stopped =
         let long = stopped.written.whole in
+        let sure = stopped.written.sure in
         let behind = sent.behind in
-        plays_below layout pair world.output.entered world.output.left sent.behind list heard_is (line_of tally pcm) tally.course.reach (omega (arith, long))
+        plays_below layout pair world.output.entered world.output.left sent.behind list heard_is (line_of tally pcm) tally.course.sure (omega (arith, long, sure))
         (λ at below under. stopped.fetched at (omega (arith, below, behind)) under)
 
 -- ---- every item of a list

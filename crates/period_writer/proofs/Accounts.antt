@@ -6,11 +6,12 @@ use Rattle.std.proofs.lemmas.Nat.{div-add-mod', mod-mul-add, mod_below}
 use Rattle.std.proofs.Math.Nat.{mul-mod_left, mod-zero}
 use Rattle.wav_reader.specs.Supplies.{Supplied, without}
 use Rattle.period_writer.specs.declared.course.Course.{Course}
-use Rattle.period_writer.specs.declared.course.Ran.TheVariants.{Drained, Playing}
+use Rattle.period_writer.specs.declared.course.Ran.TheVariants.{Drained, Playing, Late}
 use Rattle.period_writer.specs.Courses.{IsCourse}
 use Rattle.period_writer.specs.Accounts.{Accounts, unrecorded}
-use Rattle.period_writer.specs.Runs.{Measures, RunFacts, Tally, facts_of, has_drained, is_late, run_room, run_sound, tally_if, tally_after, whole_blocks}
-use Rattle.period_writer.proofs.SameRuns.{room_if}
+use Rattle.period_writer.specs.Runs.{Measures, RunFacts, Tally, facts_of, has_drained, is_late, is_late_since, run_room, run_sound, tally_if, tally_after}
+use Rattle.period_writer.specs.Rings.{whole_blocks}
+use Rattle.period_writer.proofs.RunRooms.{room_small}
 
 -- ---- whole blocks
 
@@ -56,12 +57,17 @@ drained_or : (drained : Bool) (ring : ℕ) → unrecorded ring (if drained then 
 drained_or true ring = refl
 drained_or false ring = refl
 
+late_or : (since_first : Bool) (ring course_from from to limit slack : ℕ) → unrecorded ring (if since_first then Late course_from to limit else Late from to slack) ≡ ring
+late_or true ring course_from from to limit slack = refl
+late_or false ring course_from from to limit slack = refl
+
 in_ring : (block budget room left ring : ℕ) → room ≤ ring → whole_blocks block (min budget (min room left)) ≤ ring
 in_ring block budget room left ring fits = grind arith
 
 used_by : (late : Bool) (m : Measures) (tally : Tally) (facts : RunFacts) (taken : ℕ) → run_sound m tally.course facts ≤ m.ring
     → (taken + run_sound m tally.course facts) + (tally.course.used + 0) ≤ taken + ((tally_if late m tally facts).course.used + unrecorded m.ring (tally_if late m tally facts).course.ran)
-used_by true m tally facts taken fits = omega (arith, fits)
+used_by true m tally facts taken fits =
+    let all = late_or (is_late_since m tally.course facts) m.ring tally.course.from facts.from facts.to m.limit m.slack in omega (arith, fits, all)
 used_by false m tally facts taken fits = let none = drained_or (has_drained m tally.course facts) m.ring in omega (arith, none)
 
 grows_by : (late : Bool) (m : Measures) (tally : Tally) (facts : RunFacts) → tally.course.used ≤ (tally_if late m tally facts).course.used
@@ -76,7 +82,7 @@ pub accounts_of : (m : Measures) (runs : ℕ) (before : Course) (tally tally' : 
 accounts_of m runs before tally tally' supply budget left from lpib to count some is plays same recorded counts within rule =
     let facts = facts_of budget left from lpib to in
     let late = is_late m tally.course facts in
-    let room = room_if tally.course.started m.ring tally.course.at tally.course.reach lpib some is.reach in
+    let room = room_small m runs tally.course facts some is in
     let fits : run_sound m tally.course facts ≤ m.ring = in_ring m.block budget (run_room m tally.course facts) left m.ring room in
     let none : unrecorded m.ring before.ran ≡ 0 = ap (unrecorded m.ring) plays in
     let used = used_by late m tally facts supply.taken fits in
@@ -100,5 +106,6 @@ accounts_none m supply course = record { blocks = λ whole. whole; left_blocks =
 pub none_used : (ring runs : ℕ) (course : Course) → IsCourse ring runs course → course.started ≡ false → 0 ≡ course.used
 none_used ring runs course is fresh =
     let used = is.used in
+    let end = is.sound_end in
     let none = is.reach ∙ ap (λ (started : Bool). if started then course.at + ring else 0) fresh in
-    omega (arith, used, none)
+    omega (arith, used, end, none)

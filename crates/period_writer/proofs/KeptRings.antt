@@ -1,5 +1,5 @@
 -- A ring that calls keep.
-use Rattle.std.proofs.Common.{◌≡◌, ◌∙◌, List, refl, sym, subst}
+use Rattle.std.proofs.Common.{◌∙◌, List, sym, subst}
 use Rattle.std.specs.Prelude.{All, Contains}
 use Rattle.dma_pool.specs.declared.blocks.Lent.{Lent}
 use Rattle.dma_pool.specs.declared.runs.Run.{Run}

@@ -10,6 +10,9 @@ pub mod Silences
 pub mod CourseLaws
 pub mod Runnings
 pub mod LineLaws
+pub mod LineCut
+pub mod LineRuns
+pub mod RunRooms
 pub mod Fetched
 pub mod RestWrites
 pub mod RingBytes
@@ -30,12 +33,15 @@ pub mod RingWrites
 pub mod LineWritten
 pub mod RunTimes
 pub mod CourseRuns
+pub mod RingPieces
+pub mod RowsWritten
 pub mod RunMoments
+pub mod RunParts
 pub mod RunEnds
 pub mod RunTelling
 pub mod RunClause
-pub mod FinishTelling
 pub mod RegistersBeside
 pub mod BetweenRuns
 pub mod StoppedStreams
 pub mod Callers
+pub mod Shapes

@@ -1,12 +1,9 @@
 -- The line grows by what a run writes.
-use Rattle.std.proofs.Common.{◌≡◌, ◌≤◌, ◌<◌, ◌+◌, ◌-◌, ◌==◌, ℕ, min, zero, suc, Bool, true, false, List, [], ◌∷◌, ◌++◌, take, drop, replicate, append_assoc, append-nil, refl, sym, ap, ◌∙◌, arith, rules, if◌then◌else◌}
+use Rattle.std.proofs.Common.{◌≡◌, ◌≤◌, ◌<◌, ◌+◌, ◌-◌, ◌==◌, ℕ, zero, suc, Bool, true, false, List, [], ◌∷◌, ◌++◌, take, drop, replicate, append_assoc, append-nil, refl, sym, ap, ◌∙◌, arith, rules, if◌then◌else◌}
 use Rattle.std.proofs.lemmas.List.{drop-drop, replicate-append-replicate}
 use Rattle.period_writer.specs.declared.course.Span.{Span}
-use Rattle.period_writer.specs.declared.course.Course.{Course}
-use Rattle.period_writer.specs.Courses.{IsCourse}
-use Rattle.period_writer.specs.Runs.{Measures, RunFacts, Tally, silent_too, position_from, whole_blocks, run_reach, run_room, run_sound, run_of, course_after, tally_if}
-use Rattle.period_writer.specs.Lines.{IsLine, line_from, line_of, sound_in, AreMaximal}
-use Rattle.period_writer.specs.Playing.{run_bytes}
+use Rattle.period_writer.specs.Runs.{silent_too}
+use Rattle.period_writer.specs.Lines.{line_from, sound_in, AreMaximal}
 
 abbrev empty : List ℕ
 empty = []
@@ -20,7 +17,7 @@ take_add zero n xs = ap (λ k. take k xs) (omega arith)
 take_add (suc m) n [] = let e : suc m + n ≡ suc (m + n) = omega arith in rw e (take_empty n)
 take_add (suc m) n (x ∷ xs) = let e : suc m + n ≡ suc (m + n) = omega arith in rw e (ap (λ (l : List ℕ). x ∷ l) (take_add m n xs))
 
-regroup : (a b c d : List ℕ) → a ++ (b ++ (c ++ d)) ≡ (a ++ (b ++ c)) ++ d
+pub regroup : (a b c d : List ℕ) → a ++ (b ++ (c ++ d)) ≡ (a ++ (b ++ c)) ++ d
 regroup a b c d = ap (λ l. a ++ l) (sym (append_assoc b c d)) ∙ sym (append_assoc a (b ++ c) d)
 
 -- silences end in the line
@@ -32,7 +29,7 @@ maximal_within low (one ∷ silences) reach laid =
     let rest = maximal_within (one.end + 1) silences reach laid.2 in
     omega (arith, first, some, rest)
 
-last_within : (one : Span) (silences : List Span) (reach : ℕ) → AreMaximal (one.end + 1) silences reach → one.end ≤ reach
+pub last_within : (one : Span) (silences : List Span) (reach : ℕ) → AreMaximal (one.end + 1) silences reach → one.end ≤ reach
 last_within one silences reach laid = let within = maximal_within (one.end + 1) silences reach laid in omega (arith, within)
 
 -- the line gets sound alone
@@ -137,47 +134,7 @@ maximal_silence low (one ∷ other ∷ more) reach sound end laid within longer 
     let last = last_within other more reach laid.2.2 in
     (laid.0, laid.1, maximal_silence (one.end + 1) (other ∷ more) reach sound end laid.2 (omega (arith, first, some, last)) longer)
 
--- ---- a run
-
-pub run_longer : (m : Measures) (runs : ℕ) (course : Course) (facts : RunFacts) → IsCourse m.ring runs course → course.reach ≤ run_reach m course facts
-run_longer m runs course facts is = by_test course.started is.reach where
-  by_test : (started : Bool) → course.reach ≡ (if started then course.at + m.ring else 0) → course.reach ≤ (if started then position_from m.ring course.at facts.lpib else 0) + m.ring
-  by_test true e = omega (arith, e)
-  by_test false e = omega (arith, e)
-
-pub run_fits : (m : Measures) (course : Course) (facts : RunFacts) → run_sound m course facts ≤ run_room m course facts
-run_fits m course facts = fits m.block facts.budget (run_room m course facts) facts.left where
-  fits : (block budget room left : ℕ) → whole_blocks block (min budget (min room left)) ≤ room
-  fits block budget room left = grind arith
-
-run_ends : (m : Measures) (runs : ℕ) (course : Course) (facts : RunFacts) → IsCourse m.ring runs course → course.reach + run_sound m course facts ≤ run_reach m course facts
-run_ends m runs course facts is = sum course.reach (run_sound m course facts) (run_reach m course facts) (run_longer m runs course facts is) (run_fits m course facts) where
-  sum : (a s r : ℕ) → a ≤ r → s ≤ r - a → a + s ≤ r
-  sum a s r le fits = omega (arith, le, fits)
-
-pub line_kept : (m : Measures) (runs : ℕ) (tally : Tally) (facts : RunFacts) → IsCourse m.ring runs tally.course → IsLine tally → IsLine (tally_if false m tally facts)
-line_kept m runs tally facts is line = by_test (tally.course.reach + run_sound m tally.course facts == run_reach m tally.course facts) refl where
-  reach : ℕ
-  reach = tally.course.reach
-
-  by_test : (test : Bool) → (tally.course.reach + run_sound m tally.course facts == run_reach m tally.course facts) ≡ test
-      → IsLine (record { runs = tally.runs ++ run_of m tally.course facts ∷ []; silences = if test then tally.silences else silent_too tally.silences (record { start = tally.course.reach + run_sound m tally.course facts; end = run_reach m tally.course facts }); course = course_after m tally.course facts })
-  by_test true e =
-      let same : tally.course.reach + run_sound m tally.course facts ≡ run_reach m tally.course facts = search (rules, e) in
-      record {
-        maximal = maximal_more 0 tally.silences tally.course.reach (run_reach m tally.course facts) (run_longer m runs tally.course facts is) line.maximal;
-        used = ap (λ n. n + run_sound m tally.course facts) line.used ∙ sym (sound_in_more 0 0 tally.silences tally.course.reach (run_sound m tally.course facts) line.maximal (omega arith)) ∙ ap (sound_in 0 tally.silences) same;
-      }
-  by_test false e =
-      let longer : tally.course.reach + run_sound m tally.course facts < run_reach m tally.course facts = below _ _ (search (rules, e)) (run_ends m runs tally.course facts is) in
-      record {
-        maximal = maximal_silence 0 tally.silences tally.course.reach (run_sound m tally.course facts) (run_reach m tally.course facts) line.maximal (omega arith) longer;
-        used = ap (λ n. n + run_sound m tally.course facts) line.used ∙ sym (sound_in_silence 0 0 tally.silences tally.course.reach (run_sound m tally.course facts) (run_reach m tally.course facts) line.maximal (omega arith) longer);
-      } where
-        below : (a b : ℕ) → (a ≡ b → ⊥) → a ≤ b → a < b
-        below a b differs le = omega (arith, differs, le)
-
-grows_by : (silences : List Span) (reach sound end used : ℕ) (pcm : List ℕ) → AreMaximal 0 silences reach → used ≡ sound_in 0 silences reach → reach + sound ≤ end → (test : Bool) → (reach + sound == end) ≡ test
+pub grows_by : (silences : List Span) (reach sound end used : ℕ) (pcm : List ℕ) → AreMaximal 0 silences reach → used ≡ sound_in 0 silences reach → reach + sound ≤ end → (test : Bool) → (reach + sound == end) ≡ test
     → line_from 0 (if test then silences else silent_too silences (record { start = reach + sound; end = end })) end pcm ≡ line_from 0 silences reach pcm ++ (take sound (drop used pcm) ++ replicate (end - reach - sound) 0)
 grows_by silences reach sound end used pcm laid counts ends true e =
     let same : reach + sound ≡ end = search (rules, e) in
@@ -190,9 +147,3 @@ grows_by silences reach sound end used pcm laid counts ends false e =
     let rest : end - (reach + sound) ≡ end - reach - sound = omega arith in
     silence_more 0 0 silences reach sound end pcm laid (omega arith) longer ∙ ap (λ n. line_from 0 silences reach pcm ++ (take sound (drop n pcm) ++ replicate (end - (reach + sound)) 0)) (sym counts)
     ∙ ap (λ n. line_from 0 silences reach pcm ++ (take sound (drop used pcm) ++ replicate n 0)) rest
-
-pub line_grows : (m : Measures) (runs : ℕ) (tally : Tally) (facts : RunFacts) (pcm : List ℕ) → IsCourse m.ring runs tally.course → IsLine tally
-    → line_of (tally_if false m tally facts) pcm ≡ line_of tally pcm ++ run_bytes m tally.course facts (drop tally.course.used pcm)
-line_grows m runs tally facts pcm is line =
-    grows_by tally.silences tally.course.reach (run_sound m tally.course facts) (run_reach m tally.course facts) tally.course.used pcm line.maximal line.used (run_ends m runs tally.course facts is)
-    (tally.course.reach + run_sound m tally.course facts == run_reach m tally.course facts) refl

@@ -1,37 +1,37 @@
--- A later run, access by access: the ring is kept, and the device owns what it was left.
-use Rattle.std.proofs.Common.{◌≡◌, ◌≤◌, ◌<◌, ◌+◌, ◌-◌, ◌*◌, ◌/◌, ◌%◌, ◌^◌, ℕ, zero, suc, Bool, true, false, List, ◌∷◌, ◌++◌, length, map, drop, length-drop, refl, sym, ap, subst, ◌∙◌, arith, rules, tests, if◌then◌else◌}
+-- A later run that may take silence back, access by access: the ring is kept, and the device owns what it was left.
+use Rattle.std.proofs.Common.{◌≡◌, ◌≤◌, ◌<◌, ◌+◌, ◌-◌, ◌*◌, ◌%◌, ◌⊎◌, inl, inr, ℕ, zero, suc, Bool, true, false, List, [], ◌∷◌, ◌++◌, length, take, drop, length-drop, refl, sym, ap, subst, ◌∙◌, arith, rules, tests, if◌then◌else◌}
 use Rattle.std.specs.Prelude.{slice_index, slice_range, nat_le, min, max}
-use Rattle.std.specs.List.{range_with_len}
-use Rattle.std.proofs.lemmas.List.{length-take-le, get_or-take, get_or-drop}
-use Rattle.hda_registers.specs.declared.shapes.Width.TheVariants.{Four}
-use Rattle.hda_registers.specs.declared.places.TheConstants.{WALCLK}
-use Rattle.hda_registers.specs.Access.{value_at}
-use Rattle.hda_registers.proofs.Callers.{read-wall_clock, read-output_position}
+use Rattle.std.proofs.lemmas.List.{get_or-take, get_or-drop, length_push}
+use Rattle.std.proofs.Math.Nat.{mod-lt, mul-le-mul_left}
+use Rattle.device_steps.specs.declared.Step.{Step}
+use Rattle.stream_format.specs.Cadence.{block_bytes, most_bytes}
+use Rattle.stream_format.specs.Words.{format_word}
 use Rattle.hda_world.specs.Worlds.{World}
-use Rattle.hda_world.specs.Events.{Event, Stepped, Read, happens, IsHonest}
+use Rattle.hda_world.specs.Steps.{after_step}
+use Rattle.hda_world.specs.Events.{Event, Stepped, DmaWrite, happens, IsHonest}
 use Rattle.hda_world.specs.Kept.{Kept}
-use Rattle.hda_world.proofs.Callers.{kept_both, Lead, lead_none, lead_more, lead_both, lead_some, lead_from}
-use Rattle.period_writer.specs.declared.registers.TheConstants.{POSITION}
-use Rattle.period_writer.specs.Courses.{IsCourse}
-use Rattle.period_writer.specs.Places.{piece_start, piece_end, piece_write, line_writes, touched}
-use Rattle.period_writer.specs.Runs.{RunFacts, Tally, Measures, measures, run_at, run_reach, position_from}
-use Rattle.period_writer.specs.Lines.{line_of}
-use Rattle.period_writer.specs.Playing.{run_bytes}
+use Rattle.hda_world.proofs.Callers.{kept_both, kept_step, Lead, lead_both, lead_from}
+use Rattle.period_writer.specs.Places.{place_in, line_writes}
 use Rattle.period_writer.specs.Standing.{Ring, Extent, limit_in, Stands, Paced, bytes_in, size_of, extent_of}
-use Rattle.period_writer.specs.Owning.{Owns, WritesBehind, IsOwned, IsWritten}
+use Rattle.period_writer.specs.Owning.{Owns}
 use Rattle.period_writer.proofs.RingKept.{stands_kept}
 use Rattle.period_writer.proofs.Paces.{paced_kept}
-use Rattle.period_writer.proofs.RingWrites.{IsPieceOf, piece_kept, piece_behind}
-use Rattle.period_writer.proofs.LineSteps.{done, IsStep, is_step, done_first, done_now, done_next, done_last, piece_ascends}
-use Rattle.period_writer.proofs.LineWritten.{next_tally, appended_is, line_same, line_new}
+use Rattle.period_writer.proofs.RingWrites.{IsPieceOf, piece_kept, piece_behind, piece_place}
 use Rattle.period_writer.proofs.RunTimes.{position_behind, position_there, position_later, position_soon, fifo_below, some_fifo, within_reach, Passed, passed_kept}
-use Rattle.period_writer.proofs.RingMemory.{some_bytes}
-
-pub range_long : (xs : List ℕ) (a b : ℕ) → b ≤ length xs → length (slice_range xs a b) ≡ b - a
-range_long xs a b within = let rest = length-drop a xs in length-take-le (b - a) (drop a xs) (omega (arith, rest, within))
-
-pub range_at : (xs : List ℕ) (a b k : ℕ) → k < b - a → slice_index (slice_range xs a b) k ≡ slice_index xs (a + k)
-range_at xs a b k within = get_or-take (b - a) (drop a xs) k 0 within ∙ get_or-drop a xs k 0
+use Rattle.period_writer.specs.Rings.{ahead_of, blocks_up}
+use Rattle.period_writer.specs.Runs.{RunFacts, Tally, Measures, run_at, run_reach, run_turn, run_cut, run_start, run_sound, run_sure, takes_back, position_from}
+use Rattle.period_writer.specs.Courses.{IsCourse}
+use Rattle.period_writer.specs.Owning.{IsWritten}
+use Rattle.period_writer.specs.Lines.{line_of}
+use Rattle.period_writer.specs.Playing.{run_bytes}
+use Rattle.period_writer.proofs.LineRuns.{start_low, run_longer, run_ends}
+use Rattle.period_writer.proofs.LineWritten as bytes
+use Rattle.period_writer.specs.Runs.{measures}
+use Rattle.period_writer.specs.Standing.{slack_in}
+use Rattle.period_writer.specs.Playing.{run_writes}
+use Rattle.period_writer.specs.Owning.{Allowed, WritesAllowed, IsOwned, GoesOn}
+use Rattle.period_writer.proofs.RowsWritten.{writes_are}
+use Rattle.period_writer.proofs.RingPieces.{IsPart, part_of, piece_over, row_led}
 
 -- ---- from what stands to what is owned
 
@@ -48,10 +48,77 @@ owns_of ring line line' from upto sure world same stands = record {
       stands.standing at (omega (arith, behind, held, later)) (omega (arith, ordered, under)) ∙ same at under;
 }
 
+-- ---- numbers
+
+blocks_up_more : (block bytes : ℕ) → 1 ≤ block → bytes ≤ blocks_up block bytes
+blocks_up_more block bytes some = let small = mod-lt (bytes + (block - 1)) some in omega (arith, small, some)
+
+-- within the slack the link and the FIFO together are not past the turn place
+pub within_turn : (ring : Ring) (at left frames since : ℕ) → 1 ≤ block_bytes ring.geometry.format → since ≤ frames → frames ≤ since + slack_in ring
+    → left ≤ at + most_bytes ring.geometry.format * (frames - since) → left + ring.geometry.fifo ≤ at + ahead_of ring.geometry.periods ring.geometry.period ring.geometry.fifo ring.geometry.format
+within_turn ring at left frames since some before within soon =
+    let few : most_bytes ring.geometry.format * (frames - since) ≤ most_bytes ring.geometry.format * slack_in ring =
+    mul-le-mul_left (most_bytes ring.geometry.format) (let within = within in omega (arith, within)) in
+    let swap : most_bytes ring.geometry.format * slack_in ring ≡ slack_in ring * most_bytes ring.geometry.format = omega arith in
+    let up = blocks_up_more (block_bytes ring.geometry.format) ring.geometry.fifo some in
+    sum at left ring.geometry.fifo (most_bytes ring.geometry.format * (frames - since)) (most_bytes ring.geometry.format * slack_in ring) (slack_in ring * most_bytes ring.geometry.format) (blocks_up (block_bytes ring.geometry.format) ring.geometry.fifo)
+    soon few swap up where
+      sum : (at left fifo more most other up : ℕ) → left ≤ at + more → more ≤ most → most ≡ other → fifo ≤ up → left + fifo ≤ at + (up + other)
+      sum at left fifo more most other up a b c d = omega (arith, a, b, c, d)
+
+-- what is past a beginning reads as 0
+quiet_take : (n : ℕ) (xs : List ℕ) (at : ℕ) → n ≤ at → slice_index (take n xs) at ≡ 0
+quiet_take zero xs at le = refl
+quiet_take (suc n) [] at le = refl
+quiet_take (suc n) (x ∷ xs) zero le = absurd (omega (arith, le))
+quiet_take (suc n) (x ∷ xs) (suc at) le = quiet_take n xs at (omega (arith, le))
+
+-- steps don't turn the count of frames back
+pub frames_step : (ring : Ring) (world : World) (step : Step) → world.registers.output.format ≡ format_word ring.geometry.format → world.frames ≤ (after_step step world).frames
+frames_step ring world step is =
+    (kept_step (Paced ring false (record { at = 0; since = world.frames })) (paced_kept ring false _) step world (record { format_is = is; before = omega arith; soon = λ never. cc })).before
+
+-- nor what was fetched
+abbrev Fetches : (number : ℕ) → World → Type 0
+Fetches number world = number ≤ length world.output.entered
+
+one_more : (entered : List ℕ) (byte number : ℕ) → number ≤ length entered → number ≤ length (entered ++ byte ∷ [])
+one_more entered byte number le = let long = length_push entered byte in omega (arith, long, le)
+
+fetches_kept : (number : ℕ) → Kept (Fetches number)
+fetches_kept number = record {
+  codecs = record {
+    hands = λ world holds can free. holds;
+    sends = λ world address item rest holds out room are. holds;
+    loses = λ world address holds out. holds;
+    plugs = λ world address nid present holds. holds;
+  };
+  responds = λ world response rest holds can are. holds;
+  bytes = record {
+    comes = λ world holds can room good is. one_more world.output.entered _ number holds;
+    ends = λ world holds can room good is. one_more world.output.entered _ number holds;
+    breaks = λ world holds can room bad. holds;
+    refuses = λ world holds must. holds;
+  };
+  passes = λ world holds out still. holds;
+  frames = record {
+    gaps = λ world holds can none. holds;
+    sends = λ world holds can some enough. holds;
+    misses = λ world holds can short. holds;
+    stops = λ world holds must. holds;
+  };
+}
+
+fetches_step : (world : World) (step : Step) → length world.output.entered ≤ length (after_step step world).output.entered
+fetches_step world step = kept_step (Fetches (length world.output.entered)) (fetches_kept (length world.output.entered)) step world (omega arith)
+
+pub goes_step : (ring : Ring) (world : World) (step : Step) → world.registers.output.format ≡ format_word ring.geometry.format → GoesOn world (Stepped step)
+goes_step ring world step is = record { frames = frames_step ring world step is; fetched = fetches_step world step }
+
 -- the ring holds another line that is the same so far
-relined : (ring : Ring) (line line' : List ℕ) (from from' upto : ℕ) (world : World) → ((at : ℕ) → at < upto → slice_index line' at ≡ slice_index line at) → from ≤ from' → from' ≤ world.output.left
-    → Stands ring (extent_of line from upto upto) world → Stands ring (extent_of line' from' upto upto) world
-relined ring line line' from from' upto world same later behind stands = record {
+pub relined : (ring : Ring) (line line' : List ℕ) (from from' upto sure sure' : ℕ) (world : World) → ((at : ℕ) → at < upto → slice_index line' at ≡ slice_index line at)
+    → from ≤ from' → from' ≤ world.output.left → sure' ≤ sure → Stands ring (extent_of line from upto sure) world → Stands ring (extent_of line' from' upto sure') world
+relined ring line line' from from' upto sure sure' world same later behind less stands = record {
   set = stands.set;
   ring_is = stands.ring_is;
   clock_is = stands.clock_is;
@@ -61,13 +128,13 @@ relined ring line line' from from' upto world same later behind stands = record 
   fifo = stands.fifo;
   place = stands.place;
   behind = behind;
-  ordered = omega arith;
+  ordered = let ordered = stands.ordered in omega (arith, ordered, less);
   standing = λ at low high. stands.standing at (omega (arith, later, low)) high ∙ sym (same at high);
-  fetched = λ at below under. stands.fetched at below under ∙ sym (same at under);
+  fetched = λ at below under. let ordered = stands.ordered in stands.fetched at below (omega (arith, under, less)) ∙ sym (same at (omega (arith, under, less, ordered)));
 }
 
-module _ (ring : Ring) (pcm : List ℕ) (runs : ℕ) (tally : Tally) (facts : RunFacts) (is : IsCourse (size_of ring) runs tally.course) (started : tally.course.started ≡ true) (written : IsWritten pcm tally)
-    (enough : facts.left ≡ length (drop tally.course.used pcm)) (since : ℕ) (clock_from : tally.course.from ≡ 500 * since) where
+module _ (ring : Ring) (pcm : List ℕ) (runs : ℕ) (tally : Tally) (facts : RunFacts) (some_block : 1 ≤ block_bytes ring.geometry.format) (is : IsCourse (size_of ring) runs tally.course) (started : tally.course.started ≡ true)
+    (written : IsWritten pcm tally) (enough : run_sound (measures ring.geometry) tally.course facts ≤ length (drop tally.course.used pcm)) (since : ℕ) (clock_from : tally.course.from ≡ 500 * since) where
   abbrev pub m : Measures
   m = measures ring.geometry
 
@@ -77,19 +144,48 @@ module _ (ring : Ring) (pcm : List ℕ) (runs : ℕ) (tally : Tally) (facts : Ru
   abbrev pub at' : ℕ
   at' = run_at m tally.course facts
 
+  abbrev pub reach : ℕ
+  reach = tally.course.reach
+
   abbrev pub reach' : ℕ
   reach' = run_reach m tally.course facts
+
+  abbrev pub turn : ℕ
+  turn = run_turn m tally.course facts
+
+  abbrev pub start : ℕ
+  start = run_start m tally.course facts
+
+  abbrev pub sound : ℕ
+  sound = run_sound m tally.course facts
+
+  abbrev pub sure : ℕ
+  sure = run_sure m tally.course facts
+
+  abbrev pub over : ℕ
+  over = min reach (start + sound)
 
   abbrev pub line : List ℕ
   line = line_of tally pcm
 
+  abbrev pub next : Tally
+  next = bytes.next_tally m runs tally facts pcm is written enough
+
   abbrev pub line' : List ℕ
-  line' = line_of (next_tally m runs tally facts pcm is written enough) pcm
+  line' = line_of next pcm
+
+  abbrev pub gained : List ℕ
+  gained = run_bytes m tally.course facts (drop tally.course.used pcm)
+
+  abbrev pub allowed : Allowed
+  allowed = record { from = tally.course.at; to = at'; start = start; reach = reach }
 
   abbrev pub Moment : World → Event → Type 0
-  Moment = IsOwned ring line tally.course.reach tally.course.at at' tally.course.from
+  Moment = IsOwned ring line sure tally.course.from allowed
 
-  pub reach_is : tally.course.reach ≡ tally.course.at + size_of ring
+  -- ---- places
+
+  pub reach_is : reach ≡ tally.course.at + size_of ring
   reach_is = is.reach ∙ by tally.course.started started where
     by : (b : Bool) → b ≡ true → (if b then tally.course.at + size_of ring else 0) ≡ tally.course.at + size_of ring
     by true e = refl
@@ -110,37 +206,112 @@ module _ (ring : Ring) (pcm : List ℕ) (runs : ℕ) (tally : Tally) (facts : Ru
   soon : at' < tally.course.at + size_of ring
   soon = subst (λ (n : ℕ). n < tally.course.at + size_of ring) (sym at_is) (position_soon (size_of ring) tally.course.at facts.lpib some_size)
 
-  same_line : (at : ℕ) → at < tally.course.reach → slice_index line' at ≡ slice_index line at
-  same_line = line_same m runs tally facts pcm is written enough
+  low : start ≤ reach
+  low = start_low m tally.course facts
+
+  pub ascends : reach ≤ reach'
+  ascends = run_longer m runs tally.course facts is
+
+  -- what may be lost is past the turn place, and what is taken back is past that
+  pub sure_low : sure ≤ start
+  sure_low = by (takes_back m tally.course facts) where
+    least : (r t e : ℕ) → min r t ≤ min r (max t e)
+    least r t e = grind arith
+
+    by : (back : Bool) → (if back then min reach turn else reach) ≤ (if back then run_cut m tally.course facts else reach)
+    by true = least reach turn tally.course.sound_end
+    by false = omega arith
+
+  start_after : at' ≤ start
+  start_after = by (takes_back m tally.course facts) where
+    least : (a r n e : ℕ) → a ≤ r → a ≤ min r (max (a + n) e)
+    least a r n e le = grind (arith, le)
+
+    by : (back : Bool) → at' ≤ (if back then run_cut m tally.course facts else reach)
+    by true = let soon = soon in let is = reach_is in least at' reach (ahead_of ring.geometry.periods ring.geometry.period ring.geometry.fifo ring.geometry.format) tally.course.sound_end (omega (arith, soon, is))
+    by false = let soon = soon in let is = reach_is in omega (arith, soon, is)
+
+  pub sure_under : sure ≤ reach
+  sure_under = let one = sure_low in let other = low in omega (arith, one, other)
+
+  same_line : (at : ℕ) → at < start → slice_index line' at ≡ slice_index line at
+  same_line at below = bytes.line_same m runs tally facts pcm is written enough at below
+
+  pub same_sure : (at : ℕ) → at < sure → slice_index line' at ≡ slice_index line at
+  same_sure at below = let low = sure_low in same_line at (omega (arith, below, low))
+
+  -- ---- the line while sound is written over silence: its beginning, and silence after it
+  abbrev pub mixed : ℕ → List ℕ
+  mixed k = take (max start k) line'
+
+  mixed_low : (k at : ℕ) → at < max start k → slice_index (mixed k) at ≡ slice_index line' at
+  mixed_low k at below = get_or-take (max start k) line' at 0 below
+
+  mixed_high : (k at : ℕ) → max start k ≤ at → slice_index (mixed k) at ≡ 0
+  mixed_high k at past = quiet_take (max start k) line' at past
+
+  most_left : (a b : ℕ) → a ≤ max a b
+  most_left a b = grind arith
+
+  order : (a b : ℕ) → (a < b) ⊎ (b ≤ a)
+  order a b = search (rules, arith)
+
+  mixed_sure : (k at : ℕ) → at < sure → slice_index (mixed k) at ≡ slice_index line at
+  mixed_sure k at below = let low = sure_low in let up = most_left start k in mixed_low k at (omega (arith, below, low, up)) ∙ same_sure at below
+
+  mixed_first : (at : ℕ) → at < reach → slice_index (mixed start) at ≡ slice_index line at
+  mixed_first at below = by (order at start) where
+    whole : (a : ℕ) → max a a ≡ a
+    whole a = grind arith
+
+    by : (at < start) ⊎ (start ≤ at) → slice_index (mixed start) at ≡ slice_index line at
+    by (inl before) = let up = most_left start start in mixed_low start at (omega (arith, before, up)) ∙ same_line at before
+    by (inr past) = let is = whole start in mixed_high start at (omega (arith, past, is)) ∙ sym (bytes.old_quiet m runs tally facts pcm is' written enough at past) where
+      is' : IsCourse (size_of ring) runs tally.course
+      is' = is
+
+  mixed_last : (at : ℕ) → at < reach → slice_index line' at ≡ slice_index (mixed over) at
+  mixed_last at below = by (order at (max start over)) where
+    past_sound : (s n r a : ℕ) → max s (min r (s + n)) ≤ a → a < r → s + n ≤ a
+    past_sound s n r a past below = grind (arith, past, below)
+
+    by : (at < max start over) ⊎ (max start over ≤ at) → slice_index line' at ≡ slice_index (mixed over) at
+    by (inl before) = sym (mixed_low over at before)
+    by (inr past) = bytes.new_quiet m runs tally facts pcm is written enough at (past_sound start sound reach at past below) ∙ sym (mixed_high over at past)
 
   -- ---- before the run, and after its first clock
 
   abbrev pub Before : World → Type 0
-  Before world =
-      Stands ring (extent_of line tally.course.at tally.course.reach tally.course.reach) world × Paced ring true (record { at = tally.course.at; since = since }) world
+  Before world = Stands ring (extent_of line tally.course.at reach reach) world × Paced ring true (record { at = tally.course.at; since = since }) world
 
-  before_kept : Kept Before
+  pub before_kept : Kept Before
   before_kept = kept_both _ _ (stands_kept ring _) (paced_kept ring true _)
 
   abbrev pub Clocked : (frames : ℕ) → World → Type 0
   Clocked frames world = Before world × Paced ring false (record { at = at'; since = frames }) world
 
-  clocked_kept : (frames : ℕ) → Kept (Clocked frames)
+  pub clocked_kept : (frames : ℕ) → Kept (Clocked frames)
   clocked_kept frames = kept_both _ _ before_kept (paced_kept ring false _)
 
   -- ---- after LPIB: whether the run may be on time yet is known
 
-  abbrev pub Found : (frames : ℕ) (known : Bool) (upto : ℕ) → World → Type 0
-  Found frames known upto world =
-      (Stands ring (extent_of line' at' upto tally.course.reach) world × Paced ring true (record { at = tally.course.at; since = since }) world)
+  abbrev pub Found : (frames : ℕ) (known : Bool) → Extent → World → Type 0
+  Found frames known extent world =
+      (Stands ring extent world × Paced ring true (record { at = tally.course.at; since = since }) world)
       × (Paced ring known (record { at = at'; since = frames }) world × Passed (since + limit) known world)
 
-  pub found_kept : (frames : ℕ) (known : Bool) (upto : ℕ) → Kept (Found frames known upto)
-  found_kept frames known upto = kept_both _ _ (kept_both _ _ (stands_kept ring _) (paced_kept ring true _)) (kept_both _ _ (paced_kept ring known _) (passed_kept (since + limit) known))
+  pub found_kept : (frames : ℕ) (known : Bool) (extent : Extent) → Kept (Found frames known extent)
+  found_kept frames known extent = kept_both _ _ (kept_both _ _ (stands_kept ring _) (paced_kept ring true _)) (kept_both _ _ (paced_kept ring known _) (passed_kept (since + limit) known))
+
+  abbrev pub over_at : ℕ → Extent
+  over_at k = extent_of (mixed k) at' reach sure
+
+  abbrev pub upto_at : ℕ → Extent
+  upto_at k = extent_of line' at' k sure
 
   -- while the limit is kept nothing past the reach was fetched
   bounded : (extent : Extent) (world : World) → Stands ring extent world → Paced ring true (record { at = tally.course.at; since = since }) world → 500 * world.frames ≤ tally.course.from + 500 * limit
-      → length world.output.entered ≤ tally.course.reach
+      → length world.output.entered ≤ reach
   bounded extent world stands paced few =
       let from = clock_from in
       let within : world.frames ≤ since + limit = omega (arith, few, from) in
@@ -149,21 +320,49 @@ module _ (ring : Ring) (pcm : List ℕ) (runs : ℕ) (tally : Tally) (facts : Ru
       let reach = reach_is in
       omega (arith, together, ahead, reach)
 
-  moment_before : (world : World) (event : Event) → Before world → WritesBehind ring tally.course.at at' world event → Moment world event
-  moment_before world event before behind =
-      record { owns = owns_of ring line line tally.course.at tally.course.reach tally.course.reach world (λ at below. refl) before.0; within = bounded _ world before.0 before.1; behind = behind }
+  -- while the slack is kept nothing from the turn place on was fetched
+  pub apart : (frames : ℕ) (known : Bool) (extent : Extent) (world : World) → Found frames known extent world → known ≡ true → world.frames ≤ frames + slack_in ring → length world.output.entered ≤ turn
+  apart frames known extent world found is_known few =
+      let together = within_turn ring at' world.output.left world.frames frames some_block found.1.0.before few (found.1.0.soon is_known) in
+      let ahead = found.0.0.fifo.ahead in
+      omega (arith, together, ahead)
 
-  pub moment_found : (frames : ℕ) (known : Bool) (upto : ℕ) (world : World) (event : Event) → Found frames known upto world → WritesBehind ring tally.course.at at' world event → Moment world event
-  moment_found frames known upto world event found behind =
-      record { owns = owns_of ring line line' at' upto tally.course.reach world same_line found.0.0; within = bounded _ world found.0.0 found.0.1; behind = behind }
+  pub moment_before : (world : World) (event : Event) → Before world → WritesAllowed ring allowed world event → GoesOn world event → Moment world event
+  moment_before world event before allows on =
+      record {
+        owns = owns_of ring line line tally.course.at reach sure world (λ at below. refl) (relined ring line line tally.course.at tally.course.at reach reach sure world (λ at below. refl) (omega arith) before.0.behind sure_under before.0);
+        within = bounded _ world before.0 before.1;
+        allows = allows;
+        goes_on = on;
+      }
 
-  finds : (frames : ℕ) (world : World) → Clocked frames world → facts.lpib ≡ world.output.left % size_of ring → (known : Bool) × Found frames known tally.course.reach world
-  finds frames world clocked reads = (nat_le world.frames (since + limit), ((stood, clocked.0.1), (paced, passed))) where
+  pub moment_before_step : (world : World) (step : Step) → Before world → Moment world (Stepped step)
+  moment_before_step world step before = moment_before world (Stepped step) before tt (goes_step ring world step before.1.format_is)
+
+  -- ---- with what holds apart
+
+  -- a moment after LPIB, where the run read its first clock after so many link frames
+  pub record IsAfter (frames : ℕ) (known : Bool) (world : World) (event : Event) : Type 0 where
+    pub moment : Moment world event
+    pub fresh : known ≡ true → world.frames ≤ frames + slack_in ring → length world.output.entered ≤ turn
+
+  pub after_found : (frames : ℕ) (known : Bool) (other : List ℕ) (upto : ℕ) → ((at : ℕ) → at < sure → slice_index other at ≡ slice_index line at)
+      → (world : World) (event : Event) → Found frames known (extent_of other at' upto sure) world → WritesAllowed ring allowed world event → GoesOn world event → IsAfter frames known world event
+  after_found frames known other upto same world event found allows on = record {
+    moment = record { owns = owns_of ring line other at' upto sure world same found.0.0; within = bounded _ world found.0.0 found.0.1; allows = allows; goes_on = on };
+    fresh = apart frames known (extent_of other at' upto sure) world found;
+  }
+
+  pub after_upto : (frames : ℕ) (known : Bool) (upto : ℕ) (world : World) (event : Event) → Found frames known (extent_of line' at' upto sure) world → WritesAllowed ring allowed world event → GoesOn world event → IsAfter frames known world event
+  after_upto frames known upto world event found allows on = after_found frames known line' upto same_sure world event found allows on
+
+  pub finds : (frames : ℕ) (world : World) → Clocked frames world → facts.lpib ≡ world.output.left % size_of ring → Found frames (nat_le world.frames (since + limit)) (over_at start) world
+  finds frames world clocked reads = ((stood, clocked.0.1), (paced, passed)) where
     behind : at' ≤ world.output.left
     behind = subst (λ (n : ℕ). n ≤ world.output.left) (sym at_is) (position_behind (size_of ring) tally.course.at facts.lpib world.output.left some_size clocked.0.0.behind reads)
 
-    stood : Stands ring (extent_of line' at' tally.course.reach tally.course.reach) world
-    stood = relined ring line line' tally.course.at at' tally.course.reach world same_line later behind clocked.0.0
+    stood : Stands ring (over_at start) world
+    stood = relined ring line (mixed start) tally.course.at at' reach reach sure world mixed_first later behind sure_under clocked.0.0
 
     there : world.frames ≤ since + limit → world.output.left ≤ at'
     there within =
@@ -183,168 +382,155 @@ module _ (ring : Ring) (pcm : List ℕ) (runs : ℕ) (tally : Tally) (facts : Ru
     passed : Passed (since + limit) (nat_le world.frames (since + limit)) world
     passed out = search (rules, tests, out)
 
-  -- ---- what the line gains
+  -- ---- the writes
 
-  written_is : length (run_bytes m tally.course facts (drop tally.course.used pcm)) ≡ reach' - tally.course.reach
-  written_is = appended_is m runs tally facts pcm is written enough
+  abbrev Piece : (from to : ℕ) → (written : List ℕ) → (period start end : ℕ) → Event
+  Piece from to written period begin end = DmaWrite (place_in (bytes_in ring) ring.periods period begin) (slice_range written (begin - from) (end - from))
 
-  ascends : tally.course.reach ≤ reach'
-  ascends = let reach = reach_is in let later = later in omega (arith, reach, later)
+  -- over silence
+  overs : (frames : ℕ) (known : Bool) → Lead (IsAfter frames known) (Found frames known (over_at start)) (line_writes (bytes_in ring) ring.periods start over gained) (Found frames known (over_at over))
+  overs frames known = row_led ring start over up gained (IsAfter frames known) (λ k. Found frames known (over_at k)) (λ k. found_kept frames known (over_at k)) steps_hold writes_hold where
+    least : (s n r : ℕ) → s ≤ r → s ≤ min r (s + n)
+    least s n r le = grind (arith, le)
 
-  abbrev pub gained : List ℕ
-  gained = run_bytes m tally.course facts (drop tally.course.used pcm)
+    up : start ≤ over
+    up = least start sound reach low
 
-  abbrev first : ℕ
-  first = tally.course.reach / bytes_in ring
-
-  abbrev start_of : ℕ → ℕ
-  start_of step = piece_start (bytes_in ring) tally.course.reach (first + step)
-
-  abbrev end_of : ℕ → ℕ
-  end_of step = piece_end (bytes_in ring) reach' (first + step)
-
-  abbrev upto_of : ℕ → ℕ
-  upto_of step = tally.course.reach + done (bytes_in ring) tally.course.reach reach' step
-
-  -- a step's piece is one of the line in its period
-  piece_of : (step : ℕ) → IsStep (bytes_in ring) tally.course.reach reach' step
-      → IsPieceOf ring line' (first + step) (start_of step) (end_of step) (slice_range gained (start_of step - tally.course.reach) (end_of step - tally.course.reach))
-  piece_of step is_one = record {
-    ascends = up;
-    begins = low (bytes_in ring * (first + step));
-    ends = high (bytes_in ring) (first + step);
-    number = number;
-    are = λ place within.
-        slice_here place (omega (arith, within, number))
-        ∙ sym (line_new m runs tally facts pcm is written enough (start_of step + place) (omega (arith, from)))
-        ∙ refl;
-  } where
-    up : start_of step ≤ end_of step
-    up = piece_ascends (bytes_in ring) tally.course.reach reach' step is_one
-
-    low : (n : ℕ) → n ≤ max tally.course.reach n
-    low n = grind arith
-
-    from : tally.course.reach ≤ start_of step
-    from = left tally.course.reach (bytes_in ring * (first + step)) where
-      left : (a b : ℕ) → a ≤ max a b
-      left a b = grind arith
-
-    high : (b q : ℕ) → min reach' (b * (q + 1)) ≤ b * q + b
-    high b q = let wide : b * (q + 1) ≡ b * q + b = omega arith in grind (arith, wide)
-
-    to : end_of step ≤ reach'
-    to = right reach' (bytes_in ring * (first + step + 1)) where
+    under : over ≤ reach
+    under = right reach (start + sound) where
       right : (a b : ℕ) → min a b ≤ a
       right a b = grind arith
 
-    number : length (slice_range gained (start_of step - tally.course.reach) (end_of step - tally.course.reach)) ≡ end_of step - start_of step
-    number =
-        let long = written_is in
-        let up = up in
-        let from = from in
-        let to = to in
-        range_long gained (start_of step - tally.course.reach) (end_of step - tally.course.reach) (omega (arith, long, to)) ∙ omega (arith, up, from)
+    steps_hold : (k : ℕ) (world : World) (step : Step) → Found frames known (over_at k) world → IsAfter frames known world (Stepped step)
+    steps_hold k world step found = after_found frames known (mixed k) reach (mixed_sure k) world (Stepped step) found tt (goes_step ring world step found.0.1.format_is)
 
-    slice_here : (place : ℕ) → place < end_of step - start_of step → slice_index (slice_range gained (start_of step - tally.course.reach) (end_of step - tally.course.reach)) place ≡ slice_index gained (start_of step + place - tally.course.reach)
-    slice_here place within =
-        let from = from in
-        let up = up in
-        range_at gained (start_of step - tally.course.reach) (end_of step - tally.course.reach) place (omega (arith, within, from, up)) ∙ ap (slice_index gained) (omega (arith, from))
+    long : over - start ≤ length gained
+    long =
+        let all = bytes.appended_is m runs tally facts pcm is written enough in
+        let under = under in
+        let ascends = ascends in
+        omega (arith, all, under, ascends)
 
-  -- each write leads the line on
-  writes : (frames : ℕ) (known : Bool) (left step : ℕ) → step + left ≡ touched (bytes_in ring) tally.course.reach reach'
-      → Lead Moment (Found frames known (upto_of step)) (map (piece_write (bytes_in ring) ring.periods tally.course.reach reach' gained) (range_with_len (first + step) left)) (Found frames known reach')
-  writes frames known zero step all =
-      let ascends = ascends in
-      let last = done_last (bytes_in ring) tally.course.reach reach' (some_bytes ring) ascends in
-      let whole : step ≡ touched (bytes_in ring) tally.course.reach reach' = omega (arith, all) in
-      let is_done : done (bytes_in ring) tally.course.reach reach' step ≡ reach' - tally.course.reach = ap (done (bytes_in ring) tally.course.reach reach') whole ∙ last in
-      let there : upto_of step ≡ reach' = omega (arith, is_done, ascends) in
-      lead_none Moment _ _ (λ world found. subst (λ (upto : ℕ). Found frames known upto world) there found)
-  writes frames known (suc left) step all =
-      lead_more Moment (Found frames known (upto_of step)) (Found frames known (upto_of (step + 1))) (Found frames known reach') (found_kept frames known (upto_of step))
-      (piece_write (bytes_in ring) ring.periods tally.course.reach reach' gained (first + step)) _
-      (λ world event found. moment_found frames known (upto_of step) world (Stepped event) found tt)
-      (λ world found honest. led world found honest)
-      (subst (λ (n : ℕ). Lead Moment (Found frames known (upto_of (step + 1))) (map (piece_write (bytes_in ring) ring.periods tally.course.reach reach' gained) (range_with_len n left)) (Found frames known reach')) (omega arith)
-      (writes frames known left (step + 1) (omega (arith, all)))) where
-        is_one : IsStep (bytes_in ring) tally.course.reach reach' step
-        is_one = is_step (bytes_in ring) tally.course.reach reach' step (some_bytes ring) (omega (arith, all))
+    writes_hold : (period begin end : ℕ) → IsPart ring start over period begin end → (world : World) → Found frames known (over_at begin) world → IsHonest world (Piece start over gained period begin end)
+        → IsAfter frames known world (Piece start over gained period begin end) × Found frames known (over_at end) (happens world (Piece start over gained period begin end))
+    writes_hold period begin end part world found honest = (
+      after_found frames known (mixed begin) reach (mixed_sure begin) world _ found allows (record { frames = omega arith; fetched = omega arith }),
+      ((kept, found.0.1), found.1),
+    ) where
+      most : (a b : ℕ) → a ≤ b → max a b ≡ b
+      most a b le = grind (arith, le)
 
-        here : upto_of step ≡ start_of step
-        here = let now = done_now (bytes_in ring) tally.course.reach reach' step is_one in let from = from_start tally.course.reach (bytes_in ring * (first + step)) in omega (arith, now, from) where
-          from_start : (a b : ℕ) → a ≤ max a b
-          from_start a b = grind arith
+      end_later : start ≤ end
+      end_later = let one = part.from_here in let two = part.ascends in omega (arith, one, two)
 
-        next : upto_of (step + 1) ≡ end_of step
-        next =
-            let now = done_now (bytes_in ring) tally.course.reach reach' step is_one in
-            let then_on = done_next (bytes_in ring) tally.course.reach reach' step is_one in
-            let up = piece_ascends (bytes_in ring) tally.course.reach reach' step is_one in
-            let here = here in
-            omega (arith, now, then_on, up, here)
+      begin_is : max start begin ≡ begin
+      begin_is = most start begin part.from_here
 
-        end_soon : end_of step ≤ at' + size_of ring
-        end_soon = right reach' (bytes_in ring * (first + step + 1)) where
-          right : (a b : ℕ) → min a b ≤ a
-          right a b = grind arith
+      end_is : max start end ≡ end
+      end_is = most start end end_later
 
-        late_enough : tally.course.at + size_of ring ≤ start_of step
-        late_enough = let reach = reach_is in let from = left_of tally.course.reach (bytes_in ring * (first + step)) in omega (arith, reach, from) where
-          left_of : (a b : ℕ) → a ≤ max a b
-          left_of a b = grind arith
+      piece : IsPieceOf ring (mixed end) period begin end (slice_range gained (begin - start) (end - start))
+      piece =
+          let of_line = part_of ring line' gained start over period begin end part long (λ at low high. bytes.line_new m runs tally facts pcm is written enough at low) in
+          record {
+            ascends = of_line.ascends;
+            begins = of_line.begins;
+            ends = of_line.ends;
+            number = of_line.number;
+            are = λ place within.
+                let number = of_line.number in
+                let last = end_is in
+                of_line.are place within ∙ sym (mixed_low end (begin + place) (omega (arith, number, within, last)));
+          }
 
-        led : (world : World) → Found frames known (upto_of step) world → IsHonest world (piece_write (bytes_in ring) ring.periods tally.course.reach reach' gained (first + step))
-            → Moment world (piece_write (bytes_in ring) ring.periods tally.course.reach reach' gained (first + step)) × Found frames known (upto_of (step + 1)) (happens world (piece_write (bytes_in ring) ring.periods tally.course.reach reach' gained (first + step)))
-        led world found honest =
-            let stands = subst (λ (upto : ℕ). Stands ring (extent_of line' at' upto tally.course.reach) world) here found.0.0 in
-            let kept = piece_kept ring line' at' (start_of step) tally.course.reach (end_of step) (first + step) _ world (piece_of step is_one) end_soon honest stands in
-            let behind = piece_behind ring line' tally.course.at at' (start_of step) tally.course.reach (end_of step) (first + step) _ world (piece_of step is_one) late_enough end_soon stands in (
-              moment_found frames known (upto_of step) world _ found behind,
-              ((subst (λ (upto : ℕ). Stands ring (extent_of line' at' upto tally.course.reach) (happens world (piece_write (bytes_in ring) ring.periods tally.course.reach reach' gained (first + step)))) (sym next) kept, found.0.1), found.1),
-            )
+      before : (at : ℕ) → at < begin → slice_index (mixed end) at ≡ slice_index (mixed begin) at
+      before at below =
+          let first = begin_is in
+          let last = end_is in
+          let up = part.ascends in
+          mixed_low end at (omega (arith, below, last, up)) ∙ sym (mixed_low begin at (omega (arith, below, first)))
 
-  pub line_led : (frames : ℕ) (known : Bool) → Lead Moment (Found frames known tally.course.reach) (line_writes (bytes_in ring) ring.periods tally.course.reach reach' gained) (Found frames known reach')
-  line_led frames known =
-      let none = done_first (bytes_in ring) tally.course.reach reach' (some_bytes ring) ascends in
-      let here : upto_of 0 ≡ tally.course.reach = omega (arith, none) in
-      lead_from Moment (Found frames known tally.course.reach) (Found frames known (upto_of 0)) _ (Found frames known reach') (λ world found. subst (λ (upto : ℕ). Found frames known upto world) (sym here) found)
-      (subst (λ (n : ℕ). Lead Moment (Found frames known (upto_of 0)) (map (piece_write (bytes_in ring) ring.periods tally.course.reach reach' gained) (range_with_len n (touched (bytes_in ring) tally.course.reach reach'))) (Found frames known reach')) (omega arith)
-      (writes frames known (touched (bytes_in ring) tally.course.reach reach') 0 (omega arith)))
+      after : (at : ℕ) → end ≤ at → at < reach → slice_index (mixed end) at ≡ slice_index (mixed begin) at
+      after at past below =
+          let first = begin_is in
+          let last = end_is in
+          let up = part.ascends in
+          mixed_high end at (omega (arith, past, last)) ∙ sym (mixed_high begin at (omega (arith, past, first, up)))
 
-  -- ---- from the first clock to the last one
+      kept : Stands ring (over_at end) (happens world (Piece start over gained period begin end))
+      kept =
+          let at_start = start_after in
+          let first = part.from_here in
+          let last = part.up_to in
+          let under = under in
+          let soon = soon in
+          let later = later in
+          let is = reach_is in
+          let safe = sure_low in
+          piece_over ring (mixed begin) (mixed end) at' reach sure begin end period _ piece (omega (arith, at_start, first)) (omega (arith, last, under)) (omega (arith, is, later)) before after world (omega (arith, safe, first)) honest found.0.0
 
-  module _ (After : World → Type 0) (tail : List Event) (tail_led : (frames : ℕ) (known : Bool) → facts.from ≡ (500 * frames) % 2 ^ 32 → Lead Moment (Found frames known reach') tail After) where
-    found_led : (frames : ℕ) → facts.from ≡ (500 * frames) % 2 ^ 32 → Lead Moment (λ world. (known : Bool) × Found frames known tally.course.reach world)
-        (line_writes (bytes_in ring) ring.periods tally.course.reach reach' gained ++ tail) After
-    found_led frames reads =
-        lead_some Moment (λ (known : Bool). Found frames known tally.course.reach) _ After
-        (λ known. lead_both Moment (Found frames known tally.course.reach) (Found frames known reach') After _ tail (line_led frames known) (tail_led frames known reads))
+      allows : WritesAllowed ring allowed world (Piece start over gained period begin end)
+      allows index within = inr (record {
+        at = begin + index;
+        from_here = let first = part.from_here in omega (arith, first);
+        up_to = let number = piece.number in let last = part.up_to in let under = under in omega (arith, number, within, last, under);
+        place = sym (piece_place ring (mixed end) period begin end _ piece index within);
+      })
 
-    position_led : (frames : ℕ) → facts.from ≡ (500 * frames) % 2 ^ 32 → Lead Moment (Clocked frames)
-        (Read POSITION Four facts.lpib ∷ (line_writes (bytes_in ring) ring.periods tally.course.reach reach' gained ++ tail)) After
-    position_led frames reads =
-        lead_more Moment (Clocked frames) (λ world. (known : Bool) × Found frames known tally.course.reach world) After (clocked_kept frames) (Read POSITION Four facts.lpib) _
-        (λ world step clocked. moment_before world (Stepped step) clocked.0 tt)
-        (λ world clocked honest. (moment_before world (Read POSITION Four facts.lpib) clocked.0 tt, finds frames world clocked (honest ∙ read-output_position world.registers ∙ clocked.0.0.position)))
-        (found_led frames reads)
+  abbrev longer : List ℕ
+  longer = drop (reach - start) gained
 
-    abbrev Reads : Type 0
-    Reads = (frames : ℕ) × (facts.from ≡ (500 * frames) % 2 ^ 32)
+  -- past the line's end
+  uptos : (frames : ℕ) (known : Bool) → Lead (IsAfter frames known) (Found frames known (upto_at reach)) (line_writes (bytes_in ring) ring.periods reach reach' longer) (Found frames known (upto_at reach'))
+  uptos frames known = row_led ring reach reach' ascends longer (IsAfter frames known) (λ k. Found frames known (upto_at k)) (λ k. found_kept frames known (upto_at k)) steps_hold writes_hold where
+    steps_hold : (k : ℕ) (world : World) (step : Step) → Found frames known (upto_at k) world → IsAfter frames known world (Stepped step)
+    steps_hold k world step found = after_found frames known line' k same_sure world (Stepped step) found tt (goes_step ring world step found.0.1.format_is)
 
-    clock_read : (world : World) → Before world → facts.from ≡ value_at world.registers WALCLK Four → (reads : Reads) × Clocked reads.0 world
-    clock_read world before honest = (
-      (world.frames, honest ∙ read-wall_clock world.registers ∙ before.0.clock_is),
-      (before, record { format_is = before.1.format_is; before = omega arith; soon = λ no. cc }),
-    )
+    long : reach' - reach ≤ length longer
+    long =
+        let all = bytes.appended_is m runs tally facts pcm is written enough in
+        let cut = length-drop (reach - start) gained in
+        let low = low in
+        let ascends = ascends in
+        omega (arith, all, cut, low, ascends)
 
-    abbrev rest : List Event
-    rest = Read POSITION Four facts.lpib ∷ (line_writes (bytes_in ring) ring.periods tally.course.reach reach' gained ++ tail)
+    new_at : (at : ℕ) → reach ≤ at → slice_index line' at ≡ slice_index longer (at - reach)
+    new_at at past =
+        let low = low in
+        bytes.line_new m runs tally facts pcm is written enough at (omega (arith, past, low))
+        ∙ ap (slice_index gained) (omega (arith, past, low))
+        ∙ sym (get_or-drop (reach - start) gained (at - reach) 0)
 
-    pub run_led : Lead Moment Before (Read WALCLK Four facts.from ∷ Read POSITION Four facts.lpib ∷ (line_writes (bytes_in ring) ring.periods tally.course.reach reach' gained ++ tail)) After
-    run_led =
-        lead_more Moment Before (λ world. (reads : Reads) × Clocked reads.0 world) After before_kept (Read WALCLK Four facts.from) rest
-        (λ world step before. moment_before world (Stepped step) before tt)
-        (λ world before honest. (moment_before world (Read WALCLK Four facts.from) before tt, clock_read world before honest))
-        (lead_some Moment (λ (reads : Reads). Clocked reads.0) rest After (λ reads. position_led reads.0 reads.1))
+    writes_hold : (period begin end : ℕ) → IsPart ring reach reach' period begin end → (world : World) → Found frames known (upto_at begin) world → IsHonest world (Piece reach reach' longer period begin end)
+        → IsAfter frames known world (Piece reach reach' longer period begin end) × Found frames known (upto_at end) (happens world (Piece reach reach' longer period begin end))
+    writes_hold period begin end part world found honest = (
+      after_found frames known line' begin same_sure world _ found allows (record { frames = omega arith; fetched = omega arith }),
+      ((piece_kept ring line' at' begin sure end period _ world piece end_soon honest found.0.0, found.0.1), found.1),
+    ) where
+      piece : IsPieceOf ring line' period begin end (slice_range longer (begin - reach) (end - reach))
+      piece = part_of ring line' longer reach reach' period begin end part long (λ at low high. new_at at low)
+
+      end_soon : end ≤ at' + size_of ring
+      end_soon = part.up_to
+
+      allows : WritesAllowed ring allowed world (Piece reach reach' longer period begin end)
+      allows index within =
+          let first = part.from_here in
+          let is = reach_is in
+          inl (piece_behind ring line' tally.course.at at' begin sure end period _ world piece (omega (arith, first, is)) end_soon found.0.0 index within)
+
+  rows_led : (frames : ℕ) (known : Bool) → Lead (IsAfter frames known) (Found frames known (over_at start)) (line_writes (bytes_in ring) ring.periods start over gained ++ line_writes (bytes_in ring) ring.periods reach reach' longer) (Found frames known (upto_at reach'))
+  rows_led frames known =
+      lead_both (IsAfter frames known) (Found frames known (over_at start)) (Found frames known (over_at over)) (Found frames known (upto_at reach')) (line_writes (bytes_in ring) ring.periods start over gained) (line_writes (bytes_in ring) ring.periods reach reach' longer)
+      (overs frames known)
+      (lead_from (IsAfter frames known) (Found frames known (over_at over)) (Found frames known (upto_at reach)) (line_writes (bytes_in ring) ring.periods reach reach' longer) (Found frames known (upto_at reach'))
+      (λ world found. ((relined ring (mixed over) line' at' at' reach sure sure world mixed_last (omega arith) found.0.0.behind (omega arith) found.0.0, found.0.1), found.1))
+      (uptos frames known))
+
+  -- the rows are those that code writes
+  rows_are : run_writes (bytes_in ring) ring.periods m tally.course facts (drop tally.course.used pcm) ≡ line_writes (bytes_in ring) ring.periods start over gained ++ line_writes (bytes_in ring) ring.periods reach reach' longer
+  rows_are = writes_are (bytes_in ring) ring.periods start sound reach reach' (drop tally.course.used pcm) enough low (run_ends m runs tally.course facts is) ascends
+
+  pub writes_led : (frames : ℕ) (known : Bool) → Lead (IsAfter frames known) (Found frames known (over_at start)) (run_writes (bytes_in ring) ring.periods m tally.course facts (drop tally.course.used pcm)) (Found frames known (upto_at reach'))
+  writes_led frames known =
+      subst (λ (events : List Event). Lead (IsAfter frames known) (Found frames known (over_at start)) events (Found frames known (upto_at reach'))) (sym rows_are) (rows_led frames known)

@@ -10,7 +10,7 @@ use Rattle.period_writer.specs.Runs.{Measures}
 abbrev pub unrecorded : (ring : ℕ) → Ran → ℕ
 unrecorded ring Playing = 0
 unrecorded ring Drained = 0
-unrecorded ring (Late from to) = ring
+unrecorded ring (Late from to limit) = ring
 
 -- whole blocks are taken, so that whole blocks are held, left and taken where they were before, and all that is taken is recorded as used, but by a late run
 pub record Accounts (m : Measures) (old new : Supplied) (before after : Course) : Type 0 where

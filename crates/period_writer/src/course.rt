@@ -33,10 +33,13 @@ pub enum Ran {
     Drained,
     /// The run ended too late, and the stream was stopped.
     Late {
-        /// The clock that the run before read first.
+        /// The clock from which on it was late: the first one of the run before, or its own where it took too long
+        /// itself.
         from: u32,
         /// The clock that this run read last.
         to: u32,
+        /// How many link frames may pass between the two.
+        limit: u32,
     },
 }
 
@@ -51,6 +54,8 @@ pub struct Course {
     pub from: u32,
     /// How many bytes the line has.
     pub reach: u64,
+    /// Below this position what was fetched is the line: its end, and less where a late run took silence back.
+    pub sure: u64,
     /// How many of them are sound.
     pub used: u64,
     /// Where the last byte of sound ends, 0 where there is none.

@@ -1,12 +1,12 @@
 //! The shape of a ring, and how late a run may be.
-ghost use Rattle.std.specs.Prelude.{◌≡◌, ◌≤◌, ◌<◌, Some, None, MatchResult, IfOk};
-ghost use Rattle.stream_format.specs.Cadence.{most_bytes};
+ghost use Rattle.std.specs.Prelude.{◌≡◌, ◌≤◌, ◌<◌, ◌*◌, ◌^◌, Some, None, MatchResult, IfOk};
+ghost use Rattle.stream_format.specs.Cadence.{block_bytes, most_bytes};
 ghost use Rattle.period_writer.specs.Rings as rings;
 
 use stream_format::Format;
 
-/// The bytes that a period is a multiple of: a multiple of 128, to which buffers are aligned (HDA 1.0a, 3.6.3), and of the bytes of
-/// every block of samples. This project's own.
+/// The bytes that a period is a multiple of: a multiple of 128, to which buffers are aligned (HDA 1.0a, 3.6.3), and of
+/// the bytes of every block of samples. This project's own.
 pub const PERIOD_UNIT: u32 = 384;
 
 /// Why there is no geometry.
@@ -40,6 +40,24 @@ fn most_of(format: Format) -> u32
     format.most()
 }
 
+/// The bytes of a block, at least 1.
+fn block_of(format: Format) -> u32
+    ensures value { result ≡ block_bytes format }
+    ensures some { 1 ≤ result }
+    ensures few { result < 2 ^ 16 }
+{
+    format.block_bytes()
+}
+
+/// The bytes of so many frames of so many bytes, which are no more than a ring.
+fn frames_bytes(frames: u32, most: u32) -> u32
+    requires { frames * most < 2 ^ 22 }
+    ensures value { result ≡ frames * most }
+    ensures small { result < 2 ^ 22 }
+{
+    frames * most
+}
+
 /// The bytes of the whole ring.
 fn bytes_of(periods: u8, period: u8) -> u32
     requires few_periods { periods ≤ 32 }
@@ -53,8 +71,8 @@ impl Geometry {
     /// A ring of 2 to 32 periods of 1 to 128 times [`PERIOD_UNIT`] bytes, for a FIFO of so many bytes and a format.
     ///
     /// # Errors
-    /// `FifoTooSmall` exactly where the FIFO has fewer bytes than the most of a link frame. Else `RingTooSmall` exactly where the ring
-    /// has no more bytes than the FIFO, or [`Geometry::limit`] would be 0.
+    /// `FifoTooSmall` exactly where the FIFO has fewer bytes than the most of a link frame. Else `RingTooSmall` exactly
+    /// where the ring has no more bytes than the FIFO, or [`Geometry::limit`] would be 0.
     pub fn new(
         periods: u8,
         period: u8,
@@ -116,6 +134,24 @@ impl Geometry {
         ensures { result ≡ rings.limit_of self.now.periods self.now.period self.now.fifo self.now.format }
     {
         (self.ring() - u32::from(self.fifo)) / most_of(self.format)
+    }
+
+    /// How many link frames a run may last that takes silence back: a quarter of the limit.
+    pub fn slack(&self) -> u32
+        ensures { result ≡ rings.slack_of self.now.periods self.now.period self.now.fifo self.now.format }
+    {
+        self.limit() / 4
+    }
+
+    /// How far past the link nothing is fetched while such a run lasts: what the FIFO holds, up to whole blocks, and
+    /// what that many link frames may send.
+    pub(crate) fn ahead(&self) -> u32
+        ensures value { result ≡ rings.ahead_of self.now.periods self.now.period self.now.fifo self.now.format }
+        ensures small { result < 2 ^ 23 }
+    {
+        let block = block_of(self.format);
+        let up = u32::from(self.fifo) + (block - 1);
+        up - up % block + frames_bytes(self.slack(), most_of(self.format))
     }
 
     /// The format of the sound.

@@ -1,24 +1,41 @@
 //! Laws of the line, each the contract of a function that does nothing.
-ghost use Rattle.std.specs.Prelude.{◌≡◌, ◌≤◌, ◌+◌, ◌++◌, ℕ, List, drop, true, false};
+ghost use Rattle.std.specs.Prelude.{◌≡◌, ◌≤◌, ◌+◌, ◌++◌, ℕ, List, length, take, drop, true, false};
 ghost use Rattle.period_writer.specs.Courses.{IsCourse};
-ghost use Rattle.period_writer.specs.Lines.{IsLine, line_of};
+ghost use Rattle.period_writer.specs.Lines.{IsLine, line_of, line_after};
+ghost use Rattle.period_writer.specs.Owning.{IsWritten};
 ghost use Rattle.period_writer.specs.Playing.{run_bytes};
 ghost use Rattle.period_writer.specs.Runs.{Measures, RunFacts, Tally, tally_if, tally_opened};
+ghost use Rattle.period_writer.specs.Runs.{run_cut, run_reach, run_start, run_sound, takes_back};
 
 use crate::registers::{CONTROL, FORMAT, LAST_INDEX, LIST_ADDRESS, POSITION, RING_LENGTH};
 
-/// A run that is not late appends to the line what it writes, and nothing before that changes. The silences stay maximal, and all else
-/// is the sound in order.
+/// A run that is not late appends its sound and the silence after it to the line, whose silences stay maximal, and all
+/// else of which is the sound in order. Where it takes silence back, the line is cut before. The same said of the line
+/// as a list of bytes: it is cut or not, gets so many bytes of the sound, and then zeros up to the reach.
 pub fn runs_append_to_the_line()
     ensures opened { IsLine tally_opened }
     ensures kept { (m : Measures) (runs : ℕ) (tally : Tally) (facts : RunFacts)
         → IsCourse m.ring runs tally.course → IsLine tally → IsLine (tally_if false m tally facts) }
     ensures grows { (m : Measures) (runs : ℕ) (tally : Tally) (facts : RunFacts) (pcm : List ℕ)
-        → IsCourse m.ring runs tally.course → IsLine tally → line_of (tally_if false m tally facts) pcm
+        → IsCourse m.ring runs tally.course → IsLine tally → takes_back m tally.course facts ≡ false
+        → line_of (tally_if false m tally facts) pcm
         ≡ line_of tally pcm ++ run_bytes m tally.course facts (drop tally.course.used pcm) }
+    ensures cut { (m : Measures) (runs : ℕ) (tally : Tally) (facts : RunFacts) (pcm : List ℕ)
+        → IsCourse m.ring runs tally.course → IsWritten pcm tally
+        → line_of (tally_if false m tally facts) pcm
+        ≡ take (run_start m tally.course facts) (line_of tally pcm)
+        ++ run_bytes m tally.course facts (drop tally.course.used pcm) }
+    ensures letter { (m : Measures) (runs : ℕ) (tally : Tally) (facts : RunFacts) (pcm : List ℕ)
+        → IsCourse m.ring runs tally.course → IsWritten pcm tally
+        → run_sound m tally.course facts ≤ length (drop tally.course.used pcm)
+        → line_of (tally_if false m tally facts) pcm
+        ≡ line_after (takes_back m tally.course facts) (run_cut m tally.course facts)
+        (run_sound m tally.course facts) (run_reach m tally.course facts) (line_of tally pcm)
+        (drop tally.course.used pcm) }
 {}
 
-/// Where a run stands is kept by runs: the line ends one ring ahead of the last one, and neither the sound nor its end is past that.
+/// Where a run stands is kept by runs: the line ends one ring ahead of the last one, and neither the sound nor its end
+/// is past that.
 pub fn runs_keep_the_course()
     ensures opened { (ring : ℕ) → IsCourse ring 0 tally_opened.course }
     ensures kept { (m : Measures) (runs : ℕ) (tally : Tally) (facts : RunFacts)

@@ -1,5 +1,5 @@
 //! Writes of the line, a piece for each period.
-ghost use Rattle.std.specs.Prelude.{◌≡◌, ◌≤◌, ◌<◌, ◌+◌, ◌-◌, ◌*◌, ◌^◌, All, length, min};
+ghost use Rattle.std.specs.Prelude.{◌≡◌, ◌≤◌, ◌<◌, ◌+◌, ◌-◌, ◌*◌, ◌^◌, ◌++◌, All, length, drop, min};
 ghost use Rattle.hda_world.specs.Tellings.{Accessed, Between, Makes};
 ghost use Rattle.hda_world.specs.Events.{DmaWrite};
 ghost use Rattle.period_writer.specs.Blocks.{addresses_of};
@@ -12,7 +12,8 @@ use dma_pool::Lent;
 use hda_platform::Platform;
 use wav_reader::Supply;
 
-/// Bytes of the line that are to be written: from a position on up to another, so many of them sound and the others silence.
+/// Bytes of the line that are to be written: from a position on up to another, so many of them sound and the others
+/// silence.
 #[derive(Clone, Copy)]
 pub(crate) struct Part {
     pub(crate) from: u64,
@@ -64,7 +65,8 @@ fn write_filled<P: Platform>(
     write_piece(platform, period, base, from, piece);
 }
 
-/// A piece of a part of the line: its period, its first position and the one after its last, and how many of its bytes are sound.
+/// A piece of a part of the line: its period, its first position and the one after its last, and how many of its bytes
+/// are sound.
 #[derive(Clone, Copy)]
 struct Piece {
     period: u64,
@@ -201,4 +203,47 @@ pub(crate) fn write_part<P: Platform>(
     ensures bytes { P.spare_bytes platform.new + (part.to - part.from) ≡ P.spare_bytes platform.old }
 {
     write_line(platform, periods, buffer, supply, part);
+}
+
+/// Writes sound over silence, and then what comes after the line's end.
+#[tactic(auto, using(hda_world::proofs::Callers::rows))]
+pub(crate) fn write_parts<P: Platform>(
+    platform: &mut P,
+    periods: &mut Vec<Lent>,
+    buffer: &mut Vec<u8>,
+    supply: &mut Supply,
+    over: Part,
+    after: Part,
+)
+    requires some_periods { 1 ≤ length periods.old.items }
+    requires some { 1 ≤ length buffer.old.items }
+    requires sizes { All (λ lent. lent.bytes ≡ length buffer.old.items) periods.old.items }
+    requires over_ascends { over.from ≤ over.to }
+    requires over_small { over.to + length buffer.old.items < 2 ^ 63 }
+    requires over_sound { over.sound ≤ over.to - over.from }
+    requires after_ascends { after.from ≤ after.to }
+    requires after_small { after.to + length buffer.old.items < 2 ^ 63 }
+    requires after_sound { after.sound ≤ after.to - after.from }
+    requires left { over.sound + after.sound ≤ length supply.old.held }
+    requires room { spec.touched (length buffer.old.items) over.from over.to
+        + spec.touched (length buffer.old.items) after.from after.to ≤ P.spare_accesses platform.old }
+    requires bytes_room { (over.to - over.from) + (after.to - after.from) ≤ P.spare_bytes platform.old }
+    ensures made { Between (Makes (
+        spec.line_writes (length buffer.old.items) (addresses_of periods.old.items) over.from over.to
+        (sound_and_silence over.sound (over.to - over.from) supply.old.held)
+        ++ spec.line_writes (length buffer.old.items) (addresses_of periods.old.items) after.from after.to
+        (sound_and_silence after.sound (after.to - after.from) (drop over.sound supply.old.held))))
+        (P.told platform.old) (P.told platform.new) }
+    ensures supply { supply.new ≡ without after.sound (without over.sound supply.old) }
+    ensures periods { periods.new.items ≡ periods.old.items }
+    ensures buffer { length buffer.new.items ≡ length buffer.old.items }
+    ensures fixed { P.fixed platform.new ≡ P.fixed platform.old }
+    ensures accesses { P.spare_accesses platform.new
+        + (spec.touched (length buffer.old.items) over.from over.to
+        + spec.touched (length buffer.old.items) after.from after.to) ≡ P.spare_accesses platform.old }
+    ensures bytes { P.spare_bytes platform.new + ((over.to - over.from) + (after.to - after.from))
+        ≡ P.spare_bytes platform.old }
+{
+    write_part(platform, periods, buffer, supply, over);
+    write_part(platform, periods, buffer, supply, after);
 }

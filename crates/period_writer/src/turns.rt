@@ -1,5 +1,5 @@
 //! What a run does, by the numbers that it read.
-ghost use Rattle.std.specs.Prelude.{◌≡◌, ◌≤◌, ◌<◌, ◌-◌, ◌^◌, ◌+◌, ◌==◌, ◌&&◌, true, nat_le, if◌then◌else◌};
+ghost use Rattle.std.specs.Prelude.{◌≡◌, ◌≤◌, ◌<◌, ◌-◌, ◌^◌, ◌+◌, ◌*◌, ◌==◌, ◌&&◌, true, nat_le, if◌then◌else◌};
 ghost use Rattle.period_writer.specs.Rings.{ring_bytes};
 ghost use Rattle.period_writer.specs.Courses.{IsCourse};
 ghost use Rattle.period_writer.specs.Runs as spec;
@@ -18,12 +18,16 @@ pub(crate) struct Facts {
     pub(crate) lpib: u32,
 }
 
-/// Where a run stands: the position of the link, the new end of the line, and how many bytes of sound come before the silence.
+/// Where a run stands: the position of the link, the new end of the line, where its sound begins and how many bytes
+/// it has, below which position what was fetched stays the line, and whether it takes silence back.
 #[derive(Clone, Copy)]
 pub(crate) struct Turn {
     pub(crate) at: u64,
     pub(crate) reach: u64,
+    pub(crate) start: u64,
     pub(crate) sound: u64,
+    pub(crate) sure: u64,
+    pub(crate) back: bool,
 }
 
 /// The first position from an earlier one on that LPIB stands for.
@@ -70,6 +74,28 @@ fn block_of(geometry: &Geometry) -> u32
     geometry.format().block_bytes()
 }
 
+/// Where silence may be taken back from.
+fn cut_of(course: Course, turn: u64) -> u64
+    ensures value { result ≡ spec.cut_by course turn }
+    ensures within { result ≤ course.reach }
+{
+    course.reach.min(turn.max(course.sound_end))
+}
+
+/// Whether silence is taken back.
+fn is_back(course: Course, cut: u64, sound: u64) -> bool
+    ensures { result ≡ spec.is_back course cut sound }
+{
+    cut < course.reach && sound != 0
+}
+
+/// One place or another.
+fn choose(back: bool, one: u64, other: u64) -> u64
+    ensures { result ≡ (if back then one else other) }
+{
+    if back { one } else { other }
+}
+
 /// Where a run stands that goes by these facts.
 pub(crate) fn turn_of(geometry: &Geometry, course: Course, facts: Facts) -> Turn
     requires some { 1 ≤ ring_bytes geometry.now.periods geometry.now.period }
@@ -77,44 +103,84 @@ pub(crate) fn turn_of(geometry: &Geometry, course: Course, facts: Facts) -> Turn
     requires small { course.at < 2 ^ 60 }
     requires reach { course.reach
         ≡ (if course.started then course.at + ring_bytes geometry.now.periods geometry.now.period else 0) }
+    requires sound_end { course.sound_end ≤ course.reach }
     ensures at { result.at ≡ spec.run_at (spec.measures geometry.now) course (facts_by facts 0) }
     ensures reach { result.reach ≡ spec.run_reach (spec.measures geometry.now) course (facts_by facts 0) }
+    ensures start { result.start ≡ spec.run_start (spec.measures geometry.now) course (facts_by facts 0) }
     ensures sound { result.sound ≡ spec.run_sound (spec.measures geometry.now) course (facts_by facts 0) }
+    ensures sure { result.sure ≡ spec.run_sure (spec.measures geometry.now) course (facts_by facts 0) }
+    ensures back { result.back ≡ spec.takes_back (spec.measures geometry.now) course (facts_by facts 0) }
     ensures ascends { course.reach ≤ result.reach }
-    ensures room { result.reach - course.reach ≤ ring_bytes geometry.now.periods geometry.now.period }
-    ensures fits { result.sound ≤ result.reach - course.reach }
+    ensures low { result.start ≤ course.reach }
+    ensures high { course.sound_end ≤ result.start }
+    ensures after { result.at ≤ result.start }
+    ensures fits { result.start + result.sound ≤ result.reach }
+    ensures within { result.reach - result.start ≤ ring_bytes geometry.now.periods geometry.now.period }
     ensures soon { result.at ≤ course.at + ring_bytes geometry.now.periods geometry.now.period }
     ensures enough { result.sound ≤ facts.left }
 {
     let ring = u64::from(geometry.ring());
     let at = position_of(ring, course, facts.lpib);
     let reach = at + ring;
-    let room = reach - course.reach;
+    let turn = at + u64::from(geometry.ahead());
+    let cut = cut_of(course, turn);
+    let room = reach - cut;
     let bytes = u64::from(facts.budget).min(room.min(facts.left));
+    let sound = whole_blocks(block_of(geometry), bytes);
+    let back = is_back(course, cut, sound);
     Turn {
         at,
         reach,
-        sound: whole_blocks(block_of(geometry), bytes),
+        start: choose(back, cut, course.reach),
+        sound,
+        sure: choose(back, course.reach.min(turn), course.reach),
+        back,
     }
 }
 
-/// Whether a run is late that read this clock last.
-pub(crate) fn is_late(geometry: &Geometry, course: Course, to: u32) -> bool
-    ensures { result ≡ spec.is_late (spec.measures geometry.now) course (spec.facts_of 0 0 0 0 to) }
+/// Whether more time passed than so many link frames take.
+fn is_over(frames: u32, from: u32, to: u32) -> bool
+    ensures { result ≡ spec.is_over frames from to }
 {
-    let passed = to.saturating_sub(course.from);
-    course.started && TICKS_PER_FRAME * geometry.limit() < passed
+    u64::from(TICKS_PER_FRAME) * u64::from(frames) < u64::from(to.saturating_sub(from))
+}
+
+/// How a run is late that read this clock last, if it is.
+pub(crate) fn late_by(
+    geometry: &Geometry,
+    course: Course,
+    from: u32,
+    back: bool,
+    to: u32,
+) -> Option<Ran>
+    ensures { result ≡ spec.late_by (spec.measures geometry.now) course from back to }
+{
+    if course.started && is_over(geometry.limit(), course.from, to) {
+        return Some(Ran::Late {
+            from: course.from,
+            to,
+            limit: geometry.limit(),
+        });
+    }
+    if back && is_over(geometry.slack(), from, to) {
+        return Some(Ran::Late {
+            from,
+            to,
+            limit: geometry.slack(),
+        });
+    }
+    None
 }
 
 /// Where the last byte of sound ends after a run.
 fn sound_end(course: Course, turn: Turn) -> u64
-    requires { course.reach + turn.sound < 2 ^ 64 }
-    ensures { result ≡ (if turn.sound == 0 then course.sound_end else course.reach + turn.sound) }
+    requires { turn.start + turn.sound < 2 ^ 64 }
+    ensures { result ≡ (if turn.sound == 0 then course.sound_end else turn.start + turn.sound) }
 {
     if turn.sound == 0 {
         course.sound_end
     } else {
-        course.reach + turn.sound
+        turn.start + turn.sound
     }
 }
 
@@ -132,14 +198,15 @@ fn ending(course: Course, turn: Turn, left: u64, sound_end: u64) -> Ran
 
 /// The course after a run that is not late.
 pub(crate) fn course_after(course: Course, turn: Turn, facts: Facts) -> Course
-    requires sound { course.reach + turn.sound < 2 ^ 64 }
+    requires sound { turn.start + turn.sound < 2 ^ 64 }
     requires used { course.used + turn.sound < 2 ^ 64 }
-    ensures { let end = (if turn.sound == 0 then course.sound_end else course.reach + turn.sound) in
+    ensures { let end = (if turn.sound == 0 then course.sound_end else turn.start + turn.sound) in
         result ≡ record {
           started = true;
           at = turn.at;
           from = facts.from;
           reach = turn.reach;
+          sure = turn.reach;
           used = course.used + turn.sound;
           sound_end = end;
           ran = if course.started && facts.left == turn.sound && nat_le end turn.at then Ran.Drained else Ran.Playing;
@@ -151,6 +218,7 @@ pub(crate) fn course_after(course: Course, turn: Turn, facts: Facts) -> Course
         at: turn.at,
         from: facts.from,
         reach: turn.reach,
+        sure: turn.reach,
         used: course.used + turn.sound,
         sound_end: end,
         ran: ending(course, turn, facts.left, end),

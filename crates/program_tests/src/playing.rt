@@ -168,25 +168,67 @@ fn stops_where_a_run_is_late(rt: HostRuntime) -> Result<(), AllocError> {
     expect_played(&rt, alloc, sound.as_slice(), steps.as_str(), end)
 }
 
+/// Half of the ring is fetched and sent, a quarter after the other.
+const TWO_PARTS: &str = "fetch 1 192\nlink 48\nfetch 1 192\nlink 48\n";
+
 #[test]
 fn plays_with_silence_between(rt: HostRuntime) -> Result<(), AllocError> {
     let alloc = rt.alloc();
     let sound = frames(alloc, 196)?;
-    let two_parts = "fetch 1 192\nlink 48\nfetch 1 192\nlink 48\n";
     let mut line = Vec::from_slice(alloc, sound.as_slice().get(..400).unwrap_or(&[]))?;
-    line.extend_from_slice(&[0; 92 * FRAME_BYTES])?;
+    line.extend_from_slice(&[0; 80 * FRAME_BYTES])?;
     line.extend_from_slice(sound.as_slice().get(400..).unwrap_or(&[]))?;
+    line.extend_from_slice(&[0; 12 * FRAME_BYTES])?;
     let heard = sound_lines(alloc, line.as_slice())?;
     let want = format!(in alloc;
-        "run 0 12500 12500 400 400\nrun 384 60500 60500 1000 384\nrun 768 108500 108500 0 0\nrun 1152 156500 156500 0 0\nsilence 400 768\nsilence 1152 1920\n{HEARS}{heard}played 196\n"
+        "run 0 12500 12500 400 400\nrun 384 60500 60500 1000 384\nrun 768 108500 108500 0 0\nrun 1152 156500 156500 0 0\nsilence 400 720\nsilence 1104 1920\n{HEARS}{heard}played 196\n"
     )?;
     // A period was fetched to its end before each later call, so there is an interrupt.
     for call in ["run", "irq"] {
         let lines = format!(in alloc;
-            "run 400\n{two_parts}{call} 1000\n{two_parts}{call} 0\n{two_parts}{call} 0\n"
+            "run 400\n{TWO_PARTS}{call} 1000\n{TWO_PARTS}{call} 0\n{TWO_PARTS}{call} 0\n"
         )?;
         let steps = after_set_up(alloc, lines.as_str())?;
         let end = (Status::Done, want.as_str());
+        expect_played(&rt, alloc, sound.as_slice(), steps.as_str(), end)?;
+    }
+    Ok(())
+}
+
+// The second run takes silence back. Behind its read of LPIB the device fetches and sends.
+#[test]
+fn may_not_last_long_where_it_takes_silence_back(rt: HostRuntime) -> Result<(), AllocError> {
+    let alloc = rt.alloc();
+    let sound = frames(alloc, 196)?;
+    for (link_frames, silent, status, recorded, last) in [
+        (
+            37,
+            33,
+            Status::Late,
+            "silence 400 768\n",
+            "late 60500 79000 36",
+        ),
+        (
+            36,
+            32,
+            Status::ScheduleEnded,
+            "run 384 60500 78500 1000 384\nrun 528 78500 78500 0 0\nsilence 400 720\nsilence 1104 1296\n",
+            "schedule ended: frames 196 written 100 heard of 196",
+        ),
+    ] {
+        let lines = format!(in alloc;
+            "run 400\n{TWO_PARTS}run 1000 | - | - | - | fetch 1 192, link {link_frames}\n"
+        )?;
+        let steps = after_set_up(alloc, lines.as_str())?;
+        let mut line = Vec::from_slice(alloc, sound.as_slice().get(..400).unwrap_or(&[]))?;
+        for _frame in 0..silent {
+            line.extend_from_slice(&[0; FRAME_BYTES])?;
+        }
+        let heard = sound_lines(alloc, line.as_slice())?;
+        let want = format!(in alloc;
+            "run 0 12500 12500 400 400\n{recorded}{HEARS}{heard}{last}\n"
+        )?;
+        let end = (status, want.as_str());
         expect_played(&rt, alloc, sound.as_slice(), steps.as_str(), end)?;
     }
     Ok(())

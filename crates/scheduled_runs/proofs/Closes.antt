@@ -21,7 +21,7 @@ use Rattle.period_writer.specs.declared.geometry.Geometry.{Geometry}
 use Rattle.period_writer.specs.Writers.{WriterState}
 use Rattle.period_writer.specs.Runs.{measures}
 use Rattle.period_writer.specs.Writers.{tally_of}
-use Rattle.audio_driver.specs.States.{plays_now, phase_with}
+use Rattle.audio_driver.specs.States.{plays_now}
 use Rattle.audio_driver.specs.declared.driver.closing.Closed.{Closed}
 use Rattle.audio_driver.specs.Closing as of_driver
 use Rattle.rig.specs.Follows.{AreAccesses}
@@ -149,7 +149,7 @@ module _ (means : Means) (format : Format) (play : Bool) where
         (subst (λ (events : List Event). Counts (told_in events) closed.jacks.items) (append_assoc first goes.events (stretch [] closes.accesses))
         (closes.counted (first ++ goes.events) (goes.counted first count)));
     leaves = record {
-      phase = closes.leaves.phase ∙ ap (λ (geometry : Geometry). phase_with closes.ended closes.tally (measures geometry).limit) ring;
+      phase = closes.leaves.phase;
       sent = closes.leaves.sent;
       graphs = closes.leaves.graphs;
       runs = closes.leaves.runs;

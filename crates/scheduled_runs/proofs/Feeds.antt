@@ -1,8 +1,9 @@
 -- How a supply stays fed.
-use Rattle.std.proofs.Common.{◌≡◌, ◌≢◌, ◌≤◌, ◌<◌, ◌+◌, ◌-◌, ◌*◌, ◌%◌, ◌∙◌, ℕ, List, [], length, Option, Some, None, refl, sym, ap, subst, arith, inl, inr, append-nil}
+use Rattle.std.proofs.Common.{◌≡◌, ◌≢◌, ◌≤◌, ◌<◌, ◌+◌, ◌-◌, ◌*◌, ◌/◌, ◌%◌, ◌∙◌, ℕ, zero, suc, List, [], length, Option, Some, None, refl, sym, ap, subst, arith, inl, inr, append-nil}
 use Rattle.std.specs.Prelude.{◌⊎◌, min, Result, Ok, Err, OnOk, IsErr}
-use Rattle.std.proofs.lemmas.List.{length-drop}
-use Rattle.std.proofs.Math.Nat.{mul-mod_left, zero-mod}
+use Rattle.std.proofs.lemmas.List.{length-append, length-drop}
+use Rattle.std.proofs.Math.Nat.{mul-mod_left, zero-mod, div-zero, mul-add-div_right}
+use Rattle.std.proofs.lemmas.Nat.{div-add-mod'}
 use Rattle.stream_format.specs.declared.format.Format.{Format}
 use Rattle.stream_format.specs.declared.format.Bits.{Bits}
 use Rattle.stream_format.specs.declared.format.Bits.TheVariants.{B16}
@@ -14,13 +15,14 @@ use Rattle.hda_outside.specs.declared.pieces.Cut.{Cut}
 use Rattle.hda_outside.specs.declared.pieces.Cut.TheVariants.{Failed, Short, OutOfMemory}
 use Rattle.wav_reader.specs.Shelves.{ShelfSeen, HasFile}
 use Rattle.wav_reader.specs.Supplies.{Source, Supplied, MayGive, EndsWith, IsTaken, Suffices, taken_between, block_of}
-use Rattle.wav_reader.specs.Fills.{Fills, FillsBy, IsFull, IsNextOf, wanted}
+use Rattle.wav_reader.specs.Fills.{Fills, FillsBy, IsFull, IsNextOf, wanted, IsInFrame, AreFramesGiven}
+use Rattle.wav_reader.specs.Heads.{frame_length}
 use Rattle.wav_reader.specs.Wavs.{ring_bytes}
 use Rattle.wav_reader.proofs.Callers.{may_before, may_filled, taken_more, next_on, next_were}
 use Rattle.period_writer.specs.declared.course.Course.{Course}
 use Rattle.period_writer.specs.Accounts.{Accounts}
 use Rattle.period_writer.specs.Runs.{Measures}
-use Rattle.scheduled_runs.specs.Feeding.{Shelves, Streams, IsGivenWhole, IsFed, IsFedSo, IsFilledUp, IsSilent, IsLeftAfter, HasCause, IsAccount, Took, cut_after, sound_bytes}
+use Rattle.scheduled_runs.specs.Feeding.{Shelves, Streams, IsGivenWhole, IsFed, IsFedSo, IsFilledUp, IsSilent, IsLeftAfter, HasCause, IsAccount, Took, cut_after, sound_bytes, AreFramesRead, IsCutAt}
 
 -- ---- what a fed supply holds
 
@@ -59,6 +61,14 @@ account_on ring first now old new taken account =
       | inr both ↦ (let same = both.0 in let most = both.1 in inr (omega (arith, within, less, held, same), omega (arith, all, most)))
     ]
 
+-- as many bytes were read
+read_on : (old new : Supplied) → IsTaken old new → old.taken + length old.held ≡ new.taken + length new.held
+read_on old new taken =
+    let within = taken.within in
+    let all = ap (λ (supply : Supplied). supply.taken) taken.is in
+    let held = ap (λ (supply : Supplied). length supply.held) taken.is ∙ length-drop taken.count old.held in
+    omega (arith, within, all, held)
+
 streams_on : (m : Measures) (source : Source) (first now : ShelfSeen) (cut : Option Cut) (old new : Supplied) (before after : Course) → IsTaken old new → Accounts m old new before after
     → Streams m source first now cut old before → Streams m source first now cut new after
 streams_on m source first now cut old new before after taken accounts fed =
@@ -85,6 +95,8 @@ streams_on m source first now cut old new before after taken accounts fed =
       cause = fed.cause;
       never_short = fed.never_short;
       account = account_on m.ring first.given now.given old new taken fed.account;
+      frames = subst (λ (read : ℕ). AreFramesRead cut source first.given now.given read) (read_on old new taken) fed.frames;
+      cut_at = subst (λ (read : ℕ). IsCutAt cut source read) (read_on old new taken) fed.cut_at;
       used = omega (arith, used, was);
     }
 
@@ -130,6 +142,13 @@ rose_since first before after later rose = grind (arith, later, rose)
 abbrev whole_fill : Result (Unit {0}) Cut
 whole_fill = Ok tt
 
+-- one that was cut
+abbrev failed_fill : Cut → Result (Unit {0}) Cut
+failed_fill reason = Err reason
+
+failed_short : (place : ℕ) → failed_fill Failed ≢ failed_fill (Short place)
+failed_short place same = cc
+
 no_short : (place : ℕ) → whole_fill ≢ Err (Short place)
 no_short place same = cc
 
@@ -151,6 +170,67 @@ left_full (Some reason) source old new full taken left =
     let all = left.0 in
     let early = left.1 in
     (omega (arith, same, held, none, all), omega (arith, taken, held, none, early))
+
+-- ---- the frames that were read
+
+both_whole : (block taken held : ℕ) → taken % block ≡ 0 → held % block ≡ 0 → (taken + held) % block ≡ 0
+both_whole block taken held one other =
+    let first = div-add-mod' taken block in
+    let second = div-add-mod' held block in
+    let both : (taken / block + held / block) * block ≡ taken / block * block + held / block * block = omega arith in
+    let sum : taken + held ≡ (taken / block + held / block) * block = omega (arith, first, second, both, one, other) in
+    ap (λ (bytes : ℕ). bytes % block) sum ∙ mul-mod_left (taken / block + held / block) block
+
+more_frames : (block read more : ℕ) → read % block ≡ 0 → (read + more) / block ≡ read / block + more / block
+more_frames zero read more whole = (let all = div-zero (read + more) in let one = div-zero read in let other = div-zero more in omega (arith, all, one, other))
+more_frames (suc block) read more whole =
+    let all = div-add-mod' read (suc block) in
+    let read_is : read ≡ read / suc block * suc block = omega (arith, all, whole) in
+    ap (λ (n : ℕ). (n + more) / suc block) read_is ∙ mul-add-div_right (omega arith) (read / suc block) more
+
+-- some more of them
+frames_more : (block frame first before after read more read' : ℕ) → read % block ≡ 0 → read' ≡ read + more → before ≤ first + read / block * frame → after ≤ before + more / block * frame
+    → after ≤ first + read' / block * frame
+frames_more block frame first before after read more read' whole is few given =
+    let sum : read' / block ≡ read / block + more / block = ap (λ (n : ℕ). n / block) is ∙ more_frames block read more whole in
+    let both : (read / block + more / block) * frame ≡ read / block * frame + more / block * frame = omega arith in
+    let all = ap (λ (n : ℕ). n * frame) sum in
+    omega (arith, both, all, few, given)
+
+frames_less : (block frame first before after read more read' : ℕ) → read % block ≡ 0 → read' ≡ read + more → before ≤ first + read / block * frame → after < before + more / block * frame + frame
+    → after < first + read' / block * frame + frame
+frames_less block frame first before after read more read' whole is few given =
+    let sum : read' / block ≡ read / block + more / block = ap (λ (n : ℕ). n / block) is ∙ more_frames block read more whole in
+    let both : (read / block + more / block) * frame ≡ read / block * frame + more / block * frame = omega arith in
+    let all = ap (λ (n : ℕ). n * frame) sum in
+    omega (arith, both, all, few, given)
+
+frames_full : (cut : Option Cut) (source : Source) (first before after : ℕ) (old new : Supplied) (block : ℕ) → block ≡ block_of source.head → old.taken % block ≡ 0 → length old.held % block ≡ 0
+    → IsFull source old new → new.taken ≡ old.taken
+    → (old.taken % block_of source.head ≡ 0 → length old.held % block_of source.head ≡ 0 → AreFramesGiven source.head old.held new.held before after (Ok tt))
+    → (cut ≢ None → (new ≡ old) × (after ≡ before))
+    → AreFramesRead cut source first before (old.taken + length old.held) → AreFramesRead cut source first after (new.taken + length new.held)
+frames_full None source first before after old new block is taken_blocks held_blocks full taken given idle read =
+    let held = full.held in
+    let taken_whole : old.taken % block_of source.head ≡ 0 = ap (λ (block : ℕ). old.taken % block) (sym is) ∙ taken_blocks in
+    let held_whole : length old.held % block_of source.head ≡ 0 = ap (λ (block : ℕ). length old.held % block) (sym is) ∙ held_blocks in
+    frames_more (block_of source.head) (frame_length source.head.mono source.head.format) first before after (old.taken + length old.held) (length new.held - length old.held)
+    (new.taken + length new.held) (both_whole (block_of source.head) old.taken (length old.held) taken_whole held_whole) (omega (arith, held, taken)) read (given taken_whole held_whole)
+frames_full (Some reason) source first before after old new block is taken_blocks held_blocks full taken given idle read = by (idle (λ none. some_none none)) where
+  some_none : Some reason ≡ None → ⊥
+  some_none same = cc
+
+  by : (new ≡ old) × (after ≡ before) → AreFramesRead (Some reason) source first after (new.taken + length new.held)
+  by (same, none) =
+      let read_is : new.taken + length new.held ≡ old.taken + length old.held = ap (λ (supply : Supplied). supply.taken + length supply.held) same in
+      rw (read_is, none) read
+
+cut_at_full : (cut : Option Cut) (source : Source) (old new : Supplied) → (cut ≢ None → new ≡ old) → IsCutAt cut source (old.taken + length old.held) → IsCutAt cut source (new.taken + length new.held)
+cut_at_full None source old new idle at = tt
+cut_at_full (Some reason) source old new idle at =
+    subst (λ (read : ℕ). IsCutAt (Some reason) source read) (sym (ap (λ (supply : Supplied). supply.taken + length supply.held) (idle some_none))) at where
+      some_none : Some reason ≡ None → ⊥
+      some_none same = cc
 
 account_full : (ring first before after : ℕ) (source : Source) (old new : Supplied) → IsFull source old new → new.taken ≡ old.taken → after ≤ before + wanted source old → IsAccount ring first before old → IsAccount ring first after new
 account_full ring first before after source old new full taken given account =
@@ -191,6 +271,9 @@ module _ (m : Measures) (source : Source) (first before after : ShelfSeen) (cut 
         cause = cause_filled cut source first before after (fills.not_short no_short) (λ some. (fills.idle (idle_if cut source old fed.left_is some)).2) fed.cause;
         never_short = fed.never_short;
         account = account_full m.ring first.given before.given after.given source old new full taken fills.given fed.account;
+        frames = frames_full cut source first.given before.given after.given old new m.block (sym fed.block_is) fed.taken_blocks fed.blocks full taken fills.frames
+            (λ some. (let idle = fills.idle (idle_if cut source old fed.left_is some) in (idle.1, ap (λ (seen : ShelfSeen). seen.given) idle.2))) fed.frames;
+        cut_at = cut_at_full cut source old new (λ some. (fills.idle (idle_if cut source old fed.left_is some)).1) fed.cut_at;
         used = omega (arith, taken, used);
       } where
         least_right : (held ring left left' : ℕ) → held ≡ min ring left → left' ≡ left → held ≤ left'
@@ -230,6 +313,8 @@ module _ (m : Measures) (source : Source) (first before after : ShelfSeen) (cut 
         cause = cause_cut reason known fed.cause fills later;
         never_short = λ file tells place same. fills.never_short file (subst (λ (told : Option Files). HasFile told source.name source.head file) (sym fed.told_is) tells) place (ap (λ (reason : Cut). Err reason) (some_is reason (Short place) same));
         account = account_cut fed.account;
+        frames = frames_cut cut fed.left_is fed.frames;
+        cut_at = cut_at_by reason fills.short_at;
         used = omega (arith, taken, used);
       } where
         few_are : (ring held left want new : ℕ) → held ≤ ring → held ≤ left → want ≡ min ring left - held → new < held + want → new < min ring left
@@ -256,9 +341,34 @@ module _ (m : Measures) (source : Source) (first before after : ShelfSeen) (cut 
         none_before (Some other) cause left = absurd (some_wanted (none_wanted source old left.0))
 
         cause_cut : (reason : Cut) → reason ≢ OutOfMemory → HasCause cut source first before → Fills source old new before after (Err reason) → first.faults ≤ before.faults → HasCause (Some reason) source first after
-        cause_cut Failed known cause fills later = rose_since first.faults before.faults after.faults later (fills.failed refl)
+        cause_cut Failed known cause fills later =
+            (rose_since first.faults before.faults after.faults later (fills.failed refl), fills.not_short (λ place same. failed_short place same) ∙ none_before cut cause fed.left_is)
         cause_cut (Short place) known cause fills later = (let short = fills.short place refl in (short.0, subst (λ (empties : ℕ). Rose empties after.empties) (none_before cut cause fed.left_is) short.1))
         cause_cut OutOfMemory known cause fills later = absurd (known refl)
+
+        taken_whole : old.taken % block_of source.head ≡ 0
+        taken_whole = ap (λ (block : ℕ). old.taken % block) fed.block_is ∙ fed.taken_blocks
+
+        held_whole : length old.held % block_of source.head ≡ 0
+        held_whole = ap (λ (block : ℕ). length old.held % block) fed.block_is ∙ fed.blocks
+
+        frames_cut : (cut : Option Cut) → IsLeftAfter cut source old → AreFramesRead cut source first.given before.given (old.taken + length old.held)
+            → AreFramesRead (Some reason) source first.given after.given (new.taken + length new.held)
+        frames_cut None left read =
+            (let filled = fills.filled held_whole in
+            let more = length-append old.held filled.more in
+            let held = ap (λ (bytes : List ℕ). length bytes) filled.held in
+            let taken = fills.taken in
+            frames_less (block_of source.head) (frame_length source.head.mono source.head.format) first.given before.given after.given (old.taken + length old.held)
+            (length new.held - length old.held) (new.taken + length new.held) (both_whole (block_of source.head) old.taken (length old.held) taken_whole held_whole)
+            (omega (arith, more, held, taken)) read (fills.frames taken_whole held_whole))
+        frames_cut (Some other) left read = absurd (some_wanted (none_wanted source old left.0))
+
+        cut_at_by : (reason : Cut) → (old.taken % block_of source.head ≡ 0 → (place : ℕ) → failed_fill reason ≡ failed_fill (Short place) → IsInFrame source.head (new.taken + length new.held) place)
+            → IsCutAt (Some reason) source (new.taken + length new.held)
+        cut_at_by Failed at = tt
+        cut_at_by (Short place) at = at taken_whole place refl
+        cut_at_by OutOfMemory at = tt
 
         no_more : (ring held left want : ℕ) → held ≤ ring → held ≤ left → want ≡ min ring left - held → held + want ≤ ring
         no_more ring held left want fits within wants = grind arith
@@ -408,6 +518,8 @@ first_streams m source now course ring block whole = record {
   cause = refl;
   never_short = λ file tells place same. cc;
   account = inl (omega arith);
+  frames = omega arith;
+  cut_at = tt;
   used = omega arith;
 }
 
@@ -443,3 +555,8 @@ may_held supply all = record { later = []; is = sym (append-nil supply.held); mo
 
 pub ends_held : (supply : Supplied) → length supply.held ≡ supply.left → EndsWith supply supply.held
 ends_held supply all = λ none. omega (arith, all, none)
+
+-- what holds anyway holds where an answer is good
+pub ok_any : (X E : Type 0) (result : Result X E) (A : Type 0) → A → OnOk result A
+ok_any X E (Ok x) A holds = holds
+ok_any X E (Err e) A holds = tt

@@ -15,8 +15,8 @@ use Rattle.hda_world.specs.Worlds.{World}
 use Rattle.hda_world.specs.Events.{Event, IsNoStep, AreHonest}
 use Rattle.hda_world.specs.Tellings.{Telling, world_of}
 use Rattle.period_writer.specs.declared.geometry.Geometry.{Geometry}
-use Rattle.period_writer.specs.Runs.{Tally, tally_opened, measures}
-use Rattle.period_writer.specs.Writers.{measures_of, tally_of, ring_of}
+use Rattle.period_writer.specs.Runs.{Tally, tally_opened}
+use Rattle.period_writer.specs.Writers.{tally_of, ring_of}
 use Rattle.period_writer.specs.Writers.{WriterState}
 use Rattle.period_writer.specs.declared.course.Course.{Course}
 use Rattle.period_writer.specs.declared.course.Run.{Run}
@@ -30,10 +30,10 @@ use Rattle.jack_counts.specs.Jacks.{Counts}
 use Rattle.codec_bring_up.specs.declared.bringing.BringUp.{BringUp}
 use Rattle.told_bring_up.specs.Standing.{IsTaskOfCodecs, AreWalked, WalkedIn}
 use Rattle.stream_rest.specs.Resting.{Rests, AreApartFrom}
-use Rattle.audio_driver.specs.States.{phase_with, phase_if, played_as, IsTaskOf}
+use Rattle.audio_driver.specs.States.{phase_if, played_as, IsTaskOf, state_with}
 use Rattle.audio_driver.specs.declared.driver.closing.Closed.{Closed}
 use Rattle.told_playing.specs.Sounding.{Parts, ring_in, tally_in}
-use Rattle.told_playing.specs.Keeping.{HasGone, state_left}
+use Rattle.told_playing.specs.Keeping.{HasGone}
 use Rattle.rig.specs.Follows.{Follows}
 use Rattle.rig.specs.Replays.{start_of, telling_from}
 use Rattle.heard_lists.specs.Listings.{graphs_in}
@@ -195,22 +195,22 @@ used_in_runs keeps machine format plans play task schedule old closed before aft
 
 -- ---- in which phase it ends
 
-failed_if : (started : Bool) (phase : Phase) (tally : Tally) (limit : ℕ) → started ≡ false → is_failed (phase_if started phase tally.course.ran limit) ≡ false → is_failed phase ≡ false
-failed_if true phase tally limit none well = cc
-failed_if false phase tally limit none well = well
+failed_if : (started : Bool) (phase : Phase) (tally : Tally) → started ≡ false → is_failed (phase_if started phase tally.course.ran) ≡ false → is_failed phase ≡ false
+failed_if true phase tally none well = cc
+failed_if false phase tally none well = well
 
 module _ (machine : Machine) (format : Format) (play : Bool) (task : Task) (schedule : Schedule) (old : Parts) (closed : Closed) (journal : List Event) (gone : Gone machine format play task schedule old closed journal) where
   -- the phase that is left is that of the state to which the journal leads
-  pub phase_left : task.geometry ≡ old.writer.geometry → closed.phase ≡ (state_left task gone.ended gone.tally).phase
-  phase_left same = gone.leaves.phase ∙ ap (λ (geometry : Geometry). phase_with gone.ended gone.tally (measures geometry).limit) (sym same)
+  pub phase_left : closed.phase ≡ (state_with gone.ended gone.tally).phase
+  phase_left = gone.leaves.phase
 
   -- where nothing was played it is the bring-up's
   pub unplayed_phase : gone.tally.course.started ≡ false → closed.phase ≡ gone.ended.phase
-  unplayed_phase none = gone.leaves.phase ∙ ap (λ (started : Bool). phase_if started gone.ended.phase gone.tally.course.ran (measures_of old.writer).limit) none
+  unplayed_phase none = gone.leaves.phase ∙ ap (λ (started : Bool). phase_if started gone.ended.phase gone.tally.course.ran) none
 
   -- else it tells how the last run ended
-  pub played_phase : gone.tally.course.started ≡ true → closed.phase ≡ played_as gone.tally.course.ran (measures_of old.writer).limit
-  played_phase some = gone.leaves.phase ∙ ap (λ (started : Bool). phase_if started gone.ended.phase gone.tally.course.ran (measures_of old.writer).limit) some
+  pub played_phase : gone.tally.course.started ≡ true → closed.phase ≡ played_as gone.tally.course.ran
+  played_phase some = gone.leaves.phase ∙ ap (λ (started : Bool). phase_if started gone.ended.phase gone.tally.course.ran) some
 
   -- the bring-up then is in a phase in which runs can end
   pub unplayed_ends : (walk : Bool) → gone.tally.course.started ≡ false → can_end walk closed.phase ≡ true
@@ -218,8 +218,8 @@ module _ (machine : Machine) (format : Format) (play : Bool) (task : Task) (sche
       let telling = telling_from REGION_BYTES machine journal in
       let course = course_of task (lines_of schedule) telling in
       let well = ended_well course.within task course (course_well task telling.journal telling.start (course_opened (lines_of schedule)) refl) in
-      let left : is_failed (state_left task gone.ended gone.tally).phase ≡ false = ap (λ state. is_failed state.phase) (sym gone.has.state_is) ∙ well in
-      let own = failed_if gone.tally.course.started gone.ended.phase gone.tally (measures task.geometry).limit none left in
+      let left : is_failed (state_with gone.ended gone.tally).phase ≡ false = ap (λ state. is_failed state.phase) (sym gone.has.state_is) ∙ well in
+      let own = failed_if gone.tally.course.started gone.ended.phase gone.tally none left in
       ap (can_end walk) (unplayed_phase none) ∙ ends walk gone.ended.phase (gone.ended.agenda.graphs.items ≡ graphs_in machine.codecs) own gone.has.ended_is.by_phase
 
   -- ---- which graphs were walked

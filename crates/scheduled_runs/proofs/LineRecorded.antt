@@ -36,7 +36,7 @@ module _ (laws : RunLaws) (m : Measures) (some : 1 ≤ m.ring) where
   has_if true tally facts has = record {
     runs = has.runs;
     course = laws.late m has.runs tally facts has.course;
-    line = record { maximal = has.line.maximal; used = has.line.used };
+    line = record { maximal = has.line.maximal; used = has.line.used; ended = has.line.ended; inside = has.line.inside };
   }
   has_if false tally facts has = record {
     runs = has.runs + 1;
@@ -50,7 +50,7 @@ module _ (laws : RunLaws) (m : Measures) (some : 1 ≤ m.ring) where
   has_taken ran.Playing (from ∷ to ∷ []) total stretch tally has = has_if _ tally _ has
   has_taken ran.Playing (from ∷ to ∷ other ∷ more) total stretch tally has = has
   has_taken ran.Drained clocks total stretch tally has = has
-  has_taken (ran.Late from to) clocks total stretch tally has = has
+  has_taken (ran.Late from to limit) clocks total stretch tally has = has
 
   has_on : (total : ℕ) (stretches : List Stretch) (tally : Tally) → HasLine m tally → HasLine m (tally_on m total tally stretches)
   has_on total [] tally has = has

@@ -70,7 +70,7 @@ settled_well false rings state well = well
 played_well : (task : Task) (end : Ran) → is_failed (phase_played task end) ≡ false
 played_well task ran.Playing = refl
 played_well task ran.Drained = refl
-played_well task (ran.Late from to) = refl
+played_well task (ran.Late from to limit) = refl
 
 plays_well : (plays : Bool) (state : State) → IsWell state → IsWell (if plays then record state { phase = Playing } else state)
 plays_well true state well = refl

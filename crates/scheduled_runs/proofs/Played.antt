@@ -22,7 +22,7 @@ use Rattle.period_writer.specs.declared.course.Ran.TheVariants as ran
 use Rattle.period_writer.specs.declared.geometry.Geometry.{Geometry}
 use Rattle.period_writer.specs.Lines.{IsLine}
 use Rattle.period_writer.specs.Runs.{Tally, tally_opened, measures, tally_of_stretches}
-use Rattle.audio_driver.specs.States.{phase_if, played_as}
+use Rattle.audio_driver.specs.States.{phase_if, played_as, state_with}
 use Rattle.audio_driver.specs.declared.driver.closing.Closed.{Closed}
 use Rattle.driver_progress.specs.declared.phase.Phase.{Phase}
 use Rattle.driver_progress.specs.declared.phase.Phase.TheVariants.{Reset, Settling, Walking, SettingUp, Ready, Playing, Drained, NothingRouted, Unanswered, Late, Malformed, Failed}
@@ -30,7 +30,7 @@ use Rattle.driver_progress.specs.Tasks.{Task, Blocks}
 use Rattle.heard_runs.specs.Ending.{HearTheLine}
 use Rattle.told_bring_up.specs.Standing.{AreWalked, WalkedIn}
 use Rattle.told_playing.specs.Sounding.{Parts}
-use Rattle.told_playing.specs.Keeping.{WasHeard, WasNeverHeard, state_left}
+use Rattle.told_playing.specs.Keeping.{WasHeard, WasNeverHeard}
 use Rattle.sound_report.specs.declared.played.Played.{Played}
 use Rattle.rig.specs.Replays.{telling_from}
 use Rattle.heard_lists.specs.Listings.{graphs_in}
@@ -62,20 +62,20 @@ graph_among files file has =
 -- ---- phases
 
 -- it can end in any way in which a run does
-ran_ends : (was : Ran) (limit : ℕ) → can_end false (played_as was limit) ≡ true
-ran_ends ran.Playing limit = refl
-ran_ends ran.Drained limit = refl
-ran_ends (ran.Late from to) limit = refl
+ran_ends : (was : Ran) → can_end false (played_as was) ≡ true
+ran_ends ran.Playing = refl
+ran_ends ran.Drained = refl
+ran_ends (ran.Late from to limit) = refl
 
-all_walked_if : (started : Bool) (phase : Phase) (was : Ran) (limit : ℕ) (all : Type 0) → (started ≡ true → phase ≡ Ready) → WalkedIn phase all → walked_all (phase_if started phase was limit) ≡ true → all
-all_walked_if true phase was limit all ready by is = walked_in Ready all refl (subst (λ (phase : Phase). WalkedIn phase all) (ready refl) by)
-all_walked_if false phase was limit all ready by is = walked_in phase all is by
+all_walked_if : (started : Bool) (phase : Phase) (was : Ran) (all : Type 0) → (started ≡ true → phase ≡ Ready) → WalkedIn phase all → walked_all (phase_if started phase was) ≡ true → all
+all_walked_if true phase was all ready by is = walked_in Ready all refl (subst (λ (phase : Phase). WalkedIn phase all) (ready refl) by)
+all_walked_if false phase was all ready by is = walked_in phase all is by
 
 -- it tells how the last run ended
-has_run_as : (course : Course) (was : Ran) → course.ran ≡ was → course.started ≡ true → (limit : ℕ) → HasRunUpTo (played_as was limit) course
-has_run_as course ran.Playing is started limit = (started, is)
-has_run_as course ran.Drained is started limit = (started, is)
-has_run_as course (ran.Late from to) is started limit = (started, is)
+has_run_as : (course : Course) (was : Ran) → course.ran ≡ was → course.started ≡ true → HasRunUpTo (played_as was) course
+has_run_as course ran.Playing is started = (started, is)
+has_run_as course ran.Drained is started = (started, is)
+has_run_as course (ran.Late from to limit) is started = (started, is)
 
 -- or that there was none
 has_no_run : (course : Course) → course.started ≡ false → (phase : Phase) (all : Type 0) → WalkedIn phase all → HasRunUpTo phase course
@@ -92,9 +92,9 @@ has_no_run course none (Late from to limit) all walked = absurd walked
 has_no_run course none (Malformed codec fault) all walked = none
 has_no_run course none Failed all walked = none
 
-has_run : (course : Course) (started : Bool) → course.started ≡ started → (phase : Phase) (limit : ℕ) (all : Type 0) → WalkedIn phase all → HasRunUpTo (phase_if started phase course.ran limit) course
-has_run course true is phase limit all walked = has_run_as course course.ran refl is limit
-has_run course false is phase limit all walked = has_no_run course is phase all walked
+has_run : (course : Course) (started : Bool) → course.started ≡ started → (phase : Phase) (all : Type 0) → WalkedIn phase all → HasRunUpTo (phase_if started phase course.ran) course
+has_run course true is phase all walked = has_run_as course course.ran refl is
+has_run course false is phase all walked = has_no_run course is phase all walked
 
 -- ---- the run
 
@@ -119,7 +119,7 @@ module _ (machine : Machine) (plans : List Plan) (wav : Wav) (geometry : Geometr
   playing_ends = by gone.tally.course.started refl
     where
       by : (started : Bool) → gone.tally.course.started ≡ started → can_end false closed.phase ≡ true
-      by true some = ap (can_end false) (played_phase machine wav.format true task schedule old closed journal gone some) ∙ ran_ends gone.tally.course.ran _
+      by true some = ap (can_end false) (played_phase machine wav.format true task schedule old closed journal gone some) ∙ ran_ends gone.tally.course.ran
       by false none = unplayed_ends machine wav.format true task schedule old closed journal gone false none
 
   -- no more was written than there is
@@ -153,15 +153,15 @@ module _ (machine : Machine) (plans : List Plan) (wav : Wav) (geometry : Geometr
   pub driven : RunLaws → (played : Played) → journal_of played ≡ journal → geometry ≡ old.writer.geometry → geometry.format ≡ wav.format → HavePlans wav.format machine.codecs plans → played.graphs ≡ closed.graphs.items
       → played.runs ≡ closed.runs.items → played.silences ≡ closed.silences.items → played.heard ≡ lists_heard carried machine.codecs plans
       → IsPlayFault closed.phase closed.sent played.commands (block_bytes wav.format) played.total closed.runs.items closed.silences.items played.fault
-      → IsDriven machine plans wav schedule task (state_left task gone.ended gone.tally) (told_by machine played) played
+      → IsDriven machine plans wav schedule task (state_with gone.ended gone.tally) (told_by machine played) played
   driven laws played told ring format planned graphs runs silences heard fault =
-      subst (λ (events : List Event). IsDriven machine plans wav schedule task (state_left task gone.ended gone.tally) (telling_from REGION_BYTES machine events) played) (sym told) (record {
+      subst (λ (events : List Event). IsDriven machine plans wav schedule task (state_with gone.ended gone.tally) (telling_from REGION_BYTES machine events) played) (sym told) (record {
         progress = record {
           progress = gone.has.progress;
           finds = gone.has.finds;
           state_is = gone.has.state_is;
           walked = subst (λ (walked : List RawCodec). AreWalked (graphs_in machine.codecs) walked task.walks gone.ended.sent) (sym walked) gone.has.ended_is.walked;
-          all_walked = all_walked_if gone.tally.course.started gone.ended.phase gone.tally.course.ran (measures task.geometry).limit (played.graphs ≡ graphs_in machine.codecs) gone.has.ready
+          all_walked = all_walked_if gone.tally.course.started gone.ended.phase gone.tally.course.ran (played.graphs ≡ graphs_in machine.codecs) gone.has.ready
               (subst (λ (walked : List RawCodec). WalkedIn gone.ended.phase (walked ≡ graphs_in machine.codecs)) (sym walked) gone.has.ended_is.by_phase);
         };
         opened = gone.has.set_up;
@@ -170,7 +170,7 @@ module _ (machine : Machine) (plans : List Plan) (wav : Wav) (geometry : Geometr
           runs = runs ∙ gone.leaves.runs;
           silences = silences ∙ gone.leaves.silences;
           line = subst IsLine (sym recorded) (recorded_line laws geometry (length wav.pcm) (stretches_of (lines_of schedule) journal));
-          phase_is = has_run gone.tally.course gone.tally.course.started refl gone.ended.phase _ _ gone.has.ended_is.by_phase;
+          phase_is = has_run gone.tally.course gone.tally.course.started refl gone.ended.phase _ gone.has.ended_is.by_phase;
           stream = streamed gone.has.heard;
         };
         heard = record {
@@ -187,10 +187,10 @@ module _ (machine : Machine) (plans : List Plan) (wav : Wav) (geometry : Geometr
       walked : played.graphs ≡ gone.ended.agenda.graphs.items
       walked = graphs ∙ ap (λ graphs. graphs.items) gone.leaves.graphs
 
-      fault_left : IsPlayFault (state_left task gone.ended gone.tally).phase gone.ended.sent played.commands (block_bytes wav.format) played.total gone.tally.runs gone.tally.silences played.fault
+      fault_left : IsPlayFault (state_with gone.ended gone.tally).phase gone.ended.sent played.commands (block_bytes wav.format) played.total gone.tally.runs gone.tally.silences played.fault
       fault_left =
-          subst (λ silences. IsPlayFault (state_left task gone.ended gone.tally).phase gone.ended.sent played.commands (block_bytes wav.format) played.total gone.tally.runs silences played.fault) gone.leaves.silences
-          (subst (λ runs. IsPlayFault (state_left task gone.ended gone.tally).phase gone.ended.sent played.commands (block_bytes wav.format) played.total runs closed.silences.items played.fault) gone.leaves.runs
-          (subst (λ (sent : ℕ). IsPlayFault (state_left task gone.ended gone.tally).phase sent played.commands (block_bytes wav.format) played.total closed.runs.items closed.silences.items played.fault) gone.leaves.sent
+          subst (λ silences. IsPlayFault (state_with gone.ended gone.tally).phase gone.ended.sent played.commands (block_bytes wav.format) played.total gone.tally.runs silences played.fault) gone.leaves.silences
+          (subst (λ runs. IsPlayFault (state_with gone.ended gone.tally).phase gone.ended.sent played.commands (block_bytes wav.format) played.total runs closed.silences.items played.fault) gone.leaves.runs
+          (subst (λ (sent : ℕ). IsPlayFault (state_with gone.ended gone.tally).phase sent played.commands (block_bytes wav.format) played.total closed.runs.items closed.silences.items played.fault) gone.leaves.sent
           (subst (λ (phase : Phase). IsPlayFault phase closed.sent played.commands (block_bytes wav.format) played.total closed.runs.items closed.silences.items played.fault)
-          (phase_left machine wav.format true task schedule old closed journal gone ring) fault)))
+          (phase_left machine wav.format true task schedule old closed journal gone) fault)))

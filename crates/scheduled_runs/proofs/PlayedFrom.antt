@@ -1,5 +1,6 @@
 -- What a run that reads its sound while it plays played, and how much of it was read.
-use Rattle.std.proofs.Common.{◌≡◌, ◌≢◌, ◌≤◌, ◌<◌, ◌+◌, ◌*◌, ◌∙◌, ℕ, Bool, true, false, List, [], ◌++◌, length, Option, Some, None, refl, sym, ap, subst, arith, inl, inr}
+use Rattle.std.proofs.Common.{◌≡◌, ◌≢◌, ◌≤◌, ◌<◌, ◌+◌, ◌-◌, ◌*◌, ◌/◌, ◌∙◌, ℕ, Bool, true, false, List, [], ◌++◌, length, Option, Some, None, refl, sym, ap, subst, arith, inl, inr}
+use Rattle.std.proofs.Math.Nat.{div-le_of_le-mul, mul-le-mul_right, add-mul-div_right, zero-div}
 use Rattle.stream_format.specs.Cadence.{block_bytes}
 use Rattle.stream_format.specs.Layouts.{layout}
 use Rattle.stream_format.specs.declared.format.Format.{Format}
@@ -12,7 +13,7 @@ use Rattle.wav_reader.specs.declared.opened.WavHead.{WavHead}
 use Rattle.wav_reader.specs.Heads.{frame_length, sample_length}
 use Rattle.wav_reader.specs.Opening.{head_in_file}
 use Rattle.wav_reader.specs.Shelves.{ShelfSeen}
-use Rattle.wav_reader.specs.Supplies.{Source, Supplied, MayGive, EndsWith}
+use Rattle.wav_reader.specs.Supplies.{Source, Supplied, MayGive, EndsWith, block_of}
 use Rattle.wav_reader.specs.Fills.{IsBeside}
 use Rattle.period_writer.specs.declared.course.Course.{Course}
 use Rattle.period_writer.specs.declared.course.Ran.{Ran}
@@ -25,9 +26,9 @@ use Rattle.period_writer.specs.Runs.{Measures, measures}
 use Rattle.sound_report.specs.declared.played.CutLine.{CutLine}
 use Rattle.sound_report.specs.declared.played.CutLine.TheVariants as lines
 use Rattle.sound_report.specs.declared.played.Played.{Played}
-use Rattle.scheduled_runs.specs.Feeding.{Shelves, Streams, IsFed, IsLeftAfter, HasCause, IsAccount, Took}
+use Rattle.scheduled_runs.specs.Feeding.{Shelves, Streams, IsFed, IsLeftAfter, HasCause, IsAccount, IsCutAt, AreFramesRead, Took, sound_bytes}
 use Rattle.scheduled_runs.specs.Reading.{frames_read, IsLineOf}
-use Rattle.scheduled_runs.specs.Plays.{IsSoundRead, IsReadUpTo, IsCutUnder}
+use Rattle.scheduled_runs.specs.Plays.{IsSoundRead, IsReadUpTo, IsCutUnder, most_of_frames}
 use Rattle.scheduled_runs.proofs.Feeds.{first_supply, fed_first, ring_whole}
 use Rattle.scheduled_runs.proofs.Sound.{later_of, may_later, ends_later, sound_length, sound_told, read_less}
 
@@ -49,14 +50,40 @@ beside_first name head ring supply other is beside = subst (λ (supply : Supplie
 
 -- ---- the line of a cut
 
-cut_under : (name : List ℕ) (head : WavHead) (ring : ℕ) (cut : Option Cut) (line : Option CutLine) (first now : ShelfSeen) → IsLineOf name cut line → HasCause cut (source_for name head ring) first now
-    → IsCutUnder name head (Rose first.faults now.faults) (Rose first.empties now.empties) line
-cut_under name head ring None line first now is cause = subst (IsCutUnder name head (Rose first.faults now.faults) (Rose first.empties now.empties)) (sym is) tt
-cut_under name head ring (Some Failed) line first now is cause = by is where
-  by : IsLineOf name (Some Failed) line → IsCutUnder name head (Rose first.faults now.faults) (Rose first.empties now.empties) line
-  by (other, same, named) = subst (IsCutUnder name head (Rose first.faults now.faults) (Rose first.empties now.empties)) (sym same) (named, cause)
-cut_under name head ring (Some (Short place)) line first now is cause = subst (IsCutUnder name head (Rose first.faults now.faults) (Rose first.empties now.empties)) (sym is) cause
-cut_under name head ring (Some OutOfMemory) line first now is cause = absurd is
+cut_under : (name : List ℕ) (head : WavHead) (ring read bytes : ℕ) (cut : Option Cut) (line : Option CutLine) (first now : ShelfSeen) → IsLineOf name cut line
+    → HasCause cut (source_for name head ring) first now → IsCutAt cut (source_for name head ring) bytes
+    → ((reason : Cut) → cut ≡ Some reason → read * block_of (head_in_file head) / block_of (head_in_file head) ≡ bytes / block_of (head_in_file head))
+    → IsCutUnder name head read (Rose first.faults now.faults) (Rose first.empties now.empties) line
+cut_under name head ring read bytes None line first now is cause at same =
+    subst (IsCutUnder name head read (Rose first.faults now.faults) (Rose first.empties now.empties)) (sym is) tt
+cut_under name head ring read bytes (Some Failed) line first now is cause at same = by is where
+  by : IsLineOf name (Some Failed) line → IsCutUnder name head read (Rose first.faults now.faults) (Rose first.empties now.empties) line
+  by (other, said, named) = subst (IsCutUnder name head read (Rose first.faults now.faults) (Rose first.empties now.empties)) (sym said) (named, cause.0)
+cut_under name head ring read bytes (Some (Short place)) line first now is cause at same =
+    subst (IsCutUnder name head read (Rose first.faults now.faults) (Rose first.empties now.empties)) (sym is)
+    (record { start = rw (same (Short place) refl) at.start; within = rw (same (Short place) refl) at.within; early = at.early }, cause.1)
+cut_under name head ring read bytes (Some OutOfMemory) line first now is cause at same = absurd is
+
+-- no answer was empty unless it was short
+empties_same : (name : List ℕ) (head : WavHead) (ring : ℕ) (cut : Option Cut) (line : Option CutLine) (first now : ShelfSeen) → IsLineOf name cut line
+    → HasCause cut (source_for name head ring) first now → ((place : ℕ) → line ≢ Some (lines.Short place)) → now.empties ≡ first.empties
+empties_same name head ring None line first now is cause none = cause
+empties_same name head ring (Some Failed) line first now is cause none = cause.1
+empties_same name head ring (Some (Short place)) line first now is cause none = absurd (none place is)
+empties_same name head ring (Some OutOfMemory) line first now is cause none = absurd is
+
+-- bytes for so many frames
+frames_most : (cut : Option Cut) (source : Source) (first now bytes frames : ℕ) → 1 ≤ frame_length source.head.mono source.head.format → frames ≡ bytes / block_of source.head
+    → AreFramesRead cut source first now bytes
+    → now ≤ first + (frames * frame_length source.head.mono source.head.format + (frame_length source.head.mono source.head.format - 1))
+frames_most None source first now bytes frames some same read = (let all = ap (λ (n : ℕ). n * frame_length source.head.mono source.head.format) same in omega (arith, some, all, read))
+frames_most (Some cut) source first now bytes frames some same read = (let all = ap (λ (n : ℕ). n * frame_length source.head.mono source.head.format) same in omega (arith, some, all, read))
+
+frame_some : (head : WavHead) → 1 ≤ frame_length head.mono (layout head.format)
+frame_some head = by head.mono refl where
+  by : (mono : Bool) → head.mono ≡ mono → 1 ≤ frame_length head.mono (layout head.format)
+  by true mono = rw (mono, head.bits) (omega arith)
+  by false mono = rw (mono, head.bits, head.channels) (omega arith)
 
 up_to : (name : List ℕ) (cut : Option Cut) (line : Option CutLine) (bytes block read frames : ℕ) → IsLineOf name cut line → read ≡ frames_read cut bytes block frames
     → ((reason : Cut) → cut ≡ Some reason → frames_read (Some reason) bytes block frames < frames) → IsReadUpTo line read frames
@@ -81,7 +108,19 @@ not_short name (Some OutOfMemory) line place is other same = is
 unrecorded_most : (ring : ℕ) (was : Ran) → unrecorded ring was ≤ ring
 unrecorded_most ring Playing = omega arith
 unrecorded_most ring Drained = omega arith
-unrecorded_most ring (Late from to) = omega arith
+unrecorded_most ring (Late from to limit) = omega arith
+
+-- ---- the frames
+
+-- of no more bytes than so many frames have no more frames are whole
+within_all : (block bytes frames : ℕ) → 1 ≤ block → bytes ≤ frames * block → bytes / block ≤ frames
+within_all block bytes frames some within = div-le_of_le-mul block (omega (arith, within))
+
+mul-mono : (frame few many : ℕ) → few ≤ many → few * frame ≤ many * frame
+mul-mono frame few many less = mul-le-mul_right frame less
+
+whole_within : (taken left held bytes : ℕ) → taken + left ≡ bytes → held ≤ left → taken + held ≤ bytes
+whole_within taken left held bytes all within = omega (arith, all, within)
 
 -- ---- the sound
 
@@ -127,8 +166,44 @@ module _ (name : List ℕ) (head : WavHead) (m : Measures) (gave : List ℕ) (fi
         never_short = λ file tells place. not_short name cut played.cut place line (fed.never_short file tells place);
       }
 
-  pub cut_is_under : (line : Option CutLine) → IsLineOf name cut line → IsCutUnder name head (Rose (first name).faults (now name).faults) (Rose (first name).empties (now name).empties) line
-  cut_is_under line said = cut_under name head m.ring cut line (first name) (now name) said fed.cause
+  block_there : block_of (head_in_file head) ≡ m.block
+  block_there = fed.block_is
+
+  pub cut_is_under : (read : ℕ) (line : Option CutLine) → read ≡ frames_read cut (last.taken + length last.held) m.block head.frames → IsLineOf name cut line
+      → IsCutUnder name head read (Rose (first name).faults (now name).faults) (Rose (first name).empties (now name).empties) line
+  cut_is_under read line count said =
+      cut_under name head m.ring read (last.taken + length last.held) cut line (first name) (now name) said fed.cause fed.cut_at (λ reason same.
+      back (block_of (head_in_file head)) read (last.taken + length last.held) (subst (λ (block : ℕ). 1 ≤ block) (sym block_there) some) (cut_blocks reason same)) where
+        cut_blocks : (reason : Cut) → cut ≡ Some reason → read ≡ (last.taken + length last.held) / block_of (head_in_file head)
+        cut_blocks reason same =
+            count ∙ ap (λ (cut : Option Cut). frames_read cut (last.taken + length last.held) m.block head.frames) same
+            ∙ ap (λ (block : ℕ). (last.taken + length last.held) / block) (sym block_there)
+
+        back : (block read bytes : ℕ) → 1 ≤ block → read ≡ bytes / block → read * block / block ≡ bytes / block
+        back block read bytes some is =
+            let nothing : read * block ≡ 0 + read * block = omega arith in
+            let none = zero-div block in
+            let last : 0 / block + read ≡ read = omega (arith, none) in
+            ap (λ (n : ℕ). n / block) nothing ∙ add-mul-div_right 0 read some ∙ last ∙ is
+
+  -- no answer was empty, unless it was short
+  pub none_empty : (line : Option CutLine) → IsLineOf name cut line → ((place : ℕ) → line ≢ Some (lines.Short place)) → (now name).empties ≡ (first name).empties
+  none_empty line said none = empties_same name head m.ring cut line (first name) (now name) said fed.cause none
+
+  -- how many bytes were given for the frames that were read
+  pub frames_given : (read : ℕ) → read ≡ frames_read cut (last.taken + length last.held) m.block head.frames → (now name).given ≤ (first name).given + most_of_frames head read
+  frames_given read is = by cut is fed.left_is fed.frames where
+    by : (cut : Option Cut) → read ≡ frames_read cut (last.taken + length last.held) m.block head.frames → IsLeftAfter cut (source_for name head m.ring) last
+        → AreFramesRead cut (source_for name head m.ring) (first name).given (now name).given (last.taken + length last.held) → (now name).given ≤ (first name).given + most_of_frames head read
+    by None is left read_so = (
+        let fewer = within_all (block_of (head_in_file head)) (last.taken + length last.held) head.frames (subst (λ (block : ℕ). 1 ≤ block) (sym block_there) some) (whole_within last.taken last.left (length last.held) (sound_bytes (source_for name head m.ring)) left fed.within) in
+        let few = mul-mono (frame_length head.mono (layout head.format)) ((last.taken + length last.held) / block_of (head_in_file head)) head.frames fewer in
+        let all = ap (λ (n : ℕ). n * frame_length head.mono (layout head.format)) is in
+        omega (arith, few, all, read_so)
+        )
+    by (Some reason) is left read_so =
+        frames_most (Some reason) (source_for name head m.ring) (first name).given (now name).given (last.taken + length last.held) read (frame_some head)
+        (is ∙ ap (λ (block : ℕ). (last.taken + length last.held) / block) (sym block_there)) read_so
 
   -- how much was given
   pub given_most : (written : ℕ) → course.used ≤ written → (now name).given ≤ (first name).given + (written + 2 * m.ring)

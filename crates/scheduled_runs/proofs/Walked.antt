@@ -6,15 +6,14 @@ use Rattle.hda_schedule.specs.declared.schedule.Schedule.{Schedule}
 use Rattle.hda_world.specs.declared.world.TheConstants.{REGION_BYTES}
 use Rattle.hda_world.specs.Events.{Event}
 use Rattle.sound_report.specs.declared.played.Played.{Played}
-use Rattle.period_writer.specs.Runs.{Tally, tally_opened, measures}
+use Rattle.period_writer.specs.Runs.{Tally, tally_opened}
 use Rattle.driver_progress.specs.declared.phase.Phase.{Phase}
 use Rattle.driver_progress.specs.Tasks.{Task}
 use Rattle.driver_progress.specs.States.{State}
 use Rattle.hda_world.specs.Tellings.{Telling}
 use Rattle.told_bring_up.specs.Standing.{AreWalked, WalkedIn}
 use Rattle.told_playing.specs.Sounding.{Parts, tally_in}
-use Rattle.told_playing.specs.Keeping.{state_left}
-use Rattle.audio_driver.specs.States.{phase_if}
+use Rattle.audio_driver.specs.States.{phase_if, state_with}
 use Rattle.audio_driver.specs.declared.driver.closing.Closed.{Closed}
 use Rattle.rig.specs.Replays.{telling_from}
 use Rattle.heard_lists.specs.Listings.{graphs_in}
@@ -45,24 +44,24 @@ module _ (machine : Machine) (play : Bool) (task : Task) (schedule : Schedule) (
   walk_ends = unplayed_ends machine walk_format play task schedule old closed journal gone true started
 
   -- that of the bring-up, and of the state to which the journal leads
-  left_is : gone.ended.phase ≡ (state_left task gone.ended gone.tally).phase
-  left_is = sym (ap (λ (played : Bool). phase_if played gone.ended.phase gone.tally.course.ran (measures task.geometry).limit) started)
+  left_is : gone.ended.phase ≡ (state_with gone.ended gone.tally).phase
+  left_is = sym (ap (λ (played : Bool). phase_if played gone.ended.phase gone.tally.course.ran) started)
 
-  phase_is : closed.phase ≡ (state_left task gone.ended gone.tally).phase
+  phase_is : closed.phase ≡ (state_with gone.ended gone.tally).phase
   phase_is = unplayed_phase machine walk_format play task schedule old closed journal gone started ∙ left_is
 
   -- what is told of it is that of the run that is kept
   pub driven : (played : Played) → journal_of played ≡ journal → played.graphs ≡ closed.graphs.items → IsWalkFault closed.phase closed.sent played.commands played.fault
-      → IsDriven machine schedule task (state_left task gone.ended gone.tally) (told_by machine played) played
+      → IsDriven machine schedule task (state_with gone.ended gone.tally) (told_by machine played) played
   driven played told graphs fault =
-      subst (λ (events : List Event). IsDriven machine schedule task (state_left task gone.ended gone.tally) (telling_from REGION_BYTES machine events) played) (sym told) (record {
+      subst (λ (events : List Event). IsDriven machine schedule task (state_with gone.ended gone.tally) (telling_from REGION_BYTES machine events) played) (sym told) (record {
         progress = record {
           progress = gone.has.progress;
           finds = gone.has.finds;
           state_is = gone.has.state_is;
           walked = subst (λ (walked : List RawCodec). AreWalked (graphs_in machine.codecs) walked task.walks gone.ended.sent) (sym graphs)
               (subst (λ (sent : ℕ). AreWalked (graphs_in machine.codecs) closed.graphs.items task.walks sent) gone.leaves.sent (graphs_walked machine walk_format play task schedule old closed journal gone));
-          all_walked = λ all. walked_in (state_left task gone.ended gone.tally).phase (played.graphs ≡ graphs_in machine.codecs) all
+          all_walked = λ all. walked_in (state_with gone.ended gone.tally).phase (played.graphs ≡ graphs_in machine.codecs) all
               (subst (λ (phase : Phase). WalkedIn phase (played.graphs ≡ graphs_in machine.codecs)) left_is
               (subst (λ (walked : List RawCodec). WalkedIn gone.ended.phase (walked ≡ graphs_in machine.codecs)) (sym graphs) (graphs_by_phase machine walk_format play task schedule old closed journal gone)));
         };

@@ -11,7 +11,7 @@ use Rattle.period_writer.specs.declared.course.Run.{Run}
 use Rattle.period_writer.specs.declared.course.Ran.{Ran}
 use Rattle.period_writer.specs.declared.course.Ran.TheVariants as ran
 use Rattle.period_writer.specs.declared.course.Course as played
-use Rattle.period_writer.specs.Runs.{Measures, RunFacts, Stretch, Tally, facts_of, is_late, run_at, run_of, run_room, run_sound, run_sound_end, tally_if, tally_opened, taken_up_if, whole_blocks}
+use Rattle.period_writer.specs.Runs.{Measures, RunFacts, Stretch, Tally, facts_of, is_late, is_late_since, run_at, run_of, run_room, run_sound, run_sound_end, tally_if, tally_opened, taken_up_if, whole_blocks}
 use Rattle.driver_progress.specs.Tasks.{Task, DriverLine}
 use Rattle.driver_progress.specs.Progress.{Course, course_after, course_of, course_opened, ended, ended_if, noted, state_of}
 use Rattle.scheduled_runs.specs.Hearing.{HasPlayedAll}
@@ -36,8 +36,9 @@ sound_within m course facts =
     let outer = min-le_right facts.budget (min (run_room m course facts) facts.left) in
     let whole = no_more m.block least in omega (arith, inner, outer, whole)
 
-late_drained : (from to : ℕ) → ran.Late from to ≡ ran.Drained → ⊥
-late_drained from to is = cc
+late_drained : (since_first : Bool) (course_from from to limit slack : ℕ) → (if since_first then ran.Late course_from to limit else ran.Late from to slack) ≡ ran.Drained → ⊥
+late_drained true course_from from to limit slack is = cc
+late_drained false course_from from to limit slack is = cc
 
 playing_drained : ran.Playing ≡ ran.Drained → ⊥
 playing_drained is = cc
@@ -55,7 +56,7 @@ least_of : (a b : ℕ) → nat_le a b ≡ true → a ≤ b
 least_of a b is = grind (arith, nat_tests, is)
 
 within_if : (late : Bool) (total : ℕ) (m : Measures) (tally : Tally) (facts : RunFacts) → facts.left ≡ total - tally.course.used → IsWithin total tally → IsWithin total (tally_if late m tally facts)
-within_if true total m tally facts left within = record { used = within.used; few = within.few; drained = λ is. absurd (late_drained _ _ is) }
+within_if true total m tally facts left within = record { used = within.used; few = within.few; drained = λ is. absurd (late_drained (is_late_since m tally.course facts) tally.course.from facts.from facts.to m.limit m.slack is) }
 within_if false total m tally facts left within =
     let more = one_more tally.runs (run_of m tally.course facts) in
     let used = within.used in
@@ -76,7 +77,7 @@ within_taken ran.Playing (from ∷ to ∷ []) total m stretch tally within =
     let facts = facts_of stretch.budget (total - tally.course.used) from (slice_index stretch.lpibs 0) to in within_if (is_late m tally.course facts) total m tally facts refl within
 within_taken ran.Playing (from ∷ to ∷ other ∷ more) total m stretch tally within = within
 within_taken ran.Drained clocks total m stretch tally within = within
-within_taken (ran.Late from to) clocks total m stretch tally within = within
+within_taken (ran.Late from to limit) clocks total m stretch tally within = within
 
 -- ---- of all that is told
 

@@ -1,7 +1,9 @@
 -- In which phases runs end. This project's own.
 use Rattle.std.specs.Prelude.{Bool, true, false, not}
 use Rattle.driver_progress.specs.declared.phase.Phase.{Phase}
-use Rattle.driver_progress.specs.declared.phase.Phase.TheVariants.{Reset, Settling, Walking, SettingUp, Ready, Playing, Drained, NothingRouted, Unanswered, Late, Malformed, Failed}
+use Rattle.driver_progress.specs.declared.phase.Phase.TheVariants.{Reset, Settling, Walking, SettingUp, Ready, Playing}
+use Rattle.driver_progress.specs.declared.phase.Phase.TheVariants.{Drained, NothingRouted, Unanswered, Late, Malformed}
+use Rattle.driver_progress.specs.declared.phase.Phase.TheVariants.{Failed}
 
 -- whether a walk can end in a phase, or a run that plays
 abbrev pub can_end : (walk : Bool) → Phase → Bool

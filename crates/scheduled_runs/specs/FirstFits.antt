@@ -5,7 +5,8 @@ use Rattle.driver_progress.specs.Tasks.{Blocks}
 use Rattle.audio_driver.specs.Opening.{Opens}
 use Rattle.machine_tasks.specs.Starting.{IsAllFree}
 
--- they are the first fits in turn in a region of which nothing was taken: CORB and RIRB, and then the list of buffers and the ring's periods
+-- they are the first fits in turn in a region of which nothing was taken: CORB and RIRB, and then the list of buffers
+-- and the ring's periods
 pub record AreFirstFits (geometry : Geometry) (blocks : Blocks) : Type 0 where
   pub free : PoolState
   pub taken : PoolState

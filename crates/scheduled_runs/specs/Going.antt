@@ -77,47 +77,63 @@ pub record Stand : Type 0 where
   pub rig : Rig
 
 abbrev pub stand_of : BringUp → WriterState → Supplied → Shelves → Option Cut → Rig → Stand
-stand_of bring_up writer supply shelf cut rig = record { player = parts_of bring_up writer supply; shelf = shelf; cut = cut; rig = rig }
+stand_of bring_up writer supply shelf cut rig = record {
+  player = parts_of bring_up writer supply;
+  shelf = shelf;
+  cut = cut;
+  rig = rig;
+}
 
 -- its supply is fed from a source since a first moment
 abbrev pub IsFedFrom : Option Source → (first : Shelves) → Stand → Type 0
 IsFedFrom source first stand =
-    let player = stand.player in IsFed (measures_of player.writer) source first stand.shelf stand.cut player.supply player.writer.course
+    let player = stand.player in
+    IsFed (measures_of player.writer) source first stand.shelf stand.cut player.supply player.writer.course
 
 -- what is to be done for codecs with these graphs, with sound or without
-pub record IsTask (means : Means) (format : Format) (play : Bool) (verbs : RawCodec → List Command) (graphs : List RawCodec) (task : Task) : Type 0 where
+pub record IsTask (means : Means) (format : Format) (play : Bool) (verbs : RawCodec → List Command)
+    (graphs : List RawCodec) (task : Task) : Type 0 where
   pub of_codecs : IsTaskOfCodecs (plan_by means format) (verbs_for means format) verbs graphs task
   pub plays_is : task.plays ≡ play
 
 -- between two calls of a driver, with these lines left
-abbrev pub UnderWay : Means → Format → (RawCodec → List Command) → List RawCodec → Task → (all left : List DriverLine) → Parts → Telling → Type 0
+abbrev pub UnderWay : Means → Format → (RawCodec → List Command) → List RawCodec → Task → (all left : List DriverLine)
+    → Parts → Telling → Type 0
 UnderWay means format verbs graphs task all left parts telling =
     IsUnderWay (plan_by means format) verbs (open_by means format) graphs task all left parts telling
 
--- for each task, a driver with these lines and others left leads on to where the others are left, while the journal is short
-abbrev pub LeadsOn : Means → Format → (play : Bool) → (lines : List DriverLine) (old new : Parts) (before after : Telling) → Type 0
+-- for each task, a driver with these lines and others left leads on to where the others are left, while the journal is
+-- short
+abbrev pub LeadsOn : Means → Format → (play : Bool)
+    → (lines : List DriverLine) (old new : Parts) (before after : Telling) → Type 0
 LeadsOn means format play lines old new before after =
-    (verbs : RawCodec → List Command) (graphs : List RawCodec) (task : Task) (all left : List DriverLine) → IsTask means format play verbs graphs task → IsShort after
-    → UnderWay means format verbs graphs task all (lines ++ left) old before → UnderWay means format verbs graphs task all left new after
+    (verbs : RawCodec → List Command) (graphs : List RawCodec) (task : Task) (all left : List DriverLine)
+    → IsTask means format play verbs graphs task → IsShort after
+    → UnderWay means format verbs graphs task all (lines ++ left) old before
+    → UnderWay means format verbs graphs task all left new after
 
 -- these items were run, one after another
-pub record Goes (means : Means) (format : Format) (play : Bool) (items : List Item) (old new : Parts) (before after : Telling) : Type 0 where
+pub record Goes (means : Means) (format : Format) (play : Bool) (items : List Item) (old new : Parts)
+    (before after : Telling) : Type 0 where
   pub events : List Event
   pub went : Went before after events
   pub follow : FollowItems items events
   pub leads : LeadsOn means format play (lines_in items) old new before after
   -- jacks count what codecs told meanwhile
-  pub counted : (first : List Event) → IsCount (told_in first) old.bring_up.jacks → IsCount (told_in (first ++ events)) new.bring_up.jacks
+  pub counted : (first : List Event) → IsCount (told_in first) old.bring_up.jacks
+      → IsCount (told_in (first ++ events)) new.bring_up.jacks
   pub format_is : new.bring_up.agenda.format ≡ old.bring_up.agenda.format
   -- of one that plays nothing nothing is recorded
   pub silent : play ≡ false → new.writer ≡ old.writer
 
 -- a driver line was run, for which the supply was filled
-pub record RanLine (means : Means) (format : Format) (play : Bool) (line : Line) (old new : Player) (before after : Rig) : Type 0 where
+pub record RanLine (means : Means) (format : Format) (play : Bool) (line : Line) (old new : Player) (before after : Rig)
+    : Type 0 where
   pub taken : IsTaken old.supply new.supply
   pub accounts : Accounts (measures_of old.writer) old.supply new.supply old.writer.course new.writer.course
   pub goes : (later : List ℕ) → MayGive new.supply later
-      → Goes means format play (Drive line ∷ []) (sounded old (sound_before old.supply new.supply later)) (sounded new later) (telling_of before) (telling_of after)
+      → Goes means format play (Drive line ∷ []) (sounded old (sound_before old.supply new.supply later))
+      (sounded new later) (telling_of before) (telling_of after)
   pub format_is : new.bring_up.agenda.format ≡ old.bring_up.agenda.format
   pub between : (setting_of after).in_run ≡ false
   pub machine : (setting_of after).machine ≡ (setting_of before).machine
@@ -128,7 +144,8 @@ pub record Ran (means : Means) (format : Format) (play : Bool) (items : List Ite
   pub took : Took gave old.shelf old.player.supply new.player.supply
   -- it went on so over each sound that the supply may yet give at the end, with what was taken before it
   pub goes : (later : List ℕ) → MayGive new.player.supply later
-      → Goes means format play items (sounded old.player (gave ++ later)) (sounded new.player later) (telling_of old.rig) (telling_of new.rig)
+      → Goes means format play items (sounded old.player (gave ++ later)) (sounded new.player later)
+      (telling_of old.rig) (telling_of new.rig)
   pub fed : (source : Option Source) (first : Shelves) → IsFedFrom source first old → IsFedFrom source first new
   pub told_is : (name : List ℕ) → (new.shelf name).told ≡ (old.shelf name).told
   pub format_is : new.player.bring_up.agenda.format ≡ old.player.bring_up.agenda.format
@@ -137,7 +154,7 @@ pub record Ran (means : Means) (format : Format) (play : Bool) (items : List Ite
 
 -- what is left of a closed driver, of which the last call left this bring-up and this tally
 pub record Leaves (play : Bool) (old : Parts) (ended : BringUp) (tally : Tally) (closed : Closed) : Type 0 where
-  pub phase : closed.phase ≡ phase_with ended tally (measures_of old.writer).limit
+  pub phase : closed.phase ≡ phase_with ended tally
   pub sent : closed.sent ≡ ended.sent
   pub graphs : closed.graphs ≡ ended.agenda.graphs
   pub runs : closed.runs.items ≡ tally.runs
@@ -146,21 +163,26 @@ pub record Leaves (play : Bool) (old : Parts) (ended : BringUp) (tally : Tally) 
   pub silent : play ≡ false → tally ≡ tally_in old
 
 -- the last call was made, in a run without steps
-pub record IsClosed (means : Means) (format : Format) (play : Bool) (old : Parts) (closed : Closed) (before after : Telling) : Type 0 where
+pub record IsClosed (means : Means) (format : Format) (play : Bool) (old : Parts) (closed : Closed)
+    (before after : Telling) : Type 0 where
   pub accesses : List Event
   pub are : AreAccesses accesses
   pub went : Went before after (stretch [] accesses)
   pub ended : BringUp
   pub tally : Tally
-  pub over : (verbs : RawCodec → List Command) (graphs : List RawCodec) (task : Task) (all : List DriverLine) → IsTask means format play verbs graphs task → IsShort after
-      → UnderWay means format verbs graphs task all [] old before → HasGone (plan_by means format) (open_by means format) graphs task all ended tally (stretch [] accesses) after
-  pub counted : (first : List Event) → IsCount (told_in first) old.bring_up.jacks → Counts (told_in (first ++ stretch [] accesses)) closed.jacks.items
+  pub over : (verbs : RawCodec → List Command) (graphs : List RawCodec) (task : Task) (all : List DriverLine)
+      → IsTask means format play verbs graphs task → IsShort after
+      → UnderWay means format verbs graphs task all [] old before
+      → HasGone (plan_by means format) (open_by means format) graphs task all ended tally (stretch [] accesses) after
+  pub counted : (first : List Event) → IsCount (told_in first) old.bring_up.jacks
+      → Counts (told_in (first ++ stretch [] accesses)) closed.jacks.items
   -- no less was used than before
   pub grows : old.writer.course.used ≤ tally.course.used
   pub leaves : Leaves play old ended tally closed
 
 -- a whole schedule was run, and then the last call was made, with these events, in which the device made no step
-pub record IsDriven (means : Means) (format : Format) (play : Bool) (schedule : Schedule) (old : Parts) (closed : Closed) (before after : Telling) : Type 0 where
+pub record IsDriven (means : Means) (format : Format) (play : Bool) (schedule : Schedule) (old : Parts)
+    (closed : Closed) (before after : Telling) : Type 0 where
   pub events : List Event
   pub went : Went before after events
   pub follows : Follows schedule events
@@ -168,19 +190,27 @@ pub record IsDriven (means : Means) (format : Format) (play : Bool) (schedule : 
   pub no_steps : All IsNoStep last
   pub ended : BringUp
   pub tally : Tally
-  pub over : (verbs : RawCodec → List Command) (graphs : List RawCodec) (task : Task) (all : List DriverLine) → IsTask means format play verbs graphs task → IsShort after
-      → UnderWay means format verbs graphs task all (lines_of schedule) old before → HasGone (plan_by means format) (open_by means format) graphs task all ended tally last after
-  pub counted : (first : List Event) → IsCount (told_in first) old.bring_up.jacks → Counts (told_in (first ++ events)) closed.jacks.items
+  pub over : (verbs : RawCodec → List Command) (graphs : List RawCodec) (task : Task) (all : List DriverLine)
+      → IsTask means format play verbs graphs task → IsShort after
+      → UnderWay means format verbs graphs task all (lines_of schedule) old before
+      → HasGone (plan_by means format) (open_by means format) graphs task all ended tally last after
+  pub counted : (first : List Event) → IsCount (told_in first) old.bring_up.jacks
+      → Counts (told_in (first ++ events)) closed.jacks.items
   pub leaves : Leaves play old ended tally closed
 
--- a whole schedule was run, and then the last call was made, while so many bytes of the sound were read. The supply that was left at the last call
--- gives one more sound, or none: over each that ends with it the run is that of what was taken, and of that sound
-pub record HasDriven (means : Means) (format : Format) (play : Bool) (schedule : Schedule) (old : Stand) (closed : Closed) (read : ℕ) (shelf : Shelves) (cut : Option Cut) (after : Telling) : Type 0 where
+-- a whole schedule was run, and then the last call was made, while so many bytes of the sound were read. The supply
+-- that was left at the last call gives one more sound, or none: over each that ends with it the run is that of what was
+-- taken, and of that sound
+pub record HasDriven (means : Means) (format : Format) (play : Bool) (schedule : Schedule) (old : Stand)
+    (closed : Closed) (read : ℕ) (shelf : Shelves) (cut : Option Cut) (after : Telling) : Type 0 where
   pub last : Supplied
   pub course : Course
   pub gave : List ℕ
   pub took : Took gave old.shelf old.player.supply last
-  pub driven : (later : List ℕ) → MayGive last later → EndsWith last later → IsDriven means format play schedule (sounded old.player (gave ++ later)) closed (telling_of old.rig) after
-  pub grows : (later : List ℕ) (may : MayGive last later) (ends : EndsWith last later) → course.used ≤ (driven later may ends).tally.course.used
-  pub fed : (source : Option Source) (first : Shelves) → IsFedFrom source first old → IsFed (measures_of old.player.writer) source first shelf cut last course
+  pub driven : (later : List ℕ) → MayGive last later → EndsWith last later
+      → IsDriven means format play schedule (sounded old.player (gave ++ later)) closed (telling_of old.rig) after
+  pub grows : (later : List ℕ) (may : MayGive last later) (ends : EndsWith last later)
+      → course.used ≤ (driven later may ends).tally.course.used
+  pub fed : (source : Option Source) (first : Shelves) → IsFedFrom source first old
+      → IsFed (measures_of old.player.writer) source first shelf cut last course
   pub read_is : read ≡ last.taken + length last.held

@@ -22,7 +22,11 @@ use Rattle.heard_runs.specs.Ending.{HeardAs}
 
 -- what link frames carried, as each candidate pin of some codecs hears it, in the order of their plans
 abbrev pub heard_of : List CarriedFrame → CodecFile → PinPlan → PinHeard
-heard_of carried file entry = record { codec = file.graph.address; pin = entry.pin; list = heard file.graph.address entry.pin carried }
+heard_of carried file entry = record {
+  codec = file.graph.address;
+  pin = entry.pin;
+  list = heard file.graph.address entry.pin carried;
+}
 
 abbrev pub heard_by : List CarriedFrame → CodecFile × Plan → List PinHeard
 heard_by carried codec = map (heard_of carried codec.0) codec.1.pins
@@ -30,10 +34,11 @@ heard_by carried codec = map (heard_of carried codec.0) codec.1.pins
 abbrev pub lists_heard : List CarriedFrame → List CodecFile → List Plan → List PinHeard
 lists_heard carried files plans = flat_map (heard_by carried) (zip files plans)
 
--- the list of a pin with a route: its pair of the line, by how the last run ended, and nothing else but holes. Once the line has drained it has
--- all blocks that end at or below where the link stood at the last run
+-- the list of a pin with a route: its pair of the line, by how the last run ended, and nothing else but holes. Of a late
+-- run it is the line up to the last recorded reach, which is lower where that run took silence back. Once the line has
+-- drained it has all blocks that end at or below where the link stood at the last run
 pub record HearsItsPair (format : Format) (pcm : List ℕ) (tally : Tally) (pair : ℕ) (list : List Heard) : Type 0 where
-  pub plays : HeardAs tally.course.ran (layout format) pair (line_of tally pcm) tally.course.reach list
+  pub plays : HeardAs tally.course.ran (layout format) pair (line_of tally pcm) tally.course.sure list
   pub alone : All WasSent list
   pub all : tally.course.ran ≡ ran.Drained → tally.course.at / block_size (layout format) ≤ length (without_holes list)
 
@@ -46,7 +51,8 @@ HearsBy format pcm tally pair outcome.NoPath list = All IsSilent list
 -- so did the candidate pins of a codec with this plan
 abbrev pub HearTheirs : Format → (pcm : List ℕ) → Tally → List CarriedFrame → CodecFile → Plan → Type 0
 HearTheirs format pcm tally carried file plan =
-    All (λ (entry : PinPlan). HearsBy format pcm tally entry.pair entry.outcome (heard file.graph.address entry.pin carried)) plan.pins
+    All (λ (entry : PinPlan). HearsBy format pcm tally entry.pair entry.outcome
+    (heard file.graph.address entry.pin carried)) plan.pins
 
 -- all sound was written, and the link had played the last of it
 pub record HasPlayedAll (pcm : List ℕ) (tally : Tally) : Type 0 where

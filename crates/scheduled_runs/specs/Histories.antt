@@ -13,7 +13,9 @@ use Rattle.hda_world.specs.Events.{Event, AreHonest}
 use Rattle.hda_world.specs.JournalEvents.{events_of}
 use Rattle.hda_world.specs.Tellings.{Telling}
 use Rattle.driver_progress.specs.declared.phase.Phase.{Phase}
-use Rattle.driver_progress.specs.declared.phase.Phase.TheVariants.{Reset, Settling, Walking, SettingUp, Ready, Playing, Drained, NothingRouted, Unanswered, Late, Malformed, Failed}
+use Rattle.driver_progress.specs.declared.phase.Phase.TheVariants.{Reset, Settling, Walking, SettingUp, Ready, Playing}
+use Rattle.driver_progress.specs.declared.phase.Phase.TheVariants.{Drained, NothingRouted, Unanswered, Late, Malformed}
+use Rattle.driver_progress.specs.declared.phase.Phase.TheVariants.{Failed}
 use Rattle.driver_progress.specs.Tasks.{Task}
 use Rattle.driver_progress.specs.States.{State}
 use Rattle.driver_progress.specs.Progress.{state_of, IsProgress}
@@ -34,15 +36,18 @@ journal_of played = events_of played.journal
 abbrev pub told_by : Machine → Played → Telling
 told_by machine played = telling_from REGION_BYTES machine (journal_of played)
 
--- what went into the run is kept with it: the machine with the plans of its codecs, whether it is a walk, and the format and the frames of its sound
-pub record HasInput (walk : Bool) (format : Format) (frames : ℕ) (machine : Machine) (plans : List Plan) (played : Played) : Type 0 where
+-- what went into the run is kept with it: the machine with the plans of its codecs, whether it is a walk, and the
+-- format and the frames of its sound
+pub record HasInput (walk : Bool) (format : Format) (frames : ℕ) (machine : Machine) (plans : List Plan)
+    (played : Played) : Type 0 where
   pub machine_is : played.machine ≡ machine
   pub plans_are : played.plans ≡ plans
   pub walk_is : played.walk ≡ walk
   pub format_is : played.format ≡ format
   pub frames_are : played.total ≡ frames
 
--- one history: the journal replays from the machine's start, each access with the answer that the device gives, and follows the schedule
+-- one history: the journal replays from the machine's start, each access with the answer that the device gives, and
+-- follows the schedule
 pub record IsHistory (machine : Machine) (schedule : Schedule) (journal : List Event) : Type 0 where
   pub replays : AreHonest journal (start_of REGION_BYTES machine)
   pub follows : Follows schedule journal
@@ -62,9 +67,10 @@ walked_all (Late from to limit) = true
 walked_all (Malformed codec fault) = false
 walked_all Failed = false
 
--- progress: in each call the driver made the accesses that are to be made, and no others, and they lead to this state of its task. The graphs that
--- it was told are the first of the machine's, and all of them from the set-up on
-pub record MakesProgress (machine : Machine) (schedule : Schedule) (task : Task) (state : State) (telling : Telling) (graphs : List RawCodec) : Type 0 where
+-- progress: in each call the driver made the accesses that are to be made, and no others, and they lead to this state
+-- of its task. The graphs that it was told are the first of the machine's, and all of them from the set-up on
+pub record MakesProgress (machine : Machine) (schedule : Schedule) (task : Task) (state : State) (telling : Telling)
+    (graphs : List RawCodec) : Type 0 where
   pub progress : IsProgress task (lines_of schedule) telling
   pub finds : HasFound task (lines_of schedule) telling
   pub state_is : state_of task (lines_of schedule) telling ≡ state
@@ -74,7 +80,8 @@ pub record MakesProgress (machine : Machine) (schedule : Schedule) (task : Task)
 -- open: from the answer to the last command on, at every moment all codecs are set up by their plans for the format
 abbrev pub StaysOpen : Format → Machine → Schedule → Task → Telling → Type 0
 StaysOpen format machine schedule task telling =
-    StaysSetUp (λ (graph : RawCodec) (plan : Plan). IsPlan graph format plan) (λ (graph : RawCodec) (settings : Entries) (plan : Plan). IsSetUp graph settings plan format stream_tag)
+    StaysSetUp (λ (graph : RawCodec) (plan : Plan). IsPlan graph format plan)
+    (λ (graph : RawCodec) (settings : Entries) (plan : Plan). IsSetUp graph settings plan format stream_tag)
     (graphs_in machine.codecs) task (lines_of schedule) telling
 
 -- the number of commands that it takes to walk over the machine's codecs and to set them up

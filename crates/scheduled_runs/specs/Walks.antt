@@ -9,7 +9,9 @@ use Rattle.hda_schedule.specs.declared.schedule.Schedule.{Schedule}
 use Rattle.hda_files.specs.declared.machine.Machine.{Machine}
 use Rattle.period_writer.specs.declared.geometry.Geometry.{Geometry}
 use Rattle.driver_progress.specs.declared.phase.Phase.{Phase}
-use Rattle.driver_progress.specs.declared.phase.Phase.TheVariants.{Reset, Settling, Walking, SettingUp, Ready, Playing, Drained, NothingRouted, Unanswered, Late, Malformed, Failed}
+use Rattle.driver_progress.specs.declared.phase.Phase.TheVariants.{Reset, Settling, Walking, SettingUp, Ready, Playing}
+use Rattle.driver_progress.specs.declared.phase.Phase.TheVariants.{Drained, NothingRouted, Unanswered, Late, Malformed}
+use Rattle.driver_progress.specs.declared.phase.Phase.TheVariants.{Failed}
 use Rattle.driver_progress.specs.Tasks.{Blocks}
 use Rattle.driver_progress.specs.States.{State}
 use Rattle.jack_counts.specs.Jacks.{Counts}
@@ -19,7 +21,8 @@ use Rattle.sound_report.specs.declared.played.PlayFault.TheVariants as faults
 use Rattle.machine_tasks.specs.Tasks.{task_of}
 use Rattle.scheduled_runs.specs.FirstFits.{AreFirstFits}
 use Rattle.scheduled_runs.specs.Shapes.{HasShape}
-use Rattle.scheduled_runs.specs.Histories.{HasInput, IsHistory, MakesProgress, StaysOpen, commands_for, journal_of, told_by}
+use Rattle.scheduled_runs.specs.Histories.{HasInput, IsHistory, MakesProgress, StaysOpen, commands_for, journal_of}
+use Rattle.scheduled_runs.specs.Histories.{told_by}
 use Rattle.scheduled_runs.specs.Events.{told_in}
 
 -- 48 kHz, 16 bits, 2 channels
@@ -36,7 +39,8 @@ IsWalkFault Ready sent of fault = fault ≡ None
 IsWalkFault Playing sent of fault = ⊥
 IsWalkFault Drained sent of fault = ⊥
 IsWalkFault NothingRouted sent of fault = ⊥
-IsWalkFault (Unanswered codec command issued noticed) sent of fault = fault ≡ Some (faults.Unanswered codec command issued noticed)
+IsWalkFault (Unanswered codec command issued noticed) sent of fault = fault ≡ Some
+    (faults.Unanswered codec command issued noticed)
 IsWalkFault (Late from to limit) sent of fault = ⊥
 IsWalkFault (Malformed codec fault') sent of fault = ⊥
 IsWalkFault Failed sent of fault = ⊥
@@ -63,8 +67,10 @@ pub record IsWalked (machine : Machine) (plans : List Plan) (schedule : Schedule
   pub first_fits : AreFirstFits geometry blocks
   pub state : State
   pub history : IsHistory machine schedule (journal_of played)
-  pub progress : MakesProgress machine schedule (task_of walk_format machine plans geometry false [] blocks) state (told_by machine played) played.graphs
-  pub opened : StaysOpen walk_format machine schedule (task_of walk_format machine plans geometry false [] blocks) (told_by machine played)
+  pub progress : MakesProgress machine schedule (task_of walk_format machine plans geometry false [] blocks) state
+      (told_by machine played) played.graphs
+  pub opened : StaysOpen walk_format machine schedule (task_of walk_format machine plans geometry false [] blocks)
+      (told_by machine played)
   pub silent : HasNoSound played
   -- jacks count what was read of RIRB that came unasked
   pub jacks : Counts (told_in (journal_of played)) played.jacks

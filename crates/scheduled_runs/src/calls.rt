@@ -39,13 +39,21 @@ fn call<T: Setter, P: Platform>(
     line: &DriverLine,
 ) -> Result<Phase, AllocError>
     requires within { length driver.old.supply.held ≤ driver.old.supply.left }
-    requires up { plays_now driver.old.play driver.old.bring_up ≡ true → is_open driver.old.writer.course.ran ≡ true → IsFilledUp (measures_of driver.old.writer).ring driver.old.supply }
+    requires up { plays_now driver.old.play driver.old.bring_up ≡ true → is_open driver.old.writer.course.ran ≡ true
+        → IsFilledUp (measures_of driver.old.writer).ring driver.old.supply }
     requires few { driver.old.calls < driver.old.runs }
     requires room { 400 ≤ P.spare_accesses platform.old }
-    requires bytes_room { ring_bytes driver.old.writer.geometry.periods driver.old.writer.geometry.period + 8192 ≤ P.spare_bytes platform.old }
+    requires bytes_room { ring_bytes driver.old.writer.geometry.periods
+        driver.old.writer.geometry.period + 8192 ≤ P.spare_bytes platform.old }
     ensures taken { IsTaken driver.old.supply driver.new.supply }
-    ensures accounts { Accounts (measures_of driver.old.writer) driver.old.supply driver.new.supply driver.old.writer.course driver.new.writer.course }
-    ensures leads { OnOk result ((later : List ℕ) → MayGive driver.new.supply later → Calls (λ graph. T.IsPlanBy driver.old.setter graph driver.old.bring_up.agenda.format) (λ graph plan. T.verbs_by driver.old.setter graph plan driver.old.bring_up.agenda.format TAG) driver.old.play line.now.irq line.now.budget (spec.parts_with driver.old.bring_up driver.old.writer (sound_before driver.old.supply driver.new.supply later)) (spec.parts_with driver.new.bring_up driver.new.writer later) (P.told platform.old) (P.told platform.new)) }
+    ensures accounts { Accounts (measures_of driver.old.writer) driver.old.supply driver.new.supply
+        driver.old.writer.course driver.new.writer.course }
+    ensures leads { OnOk result ((later : List ℕ) → MayGive driver.new.supply later
+        → Calls (λ graph. T.IsPlanBy driver.old.setter graph driver.old.bring_up.agenda.format)
+        (λ graph plan. T.verbs_by driver.old.setter graph plan driver.old.bring_up.agenda.format TAG) driver.old.play
+        line.now.irq line.now.budget (spec.parts_with driver.old.bring_up driver.old.writer
+        (sound_before driver.old.supply driver.new.supply later)) (spec.parts_with driver.new.bring_up driver.new.writer
+        later) (P.told platform.old) (P.told platform.new)) }
     ensures kept { IsKept driver.old.bring_up driver.new.bring_up }
     ensures geometry { driver.new.writer.geometry ≡ driver.old.writer.geometry }
     ensures setter { driver.new.setter ≡ driver.old.setter }
@@ -61,8 +69,8 @@ fn call<T: Setter, P: Platform>(
     }
 }
 
-/// Runs a driver line of a schedule, for which the supply was filled: a call of the driver with the steps of the line's groups between its
-/// accesses.
+/// Runs a driver line of a schedule, for which the supply was filled: a call of the driver with the steps of the line's
+/// groups between its accesses.
 ///
 /// # Errors
 /// Want of memory.
@@ -74,11 +82,19 @@ fn run_filled<T: Setter>(
 ) -> Result<(), AllocError>
     requires between { (setting_of rig.old).in_run ≡ false }
     requires within { length driver.old.supply.held ≤ driver.old.supply.left }
-    requires up { plays_now driver.old.play driver.old.bring_up ≡ true → is_open driver.old.writer.course.ran ≡ true → IsFilledUp (measures_of driver.old.writer).ring driver.old.supply }
+    requires up { plays_now driver.old.play driver.old.bring_up ≡ true → is_open driver.old.writer.course.ran ≡ true
+        → IsFilledUp (measures_of driver.old.writer).ring driver.old.supply }
     requires few { driver.old.calls < driver.old.runs }
     requires room { ring_bytes driver.old.writer.geometry.periods driver.old.writer.geometry.period + 8192 ≤ bytes }
-    ensures ran { OnOk result (spec.RanLine (record { IsPlanBy = T.IsPlanBy driver.old.setter; verbs_by = T.verbs_by driver.old.setter; IsOpenBy = T.IsOpenBy driver.old.setter }) driver.old.bring_up.agenda.format driver.old.play line.now
-        (spec.parts_of driver.old.bring_up driver.old.writer driver.old.supply) (spec.parts_of driver.new.bring_up driver.new.writer driver.new.supply) rig.old rig.new) }
+    ensures ran { OnOk result (spec.RanLine
+        (record {
+          IsPlanBy = T.IsPlanBy driver.old.setter;
+          verbs_by = T.verbs_by driver.old.setter;
+          IsOpenBy
+              = T.IsOpenBy driver.old.setter;
+        }) driver.old.bring_up.agenda.format driver.old.play line.now
+        (spec.parts_of driver.old.bring_up driver.old.writer driver.old.supply)
+        (spec.parts_of driver.new.bring_up driver.new.writer driver.new.supply) rig.old rig.new) }
     ensures geometry { OnOk result (driver.new.writer.geometry ≡ driver.old.writer.geometry) }
     ensures setter { OnOk result (driver.new.setter ≡ driver.old.setter) }
     ensures play { OnOk result (driver.new.play ≡ driver.old.play) }
@@ -93,8 +109,8 @@ fn run_filled<T: Setter>(
     Ok(())
 }
 
-/// Runs a driver line of a schedule: fills the supply where the call may play, and calls the driver with the steps of the line's groups
-/// between its accesses.
+/// Runs a driver line of a schedule: fills the supply where the call may play, and calls the driver with the steps of
+/// the line's groups between its accesses.
 ///
 /// # Errors
 /// Want of memory.
@@ -107,20 +123,31 @@ pub(crate) fn run_line<T: Setter, S: Shelf>(
     line: &DriverLine,
     bytes: u32,
 ) -> Result<(), AllocError>
-    requires fed { IsFedSo (measures_of driver.old.writer) (shelves_of (S.told shelf.old) (S.faults shelf.old) (S.empties shelf.old) (S.given shelf.old)) cut.old driver.old.supply driver.old.writer.course }
+    requires fed { IsFedSo (measures_of driver.old.writer) (shelves_of (S.told shelf.old) (S.faults shelf.old)
+        (S.empties shelf.old) (S.given shelf.old)) cut.old driver.old.supply driver.old.writer.course }
     requires between { (setting_of rig.old).in_run ≡ false }
     requires few { driver.old.calls < driver.old.runs }
     requires room { ring_bytes driver.old.writer.geometry.periods driver.old.writer.geometry.period + 8192 ≤ bytes }
-    ensures ran { OnOk result (spec.Ran (record { IsPlanBy = T.IsPlanBy driver.old.setter; verbs_by = T.verbs_by driver.old.setter; IsOpenBy = T.IsOpenBy driver.old.setter }) driver.old.bring_up.agenda.format driver.old.play (Drive line.now ∷ [])
-        (spec.stand_of driver.old.bring_up driver.old.writer driver.old.supply (shelves_of (S.told shelf.old) (S.faults shelf.old) (S.empties shelf.old) (S.given shelf.old)) cut.old rig.old)
-        (spec.stand_of driver.new.bring_up driver.new.writer driver.new.supply (shelves_of (S.told shelf.new) (S.faults shelf.new) (S.empties shelf.new) (S.given shelf.new)) cut.new rig.new)) }
+    ensures ran { OnOk result (spec.Ran
+        (record {
+          IsPlanBy = T.IsPlanBy driver.old.setter;
+          verbs_by = T.verbs_by driver.old.setter;
+          IsOpenBy
+              = T.IsOpenBy driver.old.setter;
+        }) driver.old.bring_up.agenda.format driver.old.play (Drive line.now ∷ [])
+        (spec.stand_of driver.old.bring_up driver.old.writer driver.old.supply
+        (shelves_of (S.told shelf.old) (S.faults shelf.old) (S.empties shelf.old) (S.given shelf.old)) cut.old rig.old)
+        (spec.stand_of driver.new.bring_up driver.new.writer driver.new.supply
+        (shelves_of (S.told shelf.new) (S.faults shelf.new) (S.empties shelf.new) (S.given shelf.new)) cut.new
+        rig.new)) }
     ensures geometry { OnOk result (driver.new.writer.geometry ≡ driver.old.writer.geometry) }
     ensures setter { OnOk result (driver.new.setter ≡ driver.old.setter) }
     ensures play { OnOk result (driver.new.play ≡ driver.old.play) }
     ensures runs { OnOk result (driver.new.runs ≡ driver.old.runs) }
     ensures calls { OnOk result (driver.new.calls ≡ driver.old.calls + 1) }
     ensures told { S.told shelf.new ≡ S.told shelf.old }
-    ensures asked { (other : List ℕ) → IsBeside driver.old.supply.source other → S.asked shelf.new other ≡ S.asked shelf.old other }
+    ensures asked { (other : List ℕ) → IsBeside driver.old.supply.source other
+        → S.asked shelf.new other ≡ S.asked shelf.old other }
     ensures later { (other : List ℕ) → S.faults shelf.old other ≤ S.faults shelf.new other }
     ensures empties_later { (other : List ℕ) → S.empties shelf.old other ≤ S.empties shelf.new other }
 {
@@ -139,8 +166,14 @@ pub(crate) fn run_last<T: Setter + Drop>(
 ) -> Result<Closed, AllocError>
     requires between { (setting_of rig.old).in_run ≡ false }
     requires room { ring_bytes driver.writer.geometry.periods driver.writer.geometry.period + 8192 ≤ bytes }
-    ensures closed { IfOk result (λ closed. (sound : List ℕ) → MayGive driver.supply sound → EndsWith driver.supply sound
-        → spec.IsClosed (record { IsPlanBy = T.IsPlanBy driver.setter; verbs_by = T.verbs_by driver.setter; IsOpenBy = T.IsOpenBy driver.setter }) driver.bring_up.agenda.format driver.play
+    ensures closed { IfOk result (λ closed. (sound : List ℕ) → MayGive driver.supply sound
+        → EndsWith driver.supply sound
+        → spec.IsClosed (record {
+          IsPlanBy = T.IsPlanBy driver.setter;
+          verbs_by = T.verbs_by driver.setter;
+          IsOpenBy
+              = T.IsOpenBy driver.setter;
+        }) driver.bring_up.agenda.format driver.play
         (spec.parts_with driver.bring_up driver.writer sound) closed (telling_of rig.old) (telling_of rig.new)) }
     ensures machine { OnOk result ((setting_of rig.new).machine ≡ (setting_of rig.old).machine) }
 {

@@ -29,7 +29,8 @@ pub(crate) struct Driven {
     pub read: u64,
 }
 
-/// Runs a schedule over a rig from first to last: its items with repeats written out, and then the last call of the driver.
+/// Runs a schedule over a rig from first to last: its items with repeats written out, and then the last call of the
+/// driver.
 ///
 /// # Errors
 /// Want of memory.
@@ -42,16 +43,26 @@ pub(crate) fn drive<T: Setter + Drop, S: Shelf>(
     schedule: &Schedule,
     bytes: u32,
 ) -> Result<Driven, AllocError>
-    requires fed { IsFedSo (measures_of driver.writer) (shelves_of (S.told shelf.old) (S.faults shelf.old) (S.empties shelf.old) (S.given shelf.old)) cut.old driver.supply driver.writer.course }
+    requires fed { IsFedSo (measures_of driver.writer) (shelves_of (S.told shelf.old) (S.faults shelf.old)
+        (S.empties shelf.old) (S.given shelf.old)) cut.old driver.supply driver.writer.course }
     requires between { (setting_of rig.old).in_run ≡ false }
     requires few { driver.calls + length (lines_of schedule.now) ≤ driver.runs }
     requires room { ring_bytes driver.writer.geometry.periods driver.writer.geometry.period + 8192 ≤ bytes }
-    ensures driven { IfOk result (λ driven. spec.HasDriven (record { IsPlanBy = T.IsPlanBy driver.setter; verbs_by = T.verbs_by driver.setter; IsOpenBy = T.IsOpenBy driver.setter }) driver.bring_up.agenda.format driver.play schedule.now
-        (spec.stand_of driver.bring_up driver.writer driver.supply (shelves_of (S.told shelf.old) (S.faults shelf.old) (S.empties shelf.old) (S.given shelf.old)) cut.old rig.old)
-        driven.closed driven.read (shelves_of (S.told shelf.new) (S.faults shelf.new) (S.empties shelf.new) (S.given shelf.new)) cut.new (telling_of rig.new)) }
+    ensures driven { IfOk result (λ driven. spec.HasDriven
+        (record {
+          IsPlanBy = T.IsPlanBy driver.setter;
+          verbs_by = T.verbs_by driver.setter;
+          IsOpenBy = T.IsOpenBy
+              driver.setter;
+        }) driver.bring_up.agenda.format driver.play schedule.now
+        (spec.stand_of driver.bring_up driver.writer driver.supply (shelves_of (S.told shelf.old) (S.faults shelf.old)
+        (S.empties shelf.old) (S.given shelf.old)) cut.old rig.old)
+        driven.closed driven.read (shelves_of (S.told shelf.new) (S.faults shelf.new) (S.empties shelf.new)
+        (S.given shelf.new)) cut.new (telling_of rig.new)) }
     ensures machine { OnOk result ((setting_of rig.new).machine ≡ (setting_of rig.old).machine) }
     ensures told { S.told shelf.new ≡ S.told shelf.old }
-    ensures asked { (other : List ℕ) → IsBeside driver.supply.source other → S.asked shelf.new other ≡ S.asked shelf.old other }
+    ensures asked { (other : List ℕ) → IsBeside driver.supply.source other
+        → S.asked shelf.new other ≡ S.asked shelf.old other }
     ensures later { (other : List ℕ) → S.faults shelf.old other ≤ S.faults shelf.new other }
     ensures empties_later { (other : List ℕ) → S.empties shelf.old other ≤ S.empties shelf.new other }
 {

@@ -52,17 +52,23 @@ pub(crate) fn feed<T: Setter, S: Shelf>(
     cut: &mut Option<Cut>,
     driver: &mut Driver<T>,
 ) -> Result<(), AllocError>
-    requires fed { spec.IsFedSo (measures_of driver.old.writer) (spec.shelves_of (S.told shelf.old) (S.faults shelf.old) (S.empties shelf.old) (S.given shelf.old))
+    requires fed { spec.IsFedSo (measures_of driver.old.writer) (spec.shelves_of (S.told shelf.old) (S.faults shelf.old)
+        (S.empties shelf.old) (S.given shelf.old))
         cut.old driver.old.supply driver.old.writer.course }
     ensures fed { OnOk result ((source : Option Source) (first : spec.Shelves)
-        → spec.IsFed (measures_of driver.old.writer) source first (spec.shelves_of (S.told shelf.old) (S.faults shelf.old) (S.empties shelf.old) (S.given shelf.old))
+        → spec.IsFed (measures_of driver.old.writer) source first
+        (spec.shelves_of (S.told shelf.old) (S.faults shelf.old) (S.empties shelf.old) (S.given shelf.old))
         cut.old driver.old.supply driver.old.writer.course
-        → spec.IsFed (measures_of driver.old.writer) source first (spec.shelves_of (S.told shelf.new) (S.faults shelf.new) (S.empties shelf.new) (S.given shelf.new))
+        → spec.IsFed (measures_of driver.old.writer) source first
+        (spec.shelves_of (S.told shelf.new) (S.faults shelf.new) (S.empties shelf.new) (S.given shelf.new))
         cut.new driver.new.supply driver.old.writer.course) }
-    ensures took { OnOk result (spec.Took [] (spec.shelves_of (S.told shelf.old) (S.faults shelf.old) (S.empties shelf.old) (S.given shelf.old)) driver.old.supply driver.new.supply) }
-    ensures up { OnOk result (spec.may_play (phase_of driver.old.bring_up driver.old.writer) ≡ true → spec.IsFilledUp (measures_of driver.old.writer).ring driver.new.supply) }
+    ensures took { OnOk result (spec.Took [] (spec.shelves_of (S.told shelf.old) (S.faults shelf.old)
+        (S.empties shelf.old) (S.given shelf.old)) driver.old.supply driver.new.supply) }
+    ensures up { OnOk result (spec.may_play (phase_of driver.old.bring_up driver.old.writer) ≡ true
+        → spec.IsFilledUp (measures_of driver.old.writer).ring driver.new.supply) }
     ensures told { S.told shelf.new ≡ S.told shelf.old }
-    ensures asked { (other : List ℕ) → IsBeside driver.old.supply.source other → S.asked shelf.new other ≡ S.asked shelf.old other }
+    ensures asked { (other : List ℕ) → IsBeside driver.old.supply.source other
+        → S.asked shelf.new other ≡ S.asked shelf.old other }
     ensures later { (other : List ℕ) → S.faults shelf.old other ≤ S.faults shelf.new other }
     ensures empties_later { (other : List ℕ) → S.empties shelf.old other ≤ S.empties shelf.new other }
     ensures bring_up { driver.new.bring_up ≡ driver.old.bring_up }

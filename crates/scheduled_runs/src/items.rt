@@ -32,20 +32,31 @@ fn run_item<T: Setter, S: Shelf>(
     item: &Item,
     bytes: u32,
 ) -> Result<(), AllocError>
-    requires fed { IsFedSo (measures_of driver.old.writer) (shelves_of (S.told shelf.old) (S.faults shelf.old) (S.empties shelf.old) (S.given shelf.old)) cut.old driver.old.supply driver.old.writer.course }
+    requires fed { IsFedSo (measures_of driver.old.writer) (shelves_of (S.told shelf.old) (S.faults shelf.old)
+        (S.empties shelf.old) (S.given shelf.old)) cut.old driver.old.supply driver.old.writer.course }
     requires between { (setting_of rig.old).in_run ≡ false }
     requires few { driver.old.calls + length (lines_in (item.now ∷ [])) ≤ driver.old.runs }
     requires room { ring_bytes driver.old.writer.geometry.periods driver.old.writer.geometry.period + 8192 ≤ bytes }
-    ensures ran { OnOk result (spec.Ran (record { IsPlanBy = T.IsPlanBy driver.old.setter; verbs_by = T.verbs_by driver.old.setter; IsOpenBy = T.IsOpenBy driver.old.setter }) driver.old.bring_up.agenda.format driver.old.play (item.now ∷ [])
-        (spec.stand_of driver.old.bring_up driver.old.writer driver.old.supply (shelves_of (S.told shelf.old) (S.faults shelf.old) (S.empties shelf.old) (S.given shelf.old)) cut.old rig.old)
-        (spec.stand_of driver.new.bring_up driver.new.writer driver.new.supply (shelves_of (S.told shelf.new) (S.faults shelf.new) (S.empties shelf.new) (S.given shelf.new)) cut.new rig.new)) }
+    ensures ran { OnOk result (spec.Ran
+        (record {
+          IsPlanBy = T.IsPlanBy driver.old.setter;
+          verbs_by = T.verbs_by driver.old.setter;
+          IsOpenBy
+              = T.IsOpenBy driver.old.setter;
+        }) driver.old.bring_up.agenda.format driver.old.play (item.now ∷ [])
+        (spec.stand_of driver.old.bring_up driver.old.writer driver.old.supply
+        (shelves_of (S.told shelf.old) (S.faults shelf.old) (S.empties shelf.old) (S.given shelf.old)) cut.old rig.old)
+        (spec.stand_of driver.new.bring_up driver.new.writer driver.new.supply
+        (shelves_of (S.told shelf.new) (S.faults shelf.new) (S.empties shelf.new) (S.given shelf.new)) cut.new
+        rig.new)) }
     ensures geometry { OnOk result (driver.new.writer.geometry ≡ driver.old.writer.geometry) }
     ensures setter { OnOk result (driver.new.setter ≡ driver.old.setter) }
     ensures play { OnOk result (driver.new.play ≡ driver.old.play) }
     ensures runs { OnOk result (driver.new.runs ≡ driver.old.runs) }
     ensures calls { OnOk result (driver.new.calls ≡ driver.old.calls + length (lines_in (item.now ∷ []))) }
     ensures told { S.told shelf.new ≡ S.told shelf.old }
-    ensures asked { (other : List ℕ) → IsBeside driver.old.supply.source other → S.asked shelf.new other ≡ S.asked shelf.old other }
+    ensures asked { (other : List ℕ) → IsBeside driver.old.supply.source other
+        → S.asked shelf.new other ≡ S.asked shelf.old other }
     ensures later { (other : List ℕ) → S.faults shelf.old other ≤ S.faults shelf.new other }
     ensures empties_later { (other : List ℕ) → S.empties shelf.old other ≤ S.empties shelf.new other }
 {
@@ -70,20 +81,31 @@ fn run_items<T: Setter, S: Shelf>(
     items: &[Item],
     bytes: u32,
 ) -> Result<(), AllocError>
-    requires fed { IsFedSo (measures_of driver.old.writer) (shelves_of (S.told shelf.old) (S.faults shelf.old) (S.empties shelf.old) (S.given shelf.old)) cut.old driver.old.supply driver.old.writer.course }
+    requires fed { IsFedSo (measures_of driver.old.writer) (shelves_of (S.told shelf.old) (S.faults shelf.old)
+        (S.empties shelf.old) (S.given shelf.old)) cut.old driver.old.supply driver.old.writer.course }
     requires between { (setting_of rig.old).in_run ≡ false }
     requires few { driver.old.calls + length (lines_in items.now) ≤ driver.old.runs }
     requires room { ring_bytes driver.old.writer.geometry.periods driver.old.writer.geometry.period + 8192 ≤ bytes }
-    ensures ran { OnOk result (spec.Ran (record { IsPlanBy = T.IsPlanBy driver.old.setter; verbs_by = T.verbs_by driver.old.setter; IsOpenBy = T.IsOpenBy driver.old.setter }) driver.old.bring_up.agenda.format driver.old.play items.now
-        (spec.stand_of driver.old.bring_up driver.old.writer driver.old.supply (shelves_of (S.told shelf.old) (S.faults shelf.old) (S.empties shelf.old) (S.given shelf.old)) cut.old rig.old)
-        (spec.stand_of driver.new.bring_up driver.new.writer driver.new.supply (shelves_of (S.told shelf.new) (S.faults shelf.new) (S.empties shelf.new) (S.given shelf.new)) cut.new rig.new)) }
+    ensures ran { OnOk result (spec.Ran
+        (record {
+          IsPlanBy = T.IsPlanBy driver.old.setter;
+          verbs_by = T.verbs_by driver.old.setter;
+          IsOpenBy
+              = T.IsOpenBy driver.old.setter;
+        }) driver.old.bring_up.agenda.format driver.old.play items.now
+        (spec.stand_of driver.old.bring_up driver.old.writer driver.old.supply
+        (shelves_of (S.told shelf.old) (S.faults shelf.old) (S.empties shelf.old) (S.given shelf.old)) cut.old rig.old)
+        (spec.stand_of driver.new.bring_up driver.new.writer driver.new.supply
+        (shelves_of (S.told shelf.new) (S.faults shelf.new) (S.empties shelf.new) (S.given shelf.new)) cut.new
+        rig.new)) }
     ensures geometry { OnOk result (driver.new.writer.geometry ≡ driver.old.writer.geometry) }
     ensures setter { OnOk result (driver.new.setter ≡ driver.old.setter) }
     ensures play { OnOk result (driver.new.play ≡ driver.old.play) }
     ensures runs { OnOk result (driver.new.runs ≡ driver.old.runs) }
     ensures calls { OnOk result (driver.new.calls ≡ driver.old.calls + length (lines_in items.now)) }
     ensures told { S.told shelf.new ≡ S.told shelf.old }
-    ensures asked { (other : List ℕ) → IsBeside driver.old.supply.source other → S.asked shelf.new other ≡ S.asked shelf.old other }
+    ensures asked { (other : List ℕ) → IsBeside driver.old.supply.source other
+        → S.asked shelf.new other ≡ S.asked shelf.old other }
     ensures later { (other : List ℕ) → S.faults shelf.old other ≤ S.faults shelf.new other }
     ensures empties_later { (other : List ℕ) → S.empties shelf.old other ≤ S.empties shelf.new other }
 {
@@ -107,20 +129,31 @@ fn run_part<T: Setter, S: Shelf>(
     part: &Part,
     bytes: u32,
 ) -> Result<(), AllocError>
-    requires fed { IsFedSo (measures_of driver.old.writer) (shelves_of (S.told shelf.old) (S.faults shelf.old) (S.empties shelf.old) (S.given shelf.old)) cut.old driver.old.supply driver.old.writer.course }
+    requires fed { IsFedSo (measures_of driver.old.writer) (shelves_of (S.told shelf.old) (S.faults shelf.old)
+        (S.empties shelf.old) (S.given shelf.old)) cut.old driver.old.supply driver.old.writer.course }
     requires between { (setting_of rig.old).in_run ≡ false }
     requires few { driver.old.calls + length (lines_in (items_in part.now)) ≤ driver.old.runs }
     requires room { ring_bytes driver.old.writer.geometry.periods driver.old.writer.geometry.period + 8192 ≤ bytes }
-    ensures ran { OnOk result (spec.Ran (record { IsPlanBy = T.IsPlanBy driver.old.setter; verbs_by = T.verbs_by driver.old.setter; IsOpenBy = T.IsOpenBy driver.old.setter }) driver.old.bring_up.agenda.format driver.old.play (items_in part.now)
-        (spec.stand_of driver.old.bring_up driver.old.writer driver.old.supply (shelves_of (S.told shelf.old) (S.faults shelf.old) (S.empties shelf.old) (S.given shelf.old)) cut.old rig.old)
-        (spec.stand_of driver.new.bring_up driver.new.writer driver.new.supply (shelves_of (S.told shelf.new) (S.faults shelf.new) (S.empties shelf.new) (S.given shelf.new)) cut.new rig.new)) }
+    ensures ran { OnOk result (spec.Ran
+        (record {
+          IsPlanBy = T.IsPlanBy driver.old.setter;
+          verbs_by = T.verbs_by driver.old.setter;
+          IsOpenBy
+              = T.IsOpenBy driver.old.setter;
+        }) driver.old.bring_up.agenda.format driver.old.play (items_in part.now)
+        (spec.stand_of driver.old.bring_up driver.old.writer driver.old.supply
+        (shelves_of (S.told shelf.old) (S.faults shelf.old) (S.empties shelf.old) (S.given shelf.old)) cut.old rig.old)
+        (spec.stand_of driver.new.bring_up driver.new.writer driver.new.supply
+        (shelves_of (S.told shelf.new) (S.faults shelf.new) (S.empties shelf.new) (S.given shelf.new)) cut.new
+        rig.new)) }
     ensures geometry { OnOk result (driver.new.writer.geometry ≡ driver.old.writer.geometry) }
     ensures setter { OnOk result (driver.new.setter ≡ driver.old.setter) }
     ensures play { OnOk result (driver.new.play ≡ driver.old.play) }
     ensures runs { OnOk result (driver.new.runs ≡ driver.old.runs) }
     ensures calls { OnOk result (driver.new.calls ≡ driver.old.calls + length (lines_in (items_in part.now))) }
     ensures told { S.told shelf.new ≡ S.told shelf.old }
-    ensures asked { (other : List ℕ) → IsBeside driver.old.supply.source other → S.asked shelf.new other ≡ S.asked shelf.old other }
+    ensures asked { (other : List ℕ) → IsBeside driver.old.supply.source other
+        → S.asked shelf.new other ≡ S.asked shelf.old other }
     ensures later { (other : List ℕ) → S.faults shelf.old other ≤ S.faults shelf.new other }
     ensures empties_later { (other : List ℕ) → S.empties shelf.old other ≤ S.empties shelf.new other }
 {
@@ -144,19 +177,30 @@ pub(crate) fn run_schedule<T: Setter, S: Shelf>(
     schedule: &Schedule,
     bytes: u32,
 ) -> Result<(), AllocError>
-    requires fed { IsFedSo (measures_of driver.old.writer) (shelves_of (S.told shelf.old) (S.faults shelf.old) (S.empties shelf.old) (S.given shelf.old)) cut.old driver.old.supply driver.old.writer.course }
+    requires fed { IsFedSo (measures_of driver.old.writer) (shelves_of (S.told shelf.old) (S.faults shelf.old)
+        (S.empties shelf.old) (S.given shelf.old)) cut.old driver.old.supply driver.old.writer.course }
     requires between { (setting_of rig.old).in_run ≡ false }
     requires few { driver.old.calls + length (lines_of schedule.now) ≤ driver.old.runs }
     requires room { ring_bytes driver.old.writer.geometry.periods driver.old.writer.geometry.period + 8192 ≤ bytes }
-    ensures ran { OnOk result (spec.Ran (record { IsPlanBy = T.IsPlanBy driver.old.setter; verbs_by = T.verbs_by driver.old.setter; IsOpenBy = T.IsOpenBy driver.old.setter }) driver.old.bring_up.agenda.format driver.old.play (items_of schedule.now)
-        (spec.stand_of driver.old.bring_up driver.old.writer driver.old.supply (shelves_of (S.told shelf.old) (S.faults shelf.old) (S.empties shelf.old) (S.given shelf.old)) cut.old rig.old)
-        (spec.stand_of driver.new.bring_up driver.new.writer driver.new.supply (shelves_of (S.told shelf.new) (S.faults shelf.new) (S.empties shelf.new) (S.given shelf.new)) cut.new rig.new)) }
+    ensures ran { OnOk result (spec.Ran
+        (record {
+          IsPlanBy = T.IsPlanBy driver.old.setter;
+          verbs_by = T.verbs_by driver.old.setter;
+          IsOpenBy
+              = T.IsOpenBy driver.old.setter;
+        }) driver.old.bring_up.agenda.format driver.old.play (items_of schedule.now)
+        (spec.stand_of driver.old.bring_up driver.old.writer driver.old.supply
+        (shelves_of (S.told shelf.old) (S.faults shelf.old) (S.empties shelf.old) (S.given shelf.old)) cut.old rig.old)
+        (spec.stand_of driver.new.bring_up driver.new.writer driver.new.supply
+        (shelves_of (S.told shelf.new) (S.faults shelf.new) (S.empties shelf.new) (S.given shelf.new)) cut.new
+        rig.new)) }
     ensures geometry { OnOk result (driver.new.writer.geometry ≡ driver.old.writer.geometry) }
     ensures setter { OnOk result (driver.new.setter ≡ driver.old.setter) }
     ensures play { OnOk result (driver.new.play ≡ driver.old.play) }
     ensures runs { OnOk result (driver.new.runs ≡ driver.old.runs) }
     ensures told { S.told shelf.new ≡ S.told shelf.old }
-    ensures asked { (other : List ℕ) → IsBeside driver.old.supply.source other → S.asked shelf.new other ≡ S.asked shelf.old other }
+    ensures asked { (other : List ℕ) → IsBeside driver.old.supply.source other
+        → S.asked shelf.new other ≡ S.asked shelf.old other }
     ensures later { (other : List ℕ) → S.faults shelf.old other ≤ S.faults shelf.new other }
     ensures empties_later { (other : List ℕ) → S.empties shelf.old other ≤ S.empties shelf.new other }
 {

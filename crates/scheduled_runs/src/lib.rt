@@ -1,5 +1,5 @@
-//! Runs of a driver over a machine by a schedule: the steps of the device and the calls of the driver in their order, and then the last
-//! call. This project's own.
+//! Runs of a driver over a machine by a schedule: the steps of the device and the calls of the driver in their order,
+//! and then the last call. This project's own.
 #![tactic(auto)]
 
 mod calls;

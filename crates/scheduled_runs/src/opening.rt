@@ -14,8 +14,8 @@ use route_setup::Analog;
 use std::alloc::{AllocError, Global};
 use wav_reader::Supply;
 
-/// A driver for so many calls, with this sound, which it plays or not. Its blocks lie in a region of its own, those of the ring apart from
-/// RIRB.
+/// A driver for so many calls, with this sound, which it plays or not. Its blocks lie in a region of its own, those of
+/// the ring apart from RIRB.
 ///
 /// # Errors
 /// Want of memory.

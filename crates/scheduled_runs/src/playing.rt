@@ -42,7 +42,8 @@ use wav_reader::{Supply, WavHead};
 fn frames_left(closed: &Closed, block: u32, total: u64) -> PlayFault
     requires some { 1 ≤ block }
     requires few { counts.written_by closed.now.runs.items ≤ 0xFFFFFFFFFFFFFFFF }
-    ensures { result ≡ PlayFault.FramesLeft (counts.frames_written block closed.now.runs.items) (counts.frames_below block closed.now.silences.items (counts.last_at closed.now.runs.items)) total }
+    ensures { result ≡ PlayFault.FramesLeft (counts.frames_written block closed.now.runs.items)
+        (counts.frames_below block closed.now.silences.items (counts.last_at closed.now.runs.items)) total }
 {
     let runs = closed.runs.as_slice();
     PlayFault::FramesLeft {
@@ -52,12 +53,14 @@ fn frames_left(closed: &Closed, block: u32, total: u64) -> PlayFault
     }
 }
 
-/// Why it ended before all frames were played, of so many with blocks of so many bytes, where so many commands set the codecs up.
+/// Why it ended before all frames were played, of so many with blocks of so many bytes, where so many commands set the
+/// codecs up.
 fn play_fault(closed: &Closed, of: u32, block: u32, total: u64) -> Option<PlayFault>
     requires can_end { can_end false closed.now.phase ≡ true }
     requires some { 1 ≤ block }
     requires few { counts.written_by closed.now.runs.items ≤ 0xFFFFFFFFFFFFFFFF }
-    ensures { spec.IsPlayFault closed.now.phase closed.now.sent of block total closed.now.runs.items closed.now.silences.items result }
+    ensures { spec.IsPlayFault closed.now.phase closed.now.sent of block total closed.now.runs.items
+        closed.now.silences.items result }
 {
     match closed.phase {
         Phase::Drained => None,
@@ -72,7 +75,8 @@ fn play_fault(closed: &Closed, of: u32, block: u32, total: u64) -> Option<PlayFa
     }
 }
 
-/// How many frames of the sound were read, of so many with blocks of so many bytes: all of them where the reading was not cut.
+/// How many frames of the sound were read, of so many with blocks of so many bytes: all of them where the reading was
+/// not cut.
 fn frames_read(cut: &Option<Cut>, bytes: u64, block: u32, total: u64) -> u64
     requires { 1 ≤ block }
     ensures { result ≡ reading.frames_read cut.now bytes block total }
@@ -102,12 +106,13 @@ fn cut_line(alloc: Global, cut: Option<Cut>, name: &str) -> Result<Option<CutLin
     }
 }
 
-/// Runs a driver over a machine by a schedule until all sound was played, a run was late, or the schedule ends: it resets the controller,
-/// walks over all codecs, plans their routes, sends the verbs that open them, and plays the sound through a ring of this geometry. The
-/// sound is that of the WAV file `name`, of which `head` says what stands before it; it is read while it plays, before each call that may
-/// play as much as the ring takes. Where the shelf fails or the file gets shorter meanwhile, the run goes on over the sound that was read
-/// until then. The machine is one that a codec file describes, with these plans of its codecs for the format of the sound, of which some
-/// has a route.
+/// Runs a driver over a machine by a schedule until all sound was played, a run was late, or the schedule ends: it
+/// resets the controller, walks over all codecs, plans their routes, sends the verbs that open them, and plays the
+/// sound through a ring of this geometry. The sound is that of the WAV file `name`, of which `head` says what stands
+/// before it; it is read while it plays, before each call that may play as much as the ring takes. Where the shelf
+/// fails or the file gets shorter meanwhile, the run goes on over the sound that was read until then. The machine is
+/// one that a codec file describes, with these plans of its codecs for the format of the sound, of which some has a
+/// route.
 ///
 /// # Errors
 /// Want of memory.
@@ -130,10 +135,16 @@ pub fn play<S: Shelf>(
     requires format { geometry.format ≡ head.format }
     requires fifo { geometry.fifo ≡ machine.fifo }
     requires limits { IsLimited schedule.now }
-    ensures played { IfOk result (λ played. spec.IsPlayedFrom (S.told shelf.old) name.now head machine plans.items geometry schedule.now played) }
-    ensures cut { IfOk result (λ played. spec.IsCutUnder name.now head (Rose (S.faults shelf.old name.now) (S.faults shelf.new name.now))
+    ensures played { IfOk result (λ played. spec.IsPlayedFrom (S.told shelf.old) name.now head machine plans.items
+        geometry schedule.now played) }
+    ensures cut { IfOk result (λ played. spec.IsCutUnder name.now head played.read
+        (Rose (S.faults shelf.old name.now) (S.faults shelf.new name.now))
         (Rose (S.empties shelf.old name.now) (S.empties shelf.new name.now)) played.cut) }
+    ensures not_short { IfOk result (λ played. ((place : ℕ) → played.cut ≢ Some (CutLine.Short place))
+        → S.empties shelf.new name.now ≡ S.empties shelf.old name.now) }
     ensures given { IfOk result (λ played. S.given shelf.new ≤ S.given shelf.old + spec.most_read geometry played) }
+    ensures frames { IfOk result (λ played. S.given shelf.new ≤ S.given shelf.old + spec.most_of_frames head
+        played.read) }
     ensures told { S.told shelf.new ≡ S.told shelf.old }
     ensures asked { (other : List ℕ) → other ≢ name.now → S.asked shelf.new other ≡ S.asked shelf.old other }
     ensures later { (other : List ℕ) → S.faults shelf.old other ≤ S.faults shelf.new other }

@@ -72,7 +72,7 @@ fn turn_once(
     }
     let is_open = writer.course().ran == Ran::Playing && writer.has_free_record();
     if is_open && holds_all(supply) {
-        rig.begin(&[], 5 + u32::from(geometry.periods()), geometry.ring())?;
+        rig.begin(&[], 6 + u32::from(geometry.periods()), geometry.ring())?;
         writer.run(rig, supply, turn.budget);
         rig.end();
     }
@@ -139,7 +139,9 @@ fn recorded(alloc: Global, writer: &Writer) -> Result<String, AllocError> {
     match writer.course().ran {
         Ran::Playing => text.push_str("plays on\n")?,
         Ran::Drained => text.push_str("drained\n")?,
-        Ran::Late { from, to } => text.push_str(&format!(in alloc; "late {from} {to}\n")?)?,
+        Ran::Late { from, to, limit } => {
+            text.push_str(&format!(in alloc; "late {from} {to} {limit}\n")?)?
+        }
     }
     Ok(text)
 }

@@ -45,7 +45,7 @@ fn runs_that_write_nothing_stand_about_a_cut(rt: HostRuntime) -> Result<(), Allo
             "run {before}\nrepeat 3\nfetch 1 192\nlink 48\nend\nrun 768\nfetch 1 192\nlink 48\nrun {after}\nfetch 1 192\nlink 48\nrun 400\n"
         )?;
         let runs = format!(in alloc;
-            "run 0 12500 12500 {before} 0\nrun 576 84500 84500 768 576\nrun 768 108500 108500 {after} 0\nrun 960 132500 132500 400 192\nrun 960 132500 132500 0 0\nsilence 0 768\nsilence 1344 1536\n"
+            "run 0 12500 12500 {before} 0\nrun 576 84500 84500 768 576\nrun 768 108500 108500 {after} 0\nrun 960 132500 132500 400 192\nrun 960 132500 132500 0 0\nsilence 0 768\nsilence 1536 1728\n"
         )?;
         for (plan, end) in [
             (FailsAt(812), (3, UNREAD, 192)),

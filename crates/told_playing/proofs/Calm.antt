@@ -1,6 +1,7 @@
 -- A call that plays, and the end of a driver that may play, submit no command.
-use Rattle.std.proofs.Common.{◌≡◌, ◌/◌, ◌&&◌, ℕ, Bool, true, false, if◌then◌else◌, List, [], ◌∷◌, ◌++◌, map, length, drop, Option, Some, None, refl, inl}
+use Rattle.std.proofs.Common.{◌≡◌, ◌+◌, ◌-◌, ◌/◌, ◌&&◌, ℕ, min, sym, subst, Bool, true, false, if◌then◌else◌, List, [], ◌∷◌, ◌++◌, map, length, drop, Option, Some, None, refl, inl}
 use Rattle.std.specs.List.{range_with_len}
+use Rattle.std.proofs.lemmas.Grind.{flat_map-append}
 use Rattle.hda_registers.specs.declared.shapes.Width.TheVariants.{Four}
 use Rattle.hda_registers.specs.declared.places.TheConstants.{WALCLK}
 use Rattle.hda_world.specs.Events.{Event}
@@ -8,10 +9,11 @@ use Rattle.period_writer.specs.declared.course.Ran.{Ran}
 use Rattle.period_writer.specs.declared.course.Ran.TheVariants as ran
 use Rattle.period_writer.specs.declared.registers.TheConstants.{POSITION}
 use Rattle.period_writer.specs.Rings.{period_bytes}
-use Rattle.period_writer.specs.Places.{piece_write, touched}
+use Rattle.period_writer.specs.Lines.{sound_and_silence}
+use Rattle.period_writer.specs.Places.{line_writes, piece_write, touched}
 use Rattle.period_writer.specs.Starting.{entry_write, entry_writes, run_accesses}
-use Rattle.period_writer.specs.Playing.{run_bytes, stop_accesses}
-use Rattle.period_writer.specs.Runs.{Tally, measures, run_reach}
+use Rattle.period_writer.specs.Playing.{stop_accesses, writes_by}
+use Rattle.period_writer.specs.Runs.{Tally, measures, run_reach, run_start, run_sound}
 use Rattle.driver_progress.specs.declared.phase.Phase.{Phase}
 use Rattle.driver_progress.specs.declared.phase.Phase.TheVariants.{Reset, Settling, Walking, SettingUp, Ready, Playing, Drained, NothingRouted, Unanswered, Late, Malformed, Failed}
 use Rattle.driver_progress.specs.Phases.{is_active}
@@ -31,14 +33,24 @@ map_calm : (made : ℕ → Event) → ((number : ℕ) → AreCalm (requests_in (
 map_calm made each [] = tt {0}
 map_calm made each (number ∷ numbers) = calm_both (requests_in (made number)) (requests_of (map made numbers)) (each number) (map_calm made each numbers)
 
+row_calm : (bytes : ℕ) (periods : List ℕ) (from to : ℕ) (written : List ℕ) → AreCalm (requests_of (line_writes bytes periods from to written))
+row_calm bytes periods from to written = map_calm (piece_write bytes periods from to written) (λ number. (tt {0}, tt {0})) (range_with_len (from / bytes) (touched bytes from to))
+
+-- what a run writes, over silence and after the line's end
+rows_calm : (bytes : ℕ) (periods : List ℕ) (start sound reach reach' : ℕ) (pcm : List ℕ) → AreCalm (requests_of (writes_by bytes periods start sound reach reach' pcm))
+rows_calm bytes periods start sound reach reach' pcm =
+    let to = min reach (start + sound) in
+    let over = to - start in
+    let first = line_writes bytes periods start to (sound_and_silence over over pcm) in
+    let second = line_writes bytes periods reach reach' (sound_and_silence (sound - over) (reach' - reach) (drop over pcm)) in
+    subst AreCalm (sym (flat_map-append requests_in first second)) (calm_both (requests_of first) (requests_of second) (row_calm bytes periods start to _) (row_calm bytes periods reach reach' _))
+
 appends_calm : (task : Task) (state : State) (budget : ℕ) (seen : Seen) → AreCalm (appends task state budget seen)
 appends_calm task state budget seen =
     let facts = facts_seen task state budget seen in
-    let bytes = period_bytes task.geometry.period in
-    let from = state.tally.course.reach in
-    let to = run_reach (measures task.geometry) state.tally.course facts in
-    let written = run_bytes (measures task.geometry) state.tally.course facts (drop state.tally.course.used task.pcm) in
-    map_calm (piece_write bytes task.blocks.periods from to written) (λ number. (tt {0}, tt {0})) (range_with_len (from / bytes) (touched bytes from to))
+    let m = measures task.geometry in
+    let course = state.tally.course in
+    rows_calm (period_bytes task.geometry.period) task.blocks.periods (run_start m course facts) (run_sound m course facts) course.reach (run_reach m course facts) (drop course.used task.pcm)
 
 starts_calm : (task : Task) (state : State) (budget : ℕ) (seen : Seen) → AreCalm (starts task state budget seen)
 starts_calm task state budget seen =
@@ -90,7 +102,7 @@ plays_calm task state budget seen later calm =
 stop_calm : (was : Ran) → AreCalm (requests_of (stop_accesses was))
 stop_calm ran.Playing = tt {0}
 stop_calm ran.Drained = (inl (record { control = refl; pointers = refl }), tt {0})
-stop_calm (ran.Late from to) = (inl (record { control = refl; pointers = refl }), tt {0})
+stop_calm (ran.Late from to limit) = (inl (record { control = refl; pointers = refl }), tt {0})
 
 -- ---- once all codecs are set up
 

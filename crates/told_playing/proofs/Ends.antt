@@ -11,8 +11,7 @@ use Rattle.hda_world.specs.Events.{Event, Stepped, Begin, End, happens, after, I
 use Rattle.hda_world.specs.Tellings.{Telling, world_of, Went, Accessed}
 use Rattle.hda_world.proofs.Callers.{world_of-went, went_both, Weaving, woven}
 use Rattle.period_writer.specs.declared.geometry.Geometry.{Geometry}
-use Rattle.period_writer.specs.Runs.{Tally, tally_opened, measures}
-use Rattle.period_writer.specs.Writers.{measures_of}
+use Rattle.period_writer.specs.Runs.{Tally, tally_opened}
 use Rattle.period_writer.specs.Outcomes.{HasNotWrapped}
 use Rattle.driver_progress.specs.declared.phase.Phase.TheVariants.{Ready}
 use Rattle.driver_progress.specs.States.{State}
@@ -74,7 +73,7 @@ module _ (IsPlanBy : RawCodec → Plan → Type 0) (verbs_by : RawCodec → Plan
       let fresh : tally ≡ tally_opened = closing.recorded none ∙ is.silent.fresh in record {
         progress = gone.progress;
         finds = gone.finds;
-        state_is = gone.state_is ∙ sym (silent_with ended tally (measures task.geometry).limit fresh);
+        state_is = gone.state_is ∙ sym (silent_with ended tally fresh);
         ended_is = gone.ended;
         ready = λ started. absurd (not_true (sym (ap (λ (tally : Tally). tally.course.started) fresh) ∙ started));
         set_up = gone.set_up;
@@ -88,7 +87,7 @@ module _ (IsPlanBy : RawCodec → Plan → Type 0) (verbs_by : RawCodec → Plan
     call = closing.sounds now
 
     abbrev state_then : State
-    state_then = state_with ended tally (measures_of old.writer).limit
+    state_then = state_with ended tally
 
     played : IsOpen task lines [] None (state_in old) begun → StayGood IsPlanBy IsOpenBy graphs task lines begun → old.bring_up.engine.rings.outstanding ≡ None → are_set_up (state_in old).phase ≡ true
         → Played IsPlanBy IsOpenBy graphs task lines [] None state_then made
@@ -100,7 +99,7 @@ module _ (IsPlanBy : RawCodec → Plan → Type 0) (verbs_by : RawCodec → Plan
         let progress = rest_progress task lines [] state_then after rest in record {
           progress = progress.0;
           finds = progress.2;
-          state_is = progress.1 ∙ ap (λ (geometry : Geometry). state_with ended tally (measures geometry).limit) (sym task_is.geometry);
+          state_is = progress.1;
           ended_is = ended_is;
           ready = λ started. ready;
           set_up = (end_good IsPlanBy IsOpenBy graphs task lines made after ends was.good).set_up;

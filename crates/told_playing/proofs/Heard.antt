@@ -10,7 +10,7 @@ use Rattle.hda_world.specs.Tellings.{Telling, world_of, Went, Accessed}
 use Rattle.command_engine.specs.declared.ring_places.RingPlaces.{RingPlaces}
 use Rattle.command_engine.specs.Polling.{found_by}
 use Rattle.period_writer.specs.Outcomes.{HasNotWrapped}
-use Rattle.period_writer.specs.Writers.{WriterState, measures_of}
+use Rattle.period_writer.specs.Writers.{WriterState}
 use Rattle.driver_progress.specs.Phases.{is_asking}
 use Rattle.driver_progress.specs.States.{State}
 use Rattle.driver_progress.specs.Tasks.{Task, DriverLine}
@@ -41,7 +41,7 @@ module _ (IsPlanBy : RawCodec → Plan → Type 0) (verbs_by : RawCodec → Plan
   Heard left parts telling = IsHeard IsPlanBy IsOpenBy graphs task lines left parts telling
 
   pub heard_set_up : (left : List DriverLine) (parts : Parts) (telling : Telling) → Heard left parts telling → are_set_up (state_in parts).phase ≡ true
-  heard_set_up left parts telling is = started_set_up parts.bring_up (tally_in parts) (measures_of parts.writer).limit is.sounds.by.started
+  heard_set_up left parts telling is = started_set_up parts.bring_up (tally_in parts) is.sounds.by.started
 
   pub heard_good : (left : List DriverLine) (parts : Parts) (telling : Telling) → Heard left parts telling → StayGood IsPlanBy IsOpenBy graphs task lines telling
   heard_good left parts telling is =

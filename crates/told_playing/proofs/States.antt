@@ -7,7 +7,7 @@ use Rattle.command_engine.specs.Polling.{still_outstanding}
 use Rattle.period_writer.specs.declared.course.Ran.{Ran}
 use Rattle.period_writer.specs.declared.course.Ran.TheVariants as ran
 use Rattle.period_writer.specs.Runs.{Tally, tally_opened}
-use Rattle.period_writer.specs.Writers.{WriterState, tally_of, measures_of}
+use Rattle.period_writer.specs.Writers.{WriterState, tally_of}
 use Rattle.period_writer.specs.Blocks.{addresses_of}
 use Rattle.driver_progress.specs.declared.phase.Phase.{Phase}
 use Rattle.driver_progress.specs.declared.phase.Phase.TheVariants.{Reset, Settling, Walking, SettingUp, Ready, Playing, Drained, NothingRouted, Unanswered, Late, Malformed, Failed}
@@ -26,21 +26,21 @@ not_true is = cc
 -- ---- states
 
 -- with the tally that nothing was recorded in
-pub silent_with : (bring_up : BringUp) (tally : Tally) (limit : ℕ) → tally ≡ tally_opened → state_with bring_up tally limit ≡ bringing.state_of bring_up
-silent_with bring_up tally limit fresh = ap (λ (tally : Tally). state_with bring_up tally limit) fresh
+pub silent_with : (bring_up : BringUp) (tally : Tally) → tally ≡ tally_opened → state_with bring_up tally ≡ bringing.state_of bring_up
+silent_with bring_up tally fresh = ap (λ (tally : Tally). state_with bring_up tally) fresh
 
 pub silent_state : (bring_up : BringUp) (writer : WriterState) → tally_of writer ≡ tally_opened → state_of bring_up writer ≡ bringing.state_of bring_up
-silent_state bring_up writer fresh = silent_with bring_up (tally_of writer) (measures_of writer).limit fresh
+silent_state bring_up writer fresh = silent_with bring_up (tally_of writer) fresh
 
-played_set_up : (was : Ran) (limit : ℕ) → are_set_up (played_as was limit) ≡ true
-played_set_up ran.Playing limit = refl
-played_set_up ran.Drained limit = refl
-played_set_up (ran.Late from to) limit = refl
+played_set_up : (was : Ran) → are_set_up (played_as was) ≡ true
+played_set_up ran.Playing = refl
+played_set_up ran.Drained = refl
+played_set_up (ran.Late from to limit) = refl
 
 -- once it was started
-pub started_set_up : (bring_up : BringUp) (tally : Tally) (limit : ℕ) → tally.course.started ≡ true → are_set_up (phase_with bring_up tally limit) ≡ true
-started_set_up bring_up tally limit started =
-    ap (λ (started : Bool). are_set_up (phase_if started bring_up.phase tally.course.ran limit)) started ∙ played_set_up tally.course.ran limit
+pub started_set_up : (bring_up : BringUp) (tally : Tally) → tally.course.started ≡ true → are_set_up (phase_with bring_up tally) ≡ true
+started_set_up bring_up tally started =
+    ap (λ (started : Bool). are_set_up (phase_if started bring_up.phase tally.course.ran)) started ∙ played_set_up tally.course.ran
 
 -- ---- whether a call plays
 

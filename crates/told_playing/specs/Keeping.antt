@@ -8,11 +8,11 @@ use Rattle.route_planner.specs.declared.routes.Plan.{Plan}
 use Rattle.device_steps.specs.declared.Step.{Step}
 use Rattle.hda_world.specs.Events.{Event, Stepped, Begin, End, IsNoStep}
 use Rattle.hda_world.specs.Tellings.{Telling, world_of, Went, Accessed}
-use Rattle.period_writer.specs.Runs.{Tally, measures, tally_opened}
+use Rattle.period_writer.specs.Runs.{Tally, tally_opened}
 use Rattle.period_writer.specs.Outcomes.{HasNotWrapped}
 use Rattle.driver_progress.specs.declared.phase.Phase.TheVariants.{Ready}
 use Rattle.driver_progress.specs.Tasks.{Task, DriverLine}
-use Rattle.driver_progress.specs.States.{State, state_opened}
+use Rattle.driver_progress.specs.States.{state_opened}
 use Rattle.driver_progress.specs.Progress as course
 use Rattle.driver_progress.specs.Progress.{IsProgress}
 use Rattle.codec_bring_up.specs.declared.bringing.BringUp.{BringUp}
@@ -77,16 +77,12 @@ pub record WasHeard (IsPlanBy : RawCodec → Plan → Type 0) (IsOpenBy : RawCod
   pub set_up : AreSetUpIn IsPlanBy IsOpenBy graphs codecs
   pub hear : All IsNoStep last → HearTheLine codecs task.geometry.format task.pcm tally (world_of telling).carried
 
--- the state that the driver left
-abbrev pub state_left : Task → BringUp → Tally → State
-state_left task ended tally = state_with ended tally (measures task.geometry).limit
-
 -- all that is then known: the journal is progress and leads to the driver's state, each stretch found what it was to find, which graphs were
 -- walked, all codecs were set up at every moment from the last answer on, and what was heard
 pub record HasGone (IsPlanBy : RawCodec → Plan → Type 0) (IsOpenBy : RawCodec → Entries → Plan → Type 0) (graphs : List RawCodec) (task : Task) (lines : List DriverLine) (ended : BringUp) (tally : Tally) (last : List Event) (telling : Telling) : Type 0 where
   pub progress : IsProgress task lines telling
   pub finds : HasFound task lines telling
-  pub state_is : course.state_of task lines telling ≡ state_left task ended tally
+  pub state_is : course.state_of task lines telling ≡ state_with ended tally
   pub ended_is : IsEnded graphs task ended
   -- where sound was played the bring-up was over
   pub ready : tally.course.started ≡ true → ended.phase ≡ Ready

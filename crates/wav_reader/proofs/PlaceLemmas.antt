@@ -4,12 +4,17 @@ use Rattle.std.proofs.Math.Seq.{take-add, take-length}
 use Rattle.std.proofs.lemmas.List.{drop-drop, drop-take, take-take, drop_at, take_at, length-take-le}
 use Rattle.hda_outside.specs.Pieces.{HoldsFront}
 use Rattle.wav_reader.specs.Heads.{Head, EndsWithin, IsRingFormat, frame_length}
-use Rattle.wav_reader.specs.Fills.{end_of_sound}
+use Rattle.wav_reader.specs.Fills.{IsInFrame, end_of_sound}
+use Rattle.wav_reader.specs.Supplies.{block_of}
 use Rattle.wav_reader.specs.Wavs.{ring_block, piece_at, ring_bytes}
 use Rattle.wav_reader.specs.Readers.{IsNext, doubled, place_of, ring_part, file_bytes, frames_in}
 use Rattle.wav_reader.proofs.RingLemmas.{pieces-more, pair_at, doubled-add, length-doubled, ring_bytes-mono, ring_bytes-stereo}
 
 -- the bytes of a frame
+-- a block has four bytes
+pub block_four_of : (head : Head) → IsRingFormat head.format → block_of head ≡ 4
+block_four_of head form = rw (form.bits, form.channels) refl
+
 pub frame_mono : (head : Head) → IsRingFormat head.format → head.mono ≡ true → frame_length head.mono head.format ≡ 2
 frame_mono head form mono = rw (mono, form.bits) refl
 
@@ -233,6 +238,39 @@ place_before head at form inside = by head.mono refl where
   by : (mono : Bool) → head.mono ≡ mono → place_of head at + 1 ≤ end_of_sound head
   by true mono = rw (mono, form.bits) (omega (arith, inside))
   by false mono = rw (mono, form.bits, form.channels) (omega (arith, inside))
+
+-- the place of a byte stands in its frame
+pub place_in_frame : (head : Head) (at at' place : ℕ) → IsRingFormat head.format → place ≡ place_of head at → at' ≡ at → place < end_of_sound head → IsInFrame head at' place
+place_in_frame head at at' place form is same early = by head.mono refl where
+  by : (mono : Bool) → head.mono ≡ mono → IsInFrame head at' place
+  by true mono =
+      let two = frame_mono head form mono in
+      let four = block_four_of head form in
+      let there : place ≡ head.from + at / 4 * 2 + at % 2 = is ∙ place_mono head at mono in
+      record { start = rw (two, four, same) (omega (arith, there)); within = rw (two, four, same) (omega (arith, there)); early = early }
+  by false mono =
+      let long = frame_stereo head form mono in
+      let four = block_four_of head form in
+      let there : place ≡ head.from + at = is ∙ place_stereo head at mono in
+      record { start = rw (long, four, same) (omega (arith, there)); within = rw (long, four, same) (omega (arith, there)); early = early }
+
+-- the place after so many bytes from whole frames on stands in the frame after those that they make up
+pub frame_after : (head : Head) (at count at' place : ℕ) → IsRingFormat head.format → at % 4 ≡ 0 → place ≡ place_of head at + count → at' ≡ at + 4 * frames_in head.mono count
+    → place < end_of_sound head → IsInFrame head at' place
+frame_after head at count at' place form whole is after early = by head.mono refl where
+  by : (mono : Bool) → head.mono ≡ mono → IsInFrame head at' place
+  by true mono =
+      let two = frame_mono head form mono in
+      let four = block_four_of head form in
+      let there : place ≡ head.from + at / 4 * 2 + at % 2 + count = is ∙ ap (λ (n : ℕ). n + count) (place_mono head at mono) in
+      let after' : at' ≡ at + 4 * (count / 2) = after ∙ ap (λ (mono : Bool). at + 4 * frames_in mono count) mono in
+      record { start = rw (two, four) (omega (arith, there, after', whole)); within = rw (two, four) (omega (arith, there, after', whole)); early = early }
+  by false mono =
+      let long = frame_stereo head form mono in
+      let four = block_four_of head form in
+      let there : place ≡ head.from + at + count = is ∙ ap (λ (n : ℕ). n + count) (place_stereo head at mono) in
+      let after' : at' ≡ at + 4 * (count / 4) = after ∙ ap (λ (mono : Bool). at + 4 * frames_in mono count) mono in
+      record { start = rw (long, four) (omega (arith, there, after', whole)); within = rw (long, four) (omega (arith, there, after', whole)); early = early }
 
 pub frames_back : (mono : Bool) (frames bytes : ℕ) → bytes ≡ file_bytes mono frames → frames_in mono bytes ≡ frames
 frames_back true frames bytes all = omega arith

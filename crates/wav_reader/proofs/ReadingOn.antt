@@ -1,5 +1,5 @@
 -- Reads of a file's sound, one after another.
-use Rattle.std.proofs.Common.{◌≡◌, ◌≢◌, ◌≤◌, ◌<◌, ℕ, ◌+◌, ◌*◌, ◌%◌, Bool, List, ◌++◌, length, take, Option, Some, None, Result, Ok, Err, OnOk, OnErr, subst, refl, sym, ap, ◌∙◌, arith, length-append, [], append-nil}
+use Rattle.std.proofs.Common.{◌≡◌, ◌≢◌, ◌≤◌, ◌<◌, ℕ, ◌+◌, ◌*◌, ◌%◌, Bool, true, false, List, ◌++◌, length, take, Option, Some, None, Result, Ok, Err, OnOk, OnErr, subst, refl, sym, ap, ◌∙◌, arith, length-append, [], append-nil}
 use Rattle.std.proofs.lemmas.List.{length-take-le, take-take}
 use Rattle.std.proofs.Math.Seq.{take-length, take-append_seam}
 use Rattle.circular_buffer.specs.Buffer.{Buffer, buffer}
@@ -9,12 +9,13 @@ use Rattle.hda_outside.specs.Pieces.{HoldsFront, IsCutShort}
 use Rattle.hda_outside.specs.declared.pieces.Cut.{Cut}
 use Rattle.hda_outside.specs.declared.pieces.Cut.TheVariants.{Failed, Short}
 use Rattle.hda_outside.specs.declared.pieces.Piece.{Piece}
+use Rattle.wav_reader.specs.Fills.{end_of_sound}
 use Rattle.wav_reader.specs.Heads.{Head, IsRingFormat}
-use Rattle.wav_reader.specs.Readers.{IsGrown, IsNext, ReadsOn, answer_of, place_of, ring_part, file_bytes, frames_in}
+use Rattle.wav_reader.specs.Readers.{IsGrown, IsNext, ReadsOn, AreGivenFor, answer_of, place_of, ring_part, file_bytes, frames_in}
 use Rattle.wav_reader.specs.Shelves.{ShelfSeen, HasFile}
 use Rattle.wav_reader.specs.Wavs.{ring_bytes}
 use Rattle.wav_reader.proofs.HeadLemmas.{head_of-within}
-use Rattle.wav_reader.proofs.PlaceLemmas.{next_byte, next_frames, frames_fit, frames_few, frames_less, length-ring_part, part_inside, frames_back, bytes_bound, place_before}
+use Rattle.wav_reader.proofs.PlaceLemmas.{next_byte, next_frames, frames_fit, frames_few, frames_less, length-ring_part, part_inside, frames_back, bytes_bound, place_before, frame_after, place_in_frame}
 use Rattle.wav_reader.proofs.ReadLemmas.{place_inside, front_at, still_has}
 
 -- a piece of a file that was read: what reading it promises, by what the shelf tells and has counted under the file's name
@@ -98,7 +99,15 @@ module _ (name : List ℕ) (head : Head) (taken frames : ℕ) (form : IsRingForm
         later = is.later;
         failed = λ same. is.failed (err_is piece.cut Failed same);
         empties_later = is.empties_later;
-        short = λ place same. (let cut = is.short place (err_is piece.cut (Short place) same) in let first = cut.within in let here = cut.at in (omega (arith, inside, size, first, here), cut.rose));
+        short = λ place same.
+            (let cut = is.short place (err_is piece.cut (Short place) same) in
+            let first = cut.within in
+            let here = cut.at in
+            let early : place < end_of_sound head = omega (arith, inside, size, first, here) in (
+              frame_after head (taken + length old.items) piece.count (taken + length (old.items ++ frames_part head.mono buf piece.count)) place form aligned here
+                  (omega (arith, both, long)) early,
+              cut.rose,
+            ));
         not_short = λ none. is.not_short (λ place same. none place (err_of piece.cut (Short place) same));
         reads = λ file has next.
             next_frames file head taken old.items buf piece.count whole form (head_of-within file head has.head_is) aligned (omega (arith, there, less))
@@ -158,8 +167,11 @@ module _ (name : List ℕ) (head : Head) (taken : ℕ) (form : IsRingFormat head
             (let cut = is.short place (err_is piece.cut (Short place) same) in
             let first = cut.within in
             let here = cut.at in
-            let inside = place_before head (taken + length old.items) form (omega (arith, there)) in
-            (omega (arith, inside, size, first, here), cut.rose));
+            let inside = place_before head (taken + length old.items) form (omega (arith, there)) in (
+              place_in_frame head (taken + length old.items) (taken + length (old.items ++ take piece.count buf)) place form (omega (arith, size, first, here))
+                  (omega (arith, both, long, size, first)) (omega (arith, inside, size, first, here)),
+              cut.rose,
+            ));
         not_short = λ none. is.not_short (λ place same. none place (err_of piece.cut (Short place) same));
         reads = next_held piece.cut refl;
         never_short = λ file has place same.
@@ -267,3 +279,69 @@ reads_early count more name head taken before after old new result answer cut le
     reads = read.reads;
     never_short = read.never_short;
   })
+
+-- ---- what was given for frames
+
+given_by : (mono : Bool) (old new : Buffer ℕ) (before after count frames : ℕ) (found : Option Cut) → length new.items ≡ length old.items + 4 * frames_in mono count → after ≤ before + count
+    → (found ≡ None → count ≡ file_bytes mono frames) → AreGivenFor mono old new before after (answer_of found)
+given_by true old new before after count frames None long given all = (let exact = all refl in omega (arith, long, given, exact))
+given_by false old new before after count frames None long given all = (let exact = all refl in omega (arith, long, given, exact))
+given_by true old new before after count frames (Some cut) long given all = omega (arith, long, given)
+given_by false old new before after count frames (Some cut) long given all = omega (arith, long, given)
+
+-- for the frames of a piece
+pub given_piece : (mono : Bool) (frames before after : ℕ) (old : Buffer ℕ) (buf : List ℕ) (piece : Piece) → length buf ≡ file_bytes mono frames → piece.count ≤ length buf
+    → after ≤ before + piece.count → (piece.cut ≡ None → piece.count ≡ length buf)
+    → AreGivenFor mono old (buffer (old.items ++ frames_part mono buf piece.count) old.capacity) before after (answer_of piece.cut)
+given_piece mono frames before after old buf piece size within given all =
+    let both = length-append old.items (frames_part mono buf piece.count) in
+    let long = part_length mono buf piece.count within in
+    given_by mono old (buffer (old.items ++ frames_part mono buf piece.count) old.capacity) before after piece.count frames piece.cut (omega (arith, both, long)) given
+    (λ none. all none ∙ size)
+
+-- for so many frames
+pub given_frames : (mono : Bool) (old new : Buffer ℕ) (before after frames : ℕ) → length new.items ≡ length old.items + 4 * frames → after ≤ before + file_bytes mono frames
+    → AreGivenFor mono old new before after (Ok tt)
+given_frames true old new before after frames long given = omega (arith, long, given)
+given_frames false old new before after frames long given = omega (arith, long, given)
+
+pub more_frames : (mono : Bool) (old held new : Buffer ℕ) (before between after done frames : ℕ) → length held.items ≡ length old.items + 4 * done → length new.items ≡ length held.items + 4 * frames
+    → between ≤ before + file_bytes mono done → AreGivenFor mono held new between after (Ok tt) → after ≤ before + file_bytes mono (done + frames)
+more_frames true old held new before between after done frames long longer given more = omega (arith, long, longer, given, more)
+more_frames false old held new before between after done frames long longer given more = omega (arith, long, longer, given, more)
+
+-- a read of no byte after it
+pub given_last : (mono : Bool) (old held new : Buffer ℕ) (before between after : ℕ) (result : Result Unit Cut) → IsGrown 0 held new result → after ≤ between + 0 → AreGivenFor mono old held before between (Ok tt)
+    → AreGivenFor mono old new before after result
+given_last true old held new before between after (Ok u) grown given first = (let all = grown.all in omega (arith, all, given, first))
+given_last false old held new before between after (Ok u) grown given first = (let all = grown.all in omega (arith, all, given, first))
+given_last mono old held new before between after (Err cut) grown given first = absurd (let early = grown.early in let least = grown.least in omega (arith, early, least))
+
+-- nothing was given for nothing
+pub given_none : (mono : Bool) (held : Buffer ℕ) (given : ℕ) → AreGivenFor mono held held given given (Ok tt)
+given_none true held given = omega arith
+given_none false held given = omega arith
+
+-- one after another, each for whole frames
+pub given_both : (mono : Bool) (old held new : Buffer ℕ) (before between after : ℕ) (frames : ℕ) (result : Result Unit Cut) → length held.items ≡ length old.items + 4 * frames
+    → length held.items ≤ length new.items → between ≤ before + file_bytes mono frames → AreGivenFor mono held new between after result → AreGivenFor mono old new before after result
+given_both true old held new before between after frames (Ok u) long least first next = omega (arith, long, least, first, next)
+given_both false old held new before between after frames (Ok u) long least first next = omega (arith, long, least, first, next)
+given_both true old held new before between after frames (Err cut) long least first next = omega (arith, long, least, first, next)
+given_both false old held new before between after frames (Err cut) long least first next = omega (arith, long, least, first, next)
+
+-- a read of no byte is not cut
+pub none_cut : (mono : Bool) (old new : Buffer ℕ) (before after count : ℕ) (result answer : Result Unit Cut) (cut : Cut) → count ≡ 0 → result ≡ Err cut → IsGrown count old new result
+    → AreGivenFor mono old new before after answer
+none_cut mono old new before after count (Ok u) answer cut none is grown = absurd (no_err is) where
+  no_err : answer_of None ≡ Err cut → ⊥
+  no_err is = cc
+none_cut mono old new before after count (Err other) answer cut none is grown = absurd (let early = grown.early in let least = grown.least in omega (arith, early, least, none))
+
+-- after a read of no byte
+pub given_after : (mono : Bool) (old held new : Buffer ℕ) (before between after : ℕ) (result : Result Unit Cut) → length held.items ≡ length old.items → between ≤ before
+    → AreGivenFor mono held new between after result → AreGivenFor mono old new before after result
+given_after true old held new before between after (Ok u) same none next = omega (arith, same, none, next)
+given_after false old held new before between after (Ok u) same none next = omega (arith, same, none, next)
+given_after true old held new before between after (Err cut) same none next = omega (arith, same, none, next)
+given_after false old held new before between after (Err cut) same none next = omega (arith, same, none, next)

@@ -1,14 +1,16 @@
 -- What is held after a fill.
-use Rattle.std.proofs.Common.{◌≡◌, ◌≢◌, ◌≤◌, ◌<◌, ℕ, ◌+◌, ◌-◌, ◌*◌, ◌/◌, ◌%◌, min, Bool, true, false, if◌then◌else◌, List, ◌++◌, take, drop, length, Some, Result, Ok, Err, OnOk, OnErr, refl, sym, ap, ◌∙◌, arith}
+use Rattle.std.proofs.Common.{◌≡◌, ◌≢◌, ◌≤◌, ◌<◌, ℕ, ◌+◌, ◌-◌, ◌*◌, ◌/◌, ◌%◌, min, Bool, true, false, if◌then◌else◌, List, ◌++◌, take, drop, length, Some, Result, Ok, Err, OnOk, OnErr, refl, sym, ap, subst, inl, inr, ◌∙◌, arith}
 use Rattle.std.specs.Result.{is_err}
-use Rattle.std.proofs.lemmas.List.{take-append-drop, take-take, length-take-le}
+use Rattle.std.specs.Prelude.{◌⊎◌}
+use Rattle.std.proofs.lemmas.List.{take-append-drop, take-take, length-take-le, take_all}
 use Rattle.circular_buffer.specs.Buffer.{Buffer, buffer}
 use Rattle.hda_outside.specs.declared.pieces.Cut.{Cut}
 use Rattle.stream_format.specs.declared.format.Bits.TheVariants.{B16}
-use Rattle.wav_reader.specs.Heads.{Head}
+use Rattle.wav_reader.specs.Heads.{Head, IsRingFormat, frame_length}
 use Rattle.wav_reader.specs.Supplies.{Source, Supplied, IsFilled, block_of}
-use Rattle.wav_reader.specs.Fills.{IsFull, IsCut}
-use Rattle.wav_reader.specs.Readers.{IsGrown, IsNext}
+use Rattle.wav_reader.specs.Fills.{IsFull, IsCut, IsInFrame, AreFramesGiven}
+use Rattle.wav_reader.specs.Readers.{IsGrown, IsNext, AreGivenFor, file_bytes}
+use Rattle.wav_reader.proofs.PlaceLemmas.{frame_mono, frame_stereo, block_four_of}
 
 -- a block has four bytes
 pub block_four : (head : Head) → head.format.bits ≡ B16 → head.format.channels ≡ 2 → block_of head ≡ 4
@@ -136,3 +138,75 @@ next_front pcm taken new next =
     ap (λ (bytes : List ℕ). take (length new.items / 4 * 4) bytes) next
     ∙ take-take (length new.items / 4 * 4) (length new.items) (drop taken pcm) inside
     ∙ ap (λ (count : ℕ). take count (drop taken pcm)) (sym (cut_length new))
+
+-- ---- what was given, and where it was short
+
+-- what was held stays in front
+pub begins_by : (count : ℕ) (old new : Buffer ℕ) (result : Result Unit Cut) → IsGrown count old new result → take (length new.items) old.items ≡ take (length old.items) new.items
+begins_by count old new result grown = take_all (length new.items) old.items grown.least ∙ sym grown.kept
+
+-- also of the first bytes of it
+pub begins_cut : (count n : ℕ) (old new : Buffer ℕ) (result : Result Unit Cut) → n ≤ length new.items → IsGrown count old new result
+    → take (length (take n new.items)) old.items ≡ take (length old.items) (take n new.items)
+begins_cut count n old new result within grown = by (fewer n (length old.items)) where
+  fewer : (n held : ℕ) → (n ≤ held) ⊎ (held ≤ n)
+  fewer n held = grind arith
+
+  long : length (take n new.items) ≡ n
+  long = length-take-le n new.items within
+
+  by : (n ≤ length old.items) ⊎ (length old.items ≤ n) → take (length (take n new.items)) old.items ≡ take (length old.items) (take n new.items)
+  by (inl less) =
+      ap (λ (k : ℕ). take k old.items) long ∙ ap (take n) (sym grown.kept) ∙ take-take n (length old.items) new.items less
+      ∙ sym (take_all (length old.items) (take n new.items) (omega (arith, long, less)))
+  by (inr more) =
+      ap (λ (k : ℕ). take k old.items) long ∙ take_all n old.items more ∙ sym grown.kept ∙ sym (take-take (length old.items) n new.items more)
+
+-- the frames of what is held
+frames_so : (mono : Bool) (head : Head) (old new : Buffer ℕ) (items : List ℕ) (before after : ℕ) (result : Result Unit Cut) → frame_length head.mono head.format ≡ file_bytes mono 1 → block_of head ≡ 4
+    → (length items - length old.items) / 4 ≡ (length new.items - length old.items) / 4 → AreGivenFor mono old new before after result → AreFramesGiven head old.items items before after result
+frames_so true head old new items before after (Ok u) one four same given = rw (one, four) (omega (arith, same, given))
+frames_so false head old new items before after (Ok u) one four same given = rw (one, four) (omega (arith, same, given))
+frames_so true head old new items before after (Err cut) one four same given = rw (one, four) (omega (arith, same, given))
+frames_so false head old new items before after (Err cut) one four same given = rw (one, four) (omega (arith, same, given))
+
+pub frames_by : (head : Head) (old new : Buffer ℕ) (items : List ℕ) (before after : ℕ) (result : Result Unit Cut) → IsRingFormat head.format
+    → (length items - length old.items) / 4 ≡ (length new.items - length old.items) / 4 → AreGivenFor head.mono old new before after result → AreFramesGiven head old.items items before after result
+frames_by head old new items before after result form same given = by head.mono refl where
+  by : (mono : Bool) → head.mono ≡ mono → AreFramesGiven head old.items items before after result
+  by true mono =
+      frames_so true head old new items before after result (frame_mono head form mono) (block_four_of head form) same
+      (subst (λ (mono : Bool). AreGivenFor mono old new before after result) mono given)
+  by false mono =
+      frames_so false head old new items before after result (frame_stereo head form mono) (block_four_of head form) same
+      (subst (λ (mono : Bool). AreGivenFor mono old new before after result) mono given)
+
+-- a place in a frame by another count of bytes in it
+pub in_same_frame : (head : Head) (at at' place : ℕ) → at' / block_of head ≡ at / block_of head → IsInFrame head at place → IsInFrame head at' place
+in_same_frame head at at' place same is = record {
+  start = rw same is.start;
+  within = rw same is.within;
+  early = is.early;
+}
+
+-- whole blocks are wanted
+pub whole_blocks : (frames taken room held count : ℕ) → count ≡ min (frames * 4 - taken) room - held → taken % 4 ≡ 0 → held % 4 ≡ 0 → room % 4 ≡ 0 → count % 4 ≡ 0
+whole_blocks frames taken room held count is taken_is held_is room_is = by (least (frames * 4 - taken) room) where
+  least : (left room : ℕ) → (min left room ≡ left) ⊎ (min left room ≡ room)
+  least left room = grind arith
+
+  by : (min (frames * 4 - taken) room ≡ frames * 4 - taken) ⊎ (min (frames * 4 - taken) room ≡ room) → count % 4 ≡ 0
+  by (inl same) = omega (arith, is, same, taken_is, held_is)
+  by (inr same) = omega (arith, is, same, room_is, held_is)
+
+-- as many frames are whole
+pub same_frames : (held : ℕ) (items : List ℕ) → held % 4 ≡ 0 → (length (take (length items / 4 * 4) items) - held) / 4 ≡ (length items - held) / 4
+same_frames held items held_is =
+    let long = length-take-le (length items / 4 * 4) items (omega arith) in
+    omega (arith, long, held_is)
+
+pub same_block : (head : Head) (taken : ℕ) (items : List ℕ) → block_of head ≡ 4 → taken % 4 ≡ 0
+    → (taken + length (take (length items / 4 * 4) items)) / block_of head ≡ (taken + length items) / block_of head
+same_block head taken items four taken_is =
+    let long = length-take-le (length items / 4 * 4) items (omega arith) in
+    rw four (omega (arith, long, taken_is))

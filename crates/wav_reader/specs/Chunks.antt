@@ -1,6 +1,8 @@
--- The chunks of a WAV file, in order. A file begins with `RIFF`, four bytes of any size, and `WAVE`. Then chunks follow: four bytes name,
--- four bytes size, the body, and a pad byte after an odd size. Numbers stand lowest byte first.
-use Rattle.std.specs.Prelude.{◌≡◌, ◌≤◌, ℕ, zero, suc, ◌+◌, ◌-◌, ◌%◌, ◌==◌, nat_eq, nat_lt, nat_le, Bool, ◌&&◌, List, [], ◌∷◌, length, take, drop, codes, Option, Some, None, if◌then◌else◌}
+-- The chunks of a WAV file, in order. A file begins with `RIFF`, four bytes of any size, and `WAVE`. Then chunks
+-- follow: four bytes name, four bytes size, the body, and a pad byte after an odd size. Numbers stand lowest byte
+-- first.
+use Rattle.std.specs.Prelude.{◌≡◌, ◌≤◌, ℕ, zero, suc, ◌+◌, ◌-◌, ◌%◌, ◌==◌, nat_eq, nat_lt, nat_le, Bool, ◌&&◌, List, []}
+use Rattle.std.specs.Prelude.{◌∷◌, length, take, drop, codes, Option, Some, None, if◌then◌else◌}
 use Rattle.std.specs.List.{starts_with}
 use Rattle.byteorder.specs.Endian.{little_number}
 use Rattle.wav_reader.specs.declared.chunks.Kind.{Kind}
@@ -17,13 +19,15 @@ is_riff bytes = stands_at bytes 0 (codes "RIFF") && stands_at bytes 8 (codes "WA
 
 -- what a chunk's name says
 abbrev pub kind_at : List ℕ → ℕ → Kind
-kind_at bytes at = if stands_at bytes at (codes "fmt ") then Format else (if stands_at bytes at (codes "data") then Data else Other)
+kind_at bytes at =
+    if stands_at bytes at (codes "fmt ") then Format else (if stands_at bytes at (codes "data") then Data else Other)
 
 -- a chunk's size, after its name
 abbrev pub size_at : List ℕ → ℕ → ℕ
 size_at bytes at = little_number 4 (drop (at + 4) bytes)
 
--- how many bytes the body of a chunk of some size has, where so many are left in the file: FFFFFFFFh of the chunk `data` means all of them
+-- how many bytes the body of a chunk of some size has, where so many are left in the file: FFFFFFFFh of the chunk
+-- `data` means all of them
 abbrev pub body_length : Kind → ℕ → ℕ → ℕ
 body_length Format size left = size
 body_length Data size left = if size == 0xFFFF_FFFF then left else size

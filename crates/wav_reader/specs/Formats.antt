@@ -1,12 +1,15 @@
--- What the chunk `fmt ` says of the sound. Which of its fields are checked, in which order, and for what is this project's own.
-use Rattle.std.specs.Prelude.{ℕ, ◌*◌, ◌==◌, nat_le, Bool, true, false, List, [], ◌∷◌, length, drop, Result, Ok, Err, Option, Some, None, if◌then◌else◌}
+-- What the chunk `fmt ` says of the sound. Which of its fields are checked, in which order, and for what is this
+-- project's own.
+use Rattle.std.specs.Prelude.{ℕ, ◌*◌, ◌==◌, nat_le, Bool, true, false, List, [], ◌∷◌, length, drop, Result, Ok, Err}
+use Rattle.std.specs.Prelude.{Option, Some, None, if◌then◌else◌}
 use Rattle.std.specs.Option.{ok_or}
 use Rattle.std.specs.List.{find}
 use Rattle.byteorder.specs.Endian.{little_number}
 use Rattle.stream_format.specs.declared.format.Rate.{Rate}
 use Rattle.stream_format.specs.declared.format.Rate.TheVariants.{R8, R16, R44, R48, R96, R192}
 use Rattle.wav_reader.specs.declared.fault.WavFault.{WavFault}
-use Rattle.wav_reader.specs.declared.fault.WavFault.TheVariants.{NoFormat, Tag, Channels, Rate as OtherRate, Bits, BlockAlign}
+use Rattle.wav_reader.specs.declared.fault.WavFault.TheVariants.{NoFormat, Tag, Channels, Rate as OtherRate, Bits}
+use Rattle.wav_reader.specs.declared.fault.WavFault.TheVariants.{BlockAlign}
 use Rattle.wav_reader.specs.declared.formats.Sound.{Sound}
 use Rattle.wav_reader.specs.declared.formats.Fields.{Fields}
 

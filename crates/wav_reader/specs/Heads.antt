@@ -1,6 +1,8 @@
--- Where the sound of a WAV file stands: the first chunk `fmt ` says its format, and the first chunk `data` has it. Chunks are read in order,
--- and the first fault counts. Which chunks are read and what is a fault is this project's own.
-use Rattle.std.specs.Prelude.{◌≡◌, ◌≤◌, ℕ, ◌+◌, ◌*◌, ◌/◌, List, length, Bool, true, false, Result, Ok, Err, Option, Some, None, if◌then◌else◌}
+-- Where the sound of a WAV file stands: the first chunk `fmt ` says its format, and the first chunk `data` has it.
+-- Chunks are read in order, and the first fault counts. Which chunks are read and what is a fault is this project's
+-- own.
+use Rattle.std.specs.Prelude.{◌≡◌, ◌≤◌, ℕ, ◌+◌, ◌*◌, ◌/◌, List, length, Bool, true, false, Result, Ok, Err, Option}
+use Rattle.std.specs.Prelude.{Some, None, if◌then◌else◌}
 use Rattle.std.specs.List.{find, before_first}
 use Rattle.stream_format.specs.declared.format.Bits.{Bits}
 use Rattle.stream_format.specs.declared.format.Bits.TheVariants.{B16, B24, B32}
@@ -14,8 +16,8 @@ use Rattle.wav_reader.specs.declared.formats.Sound.{Sound}
 use Rattle.wav_reader.specs.Chunks.{is_riff, chunks_of, is_cut, body_of}
 use Rattle.wav_reader.specs.Formats.{◌>>=◌, sound_of, checked}
 
--- what a file says before its sound: the format in which the ring gets it, whether a frame of the file has one sample that is doubled,
--- the place of the first frame in the file, and how many whole frames there are
+-- what a file says before its sound: the format in which the ring gets it, whether a frame of the file has one sample
+-- that is doubled, the place of the first frame in the file, and how many whole frames there are
 pub record Head : Type 0 where
   pub format : Layout
   pub mono : Bool
@@ -79,8 +81,8 @@ abbrev pub sound_at : List ℕ → Bool → Option Sound → Option Chunk → Re
 sound_at bytes cut sound (Some chunk) = sound_in sound chunk
 sound_at bytes cut sound None = Err (if cut then Truncated (length bytes) else NoData)
 
--- what some chunks say: of those before the first `data` the first `fmt ` says the sound, whose fault comes first since it stands
--- first, and the first `data` has it
+-- what some chunks say: of those before the first `data` the first `fmt ` says the sound, whose fault comes first since
+-- it stands first, and the first `data` has it
 abbrev pub head_by : List ℕ → Bool → List Chunk → Result Head WavFault
 head_by bytes cut chunks = do
   sound ← sound_by bytes (find is_format (before_first is_data chunks))

@@ -23,4 +23,9 @@ AreReadBack = (size : List ℕ) (parts : List Part) → length size ≡ 4 → Al
 abbrev pub IsHeardAgain : Type 0
 IsHeardAgain = (rate : Rate) (sound : List ℕ) → length sound % 4 ≡ 0 → length sound < 0xFFFF_FFFF
     → wav_of (stereo_file rate sound)
-    ≡ Ok (record { format = record { rate = rate; bits = B16; channels = 2 }; mono = false; frames = length sound / 4; pcm = sound })
+    ≡ Ok (record {
+      format = record { rate = rate; bits = B16; channels = 2 };
+      mono = false;
+      frames = length sound / 4;
+      pcm = sound;
+    })

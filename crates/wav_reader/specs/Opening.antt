@@ -17,7 +17,8 @@ head_in_file head = record { format = layout head.format; mono = head.mono; from
 
 -- what was answered of a file with these bytes
 abbrev pub IsOpened : (file : List ℕ) → Result WavHead WavOpen → Type 0
-IsOpened file (Ok head) = (head.length ≡ length file) × (length file ≤ most_wav_bytes) × (head_of file ≡ Ok (head_in_file head))
+IsOpened file (Ok head) = (head.length ≡ length file) × (length file ≤ most_wav_bytes)
+    × (head_of file ≡ Ok (head_in_file head))
 IsOpened file (Err Failed) = Unit {0}
 IsOpened file (Err TooLong) = most_wav_bytes < length file
 IsOpened file (Err (Wav fault)) = (length file ≤ most_wav_bytes) × (head_of file ≡ Err fault)

@@ -1,5 +1,6 @@
 -- What the readers of a file promise one another.
-use Rattle.std.specs.Prelude.{◌≢◌, Bool, Err, List, None, Ok, OnErr, OnOk, Option, Result, Some, drop, if◌then◌else◌, length, nat_le, take, true, ℕ, ◌%◌, ◌*◌, ◌+◌, ◌-◌, ◌/◌, ◌≡◌, ◌≤◌, ◌<◌}
+use Rattle.std.specs.Prelude.{◌≢◌, Bool, Err, List, None, Ok, OnErr, OnOk, Option, Result, Some, drop, if◌then◌else◌}
+use Rattle.std.specs.Prelude.{length, nat_le, take, true, ℕ, ◌%◌, ◌*◌, ◌+◌, ◌-◌, ◌/◌, ◌≡◌, ◌≤◌, ◌<◌}
 use Rattle.circular_buffer.specs.Buffer.{Buffer}
 use Rattle.stream_format.specs.Layouts.{layout}
 use Rattle.hda_outside.specs.declared.pieces.Cut.{Cut}
@@ -23,7 +24,7 @@ use Rattle.wav_reader.specs.Heads.{Head, sound_by}
 use Rattle.wav_reader.specs.Wavs.{ring_block, pieces_of, ring_bytes}
 use Rattle.hda_outside.specs.Counts.{Rose}
 use Rattle.hda_outside.specs.Shelf.{Files}
-use Rattle.wav_reader.specs.Fills.{end_of_sound}
+use Rattle.wav_reader.specs.Fills.{IsInFrame}
 use Rattle.wav_reader.specs.Shelves.{ShelfSeen, HasFile, seen_as}
 
 -- the chunk with this head at a place of a file of so many bytes, if it is whole
@@ -35,7 +36,8 @@ chunk_by head at file_len = record {
 }
 
 abbrev pub chunk_with : List ℕ → ℕ → ℕ → Option Chunk
-chunk_with head at file_len = if nat_le (at + 8 + (chunk_by head at file_len).len) file_len then Some (chunk_by head at file_len) else None
+chunk_with head at file_len = if nat_le (at + 8 + (chunk_by head at file_len).len) file_len then Some
+    (chunk_by head at file_len) else None
 
 -- the sound that is known after a chunk that is not `data`
 abbrev pub known_by_kind : Kind → List ℕ → Option Sound → Chunk → Result (Option Sound) WavFault
@@ -102,6 +104,14 @@ frames_in mono bytes = if mono then bytes / 2 else bytes / 4
 abbrev pub place_of : Head → ℕ → ℕ
 place_of head at = if head.mono then head.from + at / 4 * 2 + at % 2 else head.from + at
 
+-- so many bytes of the file were given for frames whose ring bytes were put last, and where it was cut for a part of
+-- one more
+abbrev pub AreGivenFor : (mono : Bool) → (old new : Buffer ℕ) → (before after : ℕ) → Result Unit Cut → Type 0
+AreGivenFor mono old new before after (Ok done) = after ≤ before + file_bytes mono
+    ((length new.items - length old.items) / 4)
+AreGivenFor mono old new before after (Err cut)
+    = after < before + (file_bytes mono ((length new.items - length old.items) / 4) + file_bytes mono 1)
+
 -- held bytes are the next ones of a sound, of which so many were taken
 abbrev pub IsNext : (pcm : List ℕ) (taken : ℕ) (held : List ℕ) → Type 0
 IsNext pcm taken held = held ≡ take (length held) (drop taken pcm)
@@ -119,8 +129,8 @@ pub record IsGrown (count : ℕ) (old new : Buffer ℕ) (result : Result Unit Cu
 abbrev pub seen_under : Option Files → (faults empties : List ℕ → ℕ) → (given : ℕ) → (name : List ℕ) → ShelfSeen
 seen_under told faults empties given name = seen_as told (faults name) (empties name) given
 
--- so many bytes of the sound under a name, or fewer where the reading was cut, were read behind those that are held, of which the first is
--- that after so many taken ones
+-- so many bytes of the sound under a name, or fewer where the reading was cut, were read behind those that are held, of
+-- which the first is that after so many taken ones
 pub record ReadsOn (count : ℕ) (name : List ℕ) (head : Head) (taken : ℕ) (before after : ShelfSeen) (old new : Buffer ℕ)
     (result : Result Unit Cut) : Type 0 where
   pub grown : IsGrown count old new result
@@ -131,7 +141,8 @@ pub record ReadsOn (count : ℕ) (name : List ℕ) (head : Head) (taken : ℕ) (
   pub later : before.faults ≤ after.faults
   pub failed : result ≡ Err cuts.Failed → Rose before.faults after.faults
   pub empties_later : before.empties ≤ after.empties
-  pub short : (place : ℕ) → result ≡ Err (cuts.Short place) → (place < end_of_sound head) × Rose before.empties after.empties
+  pub short : (place : ℕ) → result ≡ Err (cuts.Short place) → IsInFrame head (taken + length new.items) place
+      × Rose before.empties after.empties
   pub not_short : ((place : ℕ) → result ≢ Err (cuts.Short place)) → after.empties ≡ before.empties
   -- where the file is told, the bytes that are held go on as its sound does, and it is not too short
   pub reads : (file : List ℕ) → HasFile before.told name head file → IsNext (ring_bytes file head) taken old.items

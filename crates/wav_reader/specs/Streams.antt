@@ -1,5 +1,6 @@
 -- A file's sound that is read while it is taken.
-use Rattle.std.specs.Prelude.{◌≡◌, ◌≤◌, ◌+◌, ◌-◌, ◌*◌, ◌%◌, drop, length, string_bytes, vec_len, Some, None, if◌then◌else◌}
+use Rattle.std.specs.Prelude.{◌≡◌, ◌≤◌, ◌+◌, ◌-◌, ◌*◌, ◌%◌, drop, length, string_bytes, vec_len, Some, None}
+use Rattle.std.specs.Prelude.{if◌then◌else◌}
 use Rattle.wav_reader.specs.declared.streams.Stream.{Stream}
 use Rattle.wav_reader.specs.declared.supply.Origin.{Origin}
 use Rattle.wav_reader.specs.declared.supply.Origin.TheVariants.{Whole, Streamed}
@@ -15,7 +16,12 @@ pub record IsStream (stream : Stream) : Type 0 where
 
 -- where it reads more
 abbrev pub source_of : Stream → Source
-source_of stream = record { name = string_bytes stream.file.name; head = head_in_file stream.file.head; ring = stream.held.capacity }
+source_of stream = record {
+  name = string_bytes stream.file.name;
+  head = head_in_file stream.file.head;
+  ring
+      = stream.held.capacity;
+}
 
 -- what it is seen as
 abbrev pub stream_seen : Stream → Supplied
@@ -28,7 +34,13 @@ stream_seen stream = record {
 
 -- what a supply is seen as, by where its bytes come from
 abbrev pub supplied_by : Origin → Supplied
-supplied_by (Whole pcm taken) = record { held = drop taken pcm.items; left = length (drop taken pcm.items); taken = taken; source = None }
+supplied_by (Whole pcm taken) = record {
+  held = drop taken pcm.items;
+  left = length (drop taken pcm.items);
+  taken
+      = taken;
+  source = None;
+}
 supplied_by (Streamed stream) = stream_seen stream
 
 abbrev pub IsOrigin : Origin → Type 0

@@ -3,7 +3,8 @@ use Rattle.std.specs.Prelude.{◌≡◌, ◌≤◌, ℕ, ◌-◌, ◌+◌, min, 
 use Rattle.stream_format.specs.Cadence.{bytes_of_block}
 use Rattle.wav_reader.specs.Heads.{Head}
 
--- where a supply reads more sound: the bytes of a file's name, what the file says before its sound, and how many ring bytes are held at most
+-- where a supply reads more sound: the bytes of a file's name, what the file says before its sound, and how many ring
+-- bytes are held at most
 pub record Source : Type 0 where
   pub name : List ℕ
   pub head : Head
@@ -13,15 +14,16 @@ pub record Source : Type 0 where
 abbrev pub block_of : Head → ℕ
 block_of head = bytes_of_block head.format.channels head.format.bits
 
--- the ring bytes that are held, how many are still to come, those among them, how many were taken so far, and where more are read. Where there
--- is no source, all sound was given at once
+-- the ring bytes that are held, how many are still to come, those among them, how many were taken so far, and where
+-- more are read. Where there is no source, all sound was given at once
 pub record Supplied : Type 0 where
   pub held : List ℕ
   pub left : ℕ
   pub taken : ℕ
   pub source : Option Source
 
--- it may yet give this sound: the held bytes are its first, and it is no longer than what is left. Where the file is cut short later on, it is shorter
+-- it may yet give this sound: the held bytes are its first, and it is no longer than what is left. Where the file is
+-- cut short later on, it is shorter
 pub record MayGive (supply : Supplied) (sound : List ℕ) : Type 0 where
   pub later : List ℕ
   pub is : sound ≡ supply.held ++ later
@@ -37,7 +39,12 @@ EndsWith supply sound = length sound ≡ 0 → supply.left ≡ 0
 
 -- after so many bytes were taken
 abbrev pub without : ℕ → Supplied → Supplied
-without count supply = record supply { held = drop count supply.held; left = supply.left - count; taken = supply.taken + count }
+without count supply = record supply {
+  held = drop count supply.held;
+  left = supply.left - count;
+  taken
+      = supply.taken + count;
+}
 
 -- the bytes that were taken between two moments, and the sound at the first, by that at the second
 abbrev pub taken_between : Supplied → Supplied → List ℕ

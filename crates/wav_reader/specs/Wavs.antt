@@ -1,5 +1,5 @@
--- What a WAV file means: its format and its sound in ring bytes, or its first fault. A block of the ring holds a container for each channel,
--- lowest byte first: High Definition Audio 1.0a, 4.5.1.
+-- What a WAV file means: its format and its sound in ring bytes, or its first fault. A block of the ring holds a
+-- container for each channel, lowest byte first: High Definition Audio 1.0a, 4.5.1.
 use Rattle.std.specs.Prelude.{◌≡◌, ℕ, ◌*◌, List, ◌++◌, map, take, drop, Bool, Result, Ok, Err, if◌then◌else◌}
 use Rattle.std.specs.List.{range_with_len, flat_map}
 use Rattle.stream_format.specs.Layouts.{Layout, layout}
@@ -37,7 +37,13 @@ pub record Meaning : Type 0 where
   pub pcm : List ℕ
 
 abbrev pub meaning_by : List ℕ → Head → Meaning
-meaning_by bytes head = record { format = head.format; mono = head.mono; frames = head.frames; pcm = ring_bytes bytes head }
+meaning_by bytes head = record {
+  format = head.format;
+  mono = head.mono;
+  frames = head.frames;
+  pcm = ring_bytes bytes
+      head;
+}
 
 -- what the bytes of a file mean, or their first fault
 abbrev pub wav_of : List ℕ → Result Meaning WavFault

@@ -37,11 +37,13 @@ placed at (part ∷ parts) = chunk_of at part ∷ placed (end_of (chunk_of at pa
 -- the body of a chunk `fmt ` for sound of two channels of 16 bits
 abbrev pub stereo_format : Rate → List ℕ
 stereo_format rate =
-    little_bytes 2 1 ++ (little_bytes 2 2 ++ (little_bytes 4 (hertz rate) ++ (little_bytes 4 (4 * hertz rate) ++ (little_bytes 2 4 ++ little_bytes 2 16))))
+    little_bytes 2 1 ++ (little_bytes 2
+    2 ++ (little_bytes 4 (hertz rate) ++ (little_bytes 4 (4 * hertz rate) ++ (little_bytes 2 4 ++ little_bytes 2 16))))
 
 -- its chunks, and the file of such sound
 abbrev pub stereo_parts : Rate → List ℕ → List Part
-stereo_parts rate sound = record { name = codes "fmt "; body = stereo_format rate } ∷ record { name = codes "data"; body = sound } ∷ []
+stereo_parts rate sound = record { name = codes "fmt "; body = stereo_format rate } ∷ record
+    { name = codes "data"; body = sound } ∷ []
 
 abbrev pub stereo_file : Rate → List ℕ → List ℕ
 stereo_file rate sound = file_bytes (little_bytes 4 (36 + length sound)) (stereo_parts rate sound)

@@ -1,8 +1,9 @@
 //! Sound files: reads a WAV file and gives out its sound, in the bytes of a stream's ring.
 //!
-//! A WAV file is `RIFF`, a size, `WAVE` and then chunks, each of four bytes name, four bytes size, so many bytes of body and, after an
-//! odd size, a pad byte. Numbers stand lowest byte first. The chunk `fmt ` says the format of the sound, and the chunk `data` has it: a
-//! sample of each channel, frame by frame. Which of these are checked is this project's own:
+//! A WAV file is `RIFF`, a size, `WAVE` and then chunks, each of four bytes name, four bytes size, so many bytes of
+//! body and, after an odd size, a pad byte. Numbers stand lowest byte first. The chunk `fmt ` says the format of the
+//! sound, and the chunk `data` has it: a sample of each channel, frame by frame. Which of these are checked is this
+//! project's own:
 //!
 //! | read | checked | fault |
 //! |---|---|---|
@@ -13,9 +14,10 @@
 //! | the first chunk `data` | a chunk `fmt ` stood before it | `NoFormat` |
 //! | the end of the file | a chunk `data` was read before | `NoData` |
 //!
-//! The first fault counts. Nothing after the body of the chunk `data` is read. A size of FFFFFFFFh of the chunk `data` means that its body
-//! goes to the file's end. Later chunks `fmt ` and other chunks are skipped, and so is the rest of a body of the chunk `fmt `; the bytes a
-//! second are not checked. Bytes at the end of the sound that make no whole frame are ignored.
+//! The first fault counts. Nothing after the body of the chunk `data` is read. A size of FFFFFFFFh of the chunk `data`
+//! means that its body goes to the file's end. Later chunks `fmt ` and other chunks are skipped, and so is the rest of
+//! a body of the chunk `fmt `; the bytes a second are not checked. Bytes at the end of the sound that make no whole
+//! frame are ignored.
 #![tactic(auto)]
 
 mod chunks;

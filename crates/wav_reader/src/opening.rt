@@ -1,5 +1,6 @@
 //! Opens a WAV file on a shelf: reads what stands before its sound.
-ghost use Rattle.std.specs.Prelude.{◌≡◌, ◌≢◌, ◌≤◌, ◌<◌, ℕ, ◌+◌, ◌*◌, List, length, take, drop, Some, Ok, IfSome, IfOk, OnOk, Err};
+ghost use Rattle.std.specs.Prelude.{◌≡◌, ◌≢◌, ◌≤◌, ◌<◌, ℕ, ◌+◌, ◌*◌, List, length, take, drop, Some, Ok, IfSome, IfOk};
+ghost use Rattle.std.specs.Prelude.{OnOk, Err};
 ghost use Rattle.hda_outside.specs.Counts.{Rose};
 ghost use Rattle.hda_outside.specs.Shelf.{file_of};
 ghost use Rattle.wav_reader.specs.Chunks.{is_riff as is_riff_file};
@@ -29,8 +30,10 @@ fn read_exactly<S: Shelf>(
 ) -> Result<(), WavOpen>
     requires small { from + length buf.old ≤ 67108864 }
     ensures told { S.told shelf.new ≡ S.told shelf.old }
-    ensures exact { (file : List ℕ) → Tells (S.told shelf.old) name.now file → from + length buf.new ≤ length file → IsAnswer (λ u. u) (Ok tt) result }
-    ensures bytes { OnOk result ((file : List ℕ) → Tells (S.told shelf.old) name.now file → buf.new ≡ take (length buf.new) (drop from file)) }
+    ensures exact { (file : List ℕ) → Tells (S.told shelf.old) name.now file → from + length buf.new ≤ length file
+        → IsAnswer (λ u. u) (Ok tt) result }
+    ensures bytes { OnOk result ((file : List ℕ) → Tells (S.told shelf.old) name.now file
+        → buf.new ≡ take (length buf.new) (drop from file)) }
     ensures of_file { IsOfFile result }
     ensures given { S.given shelf.new ≤ S.given shelf.old + length buf.new }
     ensures given_rises { S.given shelf.old ≤ S.given shelf.new }
@@ -122,7 +125,8 @@ fn seek_sound<S: Shelf>(
 ) -> Result<Head, WavOpen>
     requires small { file_len ≤ 67108864 }
     ensures told { S.told shelf.new ≡ S.told shelf.old }
-    ensures exact { (file : List ℕ) → Tells (S.told shelf.old) name.now file → length file ≡ file_len → IsAnswer head_seen (spec.head_in file) result }
+    ensures exact { (file : List ℕ) → Tells (S.told shelf.old) name.now file → length file ≡ file_len
+        → IsAnswer head_seen (spec.head_in file) result }
     ensures of_file { IsOfFile result }
     ensures within { IfOk result (λ head. end_of_sound (head_seen head) ≤ file_len) }
     ensures format { IfOk result (λ head. IsRingFormat (head_seen head).format) }
@@ -156,7 +160,8 @@ fn begins_as_wav<S: Shelf>(
 ) -> Result<bool, WavOpen>
     requires small { file_len ≤ 67108864 }
     ensures told { S.told shelf.new ≡ S.told shelf.old }
-    ensures exact { (file : List ℕ) → Tells (S.told shelf.old) name.now file → length file ≡ file_len → IsAnswer (λ is. is) (Ok (is_riff_file file)) result }
+    ensures exact { (file : List ℕ) → Tells (S.told shelf.old) name.now file → length file ≡ file_len
+        → IsAnswer (λ is. is) (Ok (is_riff_file file)) result }
     ensures of_file { IsOfFile result }
     ensures given { S.given shelf.new ≤ S.given shelf.old + 12 }
     ensures given_rises { S.given shelf.old ≤ S.given shelf.new }
@@ -174,8 +179,8 @@ fn begins_as_wav<S: Shelf>(
 /// Opens the WAV file `name`: measures it and reads what stands before its sound, and no byte of that.
 ///
 /// # Errors
-/// `Failed` where the shelf failed, `TooLong` and `Wav` where the file is no good, and `OutOfMemory` where memory is short. A file that got
-/// shorter since it was measured is `Truncated` with the place where its end was found.
+/// `Failed` where the shelf failed, `TooLong` and `Wav` where the file is no good, and `OutOfMemory` where memory is
+/// short. A file that got shorter since it was measured is `Truncated` with the place where its end was found.
 pub fn open_wav<S: Shelf>(alloc: Global, shelf: &mut S, name: &str) -> Result<WavHead, WavOpen>
     ensures told { S.told shelf.new ≡ S.told shelf.old }
 
@@ -183,7 +188,8 @@ pub fn open_wav<S: Shelf>(alloc: Global, shelf: &mut S, name: &str) -> Result<Wa
     ensures exact { IfSome (S.told shelf.old) (λ files. IsOpenedBy (file_of files name.now) result) }
     ensures of_file { IsOfFile result }
     ensures short { IfOk result (λ head. head.length ≤ 67108864) }
-    ensures within { IfOk result (λ head. head.from + head.frames * frame_length head.mono (layout head.format) ≤ head.length) }
+    ensures within { IfOk result (λ head. head.from + head.frames * frame_length head.mono
+        (layout head.format) ≤ head.length) }
 
     // No byte of the sound is read.
     ensures given { IfOk result (λ head. S.given shelf.new ≤ S.given shelf.old + (head.from + 64)) }

@@ -3,7 +3,7 @@ ghost use Rattle.std.specs.Prelude.{◌≡◌, ◌≢◌, ◌≤◌, ℕ, ◌+�
 ghost use Rattle.stream_format.specs.Layouts.{layout};
 ghost use Rattle.wav_reader.specs.Heads.{frame_length};
 ghost use Rattle.wav_reader.specs.Opening.{head_in_file};
-ghost use Rattle.wav_reader.specs.Readers.{ReadsOn, place_of, file_bytes, frames_in, seen_under};
+ghost use Rattle.wav_reader.specs.Readers.{AreGivenFor, ReadsOn, place_of, file_bytes, frames_in, seen_under};
 ghost use Rattle.wav_reader.specs.Readers as spec;
 
 use crate::opened::WavHead;
@@ -80,10 +80,13 @@ impl SoundFile {
         requires room { length held.old.items + 1 ≤ held.old.capacity }
         requires there { taken + length held.old.items + 1 ≤ self.now.head.frames * 4 }
         ensures reads { ReadsOn 1 (string_bytes self.now.name) (head_in_file self.now.head) taken
-            (seen_under (S.told shelf.old) (S.faults shelf.old) (S.empties shelf.old) (S.given shelf.old) (string_bytes self.now.name))
-            (seen_under (S.told shelf.new) (S.faults shelf.new) (S.empties shelf.new) (S.given shelf.new) (string_bytes self.now.name))
+            (seen_under (S.told shelf.old) (S.faults shelf.old) (S.empties shelf.old) (S.given shelf.old)
+            (string_bytes self.now.name))
+            (seen_under (S.told shelf.new) (S.faults shelf.new) (S.empties shelf.new) (S.given shelf.new)
+            (string_bytes self.now.name))
             held.old held.new result }
-        ensures asked { (other : List ℕ) → other ≢ string_bytes self.now.name → S.asked shelf.new other ≡ S.asked shelf.old other }
+        ensures asked { (other : List ℕ) → other ≢ string_bytes self.now.name
+            → S.asked shelf.new other ≡ S.asked shelf.old other }
         ensures later { (other : List ℕ) → S.faults shelf.old other ≤ S.faults shelf.new other }
         ensures empties_later { (other : List ℕ) → S.empties shelf.old other ≤ S.empties shelf.new other }
     {
@@ -106,10 +109,13 @@ impl SoundFile {
         requires room { length held.old.items + count ≤ held.old.capacity }
         requires there { taken + length held.old.items + count ≤ self.now.head.frames * 4 }
         ensures reads { ReadsOn count (string_bytes self.now.name) (head_in_file self.now.head) taken
-            (seen_under (S.told shelf.old) (S.faults shelf.old) (S.empties shelf.old) (S.given shelf.old) (string_bytes self.now.name))
-            (seen_under (S.told shelf.new) (S.faults shelf.new) (S.empties shelf.new) (S.given shelf.new) (string_bytes self.now.name))
+            (seen_under (S.told shelf.old) (S.faults shelf.old) (S.empties shelf.old) (S.given shelf.old)
+            (string_bytes self.now.name))
+            (seen_under (S.told shelf.new) (S.faults shelf.new) (S.empties shelf.new) (S.given shelf.new)
+            (string_bytes self.now.name))
             held.old held.new result }
-        ensures asked { (other : List ℕ) → other ≢ string_bytes self.now.name → S.asked shelf.new other ≡ S.asked shelf.old other }
+        ensures asked { (other : List ℕ) → other ≢ string_bytes self.now.name
+            → S.asked shelf.new other ≡ S.asked shelf.old other }
         ensures later { (other : List ℕ) → S.faults shelf.old other ≤ S.faults shelf.new other }
         ensures empties_later { (other : List ℕ) → S.empties shelf.old other ≤ S.empties shelf.new other }
     {
@@ -134,11 +140,16 @@ impl SoundFile {
         requires blocks { (taken + length held.old.items) % 4 ≡ 0 }
         requires room { length held.old.items + 4 * frames ≤ held.old.capacity }
         requires there { taken + length held.old.items + 4 * frames ≤ self.now.head.frames * 4 }
+        ensures given { AreGivenFor self.now.head.mono held.old held.new (S.given shelf.old) (S.given shelf.new)
+            result }
         ensures reads { ReadsOn (4 * frames) (string_bytes self.now.name) (head_in_file self.now.head) taken
-            (seen_under (S.told shelf.old) (S.faults shelf.old) (S.empties shelf.old) (S.given shelf.old) (string_bytes self.now.name))
-            (seen_under (S.told shelf.new) (S.faults shelf.new) (S.empties shelf.new) (S.given shelf.new) (string_bytes self.now.name))
+            (seen_under (S.told shelf.old) (S.faults shelf.old) (S.empties shelf.old) (S.given shelf.old)
+            (string_bytes self.now.name))
+            (seen_under (S.told shelf.new) (S.faults shelf.new) (S.empties shelf.new) (S.given shelf.new)
+            (string_bytes self.now.name))
             held.old held.new result }
-        ensures asked { (other : List ℕ) → other ≢ string_bytes self.now.name → S.asked shelf.new other ≡ S.asked shelf.old other }
+        ensures asked { (other : List ℕ) → other ≢ string_bytes self.now.name
+            → S.asked shelf.new other ≡ S.asked shelf.old other }
         ensures later { (other : List ℕ) → S.faults shelf.old other ≤ S.faults shelf.new other }
         ensures empties_later { (other : List ℕ) → S.empties shelf.old other ≤ S.empties shelf.new other }
     {
@@ -164,11 +175,16 @@ impl SoundFile {
         requires blocks { 1 ≤ frames → (taken + length held.old.items) % 4 ≡ 0 }
         requires room { length held.old.items + 4 * frames ≤ held.old.capacity }
         requires there { taken + length held.old.items + 4 * frames ≤ self.now.head.frames * 4 }
+        ensures given { AreGivenFor self.now.head.mono held.old held.new (S.given shelf.old) (S.given shelf.new)
+            result }
         ensures reads { ReadsOn (4 * frames) (string_bytes self.now.name) (head_in_file self.now.head) taken
-            (seen_under (S.told shelf.old) (S.faults shelf.old) (S.empties shelf.old) (S.given shelf.old) (string_bytes self.now.name))
-            (seen_under (S.told shelf.new) (S.faults shelf.new) (S.empties shelf.new) (S.given shelf.new) (string_bytes self.now.name))
+            (seen_under (S.told shelf.old) (S.faults shelf.old) (S.empties shelf.old) (S.given shelf.old)
+            (string_bytes self.now.name))
+            (seen_under (S.told shelf.new) (S.faults shelf.new) (S.empties shelf.new) (S.given shelf.new)
+            (string_bytes self.now.name))
             held.old held.new result }
-        ensures asked { (other : List ℕ) → other ≢ string_bytes self.now.name → S.asked shelf.new other ≡ S.asked shelf.old other }
+        ensures asked { (other : List ℕ) → other ≢ string_bytes self.now.name
+            → S.asked shelf.new other ≡ S.asked shelf.old other }
         ensures later { (other : List ℕ) → S.faults shelf.old other ≤ S.faults shelf.new other }
         ensures empties_later { (other : List ℕ) → S.empties shelf.old other ≤ S.empties shelf.new other }
     {
@@ -182,7 +198,8 @@ impl SoundFile {
         Ok(())
     }
 
-    /// Reads the next ring bytes, so many, and puts them last behind those that are held, of which the first is that after `taken`.
+    /// Reads the next ring bytes, so many, and puts them last behind those that are held, of which the first is that
+    /// after `taken`.
     pub(crate) fn read_next<S: Shelf>(
         &self,
         alloc: Global,
@@ -195,11 +212,16 @@ impl SoundFile {
         requires piece { length piece.old ≡ 4096 }
         requires room { length held.old.items + count ≤ held.old.capacity }
         requires there { taken + length held.old.items + count ≤ self.now.head.frames * 4 }
+        ensures given { (taken + length held.old.items) % 4 ≡ 0 → count % 4 ≡ 0
+            → AreGivenFor self.now.head.mono held.old held.new (S.given shelf.old) (S.given shelf.new) result }
         ensures reads { ReadsOn count (string_bytes self.now.name) (head_in_file self.now.head) taken
-            (seen_under (S.told shelf.old) (S.faults shelf.old) (S.empties shelf.old) (S.given shelf.old) (string_bytes self.now.name))
-            (seen_under (S.told shelf.new) (S.faults shelf.new) (S.empties shelf.new) (S.given shelf.new) (string_bytes self.now.name))
+            (seen_under (S.told shelf.old) (S.faults shelf.old) (S.empties shelf.old) (S.given shelf.old)
+            (string_bytes self.now.name))
+            (seen_under (S.told shelf.new) (S.faults shelf.new) (S.empties shelf.new) (S.given shelf.new)
+            (string_bytes self.now.name))
             held.old held.new result }
-        ensures asked { (other : List ℕ) → other ≢ string_bytes self.now.name → S.asked shelf.new other ≡ S.asked shelf.old other }
+        ensures asked { (other : List ℕ) → other ≢ string_bytes self.now.name
+            → S.asked shelf.new other ≡ S.asked shelf.old other }
         ensures later { (other : List ℕ) → S.faults shelf.old other ≤ S.faults shelf.new other }
         ensures empties_later { (other : List ℕ) → S.empties shelf.old other ≤ S.empties shelf.new other }
     {

@@ -1,5 +1,6 @@
 //! Ring bytes that are read from a file while they are taken.
-ghost use Rattle.std.specs.Prelude.{◌≡◌, ◌≢◌, ◌≤◌, ◌<◌, ℕ, ◌+◌, ◌*◌, ◌%◌, List, [], take, length, string_bytes, Some, IfOk};
+ghost use Rattle.std.specs.Prelude.{◌≡◌, ◌≢◌, ◌≤◌, ◌<◌, ℕ, ◌+◌, ◌*◌, ◌%◌, List, [], take, length, string_bytes, Some};
+ghost use Rattle.std.specs.Prelude.{IfOk};
 ghost use Rattle.stream_format.specs.Cadence.{block_bytes};
 ghost use Rattle.stream_format.specs.Layouts.{layout};
 ghost use Rattle.wav_reader.specs.Fills.{Fills};
@@ -107,11 +108,14 @@ impl Stream {
     pub(crate) fn fill<S: Shelf>(&mut self, alloc: Global, shelf: &mut S) -> Result<(), Cut>
         requires is_stream { IsStream self.old }
         ensures fills { Fills (source_of self.old) (stream_seen self.old) (stream_seen self.new)
-            (seen_as (S.told shelf.old) (S.faults shelf.old (source_of self.old).name) (S.empties shelf.old (source_of self.old).name) (S.given shelf.old))
-            (seen_as (S.told shelf.new) (S.faults shelf.new (source_of self.old).name) (S.empties shelf.new (source_of self.old).name) (S.given shelf.new)) result }
+            (seen_as (S.told shelf.old) (S.faults shelf.old (source_of self.old).name)
+            (S.empties shelf.old (source_of self.old).name) (S.given shelf.old))
+            (seen_as (S.told shelf.new) (S.faults shelf.new (source_of self.old).name)
+            (S.empties shelf.new (source_of self.old).name) (S.given shelf.new)) result }
         ensures is_stream { IsStream self.new }
         ensures told { S.told shelf.new ≡ S.told shelf.old }
-        ensures asked { (other : List ℕ) → other ≢ (source_of self.old).name → S.asked shelf.new other ≡ S.asked shelf.old other }
+        ensures asked { (other : List ℕ) → other ≢ (source_of self.old).name
+            → S.asked shelf.new other ≡ S.asked shelf.old other }
         ensures later { (other : List ℕ) → S.faults shelf.old other ≤ S.faults shelf.new other }
         ensures empties_later { (other : List ℕ) → S.empties shelf.old other ≤ S.empties shelf.new other }
     {

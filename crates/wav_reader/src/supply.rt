@@ -1,5 +1,6 @@
 //! The supply of sound.
-ghost use Rattle.std.specs.Prelude.{◌≡◌, ◌≢◌, ◌≤◌, ◌<◌, ℕ, ◌+◌, ◌*◌, ◌%◌, List, [], take, length, drop, None, Some, IfOk};
+ghost use Rattle.std.specs.Prelude.{◌≡◌, ◌≢◌, ◌≤◌, ◌<◌, ℕ, ◌+◌, ◌*◌, ◌%◌, List, [], take, length, drop, None, Some};
+ghost use Rattle.std.specs.Prelude.{IfOk};
 ghost use Rattle.stream_format.specs.Cadence.{block_bytes};
 ghost use Rattle.stream_format.specs.Layouts.{layout};
 ghost use Rattle.wav_reader.specs.Heads.{frame_length};
@@ -24,7 +25,8 @@ enum Origin {
     Streamed(Stream),
 }
 
-/// Ring bytes that are given out in order. Contracts see those that are held, how many are still to come and were taken, and where more are read.
+/// Ring bytes that are given out in order. Contracts see those that are held, how many are still to come and were
+/// taken, and where more are read.
 #[derive(Drop)]
 pub struct Supply {
     origin: Origin,
@@ -61,8 +63,8 @@ impl Supply {
         }
     }
 
-    /// The sound of the WAV file `name`, which is read while it is taken: at most `ring` bytes of it are held at a time, none at first. `head` is
-    /// what the file says before its sound, as [`open_wav`](crate::open_wav) answers it.
+    /// The sound of the WAV file `name`, which is read while it is taken: at most `ring` bytes of it are held at a
+    /// time, none at first. `head` is what the file says before its sound, as [`open_wav`](crate::open_wav) answers it.
     ///
     /// # Errors
     /// Want of memory.
@@ -115,19 +117,23 @@ impl Supply {
         }
     }
 
-    /// Reads more of the file, in pieces of at most 4,096 bytes, until as many bytes are held as may be or as are left. One that was given whole
-    /// reads nothing. Memory is taken in the shelf's calls alone.
+    /// Reads more of the file, in pieces of at most 4,096 bytes, until as many bytes are held as may be or as are left.
+    /// One that was given whole reads nothing. Memory is taken in the shelf's calls alone.
     ///
     /// # Errors
-    /// `Failed` where the shelf failed, `Short` with the place in the file at which it answered that there was no byte more, and `OutOfMemory` where the
-    /// shelf answered that. From then on nothing more is read: what is held is all that is left.
+    /// `Failed` where the shelf failed, `Short` with the place in the file at which it answered that there was no byte
+    /// more, and `OutOfMemory` where the shelf answered that. From then on nothing more is read: what is held is all
+    /// that is left.
     pub fn fill<S: Shelf>(&mut self, alloc: Global, shelf: &mut S) -> Result<(), Cut>
         ensures fills { FillsBy self.old.source self.old self.new
-            (λ name. seen_as (S.told shelf.old) (S.faults shelf.old name) (S.empties shelf.old name) (S.given shelf.old))
-            (λ name. seen_as (S.told shelf.new) (S.faults shelf.new name) (S.empties shelf.new name) (S.given shelf.new)) result }
+            (λ name. seen_as (S.told shelf.old) (S.faults shelf.old name) (S.empties shelf.old name)
+            (S.given shelf.old))
+            (λ name. seen_as (S.told shelf.new) (S.faults shelf.new name) (S.empties shelf.new name)
+            (S.given shelf.new)) result }
         ensures whole { self.old.source ≡ None → shelf.new ≡ shelf.old }
         ensures told { S.told shelf.new ≡ S.told shelf.old }
-        ensures asked { (other : List ℕ) → IsBeside self.old.source other → S.asked shelf.new other ≡ S.asked shelf.old other }
+        ensures asked { (other : List ℕ) → IsBeside self.old.source other
+            → S.asked shelf.new other ≡ S.asked shelf.old other }
         ensures later { (other : List ℕ) → S.faults shelf.old other ≤ S.faults shelf.new other }
         ensures empties_later { (other : List ℕ) → S.empties shelf.old other ≤ S.empties shelf.new other }
     {

@@ -28,7 +28,7 @@ fn finish(
     let course = writer.course();
     if course.started && course.ran == Ran::Playing && writer.has_free_record() {
         platform.make_room(
-            5 + usize::from(geometry.periods()),
+            6 + usize::from(geometry.periods()),
             geometry.ring() as usize,
         );
         return Some(writer.finish(platform, supply));

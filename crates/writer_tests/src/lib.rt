@@ -22,4 +22,6 @@ mod scripted;
 #[cfg(test)]
 mod sizes;
 #[cfg(test)]
+mod taken_back;
+#[cfg(test)]
 mod values;

@@ -105,6 +105,7 @@ const CLOCKS: [Row; 3] = [
             Ran::Late {
                 from: 100,
                 to: 72_101,
+                limit: 144,
             },
         ],
         runs: &[(0, 90_000, 10, 8, 8), (0, 100, 50, 0, 0)],
@@ -130,6 +131,7 @@ const CLOCKS: [Row; 3] = [
         rans: &[Ran::Late {
             from: 100,
             to: 2_147_483_748,
+            limit: 144,
         }],
         runs: &[(0, 100, 100, 8, 8)],
         silences: &[(8, 768)],

@@ -158,7 +158,7 @@ pub fn run(
     let is_open = course.started && course.ran == Ran::Playing && writer.has_free_record();
     if is_open && holds_all(supply) {
         platform.make_room(
-            5 + usize::from(geometry.periods()),
+            6 + usize::from(geometry.periods()),
             geometry.ring() as usize,
         );
         return Some(writer.run(platform, supply, budget));

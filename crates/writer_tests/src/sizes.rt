@@ -45,6 +45,7 @@ fn the_largest_ring_plays_sound(rt: HostRuntime) -> Result<(), Fail> {
     let late = Ran::Late {
         from: 0,
         to: 196_096_001,
+        limit: 392_192,
     };
     assert!(rt; played.rans.as_slice() == [Ran::Playing, late].as_slice());
     let sound = bytes_of(alloc, &[(384, Some(0))])?;
@@ -77,6 +78,7 @@ fn the_smallest_ring_plays_sound(rt: HostRuntime) -> Result<(), Fail> {
     let late = Ran::Late {
         from: 0,
         to: 95_001,
+        limit: 190,
     };
     assert!(rt; played.rans.as_slice() == [Ran::Playing, late].as_slice());
     let rings = [

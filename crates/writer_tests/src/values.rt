@@ -46,6 +46,7 @@ const VALUES: [Row; 5] = [
         rans: &[Ran::Late {
             from: 0,
             to: 0x7FFF_FFFF,
+            limit: 144,
         }],
         runs: &[(0, 0, 0, 768, 768)],
         silences: &[],
@@ -68,6 +69,7 @@ const VALUES: [Row; 5] = [
         rans: &[Ran::Late {
             from: 0,
             to: 0x8000_0000,
+            limit: 144,
         }],
         runs: &[(0, 0, 0, 768, 768)],
         silences: &[],
@@ -85,6 +87,7 @@ const VALUES: [Row; 5] = [
         rans: &[Ran::Late {
             from: 0,
             to: 0xFFFF_FFFF,
+            limit: 144,
         }],
         runs: &[(0, 0, 0, 768, 768)],
         silences: &[],

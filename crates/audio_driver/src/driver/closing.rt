@@ -62,13 +62,13 @@ pub(super) fn give_back(pool: &mut Pool, engine: Engine, writer: Writer) -> Reco
 }
 
 impl<T: Setter + Drop> Driver<T> {
-    /// The last call: while commands are sent it looks once more for an answer; while the stream plays it makes one more run, which writes no
-    /// sound, and stops the stream. Where the controller was reset before, it stops both rings and leaves the controller in reset. All blocks
-    /// go back to the pool.
+    /// The last call: while commands are sent it looks once more for an answer; while the stream plays it makes one
+    /// more run, which writes no sound, and stops the stream. Where the controller was reset before, it stops both
+    /// rings and leaves the controller in reset. All blocks go back to the pool.
     ///
     /// # Errors
-    /// Want of memory, while commands are sent, and so in no phase from `Ready` on. The controller is left in reset also then, and the pool is
-    /// let go.
+    /// Want of memory, while commands are sent, and so in no phase from `Ready` on. The controller is left in reset
+    /// also then, and the pool is let go.
     pub fn close<P: Platform>(self, platform: &mut P) -> Result<Closed, AllocError>
         requires room { 400 ≤ P.spare_accesses platform.old }
         requires bytes_room { ring_size self.writer + 8192 ≤ P.spare_bytes platform.old }
@@ -81,7 +81,7 @@ impl<T: Setter + Drop> Driver<T> {
         ensures cause { OnErr result (is_asking (states.phase_of self.bring_up self.writer) ≡ true) }
         ensures shut { OnErr result (IsShut (P.told platform.new)) }
         ensures fixed { P.fixed platform.new ≡ P.fixed platform.old }
-        ensures accesses { P.spare_accesses platform.old ≤ P.spare_accesses platform.new + 298 }
+        ensures accesses { P.spare_accesses platform.old ≤ P.spare_accesses platform.new + 299 }
         ensures bytes { P.spare_bytes platform.old ≤ P.spare_bytes platform.new + (ring_size self.writer + 2040) }
     {
         let Driver {

@@ -30,7 +30,7 @@ pub(super) fn end_call<P: Platform, T: Setter>(
 ) -> Result<(), AllocError>
     requires few { bring_up.old.looks ≤ 1000000 }
     requires free { length writer.old.runs < writer.old.records }
-    requires room { 298 ≤ P.spare_accesses platform.old }
+    requires room { 299 ≤ P.spare_accesses platform.old }
     requires bytes_room { ring_size writer.old + 2040 ≤ P.spare_bytes platform.old }
     ensures ends { states.plays_now play bring_up.old ≡ false → OnOk result (FinishesBy T.IsPlanBy T.verbs_by
         setter.now bring_up.old bring_up.new (P.told platform.old) (P.told platform.new)) }
@@ -43,7 +43,7 @@ pub(super) fn end_call<P: Platform, T: Setter>(
     ensures cause { OnErr result (is_asking bring_up.old.phase ≡ true) }
     ensures shut { OnErr result (IsShut (P.told platform.new)) }
     ensures fixed { P.fixed platform.new ≡ P.fixed platform.old }
-    ensures accesses { P.spare_accesses platform.old ≤ P.spare_accesses platform.new + 298 }
+    ensures accesses { P.spare_accesses platform.old ≤ P.spare_accesses platform.new + 299 }
     ensures bytes { P.spare_bytes platform.old ≤ P.spare_bytes platform.new + (ring_size writer.old + 2040) }
 {
     if plays_now(play, bring_up) {
@@ -53,8 +53,8 @@ pub(super) fn end_call<P: Platform, T: Setter>(
     bring_up.end(platform, setter)
 }
 
-/// Where the stream plays, one more look for what codecs told unasked and the last run, which stops the stream. Then both rings are
-/// stopped, and the controller is left in reset.
+/// Where the stream plays, one more look for what codecs told unasked and the last run, which stops the stream. Then
+/// both rings are stopped, and the controller is left in reset.
 fn end_sound<P: Platform>(
     platform: &mut P,
     bring_up: &mut BringUp,
@@ -64,7 +64,7 @@ fn end_sound<P: Platform>(
     requires ready { is_ready bring_up.old.phase ≡ true }
     requires few { bring_up.old.looks ≤ 1000000 }
     requires free { length writer.old.runs < writer.old.records }
-    requires room { 298 ≤ P.spare_accesses platform.old }
+    requires room { 299 ≤ P.spare_accesses platform.old }
     requires bytes_room { ring_size writer.old + 2040 ≤ P.spare_bytes platform.old }
     ensures sounds { EndsAny bring_up.old bring_up.new
         writer.old (tally_of writer.new) supply.old (P.told platform.old) (P.told platform.new) }
@@ -72,7 +72,7 @@ fn end_sound<P: Platform>(
     ensures kept { IsKept bring_up.old bring_up.new }
     ensures keeps { KeepsRing writer.old writer.new }
     ensures fixed { P.fixed platform.new ≡ P.fixed platform.old }
-    ensures accesses { P.spare_accesses platform.old ≤ P.spare_accesses platform.new + 298 }
+    ensures accesses { P.spare_accesses platform.old ≤ P.spare_accesses platform.new + 299 }
     ensures bytes { P.spare_bytes platform.old ≤ P.spare_bytes platform.new + (ring_size writer.old + 2040) }
 {
     if !writer.course().started || !is_open(writer) {

@@ -10,12 +10,13 @@ use route_setup::Setter;
 use std::alloc::Global;
 
 impl<T: Setter> Driver<T> {
-    /// Reads more of the sound, as [`Supply::fill`](wav_reader::Supply::fill) does: in pieces of at most 4,096 bytes, until as many bytes are held as
-    /// the ring has or as are left. Memory is taken in the shelf's calls alone.
+    /// Reads more of the sound, as [`Supply::fill`](wav_reader::Supply::fill) does: in pieces of at most 4,096 bytes,
+    /// until as many bytes are held as the ring has or as are left. Memory is taken in the shelf's calls alone.
     ///
     /// # Errors
-    /// `Failed` where the shelf failed, `Short` with the place in the file at which it answered that there was no byte more, and `OutOfMemory` where the
-    /// shelf answered that. From then on nothing more is read: what is held is all that is left.
+    /// `Failed` where the shelf failed, `Short` with the place in the file at which it answered that there was no byte
+    /// more, and `OutOfMemory` where the shelf answered that. From then on nothing more is read: what is held is all
+    /// that is left.
     pub fn fill<S: Shelf>(&mut self, alloc: Global, shelf: &mut S) -> Result<(), Cut>
         ensures fills { FillsBy self.old.supply.source self.old.supply self.new.supply
             (λ name. seen_as

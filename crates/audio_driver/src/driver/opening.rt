@@ -47,9 +47,9 @@ fn fault_of_writer(fault: period_writer::OpenFault) -> OpenFault
 }
 
 impl<T: Setter + Drop> Driver<T> {
-    /// A driver that sets codecs up by a setter, for a ring of this geometry, with the sound to play, and for so many calls, 1,000,000 at
-    /// most. From the pool it takes the blocks of both rings of commands and responses, and then those of a writer with room to record a
-    /// run for each call, and one more. Nothing is played yet.
+    /// A driver that sets codecs up by a setter, for a ring of this geometry, with the sound to play, and for so many
+    /// calls, 1,000,000 at most. From the pool it takes the blocks of both rings of commands and responses, and then
+    /// those of a writer with room to record a run for each call, and one more. Nothing is played yet.
     ///
     /// # Errors
     /// `NoRun`: one of these takes, in this order, meets no run. `OutOfMemory`: want of memory.

@@ -17,14 +17,14 @@ use route_setup::Setter;
 use std::alloc::AllocError;
 
 impl<T: Setter> Driver<T> {
-    /// One call: what is to be done next, by a few accesses. It answers how far the driver has come. Once all codecs are set up it plays,
-    /// where it is to play: the first call sets the stream going and each later one makes the line longer, until a run is late or all sound
-    /// was played. Each of them may write as many bytes of sound as the budget says. Once it is over no access is made, nor where nothing is
-    /// to be played once all codecs are set up.
+    /// One call: what is to be done next, by a few accesses. It answers how far the driver has come. Once all codecs
+    /// are set up it plays, where it is to play: the first call sets the stream going and each later one makes the line
+    /// longer, until a run is late or all sound was played. Each of them may write as many bytes of sound as the budget
+    /// says. Once it is over no access is made, nor where nothing is to be played once all codecs are set up.
     ///
     /// # Errors
-    /// Want of memory, in the phases where codecs are found and answers come, and so in none from `Ready` on. Then it is over, in the phase
-    /// `Failed`.
+    /// Want of memory, in the phases where codecs are found and answers come, and so in none from `Ready` on. Then it
+    /// is over, in the phase `Failed`.
     pub fn run<P: Platform>(&mut self, platform: &mut P, budget: u32) -> Result<Phase, AllocError>
         requires enough { states.plays_now self.old.play self.old.bring_up ≡ true
             → SufficesIfOpen budget self.old.writer self.old.supply }
@@ -49,7 +49,7 @@ impl<T: Setter> Driver<T> {
         ensures keeps { KeepsTerms self.old self.new }
         ensures calls { self.new.calls ≡ self.old.calls + 1 }
         ensures fixed { P.fixed platform.new ≡ P.fixed platform.old }
-        ensures accesses { P.spare_accesses platform.old ≤ P.spare_accesses platform.new + 295 }
+        ensures accesses { P.spare_accesses platform.old ≤ P.spare_accesses platform.new + 296 }
         ensures bytes { P.spare_bytes platform.old ≤ P.spare_bytes platform.new + (ring_size self.old.writer + 2044) }
     {
         self.calls += 1;
@@ -67,12 +67,12 @@ impl<T: Setter> Driver<T> {
         Ok(self.phase())
     }
 
-    /// One call for an interrupt: where there is one, what [`Driver::run`] does; else nothing but the look for it. Once it is over
-    /// interrupts are not looked for.
+    /// One call for an interrupt: where there is one, what [`Driver::run`] does; else nothing but the look for it. Once
+    /// it is over interrupts are not looked for.
     ///
     /// # Errors
-    /// Want of memory, in the phases where codecs are found and answers come, and so in none from `Ready` on. Then it is over, in the phase
-    /// `Failed`.
+    /// Want of memory, in the phases where codecs are found and answers come, and so in none from `Ready` on. Then it
+    /// is over, in the phase `Failed`.
     pub fn irq<P: Platform>(&mut self, platform: &mut P, budget: u32) -> Result<Phase, AllocError>
         requires enough { states.plays_now self.old.play self.old.bring_up ≡ true
             → SufficesIfOpen budget self.old.writer self.old.supply }
@@ -97,7 +97,7 @@ impl<T: Setter> Driver<T> {
         ensures keeps { KeepsTerms self.old self.new }
         ensures calls { self.new.calls ≡ self.old.calls + 1 }
         ensures fixed { P.fixed platform.new ≡ P.fixed platform.old }
-        ensures accesses { P.spare_accesses platform.old ≤ P.spare_accesses platform.new + 298 }
+        ensures accesses { P.spare_accesses platform.old ≤ P.spare_accesses platform.new + 299 }
         ensures bytes { P.spare_bytes platform.old ≤ P.spare_bytes platform.new + (ring_size self.old.writer + 2044) }
     {
         self.calls += 1;

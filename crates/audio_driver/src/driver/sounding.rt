@@ -27,11 +27,7 @@ pub(super) fn phase_of(bring_up: &BringUp, writer: &Writer) -> Phase
     match course.ran {
         Ran::Playing => Phase::Playing,
         Ran::Drained => Phase::Drained,
-        Ran::Late { from, to } => Phase::Late {
-            from,
-            to,
-            limit: writer.limit(),
-        },
+        Ran::Late { from, to, limit } => Phase::Late { from, to, limit },
     }
 }
 
@@ -49,8 +45,8 @@ pub(super) fn is_open(writer: &Writer) -> bool
     matches!(writer.course().ran, Ran::Playing)
 }
 
-/// A run of the writer, the first where it was not started. Before each later one it reads what codecs told unasked. Nothing where a run
-/// was late, or all sound was played.
+/// A run of the writer, the first where it was not started. Before each later one it reads what codecs told unasked.
+/// Nothing where a run was late, or all sound was played.
 pub(super) fn play_on<P: Platform>(
     platform: &mut P,
     bring_up: &mut BringUp,
@@ -63,7 +59,7 @@ pub(super) fn play_on<P: Platform>(
     requires fresh { writer.old.course.started ≡ false → tally_of writer.old ≡ tally_opened }
     requires few { bring_up.old.looks ≤ 1000000 }
     requires free { length writer.old.runs < writer.old.records }
-    requires room { 295 ≤ P.spare_accesses platform.old }
+    requires room { 296 ≤ P.spare_accesses platform.old }
     requires bytes_room { ring_size writer.old + 2044 ≤ P.spare_bytes platform.old }
     ensures sounds { SoundsAny false budget bring_up.old bring_up.new writer.old writer.new
         supply.old supply.new (P.told platform.old) (P.told platform.new) }
@@ -76,7 +72,7 @@ pub(super) fn play_on<P: Platform>(
     ensures recorded { length writer.new.runs ≤ length writer.old.runs + 1 }
     ensures fresh { writer.new.course.started ≡ false → tally_of writer.new ≡ tally_opened }
     ensures fixed { P.fixed platform.new ≡ P.fixed platform.old }
-    ensures accesses { P.spare_accesses platform.old ≤ P.spare_accesses platform.new + 295 }
+    ensures accesses { P.spare_accesses platform.old ≤ P.spare_accesses platform.new + 296 }
     ensures bytes { P.spare_bytes platform.old ≤ P.spare_bytes platform.new + (ring_size writer.old + 2044) }
 {
     if !writer.course().started {
@@ -89,7 +85,8 @@ pub(super) fn play_on<P: Platform>(
     }
 }
 
-/// Where there is an interrupt, a run of the writer as [`play_on`] makes it. Where no run comes next, interrupts are not looked for.
+/// Where there is an interrupt, a run of the writer as [`play_on`] makes it. Where no run comes next, interrupts are
+/// not looked for.
 pub(super) fn play_if_interrupted<P: Platform>(
     platform: &mut P,
     bring_up: &mut BringUp,
@@ -102,7 +99,7 @@ pub(super) fn play_if_interrupted<P: Platform>(
     requires fresh { writer.old.course.started ≡ false → tally_of writer.old ≡ tally_opened }
     requires few { bring_up.old.looks ≤ 1000000 }
     requires free { length writer.old.runs < writer.old.records }
-    requires room { 298 ≤ P.spare_accesses platform.old }
+    requires room { 299 ≤ P.spare_accesses platform.old }
     requires bytes_room { ring_size writer.old + 2044 ≤ P.spare_bytes platform.old }
     ensures sounds { SoundsAny true budget bring_up.old bring_up.new writer.old writer.new
         supply.old supply.new (P.told platform.old) (P.told platform.new) }
@@ -115,7 +112,7 @@ pub(super) fn play_if_interrupted<P: Platform>(
     ensures recorded { length writer.new.runs ≤ length writer.old.runs + 1 }
     ensures fresh { writer.new.course.started ≡ false → tally_of writer.new ≡ tally_opened }
     ensures fixed { P.fixed platform.new ≡ P.fixed platform.old }
-    ensures accesses { P.spare_accesses platform.old ≤ P.spare_accesses platform.new + 298 }
+    ensures accesses { P.spare_accesses platform.old ≤ P.spare_accesses platform.new + 299 }
     ensures bytes { P.spare_bytes platform.old ≤ P.spare_bytes platform.new + (ring_size writer.old + 2044) }
 {
     if !is_open(writer) {

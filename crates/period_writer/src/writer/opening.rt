@@ -59,6 +59,7 @@ fn course_opened() -> Course
         at: 0,
         from: 0,
         reach: 0,
+        sure: 0,
         used: 0,
         sound_end: 0,
         ran: Ran::Playing,
@@ -66,8 +67,8 @@ fn course_opened() -> Course
 }
 
 impl Writer {
-    /// Takes 16 bytes for each period for the list of buffers, then a block for each period, one after another, and makes room to
-    /// record so many runs, and one where that is 0.
+    /// Takes 16 bytes for each period for the list of buffers, then a block for each period, one after another, and
+    /// makes room to record so many runs, and one where that is 0.
     ///
     /// # Errors
     /// `NoRun` exactly where one of these takes, in this order, meets no run. After each error the pool is as it was.

@@ -31,23 +31,30 @@ fn stop_if<P: Platform>(platform: &mut P, ran: Ran)
 }
 
 impl Writer {
-    /// A later run, which may write so many bytes of sound: reads where the link is, and makes the line longer up to one ring ahead of
-    /// that, by sound and then silence. This project's own.
+    /// A later run, which may write so many bytes of sound: reads where the link is, and makes the line longer up to
+    /// one ring ahead of that, by sound and then silence. Where the line ends in silence, sound takes its place from a
+    /// position past the link on that the device can't fetch while the run is in time. This project's own.
     ///
-    /// `Late` exactly where more than the geometry's limit of link frames passed between the clock that the run before read first and
-    /// the one that this run reads last. Then it is not recorded. Else `Drained` exactly where no sound is left and the link is past
-    /// the last of it. In both cases the stream is stopped.
+    /// `Late` exactly where more than the geometry's limit of link frames passed between the clock that the run before
+    /// read first and the one that this run reads last; or where it takes silence back and more than the geometry's
+    /// slack of link frames passed between the two clocks that it reads itself. The answer has these clocks, in ticks
+    /// of 1/24,000,000 s, and the number of link frames that was not kept, the limit where neither was. The run is not
+    /// recorded then. Else `Drained` exactly where no sound is left and the link is past the last of it. In both cases
+    /// the stream is stopped.
     ///
-    /// On a platform that tells, where the writer plays, the supply is that of the first run, and WALCLK has not wrapped: at each moment
-    /// until the stop all that the device fetched below the reach of the last recorded run is the line, and what it fetches next of it
-    /// stands in the ring; the run writes only to places of positions that were fetched. After `Playing` the writer plays on with the
-    /// longer line; after `Drained` all sound was sent, and what was fetched past the line is silence.
+    /// On a platform that tells, where the writer plays, the supply is that of the first run, and WALCLK has not
+    /// wrapped: at each moment until the stop all that the device fetched below the last recorded reach is the line of
+    /// the runs so far, this one included unless it is late. That reach is the line's end, and where a late run took
+    /// silence back the place up to which it left the line. The run writes only to places of positions that were
+    /// fetched, and of silence that it takes back; while it is in time the device fetches none of that. After `Playing`
+    /// the writer plays on with the longer line; after `Drained` all sound was sent, and what was fetched past the line
+    /// is silence.
     pub fn run<P: Platform>(&mut self, platform: &mut P, supply: &mut Supply, budget: u32) -> Ran
         requires started { self.old.course.started ≡ true }
         requires playing { self.old.course.ran ≡ Ran.Playing }
         requires enough { Suffices (ring_size self.old) budget supply.old }
         requires free { length self.old.runs < self.old.records }
-        requires room { 5 + self.old.geometry.periods ≤ P.spare_accesses platform.old }
+        requires room { 6 + self.old.geometry.periods ≤ P.spare_accesses platform.old }
         requires bytes_room { ring_size self.old ≤ P.spare_bytes platform.old }
         ensures plays { calls.PlaysAny budget self.old self.new supply.old supply.new result
             (P.told platform.old) (P.told platform.new) }
@@ -60,7 +67,7 @@ impl Writer {
         ensures keeps { KeepsRing self.old self.new }
         ensures fixed { P.fixed platform.new ≡ P.fixed platform.old }
         ensures accesses { P.spare_accesses platform.old
-            ≤ P.spare_accesses platform.new + (5 + self.old.geometry.periods) }
+            ≤ P.spare_accesses platform.new + (6 + self.old.geometry.periods) }
         ensures bytes { P.spare_bytes platform.old ≤ P.spare_bytes platform.new + ring_size self.old }
     {
         let ran = self.take_turn(platform, supply, budget);
@@ -68,22 +75,25 @@ impl Writer {
         ran
     }
 
-    /// The last run, which writes no sound: it reads where the link is and makes the line longer by silence as [`Writer::run`] does with a
-    /// budget of 0, but stops the stream whatever it finds. For a driver that is closed while it plays. This project's own.
+    /// The last run, which writes no sound: it reads where the link is and makes the line longer by silence as
+    /// [`Writer::run`] does with a budget of 0, but stops the stream whatever it finds. It takes no silence back. For a
+    /// driver that is closed while it plays. This project's own.
     ///
-    /// `Late` exactly where more than the geometry's limit of link frames passed between the clock that the run before read first and
-    /// the one that this run reads last. Then it is not recorded. Else `Drained` exactly where no sound is left and the link is past
-    /// the last of it, and `Playing` where there was more to play. The sound that is left stays as it is.
+    /// `Late` exactly where more than the geometry's limit of link frames passed between the clock that the run before
+    /// read first and the one that this run reads last. Then it is not recorded. Else `Drained` exactly where no sound
+    /// is left and the link is past the last of it, and `Playing` where there was more to play. The sound that is left
+    /// stays as it is.
     ///
-    /// On a platform that tells, where the writer plays, the supply is that of the first run, and WALCLK has not wrapped: at each moment
-    /// up to the stop all that the device fetched below the reach of the last run recorded before is the line, and what it fetches next
-    /// of it stands in the ring; the run writes only to places of positions that were fetched. After the stop what was fetched is the
-    /// line up to the last recorded reach; after `Drained` all sound was sent, and what was fetched past the line is silence.
+    /// On a platform that tells, where the writer plays, the supply is that of the first run, and WALCLK has not
+    /// wrapped: at each moment up to the stop all that the device fetched below the last recorded reach is the line of
+    /// the runs so far, this one included unless it is late; the run writes only to places of positions that were
+    /// fetched. After the stop what was fetched is the line up to the last recorded reach; after `Drained` all sound
+    /// was sent, and what was fetched past the line is silence.
     pub fn finish<P: Platform>(&mut self, platform: &mut P, supply: &mut Supply) -> Ran
         requires started { self.old.course.started ≡ true }
         requires playing { self.old.course.ran ≡ Ran.Playing }
         requires free { length self.old.runs < self.old.records }
-        requires room { 5 + self.old.geometry.periods ≤ P.spare_accesses platform.old }
+        requires room { 6 + self.old.geometry.periods ≤ P.spare_accesses platform.old }
         requires bytes_room { ring_size self.old ≤ P.spare_bytes platform.old }
         ensures finishes { calls.FinishesAny self.old self.new supply.old result
             (P.told platform.old) (P.told platform.new) }
@@ -94,7 +104,7 @@ impl Writer {
         ensures keeps { KeepsRing self.old self.new }
         ensures fixed { P.fixed platform.new ≡ P.fixed platform.old }
         ensures accesses { P.spare_accesses platform.old
-            ≤ P.spare_accesses platform.new + (5 + self.old.geometry.periods) }
+            ≤ P.spare_accesses platform.new + (6 + self.old.geometry.periods) }
         ensures bytes { P.spare_bytes platform.old ≤ P.spare_bytes platform.new + ring_size self.old }
     {
         let ran = self.take_turn(platform, supply, 0);
@@ -108,7 +118,7 @@ impl Writer {
         requires playing { self.old.course.ran ≡ Ran.Playing }
         requires enough { Suffices (ring_size self.old) budget supply.old }
         requires free { length self.old.runs < self.old.records }
-        requires room { 4 + self.old.geometry.periods ≤ P.spare_accesses platform.old }
+        requires room { 5 + self.old.geometry.periods ≤ P.spare_accesses platform.old }
         requires bytes_room { ring_size self.old ≤ P.spare_bytes platform.old }
         ensures turn { calls.TakesAnyTurn budget self.old self.new supply.old supply.new result
             (P.told platform.old) (P.told platform.new) }
@@ -121,7 +131,7 @@ impl Writer {
         ensures writer { IsWriter self.old }
         ensures fixed { P.fixed platform.new ≡ P.fixed platform.old }
         ensures accesses { P.spare_accesses platform.old
-            ≤ P.spare_accesses platform.new + (4 + self.old.geometry.periods) }
+            ≤ P.spare_accesses platform.new + (5 + self.old.geometry.periods) }
         ensures bytes { P.spare_bytes platform.old ≤ P.spare_bytes platform.new + ring_size self.old }
     {
         let from = platform.read(places::WALCLK, Width::Four);

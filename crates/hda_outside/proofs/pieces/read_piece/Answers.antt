@@ -1,5 +1,5 @@
 use Rattle.std.proofs.Common.{rules, ◌-◌, length, refl}
-use Rattle.hda_outside.proofs.Parts.{gained_kept, gained_more}
+use Rattle.hda_outside.proofs.Parts.{gained_kept, gained_more, nothing_there}
 use Rattle.hda_outside.proofs.pieces.read_piece.Goals as goal
 
 pub returns-in-Err-clause-front : goal.returns-in-Err-clause-front
@@ -25,6 +25,10 @@ loop-count-preserved g c =
           gained_more (g.S.Shelf.told c.args.shelf.now) (g.S.Shelf.told c.loop-count.shelf) c.args.name.now c.args.from c.loop-count.count
           (length c.loop-count.buf - c.loop-count.count) c.in-Ok.n _ c.loop-count.buf c.read_at.new.buf now.told refl now.within c.in-Ok.ensures.bound
           now.front c.in-Ok.ensures.piece;
+      there = λ files told none. absurd (
+          nothing_there (g.S.Shelf.told c.args.shelf.now) (g.S.Shelf.told c.loop-count.shelf) c.args.name.now _ c.in-Ok.n c.read_at.new.buf now.told c.in-Ok.ensures.piece
+          files told none
+          );
       given = search rules;
       given_rises = search rules;
       empties = search rules;

@@ -1,4 +1,4 @@
-use Rattle.std.proofs.Common.{◌≡◌, ◌≢◌, ℕ, ◌+◌, ◌-◌, ◌≤◌, List, length, Some}
+use Rattle.std.proofs.Common.{◌≡◌, ◌≢◌, ℕ, ◌+◌, ◌-◌, ◌≤◌, List, length, Some, None}
 use Rattle.hda_outside.specs.Shelf.{Files, file_of}
 use Rattle.hda_outside.specs.Pieces.{HoldsFront}
 use Rattle.hda_outside.proofs.pieces.read_piece.Given as goal
@@ -11,6 +11,7 @@ invariant-loop-count g l =
       told : g.S.Shelf.told l.shelf ≡ g.S.Shelf.told l.initial.shelf;
       front : (files : Files) → g.S.Shelf.told l.initial.shelf ≡ Some files → (file : List ℕ) → file_of files l.name ≡ Some file
           → HoldsFront file l.from l.buf l.count;
+      there : (files : Files) → g.S.Shelf.told l.initial.shelf ≡ Some files → file_of files l.name ≡ None → l.count ≡ 0;
       given : g.S.Shelf.given l.shelf ≤ g.S.Shelf.given l.initial.shelf + l.count;
       given_rises : g.S.Shelf.given l.initial.shelf ≤ g.S.Shelf.given l.shelf;
       empties : g.S.Shelf.empties l.shelf l.name ≡ g.S.Shelf.empties l.initial.shelf l.name;

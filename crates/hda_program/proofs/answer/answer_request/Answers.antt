@@ -1,4 +1,4 @@
-use Rattle.std.proofs.Common.{ℕ, ◌+◌, ◌≤◌, List, subst, sym}
+use Rattle.std.proofs.Common.{◌≡◌, ℕ, ◌+◌, ◌≤◌, List, subst, sym}
 use Rattle.std.specs.Prelude.{IfOk, Contains}
 use Rattle.hda_outside.specs.Counts.{Rose}
 use Rattle.hda_words.specs.Asked.{asked_by, IsInRange}
@@ -13,16 +13,18 @@ pub returns-in_ok-message-in-Route-clause-answers : goal.returns-in_ok-message-i
 returns-in_ok-message-in-Route-clause-answers g c =
     let failed : List ℕ → Type 0 = λ name. Rose (g.S.Shelf.faults c.args.shelf.now name) (g.S.Shelf.faults c.answer_route.new.shelf name) in
     let emptied : List ℕ → Type 0 = λ name. Rose (g.S.Shelf.empties c.args.shelf.now name) (g.S.Shelf.empties c.answer_route.new.shelf name) in
+    let unasked : List ℕ → Type 0 = λ name. g.S.Shelf.asked c.answer_route.new.shelf name ≡ g.S.Shelf.asked c.args.shelf.now name in
     let gave : ℕ → Type 0 = λ n. g.S.Shelf.given c.answer_route.new.shelf ≤ g.S.Shelf.given c.args.shelf.now + n in
-    let P : Request → Type 0 = λ asked. RequestAnswers (g.S.Shelf.told c.args.shelf.now) failed emptied gave asked (message_meant c.in_ok-message-in-Route.message) in
+    let P : Request → Type 0 = λ asked. RequestAnswers (g.S.Shelf.told c.args.shelf.now) failed emptied unasked gave asked (message_meant c.in_ok-message-in-Route.message) in
     subst P (sym c.in-Route.is) c.in_ok-message-in-Route.ensures.answers
 
 pub returns-in-Walk-clause-answers : goal.returns-in-Walk-clause-answers
 returns-in-Walk-clause-answers g c =
     let failed : List ℕ → Type 0 = λ name. Rose (g.S.Shelf.faults c.args.shelf.now name) (g.S.Shelf.faults c.answer_walk.new.shelf name) in
     let emptied : List ℕ → Type 0 = λ name. Rose (g.S.Shelf.empties c.args.shelf.now name) (g.S.Shelf.empties c.answer_walk.new.shelf name) in
+    let unasked : List ℕ → Type 0 = λ name. g.S.Shelf.asked c.answer_walk.new.shelf name ≡ g.S.Shelf.asked c.args.shelf.now name in
     let gave : ℕ → Type 0 = λ n. g.S.Shelf.given c.answer_walk.new.shelf ≤ g.S.Shelf.given c.args.shelf.now + n in
-    let P : Request → Type 0 = λ asked. IfOk c.answer_walk.result (λ answer. RequestAnswers (g.S.Shelf.told c.args.shelf.now) failed emptied gave asked (answer_meant answer)) in
+    let P : Request → Type 0 = λ asked. IfOk c.answer_walk.result (λ answer. RequestAnswers (g.S.Shelf.told c.args.shelf.now) failed emptied unasked gave asked (answer_meant answer)) in
     subst P (sym c.in-Walk.is) c.answer_walk.ensures.answers
 
 pub returns-in-Walk-clause-asked : goal.returns-in-Walk-clause-asked
@@ -38,8 +40,9 @@ pub returns-in-Play-clause-answers : goal.returns-in-Play-clause-answers
 returns-in-Play-clause-answers g c =
     let failed : List ℕ → Type 0 = λ name. Rose (g.S.Shelf.faults c.args.shelf.now name) (g.S.Shelf.faults c.answer_play.new.shelf name) in
     let emptied : List ℕ → Type 0 = λ name. Rose (g.S.Shelf.empties c.args.shelf.now name) (g.S.Shelf.empties c.answer_play.new.shelf name) in
+    let unasked : List ℕ → Type 0 = λ name. g.S.Shelf.asked c.answer_play.new.shelf name ≡ g.S.Shelf.asked c.args.shelf.now name in
     let gave : ℕ → Type 0 = λ n. g.S.Shelf.given c.answer_play.new.shelf ≤ g.S.Shelf.given c.args.shelf.now + n in
-    let P : Request → Type 0 = λ asked. IfOk c.answer_play.result (λ answer. RequestAnswers (g.S.Shelf.told c.args.shelf.now) failed emptied gave asked (answer_meant answer)) in
+    let P : Request → Type 0 = λ asked. IfOk c.answer_play.result (λ answer. RequestAnswers (g.S.Shelf.told c.args.shelf.now) failed emptied unasked gave asked (answer_meant answer)) in
     subst P (sym c.in-Play.is) c.answer_play.ensures.answers
 
 pub returns-in-Play-clause-asked : goal.returns-in-Play-clause-asked

@@ -1,48 +1,55 @@
-use Rattle.std.proofs.Common.{◌+◌, ◌≤◌, inl}
+use Rattle.std.proofs.Common.{◌≡◌, ◌+◌, ◌≤◌, inl}
 use Rattle.hda_outside.specs.Counts.{Rose}
 use Rattle.hda_program.specs.Meanings.{answer_meant}
 use Rattle.hda_program.proofs.Complete.{files_complete}
-use Rattle.hda_program.proofs.PlayEndings.{files_never_shrink, files_promised, files_runless, files_runs, files_shrunk, files_unread}
+use Rattle.hda_program.proofs.PlayEndings.{files_never_shrink, files_promised, files_runless, files_runs, files_shrunk, files_stopped, files_unread}
 use Rattle.hda_program.proofs.files.play_files.Goals as goal
 
 pub returns-in-Ok-clause-promise : goal.returns-in-Ok-clause-promise
 returns-in-Ok-clause-promise g c = files_promised (g.S.Shelf.told c.args.shelf.now) (λ name. Rose (g.S.Shelf.faults c.args.shelf.now name) (g.S.Shelf.faults c.answer_play.new.shelf name))
-    (λ name. Rose (g.S.Shelf.empties c.args.shelf.now name) (g.S.Shelf.empties c.answer_play.new.shelf name)) (λ n. g.S.Shelf.given c.answer_play.new.shelf ≤ g.S.Shelf.given c.args.shelf.now + n)
+    (λ name. Rose (g.S.Shelf.empties c.args.shelf.now name) (g.S.Shelf.empties c.answer_play.new.shelf name)) (λ name. g.S.Shelf.asked c.answer_play.new.shelf name ≡ g.S.Shelf.asked c.args.shelf.now name) (λ n. g.S.Shelf.given c.answer_play.new.shelf ≤ g.S.Shelf.given c.args.shelf.now + n)
     c.args.codec.now c.args.wav.now c.args.schedule.now c.args.periods c.args.period (g.K.Sink.taken c.args.out.now) (g.K.Sink.taken c.write_answer.new.out)
     (Rose (g.K.Sink.faults c.args.out.now) (g.K.Sink.faults c.write_answer.new.out)) c.write_answer.result.play c.write_answer.result.status
     (inl (record { meant = answer_meant c.in-Ok.answer; is = c.in-Ok.ensures.answers; given = c.write_answer.ensures.play; written = c.write_answer.ensures.written }))
 
 pub returns-in-Ok-clause-runless : goal.returns-in-Ok-clause-runless
 returns-in-Ok-clause-runless g c = files_runless (g.S.Shelf.told c.args.shelf.now) (λ name. Rose (g.S.Shelf.faults c.args.shelf.now name) (g.S.Shelf.faults c.answer_play.new.shelf name))
-    (λ name. Rose (g.S.Shelf.empties c.args.shelf.now name) (g.S.Shelf.empties c.answer_play.new.shelf name)) (λ n. g.S.Shelf.given c.answer_play.new.shelf ≤ g.S.Shelf.given c.args.shelf.now + n)
+    (λ name. Rose (g.S.Shelf.empties c.args.shelf.now name) (g.S.Shelf.empties c.answer_play.new.shelf name)) (λ name. g.S.Shelf.asked c.answer_play.new.shelf name ≡ g.S.Shelf.asked c.args.shelf.now name) (λ n. g.S.Shelf.given c.answer_play.new.shelf ≤ g.S.Shelf.given c.args.shelf.now + n)
     c.args.codec.now c.args.wav.now c.args.schedule.now c.args.periods c.args.period (g.K.Sink.taken c.args.out.now) (g.K.Sink.taken c.write_answer.new.out)
     (Rose (g.K.Sink.faults c.args.out.now) (g.K.Sink.faults c.write_answer.new.out)) c.write_answer.result.play c.write_answer.result.status
     (inl (record { meant = answer_meant c.in-Ok.answer; is = c.in-Ok.ensures.answers; given = c.write_answer.ensures.play; written = c.write_answer.ensures.written }))
 
 pub returns-in-Ok-clause-runs : goal.returns-in-Ok-clause-runs
 returns-in-Ok-clause-runs g c = files_runs (g.S.Shelf.told c.args.shelf.now) (λ name. Rose (g.S.Shelf.faults c.args.shelf.now name) (g.S.Shelf.faults c.answer_play.new.shelf name))
-    (λ name. Rose (g.S.Shelf.empties c.args.shelf.now name) (g.S.Shelf.empties c.answer_play.new.shelf name)) (λ n. g.S.Shelf.given c.answer_play.new.shelf ≤ g.S.Shelf.given c.args.shelf.now + n)
+    (λ name. Rose (g.S.Shelf.empties c.args.shelf.now name) (g.S.Shelf.empties c.answer_play.new.shelf name)) (λ name. g.S.Shelf.asked c.answer_play.new.shelf name ≡ g.S.Shelf.asked c.args.shelf.now name) (λ n. g.S.Shelf.given c.answer_play.new.shelf ≤ g.S.Shelf.given c.args.shelf.now + n)
+    c.args.codec.now c.args.wav.now c.args.schedule.now c.args.periods c.args.period (g.K.Sink.taken c.args.out.now) (g.K.Sink.taken c.write_answer.new.out)
+    (Rose (g.K.Sink.faults c.args.out.now) (g.K.Sink.faults c.write_answer.new.out)) c.write_answer.result.play c.write_answer.result.status
+    (inl (record { meant = answer_meant c.in-Ok.answer; is = c.in-Ok.ensures.answers; given = c.write_answer.ensures.play; written = c.write_answer.ensures.written }))
+
+pub returns-in-Ok-clause-stopped_unread : goal.returns-in-Ok-clause-stopped_unread
+returns-in-Ok-clause-stopped_unread g c = files_stopped (g.S.Shelf.told c.args.shelf.now) (λ name. Rose (g.S.Shelf.faults c.args.shelf.now name) (g.S.Shelf.faults c.answer_play.new.shelf name))
+    (λ name. Rose (g.S.Shelf.empties c.args.shelf.now name) (g.S.Shelf.empties c.answer_play.new.shelf name)) (λ name. g.S.Shelf.asked c.answer_play.new.shelf name ≡ g.S.Shelf.asked c.args.shelf.now name) (λ n. g.S.Shelf.given c.answer_play.new.shelf ≤ g.S.Shelf.given c.args.shelf.now + n)
     c.args.codec.now c.args.wav.now c.args.schedule.now c.args.periods c.args.period (g.K.Sink.taken c.args.out.now) (g.K.Sink.taken c.write_answer.new.out)
     (Rose (g.K.Sink.faults c.args.out.now) (g.K.Sink.faults c.write_answer.new.out)) c.write_answer.result.play c.write_answer.result.status
     (inl (record { meant = answer_meant c.in-Ok.answer; is = c.in-Ok.ensures.answers; given = c.write_answer.ensures.play; written = c.write_answer.ensures.written }))
 
 pub returns-in-Ok-clause-unread_run : goal.returns-in-Ok-clause-unread_run
 returns-in-Ok-clause-unread_run g c = files_unread (g.S.Shelf.told c.args.shelf.now) (λ name. Rose (g.S.Shelf.faults c.args.shelf.now name) (g.S.Shelf.faults c.answer_play.new.shelf name))
-    (λ name. Rose (g.S.Shelf.empties c.args.shelf.now name) (g.S.Shelf.empties c.answer_play.new.shelf name)) (λ n. g.S.Shelf.given c.answer_play.new.shelf ≤ g.S.Shelf.given c.args.shelf.now + n)
+    (λ name. Rose (g.S.Shelf.empties c.args.shelf.now name) (g.S.Shelf.empties c.answer_play.new.shelf name)) (λ name. g.S.Shelf.asked c.answer_play.new.shelf name ≡ g.S.Shelf.asked c.args.shelf.now name) (λ n. g.S.Shelf.given c.answer_play.new.shelf ≤ g.S.Shelf.given c.args.shelf.now + n)
     c.args.codec.now c.args.wav.now c.args.schedule.now c.args.periods c.args.period (g.K.Sink.taken c.args.out.now) (g.K.Sink.taken c.write_answer.new.out)
     (Rose (g.K.Sink.faults c.args.out.now) (g.K.Sink.faults c.write_answer.new.out)) c.write_answer.result.play c.write_answer.result.status
     (inl (record { meant = answer_meant c.in-Ok.answer; is = c.in-Ok.ensures.answers; given = c.write_answer.ensures.play; written = c.write_answer.ensures.written }))
 
 pub returns-in-Ok-clause-shrunk_run : goal.returns-in-Ok-clause-shrunk_run
 returns-in-Ok-clause-shrunk_run g c = files_shrunk (g.S.Shelf.told c.args.shelf.now) (λ name. Rose (g.S.Shelf.faults c.args.shelf.now name) (g.S.Shelf.faults c.answer_play.new.shelf name))
-    (λ name. Rose (g.S.Shelf.empties c.args.shelf.now name) (g.S.Shelf.empties c.answer_play.new.shelf name)) (λ n. g.S.Shelf.given c.answer_play.new.shelf ≤ g.S.Shelf.given c.args.shelf.now + n)
+    (λ name. Rose (g.S.Shelf.empties c.args.shelf.now name) (g.S.Shelf.empties c.answer_play.new.shelf name)) (λ name. g.S.Shelf.asked c.answer_play.new.shelf name ≡ g.S.Shelf.asked c.args.shelf.now name) (λ n. g.S.Shelf.given c.answer_play.new.shelf ≤ g.S.Shelf.given c.args.shelf.now + n)
     c.args.codec.now c.args.wav.now c.args.schedule.now c.args.periods c.args.period (g.K.Sink.taken c.args.out.now) (g.K.Sink.taken c.write_answer.new.out)
     (Rose (g.K.Sink.faults c.args.out.now) (g.K.Sink.faults c.write_answer.new.out)) c.write_answer.result.play c.write_answer.result.status
     (inl (record { meant = answer_meant c.in-Ok.answer; is = c.in-Ok.ensures.answers; given = c.write_answer.ensures.play; written = c.write_answer.ensures.written }))
 
 pub returns-in-Ok-clause-never_shrinks : goal.returns-in-Ok-clause-never_shrinks
 returns-in-Ok-clause-never_shrinks g c = files_never_shrink (λ name. Rose (g.S.Shelf.faults c.args.shelf.now name) (g.S.Shelf.faults c.answer_play.new.shelf name))
-    (λ name. Rose (g.S.Shelf.empties c.args.shelf.now name) (g.S.Shelf.empties c.answer_play.new.shelf name)) (λ n. g.S.Shelf.given c.answer_play.new.shelf ≤ g.S.Shelf.given c.args.shelf.now + n)
+    (λ name. Rose (g.S.Shelf.empties c.args.shelf.now name) (g.S.Shelf.empties c.answer_play.new.shelf name)) (λ name. g.S.Shelf.asked c.answer_play.new.shelf name ≡ g.S.Shelf.asked c.args.shelf.now name) (λ n. g.S.Shelf.given c.answer_play.new.shelf ≤ g.S.Shelf.given c.args.shelf.now + n)
     c.args.codec.now c.args.wav.now c.args.schedule.now c.args.periods c.args.period (g.K.Sink.taken c.args.out.now) (g.K.Sink.taken c.write_answer.new.out)
     (Rose (g.K.Sink.faults c.args.out.now) (g.K.Sink.faults c.write_answer.new.out)) c.write_answer.result.play c.write_answer.result.status
     (g.S.Shelf.told c.args.shelf.now)
@@ -52,6 +59,6 @@ pub returns-in-Ok-clause-completes : goal.returns-in-Ok-clause-completes
 returns-in-Ok-clause-completes g c = λ can sink. files_complete (g.K.Sink.taken c.args.out.now) (g.K.Sink.taken c.write_answer.new.out)
     (Rose (g.K.Sink.faults c.args.out.now) (g.K.Sink.faults c.write_answer.new.out)) c.write_answer.result.play c.write_answer.result.status sink
     (g.S.Shelf.told c.args.shelf.now) (λ name. Rose (g.S.Shelf.faults c.args.shelf.now name) (g.S.Shelf.faults c.answer_play.new.shelf name))
-    (λ name. Rose (g.S.Shelf.empties c.args.shelf.now name) (g.S.Shelf.empties c.answer_play.new.shelf name)) (λ n. g.S.Shelf.given c.answer_play.new.shelf ≤ g.S.Shelf.given c.args.shelf.now + n)
+    (λ name. Rose (g.S.Shelf.empties c.args.shelf.now name) (g.S.Shelf.empties c.answer_play.new.shelf name)) (λ name. g.S.Shelf.asked c.answer_play.new.shelf name ≡ g.S.Shelf.asked c.args.shelf.now name) (λ n. g.S.Shelf.given c.answer_play.new.shelf ≤ g.S.Shelf.given c.args.shelf.now + n)
     c.args.codec.now c.args.wav.now c.args.schedule.now c.args.periods c.args.period can
     (inl (record { meant = answer_meant c.in-Ok.answer; is = c.in-Ok.ensures.answers; given = c.write_answer.ensures.play; written = c.write_answer.ensures.written }))

@@ -1,4 +1,4 @@
-use Rattle.std.proofs.Common.{ℕ, ◌+◌, ◌≤◌, List, length, inr, Option, Result, subst, sym}
+use Rattle.std.proofs.Common.{◌≡◌, ℕ, ◌+◌, ◌≤◌, List, length, inr, Option, Result, subst, sym}
 use Rattle.std.specs.Prelude.{IfOk}
 use Rattle.std.proofs.Math.Nat.{le_refl}
 use Rattle.std.proofs.lemmas.Result.{IfOk-weaker}
@@ -34,6 +34,7 @@ returns-in-Ok-clause-answers g c =
     let failed : List ℕ → Type 0 = λ name. Rose (faults c.args.shelf.now name) (faults c.play_sound.new.shelf name) in
     let emptied_later : List ℕ → Type 0 = λ name. Rose (empties c.open_wav_file.new.shelf name) (empties c.play_sound.new.shelf name) in
     let emptied : List ℕ → Type 0 = λ name. Rose (empties c.args.shelf.now name) (empties c.play_sound.new.shelf name) in
+    let unasked : List ℕ → Type 0 = λ name. g.S.Shelf.asked c.play_sound.new.shelf name ≡ g.S.Shelf.asked c.args.shelf.now name in
     let gave_early : ℕ → Type 0 = λ n. given c.open_wav_file.new.shelf ≤ given c.args.shelf.now + n in
     let gave_later : ℕ → Type 0 = λ n. given c.play_sound.new.shelf ≤ given c.open_wav_file.new.shelf + n in
     let gave : ℕ → Type 0 = λ n. given c.play_sound.new.shelf ≤ given c.args.shelf.now + n in
@@ -41,7 +42,7 @@ returns-in-Ok-clause-answers g c =
     let answers = subst (λ (files : Option Files). IfOk c.play_sound.result (λ answer. SoundPlays files later emptied_later gave_later c.args.periods c.args.period c.args.wav.now c.args.machine c.in-Ok.head c.args.schedule.now (answer_meant answer))) c.open_wav_file.ensures.told c.play_sound.ensures.answers in
     IfOk-weaker c.play_sound.result
     (λ answer. SoundPlays told later emptied_later gave_later c.args.periods c.args.period c.args.wav.now c.args.machine c.in-Ok.head c.args.schedule.now (answer_meant answer))
-    (λ answer. MachinePlays told failed emptied gave c.args.periods c.args.period c.args.machine c.args.wav.now c.args.schedule.now (answer_meant answer))
+    (λ answer. MachinePlays told failed emptied unasked gave c.args.periods c.args.period c.args.machine c.args.wav.now c.args.schedule.now (answer_meant answer))
     (λ answer h. inr (
       c.in-Ok.head,
       read.0,

@@ -1,62 +1,69 @@
-use Rattle.std.proofs.Common.{◌+◌, ◌≤◌, map, string_bytes, inl}
+use Rattle.std.proofs.Common.{◌≡◌, ◌+◌, ◌≤◌, map, string_bytes, inl}
 use Rattle.hda_outside.specs.Counts.{Rose}
 use Rattle.hda_program.specs.Meanings.{answer_meant}
 use Rattle.hda_program.proofs.Complete.{play_complete, route_complete, walk_complete}
-use Rattle.hda_program.proofs.Endings.{never_shrinks, refused_words, shrunk_run, sink_faulted, run_promised, runless, unread_run, route_runless, walk_runs, play_runs, shelf_failed, refused_codec, refused_wav, refused_schedule, refused_geometry, was_routed, was_unrouted}
+use Rattle.hda_program.proofs.Endings.{never_shrinks, refused_words, shrunk_run, sink_faulted, stopped_unread, run_promised, runless, unread_run, route_runless, walk_runs, play_runs, shelf_failed, refused_codec, refused_wav, refused_schedule, refused_geometry, was_routed, was_unrouted}
 use Rattle.hda_program.proofs.run.hda_main.Goals as goal
 
 pub returns-in-Ok-clause-promise : goal.returns-in-Ok-clause-promise
 returns-in-Ok-clause-promise g c = run_promised (g.S.Shelf.told c.args.shelf.now) (λ name. Rose (g.S.Shelf.faults c.args.shelf.now name) (g.S.Shelf.faults c.answer_words.new.shelf name))
-    (λ name. Rose (g.S.Shelf.empties c.args.shelf.now name) (g.S.Shelf.empties c.answer_words.new.shelf name)) (λ n. g.S.Shelf.given c.answer_words.new.shelf ≤ g.S.Shelf.given c.args.shelf.now + n)
+    (λ name. Rose (g.S.Shelf.empties c.args.shelf.now name) (g.S.Shelf.empties c.answer_words.new.shelf name)) (λ name. g.S.Shelf.asked c.answer_words.new.shelf name ≡ g.S.Shelf.asked c.args.shelf.now name) (λ n. g.S.Shelf.given c.answer_words.new.shelf ≤ g.S.Shelf.given c.args.shelf.now + n)
     (map string_bytes c.args.words.now) (g.K.Sink.taken c.args.out.now) (g.K.Sink.taken c.write_answer.new.out) (Rose (g.K.Sink.faults c.args.out.now) (g.K.Sink.faults c.write_answer.new.out))
     c.write_answer.result.play c.write_answer.result.status
     (inl (record { meant = answer_meant c.in-Ok.answer; is = c.in-Ok.ensures.meant; given = c.write_answer.ensures.play; written = c.write_answer.ensures.written }))
 
 pub returns-in-Ok-clause-runless : goal.returns-in-Ok-clause-runless
 returns-in-Ok-clause-runless g c = runless (g.S.Shelf.told c.args.shelf.now) (λ name. Rose (g.S.Shelf.faults c.args.shelf.now name) (g.S.Shelf.faults c.answer_words.new.shelf name))
-    (λ name. Rose (g.S.Shelf.empties c.args.shelf.now name) (g.S.Shelf.empties c.answer_words.new.shelf name)) (λ n. g.S.Shelf.given c.answer_words.new.shelf ≤ g.S.Shelf.given c.args.shelf.now + n)
+    (λ name. Rose (g.S.Shelf.empties c.args.shelf.now name) (g.S.Shelf.empties c.answer_words.new.shelf name)) (λ name. g.S.Shelf.asked c.answer_words.new.shelf name ≡ g.S.Shelf.asked c.args.shelf.now name) (λ n. g.S.Shelf.given c.answer_words.new.shelf ≤ g.S.Shelf.given c.args.shelf.now + n)
     (map string_bytes c.args.words.now) (g.K.Sink.taken c.args.out.now) (g.K.Sink.taken c.write_answer.new.out) (Rose (g.K.Sink.faults c.args.out.now) (g.K.Sink.faults c.write_answer.new.out))
     c.write_answer.result.play c.write_answer.result.status
     (inl (record { meant = answer_meant c.in-Ok.answer; is = c.in-Ok.ensures.meant; given = c.write_answer.ensures.play; written = c.write_answer.ensures.written }))
 
 pub returns-in-Ok-clause-route_runless : goal.returns-in-Ok-clause-route_runless
 returns-in-Ok-clause-route_runless g c = route_runless (g.S.Shelf.told c.args.shelf.now) (λ name. Rose (g.S.Shelf.faults c.args.shelf.now name) (g.S.Shelf.faults c.answer_words.new.shelf name))
-    (λ name. Rose (g.S.Shelf.empties c.args.shelf.now name) (g.S.Shelf.empties c.answer_words.new.shelf name)) (λ n. g.S.Shelf.given c.answer_words.new.shelf ≤ g.S.Shelf.given c.args.shelf.now + n)
+    (λ name. Rose (g.S.Shelf.empties c.args.shelf.now name) (g.S.Shelf.empties c.answer_words.new.shelf name)) (λ name. g.S.Shelf.asked c.answer_words.new.shelf name ≡ g.S.Shelf.asked c.args.shelf.now name) (λ n. g.S.Shelf.given c.answer_words.new.shelf ≤ g.S.Shelf.given c.args.shelf.now + n)
     (map string_bytes c.args.words.now) (g.K.Sink.taken c.args.out.now) (g.K.Sink.taken c.write_answer.new.out) (Rose (g.K.Sink.faults c.args.out.now) (g.K.Sink.faults c.write_answer.new.out))
     c.write_answer.result.play c.write_answer.result.status
     (inl (record { meant = answer_meant c.in-Ok.answer; is = c.in-Ok.ensures.meant; given = c.write_answer.ensures.play; written = c.write_answer.ensures.written }))
 
 pub returns-in-Ok-clause-walk_runs : goal.returns-in-Ok-clause-walk_runs
 returns-in-Ok-clause-walk_runs g c = walk_runs (g.S.Shelf.told c.args.shelf.now) (λ name. Rose (g.S.Shelf.faults c.args.shelf.now name) (g.S.Shelf.faults c.answer_words.new.shelf name))
-    (λ name. Rose (g.S.Shelf.empties c.args.shelf.now name) (g.S.Shelf.empties c.answer_words.new.shelf name)) (λ n. g.S.Shelf.given c.answer_words.new.shelf ≤ g.S.Shelf.given c.args.shelf.now + n)
+    (λ name. Rose (g.S.Shelf.empties c.args.shelf.now name) (g.S.Shelf.empties c.answer_words.new.shelf name)) (λ name. g.S.Shelf.asked c.answer_words.new.shelf name ≡ g.S.Shelf.asked c.args.shelf.now name) (λ n. g.S.Shelf.given c.answer_words.new.shelf ≤ g.S.Shelf.given c.args.shelf.now + n)
     (map string_bytes c.args.words.now) (g.K.Sink.taken c.args.out.now) (g.K.Sink.taken c.write_answer.new.out) (Rose (g.K.Sink.faults c.args.out.now) (g.K.Sink.faults c.write_answer.new.out))
     c.write_answer.result.play c.write_answer.result.status
     (inl (record { meant = answer_meant c.in-Ok.answer; is = c.in-Ok.ensures.meant; given = c.write_answer.ensures.play; written = c.write_answer.ensures.written }))
 
 pub returns-in-Ok-clause-play_runs : goal.returns-in-Ok-clause-play_runs
 returns-in-Ok-clause-play_runs g c = play_runs (g.S.Shelf.told c.args.shelf.now) (λ name. Rose (g.S.Shelf.faults c.args.shelf.now name) (g.S.Shelf.faults c.answer_words.new.shelf name))
-    (λ name. Rose (g.S.Shelf.empties c.args.shelf.now name) (g.S.Shelf.empties c.answer_words.new.shelf name)) (λ n. g.S.Shelf.given c.answer_words.new.shelf ≤ g.S.Shelf.given c.args.shelf.now + n)
+    (λ name. Rose (g.S.Shelf.empties c.args.shelf.now name) (g.S.Shelf.empties c.answer_words.new.shelf name)) (λ name. g.S.Shelf.asked c.answer_words.new.shelf name ≡ g.S.Shelf.asked c.args.shelf.now name) (λ n. g.S.Shelf.given c.answer_words.new.shelf ≤ g.S.Shelf.given c.args.shelf.now + n)
+    (map string_bytes c.args.words.now) (g.K.Sink.taken c.args.out.now) (g.K.Sink.taken c.write_answer.new.out) (Rose (g.K.Sink.faults c.args.out.now) (g.K.Sink.faults c.write_answer.new.out))
+    c.write_answer.result.play c.write_answer.result.status
+    (inl (record { meant = answer_meant c.in-Ok.answer; is = c.in-Ok.ensures.meant; given = c.write_answer.ensures.play; written = c.write_answer.ensures.written }))
+
+pub returns-in-Ok-clause-stopped_unread : goal.returns-in-Ok-clause-stopped_unread
+returns-in-Ok-clause-stopped_unread g c = stopped_unread (g.S.Shelf.told c.args.shelf.now) (λ name. Rose (g.S.Shelf.faults c.args.shelf.now name) (g.S.Shelf.faults c.answer_words.new.shelf name))
+    (λ name. Rose (g.S.Shelf.empties c.args.shelf.now name) (g.S.Shelf.empties c.answer_words.new.shelf name)) (λ name. g.S.Shelf.asked c.answer_words.new.shelf name ≡ g.S.Shelf.asked c.args.shelf.now name) (λ n. g.S.Shelf.given c.answer_words.new.shelf ≤ g.S.Shelf.given c.args.shelf.now + n)
     (map string_bytes c.args.words.now) (g.K.Sink.taken c.args.out.now) (g.K.Sink.taken c.write_answer.new.out) (Rose (g.K.Sink.faults c.args.out.now) (g.K.Sink.faults c.write_answer.new.out))
     c.write_answer.result.play c.write_answer.result.status
     (inl (record { meant = answer_meant c.in-Ok.answer; is = c.in-Ok.ensures.meant; given = c.write_answer.ensures.play; written = c.write_answer.ensures.written }))
 
 pub returns-in-Ok-clause-unread_run : goal.returns-in-Ok-clause-unread_run
 returns-in-Ok-clause-unread_run g c = unread_run (g.S.Shelf.told c.args.shelf.now) (λ name. Rose (g.S.Shelf.faults c.args.shelf.now name) (g.S.Shelf.faults c.answer_words.new.shelf name))
-    (λ name. Rose (g.S.Shelf.empties c.args.shelf.now name) (g.S.Shelf.empties c.answer_words.new.shelf name)) (λ n. g.S.Shelf.given c.answer_words.new.shelf ≤ g.S.Shelf.given c.args.shelf.now + n)
+    (λ name. Rose (g.S.Shelf.empties c.args.shelf.now name) (g.S.Shelf.empties c.answer_words.new.shelf name)) (λ name. g.S.Shelf.asked c.answer_words.new.shelf name ≡ g.S.Shelf.asked c.args.shelf.now name) (λ n. g.S.Shelf.given c.answer_words.new.shelf ≤ g.S.Shelf.given c.args.shelf.now + n)
     (map string_bytes c.args.words.now) (g.K.Sink.taken c.args.out.now) (g.K.Sink.taken c.write_answer.new.out) (Rose (g.K.Sink.faults c.args.out.now) (g.K.Sink.faults c.write_answer.new.out))
     c.write_answer.result.play c.write_answer.result.status
     (inl (record { meant = answer_meant c.in-Ok.answer; is = c.in-Ok.ensures.meant; given = c.write_answer.ensures.play; written = c.write_answer.ensures.written }))
 
 pub returns-in-Ok-clause-shrunk_run : goal.returns-in-Ok-clause-shrunk_run
 returns-in-Ok-clause-shrunk_run g c = shrunk_run (g.S.Shelf.told c.args.shelf.now) (λ name. Rose (g.S.Shelf.faults c.args.shelf.now name) (g.S.Shelf.faults c.answer_words.new.shelf name))
-    (λ name. Rose (g.S.Shelf.empties c.args.shelf.now name) (g.S.Shelf.empties c.answer_words.new.shelf name)) (λ n. g.S.Shelf.given c.answer_words.new.shelf ≤ g.S.Shelf.given c.args.shelf.now + n)
+    (λ name. Rose (g.S.Shelf.empties c.args.shelf.now name) (g.S.Shelf.empties c.answer_words.new.shelf name)) (λ name. g.S.Shelf.asked c.answer_words.new.shelf name ≡ g.S.Shelf.asked c.args.shelf.now name) (λ n. g.S.Shelf.given c.answer_words.new.shelf ≤ g.S.Shelf.given c.args.shelf.now + n)
     (map string_bytes c.args.words.now) (g.K.Sink.taken c.args.out.now) (g.K.Sink.taken c.write_answer.new.out) (Rose (g.K.Sink.faults c.args.out.now) (g.K.Sink.faults c.write_answer.new.out))
     c.write_answer.result.play c.write_answer.result.status
     (inl (record { meant = answer_meant c.in-Ok.answer; is = c.in-Ok.ensures.meant; given = c.write_answer.ensures.play; written = c.write_answer.ensures.written }))
 
 pub returns-in-Ok-clause-never_shrinks : goal.returns-in-Ok-clause-never_shrinks
 returns-in-Ok-clause-never_shrinks g c = never_shrinks (λ name. Rose (g.S.Shelf.faults c.args.shelf.now name) (g.S.Shelf.faults c.answer_words.new.shelf name))
-    (λ name. Rose (g.S.Shelf.empties c.args.shelf.now name) (g.S.Shelf.empties c.answer_words.new.shelf name)) (λ n. g.S.Shelf.given c.answer_words.new.shelf ≤ g.S.Shelf.given c.args.shelf.now + n)
+    (λ name. Rose (g.S.Shelf.empties c.args.shelf.now name) (g.S.Shelf.empties c.answer_words.new.shelf name)) (λ name. g.S.Shelf.asked c.answer_words.new.shelf name ≡ g.S.Shelf.asked c.args.shelf.now name) (λ n. g.S.Shelf.given c.answer_words.new.shelf ≤ g.S.Shelf.given c.args.shelf.now + n)
     (map string_bytes c.args.words.now) (g.K.Sink.taken c.args.out.now) (g.K.Sink.taken c.write_answer.new.out) (Rose (g.K.Sink.faults c.args.out.now) (g.K.Sink.faults c.write_answer.new.out))
     c.write_answer.result.play c.write_answer.result.status
     (g.S.Shelf.told c.args.shelf.now)
@@ -64,63 +71,63 @@ returns-in-Ok-clause-never_shrinks g c = never_shrinks (λ name. Rose (g.S.Shelf
 
 pub returns-in-Ok-clause-unread : goal.returns-in-Ok-clause-unread
 returns-in-Ok-clause-unread g c = shelf_failed (g.S.Shelf.told c.args.shelf.now) (λ name. Rose (g.S.Shelf.faults c.args.shelf.now name) (g.S.Shelf.faults c.answer_words.new.shelf name))
-    (λ name. Rose (g.S.Shelf.empties c.args.shelf.now name) (g.S.Shelf.empties c.answer_words.new.shelf name)) (λ n. g.S.Shelf.given c.answer_words.new.shelf ≤ g.S.Shelf.given c.args.shelf.now + n)
+    (λ name. Rose (g.S.Shelf.empties c.args.shelf.now name) (g.S.Shelf.empties c.answer_words.new.shelf name)) (λ name. g.S.Shelf.asked c.answer_words.new.shelf name ≡ g.S.Shelf.asked c.args.shelf.now name) (λ n. g.S.Shelf.given c.answer_words.new.shelf ≤ g.S.Shelf.given c.args.shelf.now + n)
     (map string_bytes c.args.words.now) (g.K.Sink.taken c.args.out.now) (g.K.Sink.taken c.write_answer.new.out) (Rose (g.K.Sink.faults c.args.out.now) (g.K.Sink.faults c.write_answer.new.out))
     c.write_answer.result.play c.write_answer.result.status
     (inl (record { meant = answer_meant c.in-Ok.answer; is = c.in-Ok.ensures.meant; given = c.write_answer.ensures.play; written = c.write_answer.ensures.written }))
 
 pub returns-in-Ok-clause-refused_codec : goal.returns-in-Ok-clause-refused_codec
 returns-in-Ok-clause-refused_codec g c = refused_codec (g.S.Shelf.told c.args.shelf.now) (λ name. Rose (g.S.Shelf.faults c.args.shelf.now name) (g.S.Shelf.faults c.answer_words.new.shelf name))
-    (λ name. Rose (g.S.Shelf.empties c.args.shelf.now name) (g.S.Shelf.empties c.answer_words.new.shelf name)) (λ n. g.S.Shelf.given c.answer_words.new.shelf ≤ g.S.Shelf.given c.args.shelf.now + n)
+    (λ name. Rose (g.S.Shelf.empties c.args.shelf.now name) (g.S.Shelf.empties c.answer_words.new.shelf name)) (λ name. g.S.Shelf.asked c.answer_words.new.shelf name ≡ g.S.Shelf.asked c.args.shelf.now name) (λ n. g.S.Shelf.given c.answer_words.new.shelf ≤ g.S.Shelf.given c.args.shelf.now + n)
     (map string_bytes c.args.words.now) (g.K.Sink.taken c.args.out.now) (g.K.Sink.taken c.write_answer.new.out) (Rose (g.K.Sink.faults c.args.out.now) (g.K.Sink.faults c.write_answer.new.out))
     c.write_answer.result.play c.write_answer.result.status
     (inl (record { meant = answer_meant c.in-Ok.answer; is = c.in-Ok.ensures.meant; given = c.write_answer.ensures.play; written = c.write_answer.ensures.written }))
 
 pub returns-in-Ok-clause-refused_wav : goal.returns-in-Ok-clause-refused_wav
 returns-in-Ok-clause-refused_wav g c = refused_wav (g.S.Shelf.told c.args.shelf.now) (λ name. Rose (g.S.Shelf.faults c.args.shelf.now name) (g.S.Shelf.faults c.answer_words.new.shelf name))
-    (λ name. Rose (g.S.Shelf.empties c.args.shelf.now name) (g.S.Shelf.empties c.answer_words.new.shelf name)) (λ n. g.S.Shelf.given c.answer_words.new.shelf ≤ g.S.Shelf.given c.args.shelf.now + n)
+    (λ name. Rose (g.S.Shelf.empties c.args.shelf.now name) (g.S.Shelf.empties c.answer_words.new.shelf name)) (λ name. g.S.Shelf.asked c.answer_words.new.shelf name ≡ g.S.Shelf.asked c.args.shelf.now name) (λ n. g.S.Shelf.given c.answer_words.new.shelf ≤ g.S.Shelf.given c.args.shelf.now + n)
     (map string_bytes c.args.words.now) (g.K.Sink.taken c.args.out.now) (g.K.Sink.taken c.write_answer.new.out) (Rose (g.K.Sink.faults c.args.out.now) (g.K.Sink.faults c.write_answer.new.out))
     c.write_answer.result.play c.write_answer.result.status
     (inl (record { meant = answer_meant c.in-Ok.answer; is = c.in-Ok.ensures.meant; given = c.write_answer.ensures.play; written = c.write_answer.ensures.written }))
 
 pub returns-in-Ok-clause-refused_schedule : goal.returns-in-Ok-clause-refused_schedule
 returns-in-Ok-clause-refused_schedule g c = refused_schedule (g.S.Shelf.told c.args.shelf.now) (λ name. Rose (g.S.Shelf.faults c.args.shelf.now name) (g.S.Shelf.faults c.answer_words.new.shelf name))
-    (λ name. Rose (g.S.Shelf.empties c.args.shelf.now name) (g.S.Shelf.empties c.answer_words.new.shelf name)) (λ n. g.S.Shelf.given c.answer_words.new.shelf ≤ g.S.Shelf.given c.args.shelf.now + n)
+    (λ name. Rose (g.S.Shelf.empties c.args.shelf.now name) (g.S.Shelf.empties c.answer_words.new.shelf name)) (λ name. g.S.Shelf.asked c.answer_words.new.shelf name ≡ g.S.Shelf.asked c.args.shelf.now name) (λ n. g.S.Shelf.given c.answer_words.new.shelf ≤ g.S.Shelf.given c.args.shelf.now + n)
     (map string_bytes c.args.words.now) (g.K.Sink.taken c.args.out.now) (g.K.Sink.taken c.write_answer.new.out) (Rose (g.K.Sink.faults c.args.out.now) (g.K.Sink.faults c.write_answer.new.out))
     c.write_answer.result.play c.write_answer.result.status
     (inl (record { meant = answer_meant c.in-Ok.answer; is = c.in-Ok.ensures.meant; given = c.write_answer.ensures.play; written = c.write_answer.ensures.written }))
 
 pub returns-in-Ok-clause-refused_geometry : goal.returns-in-Ok-clause-refused_geometry
 returns-in-Ok-clause-refused_geometry g c = refused_geometry (g.S.Shelf.told c.args.shelf.now) (λ name. Rose (g.S.Shelf.faults c.args.shelf.now name) (g.S.Shelf.faults c.answer_words.new.shelf name))
-    (λ name. Rose (g.S.Shelf.empties c.args.shelf.now name) (g.S.Shelf.empties c.answer_words.new.shelf name)) (λ n. g.S.Shelf.given c.answer_words.new.shelf ≤ g.S.Shelf.given c.args.shelf.now + n)
+    (λ name. Rose (g.S.Shelf.empties c.args.shelf.now name) (g.S.Shelf.empties c.answer_words.new.shelf name)) (λ name. g.S.Shelf.asked c.answer_words.new.shelf name ≡ g.S.Shelf.asked c.args.shelf.now name) (λ n. g.S.Shelf.given c.answer_words.new.shelf ≤ g.S.Shelf.given c.args.shelf.now + n)
     (map string_bytes c.args.words.now) (g.K.Sink.taken c.args.out.now) (g.K.Sink.taken c.write_answer.new.out) (Rose (g.K.Sink.faults c.args.out.now) (g.K.Sink.faults c.write_answer.new.out))
     c.write_answer.result.play c.write_answer.result.status
     (inl (record { meant = answer_meant c.in-Ok.answer; is = c.in-Ok.ensures.meant; given = c.write_answer.ensures.play; written = c.write_answer.ensures.written }))
 
 pub returns-in-Ok-clause-routed : goal.returns-in-Ok-clause-routed
 returns-in-Ok-clause-routed g c = was_routed (g.S.Shelf.told c.args.shelf.now) (λ name. Rose (g.S.Shelf.faults c.args.shelf.now name) (g.S.Shelf.faults c.answer_words.new.shelf name))
-    (λ name. Rose (g.S.Shelf.empties c.args.shelf.now name) (g.S.Shelf.empties c.answer_words.new.shelf name)) (λ n. g.S.Shelf.given c.answer_words.new.shelf ≤ g.S.Shelf.given c.args.shelf.now + n)
+    (λ name. Rose (g.S.Shelf.empties c.args.shelf.now name) (g.S.Shelf.empties c.answer_words.new.shelf name)) (λ name. g.S.Shelf.asked c.answer_words.new.shelf name ≡ g.S.Shelf.asked c.args.shelf.now name) (λ n. g.S.Shelf.given c.answer_words.new.shelf ≤ g.S.Shelf.given c.args.shelf.now + n)
     (map string_bytes c.args.words.now) (g.K.Sink.taken c.args.out.now) (g.K.Sink.taken c.write_answer.new.out) (Rose (g.K.Sink.faults c.args.out.now) (g.K.Sink.faults c.write_answer.new.out))
     c.write_answer.result.play c.write_answer.result.status
     (inl (record { meant = answer_meant c.in-Ok.answer; is = c.in-Ok.ensures.meant; given = c.write_answer.ensures.play; written = c.write_answer.ensures.written }))
 
 pub returns-in-Ok-clause-nothing_routed : goal.returns-in-Ok-clause-nothing_routed
 returns-in-Ok-clause-nothing_routed g c = was_unrouted (g.S.Shelf.told c.args.shelf.now) (λ name. Rose (g.S.Shelf.faults c.args.shelf.now name) (g.S.Shelf.faults c.answer_words.new.shelf name))
-    (λ name. Rose (g.S.Shelf.empties c.args.shelf.now name) (g.S.Shelf.empties c.answer_words.new.shelf name)) (λ n. g.S.Shelf.given c.answer_words.new.shelf ≤ g.S.Shelf.given c.args.shelf.now + n)
+    (λ name. Rose (g.S.Shelf.empties c.args.shelf.now name) (g.S.Shelf.empties c.answer_words.new.shelf name)) (λ name. g.S.Shelf.asked c.answer_words.new.shelf name ≡ g.S.Shelf.asked c.args.shelf.now name) (λ n. g.S.Shelf.given c.answer_words.new.shelf ≤ g.S.Shelf.given c.args.shelf.now + n)
     (map string_bytes c.args.words.now) (g.K.Sink.taken c.args.out.now) (g.K.Sink.taken c.write_answer.new.out) (Rose (g.K.Sink.faults c.args.out.now) (g.K.Sink.faults c.write_answer.new.out))
     c.write_answer.result.play c.write_answer.result.status
     (inl (record { meant = answer_meant c.in-Ok.answer; is = c.in-Ok.ensures.meant; given = c.write_answer.ensures.play; written = c.write_answer.ensures.written }))
 
 pub returns-in-Ok-clause-refused_words : goal.returns-in-Ok-clause-refused_words
 returns-in-Ok-clause-refused_words g c = refused_words (g.S.Shelf.told c.args.shelf.now) (λ name. Rose (g.S.Shelf.faults c.args.shelf.now name) (g.S.Shelf.faults c.answer_words.new.shelf name))
-    (λ name. Rose (g.S.Shelf.empties c.args.shelf.now name) (g.S.Shelf.empties c.answer_words.new.shelf name)) (λ n. g.S.Shelf.given c.answer_words.new.shelf ≤ g.S.Shelf.given c.args.shelf.now + n)
+    (λ name. Rose (g.S.Shelf.empties c.args.shelf.now name) (g.S.Shelf.empties c.answer_words.new.shelf name)) (λ name. g.S.Shelf.asked c.answer_words.new.shelf name ≡ g.S.Shelf.asked c.args.shelf.now name) (λ n. g.S.Shelf.given c.answer_words.new.shelf ≤ g.S.Shelf.given c.args.shelf.now + n)
     (map string_bytes c.args.words.now) (g.K.Sink.taken c.args.out.now) (g.K.Sink.taken c.write_answer.new.out) (Rose (g.K.Sink.faults c.args.out.now) (g.K.Sink.faults c.write_answer.new.out))
     c.write_answer.result.play c.write_answer.result.status
     (inl (record { meant = answer_meant c.in-Ok.answer; is = c.in-Ok.ensures.meant; given = c.write_answer.ensures.play; written = c.write_answer.ensures.written }))
 
 pub returns-in-Ok-clause-unwritten : goal.returns-in-Ok-clause-unwritten
 returns-in-Ok-clause-unwritten g c = sink_faulted (g.S.Shelf.told c.args.shelf.now) (λ name. Rose (g.S.Shelf.faults c.args.shelf.now name) (g.S.Shelf.faults c.answer_words.new.shelf name))
-    (λ name. Rose (g.S.Shelf.empties c.args.shelf.now name) (g.S.Shelf.empties c.answer_words.new.shelf name)) (λ n. g.S.Shelf.given c.answer_words.new.shelf ≤ g.S.Shelf.given c.args.shelf.now + n)
+    (λ name. Rose (g.S.Shelf.empties c.args.shelf.now name) (g.S.Shelf.empties c.answer_words.new.shelf name)) (λ name. g.S.Shelf.asked c.answer_words.new.shelf name ≡ g.S.Shelf.asked c.args.shelf.now name) (λ n. g.S.Shelf.given c.answer_words.new.shelf ≤ g.S.Shelf.given c.args.shelf.now + n)
     (map string_bytes c.args.words.now) (g.K.Sink.taken c.args.out.now) (g.K.Sink.taken c.write_answer.new.out) (Rose (g.K.Sink.faults c.args.out.now) (g.K.Sink.faults c.write_answer.new.out))
     c.write_answer.result.play c.write_answer.result.status
     (inl (record { meant = answer_meant c.in-Ok.answer; is = c.in-Ok.ensures.meant; given = c.write_answer.ensures.play; written = c.write_answer.ensures.written }))
@@ -129,7 +136,7 @@ pub returns-in-Ok-clause-route_completes : goal.returns-in-Ok-clause-route_compl
 returns-in-Ok-clause-route_completes g c = λ name format routes can sink. route_complete (g.K.Sink.taken c.args.out.now) (g.K.Sink.taken c.write_answer.new.out)
     (Rose (g.K.Sink.faults c.args.out.now) (g.K.Sink.faults c.write_answer.new.out)) c.write_answer.result.play c.write_answer.result.status sink
     (g.S.Shelf.told c.args.shelf.now) (λ name. Rose (g.S.Shelf.faults c.args.shelf.now name) (g.S.Shelf.faults c.answer_words.new.shelf name))
-    (λ name. Rose (g.S.Shelf.empties c.args.shelf.now name) (g.S.Shelf.empties c.answer_words.new.shelf name)) (λ n. g.S.Shelf.given c.answer_words.new.shelf ≤ g.S.Shelf.given c.args.shelf.now + n)
+    (λ name. Rose (g.S.Shelf.empties c.args.shelf.now name) (g.S.Shelf.empties c.answer_words.new.shelf name)) (λ name. g.S.Shelf.asked c.answer_words.new.shelf name ≡ g.S.Shelf.asked c.args.shelf.now name) (λ n. g.S.Shelf.given c.answer_words.new.shelf ≤ g.S.Shelf.given c.args.shelf.now + n)
     (map string_bytes c.args.words.now) name format routes can
     (inl (record { meant = answer_meant c.in-Ok.answer; is = c.in-Ok.ensures.meant; given = c.write_answer.ensures.play; written = c.write_answer.ensures.written }))
 
@@ -137,7 +144,7 @@ pub returns-in-Ok-clause-walk_completes : goal.returns-in-Ok-clause-walk_complet
 returns-in-Ok-clause-walk_completes g c = λ codec name walks can sink. walk_complete (g.K.Sink.taken c.args.out.now) (g.K.Sink.taken c.write_answer.new.out)
     (Rose (g.K.Sink.faults c.args.out.now) (g.K.Sink.faults c.write_answer.new.out)) c.write_answer.result.play c.write_answer.result.status sink
     (g.S.Shelf.told c.args.shelf.now) (λ name. Rose (g.S.Shelf.faults c.args.shelf.now name) (g.S.Shelf.faults c.answer_words.new.shelf name))
-    (λ name. Rose (g.S.Shelf.empties c.args.shelf.now name) (g.S.Shelf.empties c.answer_words.new.shelf name)) (λ n. g.S.Shelf.given c.answer_words.new.shelf ≤ g.S.Shelf.given c.args.shelf.now + n)
+    (λ name. Rose (g.S.Shelf.empties c.args.shelf.now name) (g.S.Shelf.empties c.answer_words.new.shelf name)) (λ name. g.S.Shelf.asked c.answer_words.new.shelf name ≡ g.S.Shelf.asked c.args.shelf.now name) (λ n. g.S.Shelf.given c.answer_words.new.shelf ≤ g.S.Shelf.given c.args.shelf.now + n)
     (map string_bytes c.args.words.now) codec name walks can
     (inl (record { meant = answer_meant c.in-Ok.answer; is = c.in-Ok.ensures.meant; given = c.write_answer.ensures.play; written = c.write_answer.ensures.written }))
 
@@ -145,6 +152,6 @@ pub returns-in-Ok-clause-play_completes : goal.returns-in-Ok-clause-play_complet
 returns-in-Ok-clause-play_completes g c = λ codec wav name periods period plays can sink. play_complete (g.K.Sink.taken c.args.out.now) (g.K.Sink.taken c.write_answer.new.out)
     (Rose (g.K.Sink.faults c.args.out.now) (g.K.Sink.faults c.write_answer.new.out)) c.write_answer.result.play c.write_answer.result.status sink
     (g.S.Shelf.told c.args.shelf.now) (λ name. Rose (g.S.Shelf.faults c.args.shelf.now name) (g.S.Shelf.faults c.answer_words.new.shelf name))
-    (λ name. Rose (g.S.Shelf.empties c.args.shelf.now name) (g.S.Shelf.empties c.answer_words.new.shelf name)) (λ n. g.S.Shelf.given c.answer_words.new.shelf ≤ g.S.Shelf.given c.args.shelf.now + n)
+    (λ name. Rose (g.S.Shelf.empties c.args.shelf.now name) (g.S.Shelf.empties c.answer_words.new.shelf name)) (λ name. g.S.Shelf.asked c.answer_words.new.shelf name ≡ g.S.Shelf.asked c.args.shelf.now name) (λ n. g.S.Shelf.given c.answer_words.new.shelf ≤ g.S.Shelf.given c.args.shelf.now + n)
     (map string_bytes c.args.words.now) codec wav name periods period plays can
     (inl (record { meant = answer_meant c.in-Ok.answer; is = c.in-Ok.ensures.meant; given = c.write_answer.ensures.play; written = c.write_answer.ensures.written }))

@@ -1,3 +1,4 @@
+use Rattle.audio_driver.specs.States.{state_with}
 use Rattle.std.proofs.Common.{◌≡◌, ◌≤◌, ◌+◌, ℕ, true, false, List, length, map, Some, refl, sym, ap, subst, ◌∙◌, arith}
 use Rattle.stream_format.specs.Cadence.{block_bytes}
 use Rattle.route_planner.specs.declared.routes.Plan.{Plan}
@@ -9,7 +10,6 @@ use Rattle.hda_world.specs.Tellings.{world_of}
 use Rattle.hda_world.specs.JournalEvents.{events_of}
 use Rattle.sound_report.specs.declared.played.Played.{Played}
 use Rattle.jack_counts.specs.Jacks.{Counts}
-use Rattle.told_playing.specs.Keeping.{state_left}
 use Rattle.period_writer.specs.Runs.{measures}
 use Rattle.rig.specs.Follows.{Follows}
 use Rattle.rig.specs.Rigs.{setting_of, telling_of}
@@ -29,7 +29,7 @@ use Rattle.scheduled_runs.proofs.Gone.{opened_can_go}
 use Rattle.scheduled_runs.proofs.Listed.{lists_are}
 use Rattle.scheduled_runs.proofs.LineRecorded.{RunLaws}
 use Rattle.scheduled_runs.proofs.Played.{driven}
-use Rattle.scheduled_runs.proofs.PlayedFrom.{source_for, fed_at_open, beside_first, sound_is_read, cut_is_under, given_most, not_memory}
+use Rattle.scheduled_runs.proofs.PlayedFrom.{source_for, fed_at_open, beside_first, sound_is_read, cut_is_under, none_empty, frames_given, given_most, not_memory}
 use Rattle.scheduled_runs.proofs.PlayedOver.{CanPlayFrom, sound, streams, some_block, over, used, end_is, few}
 use Rattle.scheduled_runs.proofs.playing.play.Given.{Over}
 use Rattle.scheduled_runs.proofs.playing.play.Goals.{After-block_bytes-2, After-drop-closed-3}
@@ -161,11 +161,30 @@ module _ (g : Over) (c : After-drop-closed-3 g) where
   machine_there : (setting_of c.drive.new.rig).machine ≡ c.args.machine
   machine_there = c.in_ok-driven.ensures.machine ∙ c.in_ok-rig.ensures.machine
 
+  -- so many frames were read
+  read_counted : c.frames_read-read.result ≡ frames_read c.drive.new.cut (c.in_ok-driven.ensures.driven.last.taken + length c.in_ok-driven.ensures.driven.last.held) (measures c.args.geometry).block c.args.head.frames
+  read_counted =
+      c.frames_read-read.ensures ∙ ap (λ (bytes : ℕ). frames_read c.drive.new.cut bytes c.block_bytes.result c.args.head.frames) c.in_ok-driven.ensures.driven.read_is
+      ∙ ap (λ (block : ℕ). frames_read c.drive.new.cut (c.in_ok-driven.ensures.driven.last.taken + length c.in_ok-driven.ensures.driven.last.held) block c.args.head.frames)
+      (c.block_bytes.ensures ∙ block_there)
+
 pub returns-clause-cut : goal.returns-clause-cut
 returns-clause-cut g c =
     let driven = c.in_ok-driven.ensures.driven in
     cut_is_under c.args.name.now c.args.head (measures c.args.geometry) driven.gave (first g c) (now g c) c.drive.new.cut c.in_ok-driver.driver.supply driven.last driven.course driven.took (can_after g c).supply_is (block_some g c) (streamed g c)
+    c.frames_read-read.result c.in_ok-cut.cut (read_counted g c) c.in_ok-cut.ensures
+
+pub returns-clause-not_short : goal.returns-clause-not_short
+returns-clause-not_short g c =
+    let driven = c.in_ok-driven.ensures.driven in
+    none_empty c.args.name.now c.args.head (measures c.args.geometry) driven.gave (first g c) (now g c) c.drive.new.cut c.in_ok-driver.driver.supply driven.last driven.course driven.took (can_after g c).supply_is (block_some g c) (streamed g c)
     c.in_ok-cut.cut c.in_ok-cut.ensures
+
+pub returns-clause-frames : goal.returns-clause-frames
+returns-clause-frames g c =
+    let driven = c.in_ok-driven.ensures.driven in
+    frames_given c.args.name.now c.args.head (measures c.args.geometry) driven.gave (first g c) (now g c) c.drive.new.cut c.in_ok-driver.driver.supply driven.last driven.course driven.took (can_after g c).supply_is (block_some g c) (streamed g c)
+    c.frames_read-read.result (read_counted g c)
 
 pub returns-clause-given : goal.returns-clause-given
 returns-clause-given g c =
@@ -240,7 +259,7 @@ returns-clause-played g c =
         };
         blocks = blocks;
         first_fits = c.in_ok-driver.ensures.first_fits;
-        state = state_left task was.ended was.tally;
+        state = state_with was.ended was.tally;
         history = record {
           replays = subst (λ (events : List Event). AreHonest events (start_of REGION_BYTES machine)) (sym told) was.replays;
           follows = subst (Follows c.args.schedule.now) (sym told) was.follows;

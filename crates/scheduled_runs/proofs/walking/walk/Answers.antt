@@ -1,3 +1,4 @@
+use Rattle.audio_driver.specs.States.{state_with}
 use Rattle.sound_report.specs.declared.played.Played.{Played}
 use Rattle.std.proofs.Common.{◌≡◌, ℕ, true, false, None, List, [], ◌++◌, length, refl, sym, ap, subst, ◌∙◌, arith}
 use Rattle.stream_format.specs.declared.format.Format.{Format}
@@ -10,7 +11,6 @@ use Rattle.driver_progress.specs.Tasks.{Task}
 use Rattle.period_writer.specs.Runs.{Tally}
 use Rattle.jack_counts.specs.Jacks.{Counts}
 use Rattle.told_playing.specs.Sounding.{Parts}
-use Rattle.told_playing.specs.Keeping.{state_left}
 use Rattle.rig.specs.Follows.{Follows}
 use Rattle.rig.specs.Rigs.{telling_of}
 use Rattle.rig.specs.Replays.{start_of}
@@ -109,7 +109,7 @@ returns c =
       ring = fresh.ring;
       blocks = blocks_of driver.bring_up driver.writer;
       first_fits = fresh.first_fits;
-      state = state_left (task_for earlier) gone.ended gone.tally;
+      state = state_with gone.ended gone.tally;
       history = record {
         replays = subst (λ (events : List Event). AreHonest events (start_of REGION_BYTES machine)) (sym told) gone.replays;
         follows = subst (Follows c.args.schedule.now) (sym told) gone.follows;

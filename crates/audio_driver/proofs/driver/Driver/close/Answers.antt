@@ -4,12 +4,9 @@ use Rattle.dma_pool.specs.declared.blocks.Lent.{Lent}
 use Rattle.dma_pool.specs.Blocks.{run_at}
 use Rattle.command_engine.specs.declared.engine.Engine.{Engine}
 use Rattle.command_engine.specs.Blocks.{corb_bytes, rirb_bytes}
-use Rattle.period_writer.specs.declared.geometry.Geometry.{Geometry}
 use Rattle.period_writer.specs.Blocks.{addresses_of}
-use Rattle.period_writer.specs.Runs.{measures}
 use Rattle.period_writer.specs.Writers.{tally_of, periods_of}
 use Rattle.period_writer.proofs.Callers.{owns_on}
-use Rattle.audio_driver.specs.States.{phase_with}
 use Rattle.audio_driver.proofs.Kept.{asking_in}
 use Rattle.audio_driver.proofs.Back.{as_before, gives_at}
 use Rattle.audio_driver.proofs.driver.Driver.close.Goals as goal
@@ -56,7 +53,7 @@ returns-in-Ok-clause-closes g c = rw (← c.self.view_is) (λ sound may last.
       recorded = c.end_call-ended.ensures.recorded;
       sounds = λ plays. c.end_call-ended.ensures.sounds plays sound may last;
       grows = c.end_call-ended.ensures.grows;
-      phase = c.phase_of-phase.ensures ∙ ap (λ (geometry : Geometry). phase_with ended (tally_of after) (measures geometry).limit) c.end_call-ended.ensures.keeps.geometry;
+      phase = c.phase_of-phase.ensures;
       sent = c.sent-sent.ensures;
       graphs = c.parts-engine.ensures.graphs;
       plans = c.parts-engine.ensures.plans;

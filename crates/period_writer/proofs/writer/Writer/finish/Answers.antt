@@ -3,7 +3,7 @@ use Rattle.wav_reader.specs.Supplies.{Supplied, MayGive, EndsWith}
 use Rattle.period_writer.specs.Playing.{Finishes}
 use Rattle.period_writer.specs.Rings.{ring_bytes}
 use Rattle.period_writer.specs.Writers.{tally_of, periods_of, ring_of}
-use Rattle.period_writer.proofs.FinishTelling.{finish_tells_of}
+use Rattle.period_writer.proofs.RunClause.{finish_tells_of}
 use Rattle.period_writer.proofs.Runnings.{finishes_so}
 use Rattle.wav_reader.proofs.Callers.{same_before}
 use Rattle.period_writer.proofs.SupplyRuns.{suffices_none}

@@ -1,6 +1,6 @@
-use Rattle.std.proofs.Common.{◌≡◌, ◌≤◌, ◌+◌, ◌-◌, ◌∙◌, ℕ, Bool, List, length, ap, sym, refl, subst, arith, if◌then◌else◌}
+use Rattle.std.proofs.Common.{◌≡◌, ◌≤◌, ◌+◌, ◌∙◌, ℕ, Bool, List, length, ap, sym, refl, subst, arith, if◌then◌else◌}
 use Rattle.wav_reader.specs.Supplies.{Supplied, MayGive, sound_before}
-use Rattle.period_writer.specs.Places.{line_writes}
+use Rattle.hda_world.specs.Events.{Event}
 use Rattle.period_writer.specs.Playing.{Starts}
 use Rattle.period_writer.specs.Accounts.{Accounts}
 use Rattle.period_writer.proofs.Accounts.{accounts_of, none_used}
@@ -10,38 +10,43 @@ use Rattle.hda_world.specs.Tellings.{Between, Makes}
 use Rattle.period_writer.specs.declared.geometry.Geometry.{Geometry}
 use Rattle.period_writer.specs.Rings.{period_bytes, ring_bytes}
 use Rattle.period_writer.specs.Starting.{run_accesses}
-use Rattle.period_writer.specs.Runs.{Tally, course_opened, measures, facts_of, run_sound, tally_after}
-use Rattle.period_writer.specs.Writers.{WriterState, KeepsRing, tally_of, periods_of, ring_of, measures_of, touched_up_to, writes_up_to}
+use Rattle.period_writer.specs.Runs.{Tally, course_opened, measures, facts_of, run_start, run_sound, tally_after}
+use Rattle.period_writer.specs.Writers.{WriterState, KeepsRing, tally_of, periods_of, ring_of, measures_of, ring_size, touched_by, writes_of}
+use Rattle.period_writer.specs.Courses.{IsCourse}
 use Rattle.period_writer.proofs.FreshWriters.{has_words, is_fresh, has_ring}
 use Rattle.hda_world.specs.declared.world.TheConstants.{REGION_BYTES}
 use Rattle.period_writer.proofs.Started.{starts_tell}
-use Rattle.period_writer.proofs.CourseLaws.{touched_at_first, ring_some}
+use Rattle.period_writer.proofs.CourseLaws.{touched_at_first, none_over, ring_some}
 use Rattle.period_writer.proofs.Runnings.{starts_so}
 use Rattle.period_writer.proofs.writer.Writer.start.Goals as goal
 
 pub write_turn-requires-clause-room : goal.write_turn-requires-clause-room
 write_turn-requires-clause-room g c =
     let is = touched_at_first c.args.self.now.geometry.periods c.args.self.now.geometry.period (length c.args.self.now.runs) _ c.next_turn-turn.result.reach c.args.self.now.course c.args.self.now.geometry.some_periods c.args.self.now.geometry.some c.next_turn-turn.ensures.writer.course_is c.requires.fresh c.next_turn-turn.ensures.reach in
-    let same = ap (λ (writer : WriterState). touched_up_to writer c.next_turn-turn.result.reach) c.write_entries.ensures.same in
-    omega (arith, is, same, c.requires.room, c.read-from.ensures.accesses, c.reset_stream.ensures.accesses, c.write_entries.ensures.accesses)
+    let over = none_over c.args.self.now.geometry.period c.next_turn-turn.result.start c.next_turn-turn.result.sound (length c.args.self.now.runs) c.args.self.now.course c.next_turn-turn.ensures.writer.course_is c.requires.fresh in
+    let same = ap (λ (writer : WriterState). touched_by writer c.next_turn-turn.result.start c.next_turn-turn.result.sound c.next_turn-turn.result.reach) c.write_entries.ensures.same in
+    omega (arith, is, over, same, c.requires.room, c.read-from.ensures.accesses, c.reset_stream.ensures.accesses, c.write_entries.ensures.accesses)
 
 pub set_going-requires : goal.set_going-requires
 set_going-requires g c =
     let is = touched_at_first c.args.self.now.geometry.periods c.args.self.now.geometry.period (length c.args.self.now.runs) _ c.next_turn-turn.result.reach c.args.self.now.course c.args.self.now.geometry.some_periods c.args.self.now.geometry.some c.next_turn-turn.ensures.writer.course_is c.requires.fresh c.next_turn-turn.ensures.reach in
-    let same = ap (λ (writer : WriterState). touched_up_to writer c.next_turn-turn.result.reach) c.write_entries.ensures.same in
-    omega (arith, is, same, c.requires.room, c.read-from.ensures.accesses, c.reset_stream.ensures.accesses, c.write_entries.ensures.accesses, c.write_turn.ensures.accesses)
+    let over = none_over c.args.self.now.geometry.period c.next_turn-turn.result.start c.next_turn-turn.result.sound (length c.args.self.now.runs) c.args.self.now.course c.next_turn-turn.ensures.writer.course_is c.requires.fresh in
+    let same = ap (λ (writer : WriterState). touched_by writer c.next_turn-turn.result.start c.next_turn-turn.result.sound c.next_turn-turn.result.reach) c.write_entries.ensures.same in
+    omega (arith, is, over, same, c.requires.room, c.read-from.ensures.accesses, c.reset_stream.ensures.accesses, c.write_entries.ensures.accesses, c.write_turn.ensures.accesses)
 
 pub read-to-requires : goal.read-to-requires
 read-to-requires g c =
     let is = touched_at_first c.args.self.now.geometry.periods c.args.self.now.geometry.period (length c.args.self.now.runs) _ c.next_turn-turn.result.reach c.args.self.now.course c.args.self.now.geometry.some_periods c.args.self.now.geometry.some c.next_turn-turn.ensures.writer.course_is c.requires.fresh c.next_turn-turn.ensures.reach in
-    let same = ap (λ (writer : WriterState). touched_up_to writer c.next_turn-turn.result.reach) c.write_entries.ensures.same in
-    record { room = omega (arith, is, same, c.requires.room, c.read-from.ensures.accesses, c.reset_stream.ensures.accesses, c.write_entries.ensures.accesses, c.write_turn.ensures.accesses, c.set_going.ensures.accesses) }
+    let over = none_over c.args.self.now.geometry.period c.next_turn-turn.result.start c.next_turn-turn.result.sound (length c.args.self.now.runs) c.args.self.now.course c.next_turn-turn.ensures.writer.course_is c.requires.fresh in
+    let same = ap (λ (writer : WriterState). touched_by writer c.next_turn-turn.result.start c.next_turn-turn.result.sound c.next_turn-turn.result.reach) c.write_entries.ensures.same in
+    record { room = omega (arith, is, over, same, c.requires.room, c.read-from.ensures.accesses, c.reset_stream.ensures.accesses, c.write_entries.ensures.accesses, c.write_turn.ensures.accesses, c.set_going.ensures.accesses) }
 
 pub returns-clause-accesses : goal.returns-clause-accesses
 returns-clause-accesses g c =
     let is = touched_at_first c.args.self.now.geometry.periods c.args.self.now.geometry.period (length c.args.self.now.runs) _ c.next_turn-turn.result.reach c.args.self.now.course c.args.self.now.geometry.some_periods c.args.self.now.geometry.some c.next_turn-turn.ensures.writer.course_is c.requires.fresh c.next_turn-turn.ensures.reach in
-    let same = ap (λ (writer : WriterState). touched_up_to writer c.next_turn-turn.result.reach) c.write_entries.ensures.same in
-    omega (arith, is, same, c.read-from.ensures.accesses, c.reset_stream.ensures.accesses, c.write_entries.ensures.accesses, c.write_turn.ensures.accesses, c.set_going.ensures.accesses, c.read-to.ensures.accesses)
+    let over = none_over c.args.self.now.geometry.period c.next_turn-turn.result.start c.next_turn-turn.result.sound (length c.args.self.now.runs) c.args.self.now.course c.next_turn-turn.ensures.writer.course_is c.requires.fresh in
+    let same = ap (λ (writer : WriterState). touched_by writer c.next_turn-turn.result.start c.next_turn-turn.result.sound c.next_turn-turn.result.reach) c.write_entries.ensures.same in
+    omega (arith, is, over, same, c.read-from.ensures.accesses, c.reset_stream.ensures.accesses, c.write_entries.ensures.accesses, c.write_turn.ensures.accesses, c.set_going.ensures.accesses, c.read-to.ensures.accesses)
 
 pub write_turn-requires-clause-left : goal.write_turn-requires-clause-left
 write_turn-requires-clause-left g c =
@@ -78,15 +83,18 @@ returns-clause-starts g c later may =
     let same = ap tally_of (c.write_turn.ensures.same ∙ c.write_entries.ensures.same) in
     let after = subst (λ (geometry : Geometry). tally_of c.conclude-ran.new.self ≡ tally_after (measures geometry) (tally_of c.args.self.now) (facts_of c.args.budget c.left.result c.read-from.result 0 c.read-to.result)) (ap (λ (writer : WriterState). writer.geometry) (c.write_turn.ensures.same ∙ c.write_entries.ensures.same))
     (subst (λ (tally : Tally). tally_of c.conclude-ran.new.self ≡ tally_after (measures c.write_turn.new.self.geometry) tally (facts_of c.args.budget c.left.result c.read-from.result 0 c.read-to.result)) same c.conclude-ran.ensures.tally) in
-    let written = subst (λ (writer : WriterState). Between (Makes (writes_up_to writer c.next_turn-turn.result.reach c.next_turn-turn.result.sound supply.held)) (g.P.Platform.told c.write_entries.new.platform) (g.P.Platform.told c.write_turn.new.platform)) c.write_entries.ensures.same c.write_turn.ensures.made in
+    let start = c.next_turn-turn.result.start in
+    let starts : start ≡ run_start m tally.course (facts_of c.args.budget (length whole) c.read-from.result 0 c.read-to.result) =
+    c.next_turn-turn.ensures.start ∙ ap (λ (left : ℕ). run_start m tally.course (facts_of c.args.budget left c.read-from.result 0 0)) c.left.ensures.value ∙ over.begins in
+    let written = subst (λ (writer : WriterState). Between (Makes (writes_of writer start c.next_turn-turn.result.sound c.next_turn-turn.result.reach supply.held)) (g.P.Platform.told c.write_entries.new.platform) (g.P.Platform.told c.write_turn.new.platform)) c.write_entries.ensures.same c.write_turn.ensures.made in
     let run = subst (λ (writer : WriterState). Between (Makes (run_accesses writer.list.address writer.geometry)) (g.P.Platform.told c.write_turn.new.platform) (g.P.Platform.told c.set_going.new.platform)) (c.write_turn.ensures.same ∙ c.write_entries.ensures.same) c.set_going.ensures.made in
     let after' = after ∙ ap (λ (left : ℕ). tally_after m tally (facts_of c.args.budget left c.read-from.result 0 c.read-to.result)) c.left.ensures.value ∙ over.recorded in
-    let line = subst (λ (bytes : List ℕ). Between (Makes (line_writes (period_bytes c.args.self.now.geometry.period) (periods_of c.args.self.now) c.args.self.now.course.reach c.next_turn-turn.result.reach bytes)) (g.P.Platform.told c.write_entries.new.platform) (g.P.Platform.told c.write_turn.new.platform))
-    (over.written (c.next_turn-turn.result.reach - c.args.self.now.course.reach)) written in
+    let line = subst (λ (events : List Event). Between (Makes events) (g.P.Platform.told c.write_entries.new.platform) (g.P.Platform.told c.write_turn.new.platform))
+    (over.written (period_bytes c.args.self.now.geometry.period) (periods_of c.args.self.now) start c.args.self.now.course.reach c.next_turn-turn.result.reach) written in
     subst (λ (sound : List ℕ). Starts c.args.self.now.geometry c.args.self.now.list.address (periods_of c.args.self.now) c.args.budget sound tally (tally_of c.conclude-ran.new.self) later (g.P.Platform.told c.args.platform.now) (g.P.Platform.told c.read-to.new.self)) (sym is)
-    (starts_so c.args.self.now.geometry c.args.self.now.list.address (periods_of c.args.self.now) c.args.budget (length whole) c.read-from.result reset.in_reset reset.ready c.read-to.result c.next_turn-turn.result.reach count whole later
+    (starts_so c.args.self.now.geometry c.args.self.now.list.address (periods_of c.args.self.now) c.args.budget (length whole) c.read-from.result reset.in_reset reset.ready c.read-to.result start c.next_turn-turn.result.reach count whole later
     tally (tally_of c.conclude-ran.new.self) (g.P.Platform.told c.args.platform.now) (g.P.Platform.told c.read-from.new.self) (g.P.Platform.told c.reset_stream.new.platform) (g.P.Platform.told c.write_entries.new.platform) (g.P.Platform.told c.write_turn.new.platform) (g.P.Platform.told c.set_going.new.platform) (g.P.Platform.told c.read-to.new.self)
-    c.requires.fresh none refl c.next_turn-turn.ensures.reach over.sound_is after' over.rest
+    c.requires.fresh none refl c.next_turn-turn.ensures.low starts c.next_turn-turn.ensures.reach over.sound_is after' over.rest
     c.read-from.ensures.told reset.made c.write_entries.ensures.made line run c.read-to.ensures.told)
 
 pub returns-clause-tells : goal.returns-clause-tells
@@ -103,7 +111,8 @@ returns-clause-few g c =
 pub returns-clause-on : goal.returns-clause-on
 returns-clause-on g c =
     let same = ap tally_of (c.write_turn.ensures.same ∙ c.write_entries.ensures.same) in
-    now_on (measures_of c.write_turn.new.self) (tally_of c.write_turn.new.self) (tally_of c.conclude-ran.new.self) (facts_of c.args.budget c.left.result c.read-from.result 0 c.read-to.result) c.conclude-ran.ensures.tally
+    let course = subst (λ (writer : WriterState). IsCourse (ring_size writer) (length writer.runs) writer.course) (sym (c.write_turn.ensures.same ∙ c.write_entries.ensures.same)) c.next_turn-turn.ensures.writer.course_is in
+    now_on (measures_of c.write_turn.new.self) (length c.write_turn.new.self.runs) (tally_of c.write_turn.new.self) (tally_of c.conclude-ran.new.self) (facts_of c.args.budget c.left.result c.read-from.result 0 c.read-to.result) course c.conclude-ran.ensures.tally
     (ap (λ (tally : Tally). tally.course.started) same ∙ c.requires.fresh)
 
 pub returns-clause-accounts : goal.returns-clause-accounts

@@ -1,13 +1,13 @@
-use Rattle.std.proofs.Common.{◌≡◌, ◌≤◌, ◌+◌, ◌-◌, ◌∙◌, ℕ, List, Bool, ap, sym, subst, refl, arith, length, if◌then◌else◌}
+use Rattle.std.proofs.Common.{◌≡◌, ◌≤◌, ◌+◌, ◌∙◌, ℕ, List, Bool, ap, sym, subst, refl, arith, length, if◌then◌else◌}
+use Rattle.hda_world.specs.Events.{Event}
 use Rattle.hda_world.specs.Tellings.{Between, Makes}
 use Rattle.wav_reader.specs.Supplies.{Supplied, MayGive, EndsWith, sound_before}
 use Rattle.period_writer.specs.declared.geometry.Geometry.{Geometry}
-use Rattle.period_writer.specs.Places.{line_writes}
 use Rattle.period_writer.specs.Playing.{TakesTurn}
 use Rattle.period_writer.specs.Rings.{period_bytes, ring_bytes}
-use Rattle.period_writer.specs.Runs.{Tally, measures, facts_of, run_sound, tally_after}
+use Rattle.period_writer.specs.Runs.{Tally, measures, facts_of, run_start, run_sound, tally_after}
 use Rattle.period_writer.specs.Writers.{WriterState, KeepsRing, tally_of, periods_of, measures_of}
-use Rattle.period_writer.proofs.CourseLaws.{position_small, ring_small, ring_some, touched_in_ring}
+use Rattle.period_writer.proofs.CourseLaws.{position_small, ring_small, ring_some, touched_by_run}
 use Rattle.period_writer.proofs.Runnings.{turn_so}
 use Rattle.period_writer.specs.Accounts.{Accounts}
 use Rattle.period_writer.proofs.Accounts.{accounts_of}
@@ -22,21 +22,21 @@ write_turn-requires-clause-small g c =
     let at = position_small (ring_bytes c.args.self.now.geometry.periods c.args.self.now.geometry.period) (length c.args.self.now.runs) c.args.self.now.records c.args.self.now.course.at ring c.next_turn-turn.ensures.writer.few_runs c.next_turn-turn.ensures.writer.few_records is.bounded in
     let reach : c.args.self.now.course.reach ≡ c.args.self.now.course.at + ring_bytes c.args.self.now.geometry.periods c.args.self.now.geometry.period =
     is.reach ∙ ap (λ (started : Bool). if started then c.args.self.now.course.at + ring_bytes c.args.self.now.geometry.periods c.args.self.now.geometry.period else 0) c.requires.started in
-    omega (arith, ring, at, reach, c.next_turn-turn.ensures.room)
+    omega (arith, ring, at, reach, c.next_turn-turn.ensures.within, c.next_turn-turn.ensures.low)
 
 pub write_turn-requires-clause-room : goal.write_turn-requires-clause-room
 write_turn-requires-clause-room g c =
-    let few = touched_in_ring c.args.self.now.geometry.periods c.args.self.now.geometry.period c.args.self.now.course.reach c.next_turn-turn.result.reach c.args.self.now.geometry.some c.next_turn-turn.ensures.room in
+    let few = touched_by_run c.args.self.now.geometry.periods c.args.self.now.geometry.period c.next_turn-turn.result.start c.next_turn-turn.result.sound c.args.self.now.course.reach c.next_turn-turn.result.reach c.args.self.now.geometry.some c.next_turn-turn.ensures.low c.next_turn-turn.ensures.ascends c.next_turn-turn.ensures.within in
     omega (arith, few, c.requires.room, c.read-from.ensures.accesses, c.read-lpib.ensures.accesses)
 
 pub read-to-requires : goal.read-to-requires
 read-to-requires g c =
-    let few = touched_in_ring c.args.self.now.geometry.periods c.args.self.now.geometry.period c.args.self.now.course.reach c.next_turn-turn.result.reach c.args.self.now.geometry.some c.next_turn-turn.ensures.room in
+    let few = touched_by_run c.args.self.now.geometry.periods c.args.self.now.geometry.period c.next_turn-turn.result.start c.next_turn-turn.result.sound c.args.self.now.course.reach c.next_turn-turn.result.reach c.args.self.now.geometry.some c.next_turn-turn.ensures.low c.next_turn-turn.ensures.ascends c.next_turn-turn.ensures.within in
     record { room = omega (arith, few, c.requires.room, c.read-from.ensures.accesses, c.read-lpib.ensures.accesses, c.write_turn.ensures.accesses) }
 
 pub returns-clause-accesses : goal.returns-clause-accesses
 returns-clause-accesses g c =
-    let few = touched_in_ring c.args.self.now.geometry.periods c.args.self.now.geometry.period c.args.self.now.course.reach c.next_turn-turn.result.reach c.args.self.now.geometry.some c.next_turn-turn.ensures.room in
+    let few = touched_by_run c.args.self.now.geometry.periods c.args.self.now.geometry.period c.next_turn-turn.result.start c.next_turn-turn.result.sound c.args.self.now.course.reach c.next_turn-turn.result.reach c.args.self.now.geometry.some c.next_turn-turn.ensures.low c.next_turn-turn.ensures.ascends c.next_turn-turn.ensures.within in
     omega (arith, few, c.read-from.ensures.accesses, c.read-lpib.ensures.accesses, c.write_turn.ensures.accesses, c.read-to.ensures.accesses)
 
 pub write_turn-requires-clause-left : goal.write_turn-requires-clause-left
@@ -78,12 +78,15 @@ returns-clause-turn g c later may ends =
     subst (λ (geometry : Geometry). tally_of c.conclude.new.self ≡ tally_after (measures geometry) tally (facts_of c.args.budget c.left.result c.read-from.result c.read-lpib.result c.read-to.result)) (ap (λ (writer : WriterState). writer.geometry) c.write_turn.ensures.same)
     (subst (λ (tally : Tally). tally_of c.conclude.new.self ≡ tally_after (measures c.write_turn.new.self.geometry) tally (facts_of c.args.budget c.left.result c.read-from.result c.read-lpib.result c.read-to.result)) same c.conclude.ensures.tally)
     ∙ ap (λ (left : ℕ). tally_after m tally (facts_of c.args.budget left c.read-from.result c.read-lpib.result c.read-to.result)) c.left.ensures.value ∙ over.recorded in
-    let line = subst (λ (bytes : List ℕ). Between (Makes (line_writes (period_bytes c.args.self.now.geometry.period) (periods_of c.args.self.now) c.args.self.now.course.reach c.next_turn-turn.result.reach bytes)) (g.P.Platform.told c.read-lpib.new.self) (g.P.Platform.told c.write_turn.new.platform))
-    (over.written (c.next_turn-turn.result.reach - c.args.self.now.course.reach)) c.write_turn.ensures.made in
+    let start = c.next_turn-turn.result.start in
+    let starts : start ≡ run_start m tally.course (facts_of c.args.budget (length whole) c.read-from.result c.read-lpib.result c.read-to.result) =
+    c.next_turn-turn.ensures.start ∙ ap (λ (left : ℕ). run_start m tally.course (facts_of c.args.budget left c.read-from.result c.read-lpib.result 0)) c.left.ensures.value ∙ over.begins in
+    let line = subst (λ (events : List Event). Between (Makes events) (g.P.Platform.told c.read-lpib.new.self) (g.P.Platform.told c.write_turn.new.platform))
+    (over.written (period_bytes c.args.self.now.geometry.period) (periods_of c.args.self.now) start c.args.self.now.course.reach c.next_turn-turn.result.reach) c.write_turn.ensures.made in
     subst (λ (sound : List ℕ). TakesTurn c.args.self.now.geometry (periods_of c.args.self.now) c.args.budget sound tally c.conclude.result (tally_of c.conclude.new.self) later (g.P.Platform.told c.args.platform.now) (g.P.Platform.told c.read-to.new.self)) (sym is)
-    (turn_so c.args.self.now.geometry (periods_of c.args.self.now) c.args.budget (length whole) c.read-from.result c.read-lpib.result c.read-to.result c.next_turn-turn.result.reach count whole later
+    (turn_so c.args.self.now.geometry (periods_of c.args.self.now) c.args.budget (length whole) c.read-from.result c.read-lpib.result c.read-to.result start c.next_turn-turn.result.reach count whole later
     tally (tally_of c.conclude.new.self) c.conclude.result (g.P.Platform.told c.args.platform.now) (g.P.Platform.told c.read-from.new.self) (g.P.Platform.told c.read-lpib.new.self) (g.P.Platform.told c.write_turn.new.platform) (g.P.Platform.told c.read-to.new.self)
-    refl c.next_turn-turn.ensures.reach over.sound_is after c.conclude.ensures.answer over.rest
+    refl starts c.next_turn-turn.ensures.reach over.sound_is after c.conclude.ensures.answer over.rest
     c.read-from.ensures.told c.read-lpib.ensures.told line c.read-to.ensures.told)
 
 pub returns-clause-few : goal.returns-clause-few

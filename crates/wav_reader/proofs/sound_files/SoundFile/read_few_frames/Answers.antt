@@ -3,7 +3,7 @@ use Rattle.circular_buffer.specs.Buffer.{buffer}
 use Rattle.wav_reader.specs.Heads.{IsRingFormat}
 use Rattle.wav_reader.specs.Opening.{head_in_file}
 use Rattle.wav_reader.specs.Readers.{place_of, ring_part, file_bytes, frames_in, seen_under}
-use Rattle.wav_reader.proofs.ReadingOn.{IsPiece, frames_part, part_fits, frames_read}
+use Rattle.wav_reader.proofs.ReadingOn.{IsPiece, frames_part, part_fits, frames_read, given_piece}
 use Rattle.wav_reader.proofs.sound_files.SoundFile.read_few_frames.Goals as goal
 
 pub put_frames-requires : goal.put_frames-requires
@@ -49,3 +49,14 @@ returns-clause-reads g c =
     rw (held, c.answer_of.ensures)
     (frames_read name said c.args.taken c.args.frames form (before name) (after name) c.args.held.now c.read_piece-read.new.buf c.read_piece-read.result size c.requires.blocks
     c.requires.there piece)
+
+pub returns-clause-given : goal.returns-clause-given
+returns-clause-given g c =
+    let mono = c.args.self.now.head.mono in
+    let read = c.read_piece-read.ensures in
+    let size : length c.read_piece-read.new.buf ≡ file_bytes mono c.args.frames = (let size : length c.read_piece-read.new.buf ≡ c.file_bytes.result = search rules in size ∙ c.file_bytes.ensures) in
+    let whole : c.file_bytes-whole.result ≡ file_bytes mono (frames_in mono c.read_piece-read.result.count) = c.file_bytes-whole.ensures ∙ ap (file_bytes mono) c.frames_in.ensures in
+    let held : c.put_frames.new.held ≡ buffer (c.args.held.now.items ++ frames_part mono c.read_piece-read.new.buf c.read_piece-read.result.count) c.args.held.now.capacity =
+    c.put_frames.ensures ∙ ap (λ (n : ℕ). buffer (c.args.held.now.items ++ ring_part mono (take n c.read_piece-read.new.buf)) c.args.held.now.capacity) whole in
+    rw (held, c.answer_of.ensures)
+    (given_piece mono c.args.frames _ _ c.args.held.now c.read_piece-read.new.buf c.read_piece-read.result size read.within read.given read.all)

@@ -1,6 +1,6 @@
-use Rattle.std.proofs.Common.{◌≡◌, ◌≢◌, ◌≤◌, ◌*◌, ◌-◌, ℕ, List, Ok, string_bytes}
+use Rattle.std.proofs.Common.{◌≡◌, ◌≢◌, ◌≤◌, ◌+◌, ◌*◌, ◌-◌, ℕ, List, Ok, string_bytes}
 use Rattle.wav_reader.specs.Opening.{head_in_file}
-use Rattle.wav_reader.specs.Readers.{ReadsOn, seen_under}
+use Rattle.wav_reader.specs.Readers.{ReadsOn, file_bytes, seen_under}
 use Rattle.wav_reader.proofs.sound_files.SoundFile.read_frames.Given as goal
 
 -- So many frames were read.
@@ -12,6 +12,7 @@ invariant-loop-done g l =
           (seen_under (g.S.Shelf.told l.fn.shelf) (g.S.Shelf.faults l.fn.shelf) (g.S.Shelf.empties l.fn.shelf) (g.S.Shelf.given l.fn.shelf) (string_bytes l.self.name))
           (seen_under (g.S.Shelf.told l.shelf) (g.S.Shelf.faults l.shelf) (g.S.Shelf.empties l.shelf) (g.S.Shelf.given l.shelf) (string_bytes l.self.name))
           l.fn.held l.held (Ok tt);
+      frames : g.S.Shelf.given l.shelf ≤ g.S.Shelf.given l.fn.shelf + file_bytes l.self.head.mono l.done;
       asked : (other : List ℕ) → other ≢ string_bytes l.self.name → g.S.Shelf.asked l.shelf other ≡ g.S.Shelf.asked l.fn.shelf other;
       later : (other : List ℕ) → g.S.Shelf.faults l.fn.shelf other ≤ g.S.Shelf.faults l.shelf other;
       empties_later : (other : List ℕ) → g.S.Shelf.empties l.fn.shelf other ≤ g.S.Shelf.empties l.shelf other;

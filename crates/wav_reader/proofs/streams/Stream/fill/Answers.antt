@@ -1,9 +1,10 @@
-use Rattle.std.proofs.Common.{◌≡◌, ◌≢◌, ◌-◌, ◌*◌, ◌/◌, ℕ, true, false, length, take, string_bytes, ap, ◌∙◌, refl, arith}
+use Rattle.std.proofs.Common.{◌+◌, ◌%◌, ◌≡◌, ◌≢◌, ◌-◌, ◌*◌, ◌/◌, ℕ, true, false, length, take, string_bytes, ap, ◌∙◌, refl, arith}
 use Rattle.std.specs.Result.{is_err}
 use Rattle.circular_buffer.specs.Buffer.{buffer}
+use Rattle.wav_reader.specs.Heads.{IsRingFormat}
 use Rattle.wav_reader.specs.Opening.{head_in_file}
 use Rattle.wav_reader.specs.Wavs.{ring_bytes}
-use Rattle.wav_reader.proofs.StreamLemmas.{block_four, wanted_by, not_cut_by, not_full_by, source_with, same_source, full_by, filled_by, cut_by, cut_filled_by, next_front, seen_with}
+use Rattle.wav_reader.proofs.StreamLemmas.{block_four, wanted_by, not_cut_by, not_full_by, source_with, same_source, full_by, filled_by, cut_by, cut_filled_by, next_front, seen_with, begins_by, begins_cut, frames_by, in_same_frame, whole_blocks, same_frames, same_block}
 use Rattle.wav_reader.proofs.streams.Stream.fill.Goals as goal
 
 pub returns-else-is_err-clause-fills : goal.returns-else-is_err-clause-fills
@@ -22,6 +23,8 @@ returns-else-is_err-clause-fills g c =
     let count = wanted.count_is in
     let wants = wanted.wants in
     let within = c.requires.is_stream.within in
+    let form : IsRingFormat said.format = record { bits = c.args.self.now.file.head.bits; channels = c.args.self.now.file.head.channels } in
+    let blocks = c.requires.is_stream.blocks in
     let fine : is_err c.read_next-read.result ≡ false = cc (c.is_err.ensures.value, c.if-is_err.false) in
     record {
       full = full_by name said total taken (c.min-most.result - c.len.result) held c.read_next-read.new.held c.args.self.now.is_cut c.read_next-read.result uncut count grown;
@@ -33,7 +36,15 @@ returns-else-is_err-clause-fills g c =
       given = (let given = c.read_next-read.ensures.reads.given in omega (arith, given, wants));
       given_rises = c.read_next-read.ensures.reads.given_rises;
       failed = c.read_next-read.ensures.reads.failed;
-      short = c.read_next-read.ensures.reads.short;
+      short = λ place same. (let short = c.read_next-read.ensures.reads.short place same in (short.0.early, short.1));
+      begins = begins_by (c.min-most.result - c.len.result) held c.read_next-read.new.held c.read_next-read.result grown;
+      frames = λ taken_blocks held_blocks.
+          (let four = block_four said c.args.self.now.file.head.bits c.args.self.now.file.head.channels in
+          let taken_is : c.args.self.now.taken % 4 ≡ 0 = rw (← four) taken_blocks in
+          let held_is : length c.args.self.now.held.items % 4 ≡ 0 = rw (← four) held_blocks in
+          frames_by said held c.read_next-read.new.held c.read_next-read.new.held.items _ _ c.read_next-read.result form refl
+          (c.read_next-read.ensures.given (omega (arith, taken_is, held_is)) (whole_blocks c.args.self.now.file.head.frames c.args.self.now.taken held.capacity (length held.items) (c.min-most.result - c.len.result) count taken_is held_is blocks)));
+      short_at = λ taken_blocks place same. (c.read_next-read.ensures.reads.short place same).0;
       not_short = c.read_next-read.ensures.reads.not_short;
       reads = c.read_next-read.ensures.reads.reads;
       never_short = c.read_next-read.ensures.reads.never_short;
@@ -55,6 +66,8 @@ returns-then-is_err-clause-fills g c =
     let count = wanted.count_is in
     let wants = wanted.wants in
     let within = c.requires.is_stream.within in
+    let form : IsRingFormat said.format = record { bits = c.args.self.now.file.head.bits; channels = c.args.self.now.file.head.channels } in
+    let blocks = c.requires.is_stream.blocks in
     let bad : is_err c.read_next-read.result ≡ true = cc (c.is_err.ensures.value, c.if-is_err.true) in
     let four = block_four said c.args.self.now.file.head.bits c.args.self.now.file.head.channels in
     let cut : c.truncate_back.new.self ≡ buffer (take (length c.read_next-read.new.held.items / 4 * 4) c.read_next-read.new.held.items) c.read_next-read.new.held.capacity =
@@ -71,7 +84,19 @@ returns-then-is_err-clause-fills g c =
       given = (let given = c.read_next-read.ensures.reads.given in omega (arith, given, wants));
       given_rises = c.read_next-read.ensures.reads.given_rises;
       failed = c.read_next-read.ensures.reads.failed;
-      short = c.read_next-read.ensures.reads.short;
+      short = λ place same. (let short = c.read_next-read.ensures.reads.short place same in (short.0.early, short.1));
+      begins = begins_cut (c.min-most.result - c.len.result) (length c.read_next-read.new.held.items / 4 * 4) held c.read_next-read.new.held c.read_next-read.result (omega arith) grown;
+      frames = λ taken_blocks held_blocks.
+          (let taken_is : c.args.self.now.taken % 4 ≡ 0 = rw (← four) taken_blocks in
+          let held_is : length c.args.self.now.held.items % 4 ≡ 0 = rw (← four) held_blocks in
+          frames_by said held c.read_next-read.new.held (take (length c.read_next-read.new.held.items / 4 * 4) c.read_next-read.new.held.items) _ _ c.read_next-read.result form
+          (same_frames (length held.items) c.read_next-read.new.held.items held_is)
+          (c.read_next-read.ensures.given (omega (arith, taken_is, held_is)) (whole_blocks c.args.self.now.file.head.frames c.args.self.now.taken held.capacity (length held.items) (c.min-most.result - c.len.result) count taken_is held_is blocks)));
+      short_at = λ taken_blocks place same.
+          (let taken_is : c.args.self.now.taken % 4 ≡ 0 = rw (← four) taken_blocks in
+          in_same_frame said (c.args.self.now.taken + length c.read_next-read.new.held.items)
+          (c.args.self.now.taken + length (take (length c.read_next-read.new.held.items / 4 * 4) c.read_next-read.new.held.items)) place
+          (same_block said c.args.self.now.taken c.read_next-read.new.held.items four taken_is) (c.read_next-read.ensures.reads.short place same).0);
       not_short = c.read_next-read.ensures.reads.not_short;
       reads = λ file is before. next_front (ring_bytes file said) taken c.read_next-read.new.held (c.read_next-read.ensures.reads.reads file is before);
       never_short = c.read_next-read.ensures.reads.never_short;
