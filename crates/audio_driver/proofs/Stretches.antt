@@ -1,7 +1,6 @@
 -- The stretches of a driver whose calls play make the accesses that are expected, and lead where progress says.
 use Rattle.std.proofs.Common.{◌≡◌, ◌-◌, ◌/◌, ℕ, List, [], ◌∷◌, ◌++◌, length, Bool, true, false, if◌then◌else◌, Some, None, refl, sym, ap, ◌∙◌, arith}
-use Rattle.period_writer.proofs.FirstRuns.{opened_start}
-use Rattle.period_writer.proofs.RowsWritten.{writes_first}
+use Rattle.period_writer.proofs.Callers.{opened_start, writes_first}
 use Rattle.period_writer.specs.Lines.{sound_and_silence}
 use Rattle.std.specs.Prelude.{◌&&◌, slice_index}
 use Rattle.std.specs.List.{range_with_len}

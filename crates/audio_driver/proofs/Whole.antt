@@ -1,6 +1,6 @@
 -- Where the runs of a writer lead a driver, by the driver's own ring and sound.
 use Rattle.std.proofs.Common.{◌≡◌, ◌-◌, ℕ, List, [], ◌∷◌, ◌++◌, length, append_assoc, Bool, true, false, Option, Some, None, refl, sym, ap, subst, ◌∙◌}
-use Rattle.period_writer.proofs.FirstRuns.{opened_late}
+use Rattle.period_writer.proofs.Callers.{opened_late}
 use Rattle.std.specs.Prelude.{drop}
 use Rattle.std.specs.Option.{is_some}
 use Rattle.std.proofs.lemmas.List.{length-drop}

@@ -14,8 +14,8 @@ use std::alloc::Global;
 use stream_format::Format;
 use verb_codes::Command;
 
-/// Which command comes next: the codecs are walked one after the other, and once all of them are told, each is set up by the verbs of
-/// its plan. This project's own.
+/// Which command comes next: the codecs are walked one after the other, and once all of them are told, each is set up
+/// by the verbs of its plan. This project's own.
 #[derive(Drop)]
 pub struct Agenda {
     alloc: Global,

@@ -1,5 +1,5 @@
-//! Which command comes next while codecs are walked and then set up: one walk after the other, and once all of them are told the verbs
-//! that set each of them up. It knows no device; what is answered may be a lie.
+//! Which command comes next while codecs are walked and then set up: one walk after the other, and once all of them are
+//! told the verbs that set each of them up. It knows no device; what is answered may be a lie.
 #![tactic(auto)]
 
 mod agenda;

@@ -59,7 +59,8 @@ pub(crate) fn verbs_of<T: Setter>(
     requires plans { ArePlansBy (λ graph. T.IsPlanBy setter.now graph format) graphs.now plans.now }
     requires of_them { All (λ graph. graph.address ≤ 14) graphs.now }
     ensures in_range { IfOk result (λ verbs. All IsInRange verbs.items) }
-    ensures value { IfOk result (λ verbs. verbs.items ≡ verbs_for (λ graph plan. T.verbs_by setter.now graph plan format TAG) graphs.now plans.now) }
+    ensures value { IfOk result (λ verbs. verbs.items ≡ verbs_for (λ graph plan. T.verbs_by setter.now graph plan format
+        TAG) graphs.now plans.now) }
 {
     let mut all = Vec::new(alloc);
     for index in 0..graphs.len() {

@@ -16,7 +16,8 @@ pub use opening::BroughtUp;
 use std::alloc::Global;
 use stream_format::Format;
 
-/// How far the bring-up of the codecs has come: both rings, which command comes next, and what codecs told unasked. This project's own.
+/// How far the bring-up of the codecs has come: both rings, which command comes next, and what codecs told unasked.
+/// This project's own.
 pub struct BringUp {
     alloc: Global,
     format: Format,

@@ -28,8 +28,8 @@ default = 0x01014010
 list = [0x0C]
 ";
 
-/// The converter 02, the mixer 0C [02, 0B] and the pin 14 [0C], which can mute, has an external amplifier, detects presence and
-/// sends unsolicited responses.
+/// The converter 02, the mixer 0C [02, 0B] and the pin 14 [0C], which can mute, has an external amplifier, detects
+/// presence and sends unsolicited responses.
 pub const SMALL: &str = "
 [[codec]]
 address = 0

@@ -13,13 +13,15 @@ use crate::raw::RawCodec;
 use crate::settings::Settings;
 use verb_codes::{AmpSide, Command, Verb};
 
-/// What GetPower answers for each step of the power state: the state that is and the state that was set, in bits 7:4 and 3:0.
+/// What GetPower answers for each step of the power state: the state that is and the state that was set, in bits 7:4
+/// and 3:0.
 const POWER_ANSWER: u32 = 0x11;
 /// The bit of GetSense that says that something is plugged in.
 const PRESENT: u32 = 1 << 31;
 
-/// The answer of a codec with these settings to a command, whichever codec the command names (HDA 1.0a, 7.3.3). A set verb is
-/// answered with 0, and so is every verb at a node that does not have its control. Takes no longer than a look-up of a setting.
+/// The answer of a codec with these settings to a command, whichever codec the command names (HDA 1.0a, 7.3.3). A set
+/// verb is answered with 0, and so is every verb at a node that does not have its control. Takes no longer than a
+/// look-up of a setting.
 #[tactic(auto, unfolding(crate::specs::VerbMeaning::answer_of))]
 pub fn answer(graph: &Graph, settings: &Settings, present: &Presence, verb: &Command) -> u32
     requires { IsSettingsOf graph.now settings.now }

@@ -1,5 +1,6 @@
 //! The search for cycles of mixers and selectors.
-ghost use Rattle.std.specs.Prelude.{◌≡◌, ◌<◌, ◌↔◌, ◌⊎◌, ℕ, true, false, Contains, IsTrue, OnOk, IfErr, IfSome, IfNone, slice_index_or, replicate};
+ghost use Rattle.std.specs.Prelude.{◌≡◌, ◌<◌, ◌↔◌, ◌⊎◌, ℕ, true, false, Contains, IsTrue, OnOk, IfErr, IfSome, IfNone};
+ghost use Rattle.std.specs.Prelude.{slice_index_or, replicate};
 ghost use Rattle.codec_graph.specs.Faults.{has_bad_count};
 ghost use Rattle.codec_graph.specs.Cycles.{Reaches, IsOnCycle, IsCycleFault};
 ghost use Rattle.codec_graph.specs.Marks.{IsMarked};
@@ -11,8 +12,8 @@ use crate::raw::RawCodec;
 /// A mark for each node identifier that a connection list can name.
 type Marks = [bool; 256];
 
-/// Whether no connections through mixers and selectors alone lead back to where they began, or the least node from which
-/// some do. The nodes have to be those of the count.
+/// Whether no connections through mixers and selectors alone lead back to where they began, or the least node from
+/// which some do. The nodes have to be those of the count.
 pub(crate) fn check_cycles(codec: &RawCodec) -> Result<(), GraphFault>
     requires { has_bad_count codec.now ≡ false }
     ensures acyclic { OnOk result ((nid : ℕ) → IsOnCycle codec.now nid → ⊥) }

@@ -42,12 +42,12 @@ impl Graph {
     ghost use Rattle.codec_graph.specs.Listed.{HasReadableList};
 
     /// Checks a codec's words and makes the graph of those that apply: every other word is 0, and a node without a
-    /// connection list has none. Each list is the expansion of its entries, as [`RawCodec::expand_lists`] leaves it where none
-    /// has a fault, and has at most 127 entries.
+    /// connection list has none. Each list is the expansion of its entries, as [`RawCodec::expand_lists`] leaves it
+    /// where none has a fault, and has at most 127 entries.
     ///
     /// # Errors
-    /// The first fault: the group's type, the count, then at the group and at each widget ascending its connections, their
-    /// number and its amplifier words, and last the cycle with the least node.
+    /// The first fault: the group's type, the count, then at the group and at each widget ascending its connections,
+    /// their number and its amplifier words, and last the cycle with the least node.
     pub fn check(raw: RawCodec) -> Result<Graph, GraphFault>
         requires { All HasReadableList raw.nodes }
         ensures graph { IfOk result (λ graph. graph ≡ widget.normal raw) }
@@ -78,8 +78,8 @@ impl Graph {
         Ok(Graph { raw })
     }
 
-    /// Whether the node identifier is that of a candidate pin: a stereo analog output pin that is connected to something,
-    /// is a line out, speaker or headphone and belongs to an association.
+    /// Whether the node identifier is that of a candidate pin: a stereo analog output pin that is connected to
+    /// something, is a line out, speaker or headphone and belongs to an association.
     pub fn is_candidate(&self, nid: u8) -> bool
         ensures { result ≡ candidates.is_candidate self.now nid }
     {

@@ -1,12 +1,14 @@
 //! Laws of codecs, each the contract of a function that does nothing.
-ghost use Rattle.std.specs.Prelude.{◌≡◌, ◌<◌, ◌+◌, ◌^◌, ◌↔◌, ℕ, None, List, Bool, map, All, IsTrue, Contains, slice_index};
+ghost use Rattle.std.specs.Prelude.{◌≡◌, ◌<◌, ◌+◌, ◌^◌, ◌↔◌, ℕ, None, List, Bool, map, All, IsTrue, Contains};
+ghost use Rattle.std.specs.Prelude.{slice_index};
 ghost use Rattle.std.specs.List.{range_with_len};
 ghost use Rattle.std.specs.List.Sorted.{IsStrictlySortedBy};
 ghost use Rattle.std.specs.Map.{keys_of};
 ghost use Rattle.codec_graph.specs.declared.raw.RawCodec.{RawCodec};
 ghost use Rattle.codec_graph.specs.declared.controls.Control.{Control};
 ghost use Rattle.codec_graph.specs.Widget.{node_identifiers, most_amplified};
-ghost use Rattle.codec_graph.specs.Listed.{most_entries, HasEntries, HasReadableList, list_fault, listed_node, codec_list_fault, listed};
+ghost use Rattle.codec_graph.specs.Listed.{most_entries, HasEntries, HasReadableList, list_fault, listed_node};
+ghost use Rattle.codec_graph.specs.Listed.{codec_list_fault, listed};
 ghost use Rattle.codec_graph.specs.Faults.{most_listed};
 ghost use Rattle.codec_graph.specs.declared.raw.RawNode.{RawNode};
 ghost use Rattle.codec_graph.specs.Cycles.{IsWellFormed};
@@ -33,7 +35,8 @@ pub fn list_words_have_entries()
         ≡ map (λ i. slice_index entries (place + i)) (range_with_len 0 (entries_per_word long)) }
 {}
 
-/// The controls of a codec are those that the table of controls gives its nodes, and they ascend; so do the keys of its settings.
+/// The controls of a codec are those that the table of controls gives its nodes, and they ascend; so do the keys of its
+/// settings.
 pub fn controls_ascend()
     ensures exact { (codec : RawCodec) (nid : ℕ) (control : Control) → IsWellFormed codec
         → Contains (controls_of codec) (key nid control) ↔ IsTrue (has_control codec nid control) }
@@ -42,7 +45,8 @@ pub fn controls_ascend()
         → IsStrictlySortedBy key_cmp (keys_of settings) }
 {}
 
-/// A list without a fault that is expanded is readable, of one widget and of a whole codec: so [`crate::Graph::check`] takes it.
+/// A list without a fault that is expanded is readable, of one widget and of a whole codec: so [`crate::Graph::check`]
+/// takes it.
 pub fn expanded_lists_are_readable()
     ensures node { (node : RawNode) → HasEntries node → list_fault node ≡ None → HasReadableList (listed_node node) }
     ensures codec { (codec : RawCodec) → All HasEntries codec.nodes → ((nid : ℕ) → codec_list_fault codec nid ≡ None)

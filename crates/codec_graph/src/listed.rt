@@ -1,5 +1,6 @@
 //! The connection lists of a codec as the expansions of their entries.
-ghost use Rattle.std.specs.Prelude.{◌≡◌, ◌≤◌, ◌<◌, ◌+◌, ◌-◌, ◌++◌, ℕ, Some, None, map, take, drop, length, slice_get, MatchOption, IfOk, OnOk, OnErr};
+ghost use Rattle.std.specs.Prelude.{◌≡◌, ◌≤◌, ◌<◌, ◌+◌, ◌-◌, ◌++◌, ℕ, Some, None, map, take, drop, length, slice_get};
+ghost use Rattle.std.specs.Prelude.{MatchOption, IfOk, OnOk, OnErr};
 ghost use Rattle.std.specs.Option.{option_and_then};
 ghost use Rattle.codec_graph.specs.Listed as spec;
 
@@ -19,8 +20,8 @@ pub struct FaultyList {
 }
 
 impl RawNode {
-    /// Makes the connection list the expansion of its entries (HDA 1.0a, 7.1.2), and empty where these have a fault, which is
-    /// given.
+    /// Makes the connection list the expansion of its entries (HDA 1.0a, 7.1.2), and empty where these have a fault,
+    /// which is given.
     ///
     /// # Errors
     /// Want of memory; the widget is as it was.
@@ -44,8 +45,8 @@ impl RawNode {
 }
 
 impl RawCodec {
-    /// Makes the connection list of each widget the expansion of its entries, and gives the first widget whose entries have a
-    /// fault. The node identifiers of the widgets fit a byte.
+    /// Makes the connection list of each widget the expansion of its entries, and gives the first widget whose entries
+    /// have a fault. The node identifiers of the widgets fit a byte.
     ///
     /// # Errors
     /// Want of memory. Then, and after a fault, the lists of the first widgets are expanded, and all else is as it was.
@@ -77,7 +78,8 @@ fn expand_nodes(nodes: &mut [RawNode]) -> Result<Option<(usize, ListFault)>, All
         ((nodes.new ≡ map spec.listed_node nodes.old)
         × ((place : ℕ) → option_and_then spec.list_fault (slice_get nodes.old place) ≡ None))
         (λ faulty. (faulty.0 < length nodes.old)
-        × spec.IsFirstListFault (λ place. option_and_then spec.list_fault (slice_get nodes.old place)) faulty.0 faulty.1)) }
+        × spec.IsFirstListFault (λ place. option_and_then spec.list_fault (slice_get nodes.old place)) faulty.0
+        faulty.1)) }
     ensures front { (count : ℕ) × (nodes.new ≡ map spec.listed_node (take count nodes.old) ++ drop count nodes.old) }
 {
     for place in 0..nodes.len() {

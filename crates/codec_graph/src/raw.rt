@@ -15,8 +15,8 @@ use hda_items::Items;
 use std::alloc::Global;
 use verb_codes::{PinCapabilities, WidgetCapabilities, bits_of};
 
-/// The parameters of the audio function group (HDA 1.0a, 7.3.4.7 to 7.3.4.12). Widgets without sizes and rates, formats or
-/// amplifier capabilities of their own have the group's.
+/// The parameters of the audio function group (HDA 1.0a, 7.3.4.7 to 7.3.4.12). Widgets without sizes and rates, formats
+/// or amplifier capabilities of their own have the group's.
 #[derive(Debug, Drop)]
 pub struct GroupWords {
     /// Supported PCM sizes and rates.
@@ -82,7 +82,8 @@ pub struct RawCodec {
 }
 
 impl RawNode {
-    /// A widget with these capabilities of which nothing else is known yet: every other word is 0, and it lists nothing.
+    /// A widget with these capabilities of which nothing else is known yet: every other word is 0, and it lists
+    /// nothing.
     pub fn new(alloc: Global, caps: u32) -> RawNode
         ensures { result ≡ widget.plain_node caps }
     {
@@ -345,7 +346,8 @@ impl RawCodec {
         self.nodes.as_slice().get(usize::from(nid - self.first))
     }
 
-    /// Whether the function group or widget with this node identifier has the control. The group has power control alone.
+    /// Whether the function group or widget with this node identifier has the control. The group has power control
+    /// alone.
     pub fn has_control(&self, nid: u8, control: Control) -> bool
         ensures { result ≡ settings.has_control self.now nid control }
     {

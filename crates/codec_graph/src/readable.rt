@@ -9,8 +9,8 @@ use std::alloc::AllocError;
 use verb_codes::{ListError, expand_entries};
 
 impl RawNode {
-    /// Whether the connection list is one that a codec can give: there are at most [`MOST_ENTRIES`] entries, each fits its form,
-    /// and the list is their expansion.
+    /// Whether the connection list is one that a codec can give: there are at most [`MOST_ENTRIES`] entries, each fits
+    /// its form, and the list is their expansion.
     ///
     /// # Errors
     /// Want of memory.

@@ -1,5 +1,6 @@
 //! What the controls of a codec's nodes are set to.
-ghost use Rattle.std.specs.Prelude.{◌≡◌, ℕ, Some, None, [], ◌∷◌, ◌++◌, ◌+◌, ◌<◌, ◌^◌, IsTrue, IfOk, OnOk, All, if◌then◌else◌, ◌&&◌};
+ghost use Rattle.std.specs.Prelude.{◌≡◌, ℕ, Some, None, [], ◌∷◌, ◌++◌, ◌+◌, ◌<◌, ◌^◌, IsTrue, IfOk, OnOk, All};
+ghost use Rattle.std.specs.Prelude.{if◌then◌else◌, ◌&&◌};
 ghost use Rattle.codec_graph.specs.declared.controls.Control.{Control};
 ghost use Rattle.codec_graph.specs.Cycles.{IsWellFormed};
 ghost use Rattle.codec_graph.specs.Settings as spec;
@@ -62,8 +63,8 @@ impl Model for Settings {
 }
 
 impl Settings {
-    /// The settings with which a codec begins: an amplifier is muted where it can mute and else at its 0 dB step, a pin has
-    /// its configuration default, and every other control is 0.
+    /// The settings with which a codec begins: an amplifier is muted where it can mute and else at its 0 dB step, a pin
+    /// has its configuration default, and every other control is 0.
     ///
     /// # Errors
     /// Want of memory.
@@ -138,10 +139,10 @@ impl Settings {
         }
     }
 
-    /// Does what a command sets, whichever codec it names (HDA 1.0a, 7.3.3). A get verb changes nothing, and neither does a
-    /// verb at a node that does not have its control, nor a select at or past the end of the connection list. A gain above the
-    /// steps of an amplifier is kept as the steps. The verb is in its ranges, as for `encode`. Takes no longer than some
-    /// look-ups of a setting.
+    /// Does what a command sets, whichever codec it names (HDA 1.0a, 7.3.3). A get verb changes nothing, and neither
+    /// does a verb at a node that does not have its control, nor a select at or past the end of the connection list. A
+    /// gain above the steps of an amplifier is kept as the steps. The verb is in its ranges, as for `encode`. Takes no
+    /// longer than some look-ups of a setting.
     pub fn apply(&mut self, graph: &Graph, verb: &Command)
         requires settings { spec.IsSettingsOf graph.now self.old }
         requires verb { IsTrue (is_verb_in_range verb.now.verb) }

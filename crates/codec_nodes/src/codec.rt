@@ -30,9 +30,11 @@ impl Model for Codec {
 
     ghost Value = { CodecState };
 
-    ghost view = { λ codec. record { graph = codec.graph; settings = codec.settings; present = codec.present; waiting = codec.waiting } };
+    ghost view = { λ codec. record { graph = codec.graph; settings = codec.settings; present = codec.present; waiting
+        = codec.waiting } };
 
-    ghost invariant = { λ codec. IsSound (record { graph = codec.graph; settings = codec.settings; present = codec.present; waiting = codec.waiting }) };
+    ghost invariant = { λ codec. IsSound
+        (record { graph = codec.graph; settings = codec.settings; present = codec.present; waiting = codec.waiting }) };
 }
 
 impl Codec {
@@ -49,7 +51,8 @@ impl Codec {
         present: Presence,
     ) -> Result<Codec, AllocError>
         requires { IsSettingsOf graph settings }
-        ensures value { IfOk result (λ codec. codec ≡ record { graph = graph; settings = settings; present = present; waiting = [] }) }
+        ensures value { IfOk result (λ codec. codec ≡ record { graph = graph; settings = settings; present = present;
+            waiting = [] }) }
         ensures sound { IfOk result codecs.IsSound }
     {
         let waiting = Queue::new(alloc)?;
@@ -71,8 +74,8 @@ impl Codec {
         self.waiting.is_full()
     }
 
-    /// Takes a word, whichever codec it names: its verb acts, and its answer waits last and is given. A word without a reading
-    /// is answered with 0 and changes nothing. The codec is not full.
+    /// Takes a word, whichever codec it names: its verb acts, and its answer waits last and is given. A word without a
+    /// reading is answered with 0 and changes nothing. The codec is not full.
     pub fn take(&mut self, word: u32) -> u32
         requires { codecs.is_full self.old ≡ false }
         ensures answer { result ≡ codecs.answer_to self.old word }
@@ -87,9 +90,9 @@ impl Codec {
         result
     }
 
-    /// Says whether something is plugged in at the pin; at a node that is no pin nothing happens. Where the pin can detect
-    /// presence, its presence changed, it can send unsolicited responses and they are enabled, a response with their tag in bits
-    /// 31:26 waits last, unless `MOST_UNSOLICITED` of them wait.
+    /// Says whether something is plugged in at the pin; at a node that is no pin nothing happens. Where the pin can
+    /// detect presence, its presence changed, it can send unsolicited responses and they are enabled, a response with
+    /// their tag in bits 31:26 waits last, unless `MOST_UNSOLICITED` of them wait.
     pub fn plug(&mut self, nid: u8, present: bool)
         ensures { self.new ≡ codecs.plugged self.old nid present }
     {
@@ -106,7 +109,8 @@ impl Codec {
         }
     }
 
-    /// Takes the first item out that waits; the truth value marks an unsolicited response. `None` exactly where nothing waits.
+    /// Takes the first item out that waits; the truth value marks an unsolicited response. `None` exactly where nothing
+    /// waits.
     pub fn next_answer(&mut self) -> Option<(u32, bool)>
         ensures value { result ≡ option_map queues.marked (slice_get self.old.waiting 0) }
         ensures after { self.new ≡ codecs.without_first self.old }

@@ -1,5 +1,6 @@
 //! What waits at a codec, in the order in which it came.
-ghost use Rattle.std.specs.Prelude.{◌≡◌, ◌≤◌, ◌==◌, ◌&&◌, not, [], ◌∷◌, ◌++◌, false, true, IfOk, length, drop, nat_lt, slice_get};
+ghost use Rattle.std.specs.Prelude.{◌≡◌, ◌≤◌, ◌==◌, ◌&&◌, not, [], ◌∷◌, ◌++◌, false, true, IfOk, length, drop, nat_lt};
+ghost use Rattle.std.specs.Prelude.{slice_get};
 ghost use Rattle.std.specs.List.{list_any};
 ghost use Rattle.codec_graph.specs.CodecStates as codecs;
 ghost use Rattle.codec_graph.specs.declared.waiting.Waiting.TheVariants as item;
@@ -10,8 +11,8 @@ use codec_graph::{MOST_ANSWERS, MOST_UNSOLICITED, Waiting};
 use std::alloc::{AllocError, Global};
 use std::marker::Model;
 
-/// At most [`MOST_ANSWERS`] answers to commands and [`MOST_UNSOLICITED`] unsolicited responses, first come first. Contracts see
-/// the items.
+/// At most [`MOST_ANSWERS`] answers to commands and [`MOST_UNSOLICITED`] unsolicited responses, first come first.
+/// Contracts see the items.
 #[derive(Drop)]
 pub(crate) struct Queue {
     items: HeapCircularBuffer<Waiting>,

@@ -35,8 +35,8 @@ impl Model for Kept {
 }
 
 impl Kept {
-    /// Keeps the signals of some pins while a stream with this tag and format plays: without a format nothing is heard. The
-    /// settings are the graph's.
+    /// Keeps the signals of some pins while a stream with this tag and format plays: without a format nothing is heard.
+    /// The settings are the graph's.
     ///
     /// # Errors
     /// Want of memory.
@@ -63,8 +63,8 @@ impl Kept {
         Ok(kept)
     }
 
-    /// Works the signals of the kept pins out anew, and counts this: at 2^64 - 1 the count stays. Works out what each node gives
-    /// once, and takes no memory.
+    /// Works the signals of the kept pins out anew, and counts this: at 2^64 - 1 the count stays. Works out what each
+    /// node gives once, and takes no memory.
     #[tactic(auto, using(crate::proofs::Renewing::pins_of_renewed))]
     pub fn renew(&mut self, graph: &Graph, settings: &Settings, tag: u8, format: Option<Format>)
         ensures value { self.new ≡ record {

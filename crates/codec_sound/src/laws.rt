@@ -1,5 +1,6 @@
 //! Laws of signals and heard lists, each the contract of a function that does nothing.
-ghost use Rattle.std.specs.Prelude.{◌≡◌, ◌<◌, ◌/◌, ◌%◌, ◌++◌, get_or, pos, negsuc, ℕ, List, [], ◌∷◌, length, Option, Some, MatchOption, option_map};
+ghost use Rattle.std.specs.Prelude.{◌≡◌, ◌<◌, ◌/◌, ◌%◌, ◌++◌, get_or, pos, negsuc, ℕ, List, [], ◌∷◌, length, Option};
+ghost use Rattle.std.specs.Prelude.{Some, MatchOption, option_map};
 ghost use Rattle.codec_graph.specs.declared.raw.RawCodec.{RawCodec};
 ghost use Rattle.codec_graph.specs.Cycles.{IsWellFormed};
 ghost use Rattle.codec_graph.specs.CodecStates.{CodecState};
@@ -18,14 +19,17 @@ ghost use Rattle.stream_format.specs.declared.format.Rate.TheVariants.{R48};
 ghost use Rattle.stream_format.specs.declared.format.Bits.TheVariants.{B16};
 ghost use Rattle.codec_sound.specs.Signals.{IsAmong, gives, out, signal_of};
 ghost use Rattle.codec_sound.specs.Keeping.{signal_by};
-ghost use Rattle.codec_sound.specs.HeardLists.{block_at, block_size, sample_in, item_of, items_of, signal_with, frame_items, heard};
+ghost use Rattle.codec_sound.specs.HeardLists.{block_at, block_size, sample_in, item_of, items_of, signal_with};
+ghost use Rattle.codec_sound.specs.HeardLists.{frame_items, heard};
 
 /// What the nodes of a well-formed graph give fits the step at every node, and nothing else does.
 pub fn signals_alone_fit_the_step()
     ensures fits { (codec : RawCodec) (settings : Entries) (stream : LinkStream) → IsWellFormed codec
         → (nid : ℕ) → out codec settings stream nid ≡ gives codec settings stream (out codec settings stream) nid }
-    ensures only { (codec : RawCodec) (settings : Entries) (stream : LinkStream) (other : ℕ → Signal) → IsWellFormed codec
-        → ((nid : ℕ) → other nid ≡ gives codec settings stream other nid) → (nid : ℕ) → other nid ≡ out codec settings stream nid }
+    ensures only { (codec : RawCodec) (settings : Entries) (stream : LinkStream) (other : ℕ → Signal)
+        → IsWellFormed codec
+        → ((nid : ℕ) → other nid ≡ gives codec settings stream other nid) → (nid : ℕ)
+        → other nid ≡ out codec settings stream nid }
 {}
 
 /// Both channels of a pair that a pin hears are among the stream's, which has an even number.
@@ -36,14 +40,16 @@ pub fn pairs_are_among_the_channels()
 
 /// The signals that are kept by the format of a word are those by which the lists of that word's frames grow.
 pub fn kept_signals_are_those_of_words()
-    ensures { (codec : CodecState) (tag word pin : ℕ) (format : Option Format) → option_map layout format ≡ layout_of word
+    ensures { (codec : CodecState) (tag word pin : ℕ) (format : Option Format)
+        → option_map layout format ≡ layout_of word
         → MatchOption format (HasNoFormat word) (λ f. format_word f ≡ word)
         → signal_by codec.graph codec.settings tag format pin ≡ signal_with (Some codec) tag word (layout_of word) pin }
 {}
 
 /// The samples of items are those of the format.
 pub fn heard_samples_are_the_formats()
-    ensures { (format : Format) (block : List ℕ) (channel : ℕ) → sample_in (layout format) block channel ≡ sample_of format block channel }
+    ensures { (format : Format) (block : List ℕ) (channel : ℕ)
+        → sample_in (layout format) block channel ≡ sample_of format block channel }
 {}
 
 /// The list of a history that goes on is the list before, and then the items of what was added.
@@ -54,24 +60,31 @@ pub fn heard_lists_go_on()
         → heard address pin (before ++ frame ∷ []) ≡ heard address pin before ++ frame_items address pin frame }
 {}
 
-/// A link frame that missed its blocks adds one hole to each list, one without bytes adds nothing, and any other adds one item for
-/// each whole block.
+/// A link frame that missed its blocks adds one hole to each list, one without bytes adds nothing, and any other adds
+/// one item for each whole block.
 pub fn frames_add_their_items()
-    ensures missed { (address pin : ℕ) (frame : CarriedFrame) → frame.carriage ≡ Missed → frame_items address pin frame ≡ Hole ∷ [] }
-    ensures empty { (address pin : ℕ) (frame : CarriedFrame) → frame.carriage ≡ Sent [] → frame_items address pin frame ≡ [] }
+    ensures missed { (address pin : ℕ) (frame : CarriedFrame) → frame.carriage ≡ Missed
+        → frame_items address pin frame ≡ Hole ∷ [] }
+    ensures empty { (address pin : ℕ) (frame : CarriedFrame) → frame.carriage ≡ Sent []
+        → frame_items address pin frame ≡ [] }
     ensures each { (layout : Layout) (signal : Signal) (bytes : List ℕ)
         → length (items_of (Some layout) signal (Sent bytes)) ≡ length bytes / block_size layout }
-    ensures item { (layout : Layout) (signal : Signal) (bytes : List ℕ) (place : ℕ) → place < length bytes / block_size layout
-        → get_or (items_of (Some layout) signal (Sent bytes)) place Hole ≡ item_of layout signal (block_at (block_size layout) bytes place) }
+    ensures item { (layout : Layout) (signal : Signal) (bytes : List ℕ) (place : ℕ)
+        → place < length bytes / block_size layout
+        → get_or (items_of (Some layout) signal (Sent bytes)) place Hole ≡ item_of layout signal
+        (block_at (block_size layout) bytes place) }
 {}
 
-/// Bytes as items: of two blocks of two channels of 16 bits, and of one of four. The left sample of a pair comes first, and so does a
-/// sample's lower byte.
+/// Bytes as items: of two blocks of two channels of 16 bits, and of one of four. The left sample of a pair comes first,
+/// and so does a sample's lower byte.
 pub fn bytes_are_items()
-    ensures sound { items_of (Some (record { rate = R48; bits = B16; channels = 2 })) (Pair 0) (Sent (1 ∷ 0 ∷ 2 ∷ 0 ∷ 3 ∷ 0 ∷ 255 ∷ 255 ∷ []))
+    ensures sound { items_of (Some (record { rate = R48; bits = B16; channels = 2 })) (Pair 0)
+        (Sent (1 ∷ 0 ∷ 2 ∷ 0 ∷ 3 ∷ 0 ∷ 255 ∷ 255 ∷ []))
         ≡ Sound (pos 1) (pos 2) ∷ Sound (pos 3) (negsuc 0) ∷ [] }
-    ensures other_pair { items_of (Some (record { rate = R48; bits = B16; channels = 4 })) (Pair 1) (Sent (1 ∷ 0 ∷ 2 ∷ 0 ∷ 3 ∷ 0 ∷ 255 ∷ 255 ∷ []))
+    ensures other_pair { items_of (Some (record { rate = R48; bits = B16; channels = 4 })) (Pair 1)
+        (Sent (1 ∷ 0 ∷ 2 ∷ 0 ∷ 3 ∷ 0 ∷ 255 ∷ 255 ∷ []))
         ≡ Sound (pos 3) (negsuc 0) ∷ [] }
-    ensures quiet { items_of (Some (record { rate = R48; bits = B16; channels = 2 })) Silence (Sent (1 ∷ 0 ∷ 2 ∷ 0 ∷ 3 ∷ 0 ∷ 255 ∷ 255 ∷ []))
+    ensures quiet { items_of (Some (record { rate = R48; bits = B16; channels = 2 })) Silence
+        (Sent (1 ∷ 0 ∷ 2 ∷ 0 ∷ 3 ∷ 0 ∷ 255 ∷ 255 ∷ []))
         ≡ Quiet ∷ Quiet ∷ [] }
 {}

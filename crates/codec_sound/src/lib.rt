@@ -1,4 +1,5 @@
-//! What a codec's pins hear while a stream plays: the signal of a pin, signals that are kept, and the items of heard lists.
+//! What a codec's pins hear while a stream plays: the signal of a pin, signals that are kept, and the items of heard
+//! lists.
 #![tactic(auto)]
 
 mod amplifiers;

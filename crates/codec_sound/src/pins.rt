@@ -20,8 +20,8 @@ const OUTPUT_CAPABLE: u32 = 4;
 /// The bit of the external amplifier's control that powers it (HDA 1.0a, 7.3.3.16).
 const EAPD_ON: u32 = 1;
 
-/// What the pin hears while a stream with this tag and format plays. The settings are the graph's. A node that is no pin hears
-/// nothing. Works out what each node gives once, and takes no memory.
+/// What the pin hears while a stream with this tag and format plays. The settings are the graph's. A node that is no
+/// pin hears nothing. Works out what each node gives once, and takes no memory.
 pub fn signal(graph: &Graph, settings: &Settings, pin: u8, tag: u8, format: Format) -> Signal
     ensures { result ≡ spec.signal_of graph.now settings.now (spec.stream_of tag format) pin }
 {

@@ -18,8 +18,8 @@ pub fn asks_what_is_told()
         → asked (walk address) answers ≡ walk_commands codec }
 {}
 
-/// With answers that the codec of a well-formed graph can give, the walk over its address asks the graph's walk commands in
-/// order, and nothing more.
+/// With answers that the codec of a well-formed graph can give, the walk over its address asks the graph's walk
+/// commands in order, and nothing more.
 pub fn asks_what_the_graph_has()
     ensures { (graph : RawCodec) (answers : List ℕ) → IsWellFormed graph
         → AreReplies (CanAnswer graph) (walk_commands graph) answers
@@ -28,8 +28,8 @@ pub fn asks_what_the_graph_has()
     list_words_have_entries();
 }
 
-/// With such answers to all the walk commands the graph is told, word for word, and [`crate::Walk::finish`] gives it, unless
-/// there is no memory for it.
+/// With such answers to all the walk commands the graph is told, word for word, and [`crate::Walk::finish`] gives it,
+/// unless there is no memory for it.
 pub fn tells_what_the_graph_has()
     ensures told { (graph : RawCodec) (answers : List ℕ) → IsWellFormed graph
         → AreReplies (CanAnswer graph) (walk_commands graph) answers → length answers ≡ length (walk_commands graph)

@@ -1,4 +1,5 @@
-//! The walk over a codec: the commands that ask for all its words, one after the other, and the graph that the answers give.
+//! The walk over a codec: the commands that ask for all its words, one after the other, and the graph that the answers
+//! give.
 #![tactic(auto)]
 
 mod fault;

@@ -22,7 +22,8 @@ impl NodeStep {
         requires address { address ≤ 14 }
         requires nid { nid < node_identifiers }
         ensures in_range { IsInRange result }
-        ensures value { (node : RawNode) (rest : RawNode → Dialogue) → question (spec.from_step self address nid node rest) ≡ Some result }
+        ensures value { (node : RawNode) (rest : RawNode → Dialogue)
+            → question (spec.from_step self address nid node rest) ≡ Some result }
     {
         match self {
             NodeStep::Word(word) => Command {
@@ -51,7 +52,8 @@ impl NodeStep {
     ) -> Result<Option<NodeStep>, AllocError>
         requires { spec.HasRoom (spec.room_at self) (spec.end_at self) node.old }
         ensures ok { IfOk result (λ next. (address nid : ℕ) (rest : RawNode → Dialogue)
-            → spec.from_next next address nid node.new rest ≡ answered (spec.from_step self address nid node.old rest) answer) }
+            → spec.from_next next address nid node.new rest ≡ answered (spec.from_step self address nid node.old rest)
+            answer) }
         ensures room { IfOk result (λ next. spec.HasRoom (spec.next_room next) (spec.next_end next) node.new) }
         ensures err { OnErr result (node.new ≡ node.old) }
     {
@@ -134,7 +136,8 @@ fn per_word(node: &RawNode) -> u8
 /// # Errors
 /// Want of memory; the widget is as it was.
 fn push_entries(node: &mut RawNode, left: u8, word: u32) -> Result<(), AllocError>
-    ensures ok { OnOk result (node.new ≡ record node.old { entries = node.old.entries ++ take left (entries_of_word node.old.long word) }) }
+    ensures ok { OnOk result (node.new ≡ record node.old
+        { entries = node.old.entries ++ take left (entries_of_word node.old.long word) }) }
     ensures err { OnErr result (node.new ≡ node.old) }
 {
     let alloc = node.entries.allocator();

@@ -17,13 +17,15 @@ use std::mem;
 use std::mem::size_of;
 use verb_codes::{Command, Parameter};
 
-/// At most so many bytes a walk keeps: room for all widgets, and 127 entries of two bytes, in a memory of 256 bytes, at each.
+/// At most so many bytes a walk keeps: room for all widgets, and 127 entries of two bytes, in a memory of 256 bytes, at
+/// each.
 const KEPT_BYTES: usize = NODE_IDENTIFIERS * (size_of::<RawNode>() + 256) + size_of::<Walk>();
 
 const _: () = prove!(KEPT_BYTES <= 64 * 1024);
 
-/// A walk over a codec: it asks for all words that the codec has, one after the other, each as soon as the answers before it say
-/// that it is there, and gives the graph that was told. It keeps less than 64 KB. This project's own, over the nodes of HDA 1.0a, 7.1.2.
+/// A walk over a codec: it asks for all words that the codec has, one after the other, each as soon as the answers
+/// before it say that it is there, and gives the graph that was told. It keeps less than 64 KB. This project's own,
+/// over the nodes of HDA 1.0a, 7.1.2.
 #[derive(Drop)]
 pub struct Walk {
     /// The words of the root and the function group; the widgets stand in `nodes`.
@@ -70,7 +72,8 @@ impl Walk {
         })
     }
 
-    /// The command that is asked next, within the ranges of `verb_codes::encode`. `None` exactly where the walk has all words.
+    /// The command that is asked next, within the ranges of `verb_codes::encode`. `None` exactly where the walk has all
+    /// words.
     #[tactic(auto, unfolding(crate::specs::Remaining::remaining))]
     pub fn next(&self) -> Option<Command>
         ensures value { result ≡ question (remaining self.now) }
@@ -117,7 +120,8 @@ impl Walk {
     /// The graph that was told. [`Walk::next`] gives `None`.
     ///
     /// # Errors
-    /// The faulty connection list of the least node identifier, or else the first fault of the graph; or want of memory.
+    /// The faulty connection list of the least node identifier, or else the first fault of the graph; or want of
+    /// memory.
     #[tactic(auto, unfolding(crate::specs::Remaining::remaining))]
     pub fn finish(self) -> Result<Graph, WalkError>
         requires { question (remaining self) ≡ None }

@@ -71,7 +71,8 @@ pub(crate) fn parameter_command(address: u8, nid: u8, parameter: Parameter) -> C
 impl CodecWord {
     /// The word that is asked for next, if one is left.
     pub(crate) fn next(self) -> Option<CodecWord>
-        ensures { MatchOption result (spec.later_codec self ≡ []) (λ next. spec.later_codec self ≡ next ∷ spec.later_codec next) }
+        ensures { MatchOption result (spec.later_codec self ≡ [])
+            (λ next. spec.later_codec self ≡ next ∷ spec.later_codec next) }
     {
         match self {
             CodecWord::Vendor => Some(CodecWord::Revision),

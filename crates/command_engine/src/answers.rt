@@ -8,7 +8,8 @@ use circular_buffer::HeapCircularBuffer;
 use ring_entries::{Response, word_from};
 use verb_codes::{bits_of, has_bit};
 
-/// After how many ticks of the wall clock a command counts as not answered: 1,000 link frames of 500. This project's own.
+/// After how many ticks of the wall clock a command counts as not answered: 1,000 link frames of 500. This project's
+/// own.
 pub const ANSWER_LIMIT: u32 = 500_000;
 
 /// What a codec told unasked (HDA 1.0a, 7.3.3.14).

@@ -29,8 +29,8 @@ pub enum OpenFault {
     OutOfMemory,
 }
 
-/// The driver's side of both rings (HDA 1.0a, 4.4). It owns their blocks, which it gives back when it is closed, and keeps nothing of
-/// a platform between its calls.
+/// The driver's side of both rings (HDA 1.0a, 4.4). It owns their blocks, which it gives back when it is closed, and
+/// keeps nothing of a platform between its calls.
 pub struct Engine {
     corb: Lent,
     rirb: Lent,

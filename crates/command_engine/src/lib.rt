@@ -1,6 +1,6 @@
 //! The driver's side of the rings of commands (CORB) and of responses (RIRB): it submits a command and finds its answer
-//! (HDA 1.0a, 4.4). Where none came within 500,000 ticks of the wall clock, 1,000 link frames, it tells so, and the command stays
-//! outstanding.
+//! (HDA 1.0a, 4.4). Where none came within 500,000 ticks of the wall clock, 1,000 link frames, it tells so, and the
+//! command stays outstanding.
 #![tactic(auto)]
 
 mod answers;

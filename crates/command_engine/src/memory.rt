@@ -15,7 +15,8 @@ pub(crate) fn write_command<P: Platform>(platform: &mut P, corb: &mut Lent, plac
     requires room { 1 ≤ P.spare_accesses platform.old }
     requires bytes_room { COMMAND_BYTES ≤ P.spare_bytes platform.old }
     requires within { COMMAND_BYTES * (place + 1) ≤ corb.old.bytes }
-    ensures told { Between (λ old new. Accessed old new (DmaWrite (corb.old.address + COMMAND_BYTES * place) (little_bytes 4 word))) (P.told platform.old) (P.told platform.new) }
+    ensures told { Between (λ old new. Accessed old new (DmaWrite (corb.old.address + COMMAND_BYTES * place)
+        (little_bytes 4 word))) (P.told platform.old) (P.told platform.new) }
     ensures same { corb.new ≡ corb.old }
     ensures fixed { P.fixed platform.new ≡ P.fixed platform.old }
     ensures accesses { P.spare_accesses platform.new + 1 ≡ P.spare_accesses platform.old }
@@ -39,7 +40,8 @@ pub(crate) fn read_entry<P: Platform>(
     requires room { 1 ≤ P.spare_accesses platform.old }
     requires bytes_room { RESPONSE_BYTES ≤ P.spare_bytes platform.old }
     requires within { RESPONSE_BYTES * (place + 1) ≤ rirb.now.bytes }
-    ensures told { Between (λ old new. Accessed old new (DmaRead (rirb.now.address + RESPONSE_BYTES * place) result)) (P.told platform.old) (P.told platform.new) }
+    ensures told { Between (λ old new. Accessed old new (DmaRead (rirb.now.address + RESPONSE_BYTES * place) result))
+        (P.told platform.old) (P.told platform.new) }
     ensures whole { length result ≡ RESPONSE_BYTES }
     ensures fixed { P.fixed platform.new ≡ P.fixed platform.old }
     ensures accesses { P.spare_accesses platform.new + 1 ≡ P.spare_accesses platform.old }

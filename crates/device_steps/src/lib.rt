@@ -1,8 +1,8 @@
 //! The steps by which the device acts, as a schedule names them. What each does to the world stands in `hda_world`.
 #![tactic(auto)]
 
-/// A step of the device. Which comes when is the schedule's choice; a step that names a codec, pin or stream that is not there
-/// does nothing. All but the last two do nothing while CRST is 0. This project's own.
+/// A step of the device. Which comes when is the schedule's choice; a step that names a codec, pin or stream that is
+/// not there does nothing. All but the last two do nothing while CRST is 0. This project's own.
 #[derive(Clone, Copy, Debug, PartialEq, Eq)]
 pub enum Step {
     /// CORB's engine fetches the next command and hands it to its codec (HDA 1.0a, 4.4.1).

@@ -34,7 +34,8 @@ impl Model for Pool {
 
     ghost view = { λ pool. record { granules = pool.granules; taken = pool.taken.items } };
 
-    ghost invariant = { λ pool. (pool.granules ≤ MOST_GRANULES) × IsLaidOut 0 pool.granules pool.taken.items × (pool.granules ≤ vec_capacity pool.taken) };
+    ghost invariant = { λ pool. (pool.granules ≤ MOST_GRANULES) × IsLaidOut 0 pool.granules pool.taken.items
+        × (pool.granules ≤ vec_capacity pool.taken) };
 }
 
 impl Pool {
@@ -59,7 +60,8 @@ impl Pool {
     /// `NoRun` exactly where they stand together nowhere. The pool is then as it was.
     pub fn take(&mut self, bytes: u32) -> Result<Block, NoRun>
         requires { 1 ≤ bytes }
-        ensures fits { IfOk result (λ block. IsFirstFit self.old.granules self.old.taken (block.address / 128) (granules_for bytes)) }
+        ensures fits { IfOk result (λ block. IsFirstFit self.old.granules self.old.taken (block.address / 128)
+            (granules_for bytes)) }
         ensures bytes { IfOk result (λ block. block.bytes ≡ bytes) }
         ensures takes { IfOk result (λ block. AddsRun self.old.taken (run_at block.address bytes) self.new.taken) }
         ensures elsewhere { IfOk result (λ block. All (IsElsewhere block.address bytes) self.old.taken) }
@@ -88,7 +90,8 @@ impl Pool {
     pub fn give(&mut self, block: Block)
         requires { Contains self.old.taken (run_at block.address block.bytes) }
         ensures gives { AddsRun self.new.taken (run_at block.address block.bytes) self.old.taken }
-        ensures kept { (run : Run) → Contains self.old.taken run → run ≢ run_at block.address block.bytes → Contains self.new.taken run }
+        ensures kept { (run : Run) → Contains self.old.taken run → run ≢ run_at block.address block.bytes
+            → Contains self.new.taken run }
         ensures granules { self.new.granules ≡ self.old.granules }
     {
         let (address, bytes) = block.end();

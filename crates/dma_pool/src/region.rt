@@ -3,7 +3,8 @@ ghost use Rattle.std.specs.Prelude.{◌≡◌, ◌*◌};
 
 use crate::pool::GRANULE;
 
-/// How many bytes the device reaches on every platform, from address 0 on: the region. Blocks lie in it. This project's own.
+/// How many bytes the device reaches on every platform, from address 0 on: the region. Blocks lie in it. This project's
+/// own.
 pub const REGION_BYTES: u32 = 4_194_304;
 
 /// How many granules that is.

@@ -21,7 +21,8 @@ pub(crate) struct Gap {
 pub(crate) fn first_gap(taken: &[Run], granules: u32, count: u32) -> Option<Gap>
     requires some { 1 ≤ count }
     requires laid_out { IsLaidOut 0 granules taken.now }
-    ensures { MatchOption result (HasNoRun granules taken.now count) (λ gap. IsGap granules taken.now gap.index gap.first count) }
+    ensures { MatchOption result (HasNoRun granules taken.now count)
+        (λ gap. IsGap granules taken.now gap.index gap.first count) }
 {
     let mut first = 0;
     for (index, run) in taken.iter().enumerate() {

@@ -27,7 +27,8 @@ fn take_from(
     requires some { 1 ≤ bytes }
     requires within { index ≤ length into.old }
     requires empty { drop index into.old ≡ replicate (length into.old - index) None }
-    ensures takes { OnOk result (TakesAll pool.old.granules bytes pool.old.taken (addresses_in (drop index into.new)) pool.new.taken) }
+    ensures takes { OnOk result (TakesAll pool.old.granules bytes pool.old.taken (addresses_in (drop index into.new))
+        pool.new.taken) }
     ensures blocks { OnOk result (All (HasBlock bytes) (drop index into.new)) }
     ensures before { take index into.new ≡ take index into.old }
     ensures granules { pool.new.granules ≡ pool.old.granules }
@@ -55,7 +56,8 @@ impl Pool {
     pub fn take_all(&mut self, bytes: u32, into: &mut [Option<Block>]) -> Result<(), NoRun>
         requires some { 1 ≤ bytes }
         requires empty { into.old ≡ replicate (length into.old) None }
-        ensures takes { OnOk result (TakesAll self.old.granules bytes self.old.taken (addresses_in into.new) self.new.taken) }
+        ensures takes { OnOk result (TakesAll self.old.granules bytes self.old.taken (addresses_in into.new)
+            self.new.taken) }
         ensures blocks { OnOk result (All (HasBlock bytes) into.new) }
         ensures granules { self.new.granules ≡ self.old.granules }
         ensures none { OnErr result (MeetsNoRun self.old.granules bytes (length into.old) self.old.taken) }

@@ -25,8 +25,8 @@ pub struct Answer {
     pub is_free: bool,
 }
 
-/// Reads the clock, and looks for the answer to the outstanding command, which is the one that comes next on the agenda. An answer leads
-/// the agenda on. What codecs told unasked is counted.
+/// Reads the clock, and looks for the answer to the outstanding command, which is the one that comes next on the
+/// agenda. An answer leads the agenda on. What codecs told unasked is counted.
 ///
 /// # Errors
 /// Want of memory.
@@ -43,7 +43,10 @@ pub fn look_for_answer<P: Platform, T: Setter>(
     requires few { jacks.old.taken + 256 ≤ 4294967295 }
     requires room { 259 ≤ P.spare_accesses platform.old }
     requires bytes_room { 2040 ≤ P.spare_bytes platform.old }
-    ensures looks { IfOk result (λ answer. spec.Looks (λ graph. T.IsPlanBy setter.now graph agenda.old.format) (λ graph plan. T.verbs_by setter.now graph plan agenda.old.format TAG) engine.old.corb.address engine.old.rirb.address engine.old.rings phase agenda.old jacks.old answer engine.new.rings agenda.new jacks.new (P.told platform.old) (P.told platform.new)) }
+    ensures looks { IfOk result (λ answer. spec.Looks (λ graph. T.IsPlanBy setter.now graph agenda.old.format)
+        (λ graph plan. T.verbs_by setter.now graph plan agenda.old.format TAG) engine.old.corb.address
+        engine.old.rirb.address engine.old.rings phase agenda.old jacks.old answer engine.new.rings agenda.new jacks.new
+        (P.told platform.old) (P.told platform.new)) }
     ensures idle { IfOk result (λ answer. answer.is_free ≡ true → engine.new.rings.outstanding ≡ None) }
     ensures started { engine.new.rings.started ≡ engine.old.rings.started }
     ensures events { engine.new.events.items ≡ [] }
@@ -79,7 +82,8 @@ fn phase_after<T: Setter>(
 ) -> Result<Phase, AllocError>
     requires asks { IsSome (standing.next_on agenda.old) }
     ensures led { IfOk result (λ after. spec.LedTo poll outstanding phase agenda.old after agenda.new) }
-    ensures taken { IfOk result (λ after. spec.Taken (λ graph. T.IsPlanBy setter.now graph agenda.old.format) (λ graph plan. T.verbs_by setter.now graph plan agenda.old.format TAG) poll agenda.old after agenda.new) }
+    ensures taken { IfOk result (λ after. spec.Taken (λ graph. T.IsPlanBy setter.now graph agenda.old.format)
+        (λ graph plan. T.verbs_by setter.now graph plan agenda.old.format TAG) poll agenda.old after agenda.new) }
     ensures addresses { agenda.new.addresses ≡ agenda.old.addresses }
     ensures format { agenda.new.format ≡ agenda.old.format }
 {

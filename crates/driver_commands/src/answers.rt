@@ -37,7 +37,8 @@ pub(crate) fn take_answer<T: Setter>(
     ensures leads_on { IfOk result (spec.LeadsOn (λ graph. T.IsPlanBy setter.now graph agenda.old.format)
         (λ graph plan. T.verbs_by setter.now graph plan agenda.old.format TAG) word agenda.old agenda.new) }
     ensures follows { IfOk result (λ phase. can_follow phase ≡ true) }
-    ensures ends { IfOk result (spec.EndsBy (λ graph. T.IsPlanBy setter.now graph agenda.old.format) word agenda.old agenda.new) }
+    ensures ends { IfOk result (spec.EndsBy (λ graph. T.IsPlanBy setter.now graph agenda.old.format) word agenda.old
+        agenda.new) }
     ensures addresses { agenda.new.addresses ≡ agenda.old.addresses }
     ensures format { agenda.new.format ≡ agenda.old.format }
 {

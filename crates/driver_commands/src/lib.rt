@@ -1,4 +1,5 @@
-//! A driver's calls while commands are sent: a look for the outstanding command's answer, where that leads, and the next command.
+//! A driver's calls while commands are sent: a look for the outstanding command's answer, where that leads, and the
+//! next command.
 #![tactic(auto)]
 
 mod addresses;

@@ -25,9 +25,12 @@ pub fn submit_next<P: Platform>(
     requires idle { is_free ≡ true → engine.old.rings.outstanding ≡ None }
     requires room { 2 ≤ P.spare_accesses platform.old }
     requires bytes_room { COMMAND_BYTES ≤ P.spare_bytes platform.old }
-    ensures made { Between (Makes (spec.submit_made engine.old.corb.address engine.old.rings (spec.order_if is_free (standing.next_on agenda.now)))) (P.told platform.old) (P.told platform.new) }
-    ensures rings { engine.new.rings ≡ spec.rings_with (spec.order_if is_free (standing.next_on agenda.now)) clock engine.old.rings }
-    ensures tells { Between (told.LeadsOn engine.old.corb.address engine.old.rirb.address engine.old.rings engine.new.rings) (P.told platform.old) (P.told platform.new) }
+    ensures made { Between (Makes (spec.submit_made engine.old.corb.address engine.old.rings
+        (spec.order_if is_free (standing.next_on agenda.now)))) (P.told platform.old) (P.told platform.new) }
+    ensures rings { engine.new.rings ≡ spec.rings_with (spec.order_if is_free (standing.next_on agenda.now)) clock
+        engine.old.rings }
+    ensures tells { Between (told.LeadsOn engine.old.corb.address engine.old.rirb.address engine.old.rings
+        engine.new.rings) (P.told platform.old) (P.told platform.new) }
     ensures submitted { result ≡ is_some (spec.order_if is_free (standing.next_on agenda.now)) }
     ensures corb { engine.new.corb ≡ engine.old.corb }
     ensures rirb { engine.new.rirb ≡ engine.old.rirb }

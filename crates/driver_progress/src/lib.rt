@@ -1,5 +1,5 @@
-//! What a driver has to do and how far it has come: its phases, and from these the accesses that it makes at each of its calls. The
-//! definitions stand in `specs`; how far a driver came is read off a journal alone.
+//! What a driver has to do and how far it has come: its phases, and from these the accesses that it makes at each of
+//! its calls. The definitions stand in `specs`; how far a driver came is read off a journal alone.
 #![tactic(auto)]
 
 mod jack;

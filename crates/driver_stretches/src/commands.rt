@@ -17,16 +17,21 @@ pub struct Asked {
     pub poll: Poll,
 }
 
-/// Reads the clock, and looks for the answer to the outstanding command. No event is left from earlier looks (HDA 1.0a, 4.4.2).
+/// Reads the clock, and looks for the answer to the outstanding command. No event is left from earlier looks (HDA 1.0a,
+/// 4.4.2).
 ///
-/// On a platform that tells, where the engine stood to the world as a start, a submission or a look left it: what was found is that of
-/// the responses that were written since the look before, and an answer belongs to the outstanding command.
+/// On a platform that tells, where the engine stood to the world as a start, a submission or a look left it: what was
+/// found is that of the responses that were written since the look before, and an answer belongs to the outstanding
+/// command.
 pub fn ask<P: Platform>(platform: &mut P, engine: &mut Engine) -> Asked
     requires events { engine.old.events.items ≡ [] }
     requires room { 259 ≤ P.spare_accesses platform.old }
     requires bytes_room { 2040 ≤ P.spare_bytes platform.old }
-    ensures asks { spec.Asks engine.old.rirb.address engine.old.rings result engine.new.rings engine.new.events.items (P.told platform.old) (P.told platform.new) }
-    ensures tells { Between (told.PollTellsOf result.clock engine.old.corb.address engine.old.rirb.address engine.old.rings result.poll engine.new.rings engine.new.events.items) (P.told platform.old) (P.told platform.new) }
+    ensures asks { spec.Asks engine.old.rirb.address engine.old.rings result engine.new.rings engine.new.events.items
+        (P.told platform.old) (P.told platform.new) }
+    ensures tells { Between (told.PollTellsOf result.clock engine.old.corb.address engine.old.rirb.address
+        engine.old.rings result.poll engine.new.rings engine.new.events.items) (P.told platform.old)
+        (P.told platform.new) }
     ensures corb { engine.new.corb ≡ engine.old.corb }
     ensures rirb { engine.new.rirb ≡ engine.old.rirb }
     ensures fixed { P.fixed platform.new ≡ P.fixed platform.old }

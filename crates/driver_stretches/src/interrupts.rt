@@ -12,7 +12,8 @@ const INTERRUPTS_AT: u32 = 31;
 /// The bit of the output stream.
 const STREAM_INTERRUPTS_AT: u32 = 1;
 
-/// Whether an interrupt is on. Where it is the output stream's, the status bits that are set are cleared (HDA 1.0a, 3.3.36).
+/// Whether an interrupt is on. Where it is the output stream's, the status bits that are set are cleared (HDA 1.0a,
+/// 3.3.36).
 pub fn has_interrupt<P: Platform>(platform: &mut P) -> bool
     requires { 3 ≤ P.spare_accesses platform.old }
     ensures looks { spec.LooksFor result (P.told platform.old) (P.told platform.new) }

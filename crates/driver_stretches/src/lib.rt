@@ -1,5 +1,5 @@
-//! The stretches of a driver's accesses up to the set-up of the codecs: the reset, the start of the rings, a command and its answer, a look
-//! for interrupts, and the end.
+//! The stretches of a driver's accesses up to the set-up of the codecs: the reset, the start of the rings, a command
+//! and its answer, a look for interrupts, and the end.
 #![tactic(auto)]
 
 mod commands;

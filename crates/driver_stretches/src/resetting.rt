@@ -11,11 +11,12 @@ use verb_codes::has_bit;
 /// CRST and UNSOL: the controller is out of reset, and accepts responses that come unasked (HDA 1.0a, 3.3.7).
 const OUT_OF_RESET: u32 = 0x101;
 
-/// Resets the controller, and gives the clock from which on the codecs may announce themselves, in ticks of 1/24,000,000 s. `None` exactly
-/// where the controller did not come out of the reset (HDA 1.0a, 4.3).
+/// Resets the controller, and gives the clock from which on the codecs may announce themselves, in ticks of
+/// 1/24,000,000 s. `None` exactly where the controller did not come out of the reset (HDA 1.0a, 4.3).
 ///
-/// On a platform that tells, where the codecs stand by address and none but these announced itself, it comes out of it: the rings can be
-/// started then, and the wall clock goes by the link frames since. Where CORB's engine does not run before, no command is taken meanwhile.
+/// On a platform that tells, where the codecs stand by address and none but these announced itself, it comes out of it:
+/// the rings can be started then, and the wall clock goes by the link frames since. Where CORB's engine does not run
+/// before, no command is taken meanwhile.
 pub fn reset<P: Platform>(platform: &mut P) -> Option<u32>
     requires { 5 ≤ P.spare_accesses platform.old }
     ensures resets { spec.Resets result (P.told platform.old) (P.told platform.new) }

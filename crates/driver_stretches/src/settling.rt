@@ -30,14 +30,18 @@ fn has_settled(kept: u32, clock: u32) -> bool
     u64::from(kept) + u64::from(SETTLING_TICKS) <= u64::from(clock)
 }
 
-/// Looks at the clock, and sets the rings going once the codecs had their time since the clock that was kept of the reset.
+/// Looks at the clock, and sets the rings going once the codecs had their time since the clock that was kept of the
+/// reset.
 ///
-/// On a platform that tells, where the codecs announce themselves as a reset left them: too early nothing has changed. Else just the codecs
-/// on the link are found, where there is one, and the engine stands to the world as a start leaves it. No codec takes a command meanwhile.
+/// On a platform that tells, where the codecs announce themselves as a reset left them: too early nothing has changed.
+/// Else just the codecs on the link are found, where there is one, and the engine stands to the world as a start leaves
+/// it. No codec takes a command meanwhile.
 pub fn settle<P: Platform>(platform: &mut P, engine: &mut Engine, kept: u32) -> Settled
     requires { 17 ≤ P.spare_accesses platform.old }
-    ensures settles { spec.Settles kept engine.old.corb.address engine.old.rirb.address engine.old.rings result engine.new.rings (P.told platform.old) (P.told platform.new) }
-    ensures tells { Between (announcing.LeadsToRings engine.old.corb.address engine.old.rirb.address engine.new.rings result) (P.told platform.old) (P.told platform.new) }
+    ensures settles { spec.Settles kept engine.old.corb.address engine.old.rirb.address engine.old.rings result
+        engine.new.rings (P.told platform.old) (P.told platform.new) }
+    ensures tells { Between (announcing.LeadsToRings engine.old.corb.address engine.old.rirb.address engine.new.rings
+        result) (P.told platform.old) (P.told platform.new) }
     ensures corb { engine.new.corb ≡ engine.old.corb }
     ensures rirb { engine.new.rirb ≡ engine.old.rirb }
     ensures events { engine.new.events.items ≡ engine.old.events.items }
@@ -52,8 +56,10 @@ pub fn settle<P: Platform>(platform: &mut P, engine: &mut Engine, kept: u32) -> 
 /// Sets the rings going, once the codecs had their time.
 fn start_if<P: Platform>(platform: &mut P, engine: &mut Engine, settled: bool) -> Settled
     requires { 16 ≤ P.spare_accesses platform.old }
-    ensures starts { spec.StartsIf settled engine.old.corb.address engine.old.rirb.address engine.old.rings result engine.new.rings (P.told platform.old) (P.told platform.new) }
-    ensures tells { Between (announcing.StartLeads engine.old.corb.address engine.old.rirb.address engine.new.rings result) (P.told platform.old) (P.told platform.new) }
+    ensures starts { spec.StartsIf settled engine.old.corb.address engine.old.rirb.address engine.old.rings result
+        engine.new.rings (P.told platform.old) (P.told platform.new) }
+    ensures tells { Between (announcing.StartLeads engine.old.corb.address engine.old.rirb.address engine.new.rings
+        result) (P.told platform.old) (P.told platform.new) }
     ensures corb { engine.new.corb ≡ engine.old.corb }
     ensures rirb { engine.new.rirb ≡ engine.old.rirb }
     ensures events { engine.new.events.items ≡ engine.old.events.items }

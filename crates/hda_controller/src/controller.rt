@@ -13,7 +13,8 @@ ghost use Rattle.hda_world.specs.Events.{after_write};
 ghost use Rattle.hda_device.specs.Codecs.{addresses_of, place_of, handed_now};
 ghost use Rattle.hda_files.specs.Machines.{IsSound};
 ghost use Rattle.heard_lists.specs.Listings.{Listing, HasRoom, AreListsOf, graphs_in, with_blocks};
-ghost use Rattle.hda_controller.specs.Controllers.{StandsFor, renewals_of, renewals_written, renewals_handed, renewals_at, is_candidate_of, signal_now};
+ghost use Rattle.hda_controller.specs.Controllers.{StandsFor, renewals_of, renewals_written, renewals_handed};
+ghost use Rattle.hda_controller.specs.Controllers.{renewals_at, is_candidate_of, signal_now};
 ghost use Rattle.hda_controller.specs.Hearing.{most_items, AreHeard, AreDue, Grew, renewals_stepped};
 ghost use Rattle.hda_controller.specs.Openings.{opening_world};
 
@@ -31,8 +32,8 @@ use std::marker::Model;
 use stream_descriptor::{Frame, MOST_FRAME_BYTES};
 use stream_format::Format;
 
-/// A device, with the signals of its codecs' candidate pins as they are at each moment. Contracts see a `ControllerState`, and of
-/// each call the move of the world (this project's own) that it makes.
+/// A device, with the signals of its codecs' candidate pins as they are at each moment. Contracts see a
+/// `ControllerState`, and of each call the move of the world (this project's own) that it makes.
 #[derive(Drop)]
 pub struct Controller {
     device: Device,
@@ -51,17 +52,21 @@ impl Model for Controller {
 }
 
 impl Controller {
-    /// A controller in reset with the codecs of a machine, as its file says that they start. Nothing waits and no stream runs.
+    /// A controller in reset with the codecs of a machine, as its file says that they start. Nothing waits and no
+    /// stream runs.
     ///
     /// # Errors
     /// Want of memory.
     pub fn new(alloc: Global, machine: &Machine) -> Result<Controller, AllocError>
         requires { IsSound machine.now }
-        ensures stands { IfOk result (λ controller. (memory : List ℕ) → StandsFor memory controller (opening_world memory machine.now)) }
+        ensures stands { IfOk result (λ controller. (memory : List ℕ)
+            → StandsFor memory controller (opening_world memory machine.now)) }
         ensures renewals { IfOk result (λ controller. All (λ count. count ≡ 0) (renewals_of controller)) }
-        ensures lists { IfOk result (λ controller. (lists : List Listing) → AreListsOf (graphs_in machine.now.codecs) lists
+        ensures lists { IfOk result (λ controller. (lists : List Listing)
+            → AreListsOf (graphs_in machine.now.codecs) lists
             → AreHeard controller.device.codecs lists) }
-        ensures addresses { IfOk result (λ controller. addresses_of controller.device.codecs ≡ map (λ codec. codec.graph.address) machine.now.codecs) }
+        ensures addresses { IfOk result (λ controller. addresses_of controller.device.codecs ≡ map
+            (λ codec. codec.graph.address) machine.now.codecs) }
     {
         let codecs = codecs_of(alloc, machine.codecs.as_slice())?;
         let kept = all_signals_of(alloc, machine.codecs.as_slice())?;
@@ -102,12 +107,14 @@ impl Controller {
         self.device.read(at, width)
     }
 
-    /// Writes a register (HDA 1.0a, 3.3). Where the write touches GCTL or the control or the format of descriptor 1, the signals of all
-    /// codecs are worked out anew.
+    /// Writes a register (HDA 1.0a, 3.3). Where the write touches GCTL or the control or the format of descriptor 1,
+    /// the signals of all codecs are worked out anew.
     pub fn write(&mut self, at: u16, width: Width, value: u32)
-        ensures stands { (memory : List ℕ) (world : World) → StandsFor memory self.old world → StandsFor memory self.new (after_write at width value world) }
+        ensures stands { (memory : List ℕ) (world : World) → StandsFor memory self.old world
+            → StandsFor memory self.new (after_write at width value world) }
         ensures renewals { renewals_of self.new ≡ renewals_written at width (renewals_of self.old) }
-        ensures lists { (lists : List Listing) → AreHeard self.old.device.codecs lists → AreHeard self.new.device.codecs lists }
+        ensures lists { (lists : List Listing) → AreHeard self.old.device.codecs lists
+            → AreHeard self.new.device.codecs lists }
         ensures addresses { addresses_of self.new.device.codecs ≡ addresses_of self.old.device.codecs }
     {
         self.device.write(at, width, value);
@@ -118,10 +125,11 @@ impl Controller {
         );
     }
 
-    /// CORB's engine fetches the next command and hands it to its codec (HDA 1.0a, 4.4.1). The codec's signals are worked out anew where
-    /// the command sets a control.
+    /// CORB's engine fetches the next command and hands it to its codec (HDA 1.0a, 4.4.1). The codec's signals are
+    /// worked out anew where the command sets a control.
     pub(crate) fn corb(&mut self, memory: &[u8])
-        ensures stands { (world : World) → StandsFor memory.now self.old world → StandsFor memory.now self.new (steps.corb_step world) }
+        ensures stands { (world : World) → StandsFor memory.now self.old world
+            → StandsFor memory.now self.new (steps.corb_step world) }
         ensures renewals { renewals_of self.new
             ≡ renewals_handed (handed_now self.old.device.registers memory.now self.old.device.codecs) (renewals_of self.old) }
     {
@@ -133,7 +141,8 @@ impl Controller {
 
     /// A codec sends its first waiting item (HDA 1.0a, 4.4.2).
     pub(crate) fn answer(&mut self, codec: u8)
-        ensures stands { (memory : List ℕ) (world : World) → StandsFor memory self.old world → StandsFor memory self.new (steps.answer_step codec world) }
+        ensures stands { (memory : List ℕ) (world : World) → StandsFor memory self.old world
+            → StandsFor memory self.new (steps.answer_step codec world) }
         ensures kept { self.new.kept ≡ self.old.kept }
     {
         self.device.answer(codec);
@@ -141,7 +150,8 @@ impl Controller {
 
     /// A codec loses its first waiting answer.
     pub(crate) fn lose(&mut self, codec: u8)
-        ensures stands { (memory : List ℕ) (world : World) → StandsFor memory self.old world → StandsFor memory self.new (steps.lose_step codec world) }
+        ensures stands { (memory : List ℕ) (world : World) → StandsFor memory self.old world
+            → StandsFor memory self.new (steps.lose_step codec world) }
         ensures kept { self.new.kept ≡ self.old.kept }
     {
         self.device.lose(codec);
@@ -158,7 +168,8 @@ impl Controller {
 
     /// RIRB's engine writes responses that wait (HDA 1.0a, 4.4.2).
     pub(crate) fn rirb(&mut self, memory: &mut [u8])
-        ensures stands { (world : World) → StandsFor memory.old self.old world → StandsFor memory.new self.new (steps.rirb_step world) }
+        ensures stands { (world : World) → StandsFor memory.old self.old world
+            → StandsFor memory.new self.new (steps.rirb_step world) }
         ensures kept { self.new.kept ≡ self.old.kept }
     {
         self.device.rirb(memory);
@@ -166,15 +177,18 @@ impl Controller {
 
     /// A stream fetches at most so many bytes of its buffers (HDA 1.0a, 4.5).
     pub(crate) fn fetch(&mut self, memory: &[u8], stream: u8, most: u16)
-        ensures stands { (world : World) → StandsFor memory.now self.old world → StandsFor memory.now self.new (steps.fetch_step stream most world) }
+        ensures stands { (world : World) → StandsFor memory.now self.old world
+            → StandsFor memory.now self.new (steps.fetch_step stream most world) }
         ensures kept { self.new.kept ≡ self.old.kept }
     {
         self.device.fetch(memory, stream, most);
     }
 
-    /// Lets a link frame pass (HDA 1.0a, 4.3, 4.5 and 5.3). Says what it carried; the bytes then stand at the front of `into`.
+    /// Lets a link frame pass (HDA 1.0a, 4.3, 4.5 and 5.3). Says what it carried; the bytes then stand at the front of
+    /// `into`.
     pub(crate) fn frame(&mut self, into: &mut [u8; MOST_FRAME_BYTES]) -> Frame
-        ensures stands { (memory : List ℕ) (world : World) → StandsFor memory self.old world → StandsFor memory self.new (steps.frame_step world) }
+        ensures stands { (memory : List ℕ) (world : World) → StandsFor memory self.old world
+            → StandsFor memory self.new (steps.frame_step world) }
         ensures answer { (memory : List ℕ) (world : World) → StandsFor memory self.old world
             → IsAnswer (output_of world) (found_at 1 world.registers world.output) into.old into.new result }
         ensures kept { self.new.kept ≡ self.old.kept }
@@ -184,14 +198,16 @@ impl Controller {
         self.device.frame(into)
     }
 
-    /// Lets the device make a step of a schedule (this project's own); one that names a codec, a pin or a stream that is not there
-    /// changes nothing. Each list is that of a candidate pin of a codec, and hears each block that a link frame carries, and each frame
-    /// that misses its blocks: it has room for four items a link frame. Takes no memory.
+    /// Lets the device make a step of a schedule (this project's own); one that names a codec, a pin or a stream that
+    /// is not there changes nothing. Each list is that of a candidate pin of a codec, and hears each block that a link
+    /// frame carries, and each frame that misses its blocks: it has room for four items a link frame. Takes no memory.
     pub fn step(&mut self, memory: &mut [u8], step: &Step, heard: &mut HeardLists)
         requires room { HasRoom (most_items step.now) heard.old }
         requires lists { AreHeard self.old.device.codecs heard.old }
-        ensures stands { (world : World) → StandsFor memory.old self.old world → StandsFor memory.new self.new (steps.after_step step.now world) }
-        ensures heard { (world : World) → StandsFor memory.old self.old world → Grew world (steps.after_step step.now world) heard.old heard.new }
+        ensures stands { (world : World) → StandsFor memory.old self.old world
+            → StandsFor memory.new self.new (steps.after_step step.now world) }
+        ensures heard { (world : World) → StandsFor memory.old self.old world
+            → Grew world (steps.after_step step.now world) heard.old heard.new }
         ensures room { (more : ℕ) → HasRoom (most_items step.now + more) heard.old → HasRoom more heard.new }
         ensures lists { AreHeard self.new.device.codecs heard.new }
         ensures renewals { renewals_of self.new ≡ renewals_stepped step.now memory.old self.old }
@@ -206,8 +222,10 @@ impl Controller {
     fn make(&mut self, memory: &mut [u8], step: &Step, heard: &mut HeardLists)
         requires room { HasRoom (most_items step.now) heard.old }
         requires lists { AreHeard self.old.device.codecs heard.old }
-        ensures stands { (world : World) → StandsFor memory.old self.old world → StandsFor memory.new self.new (steps.after_step step.now world) }
-        ensures heard { (world : World) → StandsFor memory.old self.old world → Grew world (steps.after_step step.now world) heard.old heard.new }
+        ensures stands { (world : World) → StandsFor memory.old self.old world
+            → StandsFor memory.new self.new (steps.after_step step.now world) }
+        ensures heard { (world : World) → StandsFor memory.old self.old world
+            → Grew world (steps.after_step step.now world) heard.old heard.new }
         ensures room { (more : ℕ) → HasRoom (most_items step.now + more) heard.old → HasRoom more heard.new }
         ensures renewals { renewals_of self.new ≡ renewals_stepped step.now memory.old self.old }
     {
@@ -268,7 +286,8 @@ impl Controller {
         requires room { HasRoom 4 heard.old }
         requires lists { AreHeard self.now.device.codecs heard.old }
         ensures heard { (layout : Layout) → layout_of self.now.device.registers.output.format ≡ Some layout
-            → heard.new ≡ map (with_blocks (signal_now self.now.device) layout (take (blocks * bytes_of_block layout.channels layout.bits) bytes.now)) heard.old }
+            → heard.new ≡ map (with_blocks (signal_now self.now.device) layout
+            (take (blocks * bytes_of_block layout.channels layout.bits) bytes.now)) heard.old }
         ensures room { (more : ℕ) → HasRoom (4 + more) heard.old → HasRoom more heard.new }
     {
         let Some(format) = self.format() else {

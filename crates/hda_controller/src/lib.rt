@@ -1,4 +1,5 @@
-//! The controller: the device, with the signals of its codecs' candidate pins as they are at each moment. This project's own.
+//! The controller: the device, with the signals of its codecs' candidate pins as they are at each moment. This
+//! project's own.
 #![tactic(auto)]
 
 mod commands;

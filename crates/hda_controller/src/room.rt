@@ -4,8 +4,8 @@ ghost use Rattle.hda_controller.specs.Hearing as spec;
 
 use device_steps::Step;
 
-/// For how many items in each heard list a step asks room: a link frame has at most four blocks, and one that misses them adds one
-/// hole. This project's own.
+/// For how many items in each heard list a step asks room: a link frame has at most four blocks, and one that misses
+/// them adds one hole. This project's own.
 pub fn most_items(step: &Step) -> u64
     ensures { result ≡ spec.most_items step.now }
 {

@@ -1,5 +1,6 @@
 //! The codecs of a device, ascending by address.
-ghost use Rattle.std.specs.Prelude.{◌≡◌, ◌≤◌, ◌<◌, ◌==◌, All, IfSome, Some, None, false, map, IsTrue, slice_get, if◌then◌else◌};
+ghost use Rattle.std.specs.Prelude.{◌≡◌, ◌≤◌, ◌<◌, ◌==◌, All, IfSome, Some, None, false, map, IsTrue, slice_get};
+ghost use Rattle.std.specs.Prelude.{if◌then◌else◌};
 ghost use Rattle.std.specs.Option.{option_map};
 ghost use Rattle.codec_graph.specs.CodecStates as states;
 ghost use Rattle.codec_nodes.specs.Queues as queues;
@@ -80,8 +81,8 @@ fn clear_all(codecs: &mut [Codec])
     }
 }
 
-/// Takes out the first item that waits at the codec of this address; the truth value marks one that was sent unasked. `None` exactly
-/// where nothing waits there, and then nothing changes.
+/// Takes out the first item that waits at the codec of this address; the truth value marks one that was sent unasked.
+/// `None` exactly where nothing waits there, and then nothing changes.
 pub(crate) fn pop(codecs: &mut [Codec], wanted: u8) -> Option<(u32, bool)>
     requires { spec.AreAddresses (spec.addresses_of codecs.old) }
     ensures item { result ≡ option_map queues.marked (slice_get (steps.items_of (codec_at wanted codecs.old)) 0) }
@@ -132,8 +133,8 @@ pub(crate) fn is_busy(codecs: &[Codec], word: u32) -> bool
     }
 }
 
-/// Hands a command to the codec that its word names, which is not full, and says which one took it. `None` exactly where there is no
-/// such codec, and then nothing changes.
+/// Hands a command to the codec that its word names, which is not full, and says which one took it. `None` exactly
+/// where there is no such codec, and then nothing changes.
 pub(crate) fn hand(codecs: &mut [Codec], word: u32) -> Option<Handed>
     requires addresses { spec.AreAddresses (spec.addresses_of codecs.old) }
     requires free { steps.is_busy (codec_at (steps.address_of word) codecs.old) ≡ false }

@@ -1,5 +1,6 @@
 //! The device.
-ghost use Rattle.std.specs.Prelude.{◌≡◌, ◌≤◌, ◌<◌, ◌==◌, ◌++◌, ◌||◌, ℕ, List, [], All, IfOk, IfSome, false, length, if◌then◌else◌};
+ghost use Rattle.std.specs.Prelude.{◌≡◌, ◌≤◌, ◌<◌, ◌==◌, ◌++◌, ◌||◌, ℕ, List, [], All, IfOk, IfSome, false, length};
+ghost use Rattle.std.specs.Prelude.{if◌then◌else◌};
 ghost use Rattle.codec_graph.specs.CodecStates as states;
 ghost use Rattle.codec_graph.specs.declared.waiting.Waiting.{Waiting};
 ghost use Rattle.codec_nodes.specs.Queues as queues;
@@ -13,7 +14,8 @@ ghost use Rattle.stream_descriptor.specs.Running.{found_at};
 ghost use Rattle.stream_descriptor.specs.Frames.{IsAnswer};
 ghost use Rattle.hda_device.specs.Codecs as spec;
 ghost use Rattle.hda_device.specs.Sound.{touches_sound};
-ghost use Rattle.hda_device.specs.Devices.{IsWorld, new_world, KeepsSound, can_receive_now, counted_on, discovered_next, is_counted as is_counted_now};
+ghost use Rattle.hda_device.specs.Devices.{IsWorld, new_world, KeepsSound, can_receive_now, counted_on};
+ghost use Rattle.hda_device.specs.Devices.{discovered_next, is_counted as is_counted_now};
 
 use crate::codecs::{self, Handed};
 use codec_nodes::Codec;
@@ -24,8 +26,9 @@ use std::alloc::{AllocError, Global};
 use std::marker::Model;
 use stream_descriptor::{Frame, MOST_FRAME_BYTES, Stream};
 
-/// A controller with its codecs: its registers, the engines of CORB and RIRB, an input and an output stream, and the codecs on its link.
-/// Contracts see a `DeviceState`, and of each call the move of the world (this project's own) that it makes.
+/// A controller with its codecs: its registers, the engines of CORB and RIRB, an input and an output stream, and the
+/// codecs on its link. Contracts see a `DeviceState`, and of each call the move of the world (this project's own) that
+/// it makes.
 #[derive(Drop)]
 pub struct Device {
     registers: Registers,
@@ -70,7 +73,8 @@ impl Device {
         requires addresses { spec.AreAddresses (spec.addresses_of codecs.items) }
         requires idle { spec.AreIdle codecs.items }
         requires bits { shape.codecs ≡ spec.codec_bits codecs.items }
-        ensures stands { IfOk result (λ device. (memory : List ℕ) → IsWorld memory device (new_world memory shape codecs.items)) }
+        ensures stands { IfOk result (λ device. (memory : List ℕ)
+            → IsWorld memory device (new_world memory shape codecs.items)) }
         ensures frames { IfOk result (λ device. device.frames ≡ 0) }
     {
         Ok(Device {
@@ -105,18 +109,20 @@ impl Device {
         &self.registers
     }
 
-    /// A law: with any memory a device is some world, so the moves that its calls promise are never promised of nothing. Does nothing.
+    /// A law: with any memory a device is some world, so the moves that its calls promise are never promised of
+    /// nothing. Does nothing.
     pub fn is_some_world(&self)
         ensures { (memory : List ℕ) → (world : World) × IsWorld memory self.now world }
     {
         let _registers = &self.registers;
     }
 
-    /// Writes a register (HDA 1.0a, 3.3). The streams whose RUN rose or fell begin anew or stop. Where CRST was written 0 all that waits
-    /// at the codecs and in the controller is dropped (HDA 1.0a, 5.5.1), and where CRST was written 0 or rose the link frames are
-    /// counted anew.
+    /// Writes a register (HDA 1.0a, 3.3). The streams whose RUN rose or fell begin anew or stop. Where CRST was written
+    /// 0 all that waits at the codecs and in the controller is dropped (HDA 1.0a, 5.5.1), and where CRST was written 0
+    /// or rose the link frames are counted anew.
     pub fn write(&mut self, at: u16, width: Width, value: u32)
-        ensures stands { (memory : List ℕ) (world : World) → IsWorld memory self.old world → IsWorld memory self.new (after_write at width value world) }
+        ensures stands { (memory : List ℕ) (world : World) → IsWorld memory self.old world
+            → IsWorld memory self.new (after_write at width value world) }
         ensures codecs { spec.KeepCodecs self.old.codecs self.new.codecs }
         ensures sound { touches_sound at width ≡ false → KeepsSound self.old.registers self.new.registers }
     {
@@ -132,12 +138,13 @@ impl Device {
         self.frames = counted_anew(self.frames, effects.reset, effects.left_reset);
     }
 
-    /// CORB's engine fetches the next command and hands it to the codec that its word names (HDA 1.0a, 4.4.1), unless that codec is full.
-    /// Says which codec took it, and its word. `None` exactly where none did: CRST or CORBRUN is 0, CORBRPRST is 1, the ring has no
-    /// further command, the codec is full, or there is no codec with the address; in the last case the command is gone. The place is that
-    /// of the word's address among the codecs.
+    /// CORB's engine fetches the next command and hands it to the codec that its word names (HDA 1.0a, 4.4.1), unless
+    /// that codec is full. Says which codec took it, and its word. `None` exactly where none did: CRST or CORBRUN is 0,
+    /// CORBRPRST is 1, the ring has no further command, the codec is full, or there is no codec with the address; in
+    /// the last case the command is gone. The place is that of the word's address among the codecs.
     pub fn corb(&mut self, memory: &[u8]) -> Option<Handed>
-        ensures stands { (world : World) → IsWorld memory.now self.old world → IsWorld memory.now self.new (steps.corb_step world) }
+        ensures stands { (world : World) → IsWorld memory.now self.old world
+            → IsWorld memory.now self.new (steps.corb_step world) }
         ensures handed { result ≡ spec.handed_now self.old.registers memory.now self.old.codecs }
         ensures there { IfSome result (λ handed. handed.place < length self.new.codecs) }
         ensures codecs { self.new.codecs ≡ spec.with_handed result self.old.codecs }
@@ -153,11 +160,12 @@ impl Device {
         codecs::hand(self.codecs.as_mut_slice(), word)
     }
 
-    /// The codec of this address sends its first waiting item to the controller, which drops one that was sent unasked where UNSOL is 0.
-    /// Nothing happens while CRST is 0, while as many responses wait as can, or where nothing waits at such a codec (HDA 1.0a, 4.4.2;
-    /// the queues are this project's own).
+    /// The codec of this address sends its first waiting item to the controller, which drops one that was sent unasked
+    /// where UNSOL is 0. Nothing happens while CRST is 0, while as many responses wait as can, or where nothing waits
+    /// at such a codec (HDA 1.0a, 4.4.2; the queues are this project's own).
     pub fn answer(&mut self, codec: u8)
-        ensures stands { (memory : List ℕ) (world : World) → IsWorld memory self.old world → IsWorld memory self.new (steps.answer_step codec world) }
+        ensures stands { (memory : List ℕ) (world : World) → IsWorld memory self.old world
+            → IsWorld memory self.new (steps.answer_step codec world) }
         ensures registers { self.new.registers ≡ self.old.registers }
         ensures codecs { spec.KeepCodecs self.old.codecs self.new.codecs }
     {
@@ -169,10 +177,11 @@ impl Device {
         }
     }
 
-    /// The codec of this address loses its first waiting answer to a command, if there is one. Nothing happens while CRST is 0. This
-    /// project's own.
+    /// The codec of this address loses its first waiting answer to a command, if there is one. Nothing happens while
+    /// CRST is 0. This project's own.
     pub fn lose(&mut self, codec: u8)
-        ensures stands { (memory : List ℕ) (world : World) → IsWorld memory self.old world → IsWorld memory self.new (steps.lose_step codec world) }
+        ensures stands { (memory : List ℕ) (world : World) → IsWorld memory self.old world
+            → IsWorld memory self.new (steps.lose_step codec world) }
         ensures registers { self.new.registers ≡ self.old.registers }
         ensures codecs { spec.KeepCodecs self.old.codecs self.new.codecs }
     {
@@ -181,7 +190,8 @@ impl Device {
         }
     }
 
-    /// Says whether something is plugged in at a pin of the codec of this address, also while CRST is 0 (HDA 1.0a, 7.3.3.15).
+    /// Says whether something is plugged in at a pin of the codec of this address, also while CRST is 0 (HDA 1.0a,
+    /// 7.3.3.15).
     pub fn plug(&mut self, codec: u8, nid: u8, present: bool)
         ensures stands { (memory : List ℕ) (world : World) → IsWorld memory self.old world
             → IsWorld memory self.new (steps.plugged_at codec nid present world) }
@@ -191,20 +201,24 @@ impl Device {
         codecs::plug(self.codecs.as_mut_slice(), codec, nid, present);
     }
 
-    /// RIRB's engine writes responses that wait to memory (HDA 1.0a, 4.4.2). An entry outside the memory is not written.
+    /// RIRB's engine writes responses that wait to memory (HDA 1.0a, 4.4.2). An entry outside the memory is not
+    /// written.
     pub fn rirb(&mut self, memory: &mut [u8])
-        ensures stands { (world : World) → IsWorld memory.old self.old world → IsWorld memory.new self.new (steps.rirb_step world) }
+        ensures stands { (world : World) → IsWorld memory.old self.old world
+            → IsWorld memory.new self.new (steps.rirb_step world) }
         ensures codecs { self.new.codecs ≡ self.old.codecs }
         ensures sound { KeepsSound self.old.registers self.new.registers }
     {
         let _written = self.rings.rirb(&mut self.registers, memory);
     }
 
-    /// Lets a link frame pass (HDA 1.0a, 4.3, 4.5 and 5.3): the wall clock goes on, in the frame of number `FRAMES_TO_DISCOVERY` after CRST
-    /// rose the codecs' bits of STATESTS are set, and the output stream sends the blocks that are due, which then stand at the front of
-    /// `into`. Nothing happens while CRST is 0. Says what the frame carried.
+    /// Lets a link frame pass (HDA 1.0a, 4.3, 4.5 and 5.3): the wall clock goes on, in the frame of number
+    /// `FRAMES_TO_DISCOVERY` after CRST rose the codecs' bits of STATESTS are set, and the output stream sends the
+    /// blocks that are due, which then stand at the front of `into`. Nothing happens while CRST is 0. Says what the
+    /// frame carried.
     pub fn frame(&mut self, into: &mut [u8; MOST_FRAME_BYTES]) -> Frame
-        ensures stands { (memory : List ℕ) (world : World) → IsWorld memory self.old world → IsWorld memory self.new (steps.frame_step world) }
+        ensures stands { (memory : List ℕ) (world : World) → IsWorld memory self.old world
+            → IsWorld memory self.new (steps.frame_step world) }
         ensures answer { (memory : List ℕ) (world : World) → IsWorld memory self.old world
             → IsAnswer (output_of world) (found_at 1 world.registers world.output) into.old into.new result }
         ensures codecs { self.new.codecs ≡ self.old.codecs }
@@ -215,8 +229,8 @@ impl Device {
         self.output.frame(&mut self.registers, into)
     }
 
-    /// A stream fetches at most so many bytes of its buffers: the output stream, of descriptor 1. That of descriptor 0 does not move
-    /// (HDA 1.0a, 4.5).
+    /// A stream fetches at most so many bytes of its buffers: the output stream, of descriptor 1. That of descriptor 0
+    /// does not move (HDA 1.0a, 4.5).
     pub fn fetch(&mut self, memory: &[u8], stream: u8, most: u16)
         ensures stands { (world : World) → IsWorld memory.now self.old world
             → IsWorld memory.now self.new (steps.fetch_step stream most world) }
@@ -246,7 +260,8 @@ fn counted_anew(frames: u32, reset: bool, left_reset: bool) -> u32
     if reset || left_reset { 0 } else { frames }
 }
 
-/// Counts a link frame after which the codecs may be discovered, and discovers them in theirs. Later ones are not counted.
+/// Counts a link frame after which the codecs may be discovered, and discovers them in theirs. Later ones are not
+/// counted.
 fn count_frame(frames: u32, codecs: &[Codec], regs: &mut Registers) -> u32
     requires few { All (λ address. address ≤ 14) (spec.addresses_of codecs.now) }
     ensures frames { result ≡ counted_on regs.old frames }
@@ -273,11 +288,13 @@ fn can_receive(regs: &Registers, rings: &Rings) -> bool
     regs.is_out_of_reset() && !rings.full()
 }
 
-/// Puts an item of the codec last among the responses that wait, unless it was sent unasked and the controller does not accept such.
+/// Puts an item of the codec last among the responses that wait, unless it was sent unasked and the controller does not
+/// accept such.
 fn receive(rings: &mut Rings, regs: &Registers, codec: u8, answer: u32, unsolicited: bool)
     requires room { length rings.old < MOST_WAITING }
     requires codec { codec ≤ 14 }
-    ensures { (item : Waiting) → queues.marked item ≡ (answer, unsolicited) → rings.new ≡ rings.old ++ steps.responses_of regs.now codec item }
+    ensures { (item : Waiting) → queues.marked item ≡ (answer, unsolicited)
+        → rings.new ≡ rings.old ++ steps.responses_of regs.now codec item }
 {
     if !unsolicited || regs.accepts_unsolicited() {
         rings.accept(codec, answer, unsolicited);

@@ -1,5 +1,5 @@
-//! A controller's registers, rings, codecs and streams as one device: each call leads to the world's move. High Definition Audio
-//! 1.0a, 3.3, 4.3 to 4.5 and 5.5.1. No call but `Device::new` takes memory.
+//! A controller's registers, rings, codecs and streams as one device: each call leads to the world's move. High
+//! Definition Audio 1.0a, 3.3, 4.3 to 4.5 and 5.5.1. No call but `Device::new` takes memory.
 #![tactic(auto)]
 
 mod codecs;

@@ -16,9 +16,9 @@ const FORMAT: u16 = OUTPUT_DESCRIPTOR + SDFMT;
 
 const FORMAT_END: u16 = FORMAT + 2;
 
-/// Whether a write of this width at this place may change the tag or the format of the output stream: it touches GCTL, by which all
-/// registers may be reset, or a byte of the control or of the format of descriptor 1 (HDA 1.0a, 3.3.7, 3.3.35 and 3.3.41). A write
-/// of its status alone, at the fourth byte of the control, may not.
+/// Whether a write of this width at this place may change the tag or the format of the output stream: it touches GCTL,
+/// by which all registers may be reset, or a byte of the control or of the format of descriptor 1 (HDA 1.0a, 3.3.7,
+/// 3.3.35 and 3.3.41). A write of its status alone, at the fourth byte of the control, may not.
 pub fn touches_sound(at: u16, width: Width) -> bool
     ensures { result ≡ spec.touches_sound at width }
 {

@@ -1,5 +1,6 @@
 //! Reads the tables of the codecs, and lays the widgets of a codec out by their node identifiers.
-ghost use Rattle.std.specs.Prelude.{◌≡◌, ◌==◌, ◌≤◌, ◌<◌, ◌++◌, [], All, IfOk, filter, map, option_copied, length, vec_len};
+ghost use Rattle.std.specs.Prelude.{◌≡◌, ◌==◌, ◌≤◌, ◌<◌, ◌++◌, [], All, IfOk, filter, map, option_copied, length};
+ghost use Rattle.std.specs.Prelude.{vec_len};
 ghost use Rattle.std.specs.List.{find, range_with_len};
 ghost use Rattle.toml.specs.View.{table_view};
 ghost use Rattle.hda_files.specs.Codecs as codecs;

@@ -1,6 +1,6 @@
-//! Reads the files of a run. A schedule is read by `hda_schedule`, whose names this crate hands on; a codec file, a TOML text that
-//! describes the codecs of a machine, is read here. The format is this project's own; the words are those of High Definition
-//! Audio 1.0a, 7.3.4.
+//! Reads the files of a run. A schedule is read by `hda_schedule`, whose names this crate hands on; a codec file, a
+//! TOML text that describes the codecs of a machine, is read here. The format is this project's own; the words are
+//! those of High Definition Audio 1.0a, 7.3.4.
 //!
 //! | table | key | value | where it is not given |
 //! |---|---|---|---|
@@ -28,14 +28,14 @@
 //! | node | `gain_in` | array of at most 16 numbers of 8 bits | as `gain_out`, place by place |
 //! | node | `present` | a truth value | `false` |
 //!
-//! Other keys are ignored. The keys of the top are tried first, then those of the codecs in the array's order: for each its own
-//! keys and then those of each node in the array's order, each in the table's order. At a key it is tried whether it is missing,
-//! of a wrong type, out of range and doubled, in this order; a value of a wrong type in an array comes before all that is out of
-//! range there. When all keys of all codecs are good, the codecs are taken ascending by address, whatever their order in the
-//! file: for each the faults of its connection lists come by node identifier, and then its graph's fault. Last it is tried
-//! whether the codecs have too many candidate pins together. The machine's codecs stand ascending by address. A node identifier
-//! of a codec without a table is a vendor defined widget.
-//! The keys from `select` on and `group_power` act as the set verbs of their controls, after the opening of the codec.
+//! Other keys are ignored. The keys of the top are tried first, then those of the codecs in the array's order: for each
+//! its own keys and then those of each node in the array's order, each in the table's order. At a key it is tried
+//! whether it is missing, of a wrong type, out of range and doubled, in this order; a value of a wrong type in an array
+//! comes before all that is out of range there. When all keys of all codecs are good, the codecs are taken ascending by
+//! address, whatever their order in the file: for each the faults of its connection lists come by node identifier, and
+//! then its graph's fault. Last it is tried whether the codecs have too many candidate pins together. The machine's
+//! codecs stand ascending by address. A node identifier of a codec without a table is a vendor defined widget. The keys
+//! from `select` on and `group_power` act as the set verbs of their controls, after the opening of the codec.
 #![tactic(auto)]
 
 mod codec;

@@ -46,14 +46,14 @@ const MOST_PINS: usize = 16;
 /// How many addresses a codec can have: 0 to 14.
 const CODEC_ADDRESSES: u8 = 15;
 
-/// Reads a codec file: its bytes, a TOML text with one to four tables in the array `codec`, whose codecs stand in the machine
-/// ascending by address.
+/// Reads a codec file: its bytes, a TOML text with one to four tables in the array `codec`, whose codecs stand in the
+/// machine ascending by address.
 ///
 /// # Errors
-/// The file's first fault: [`FileFault::Toml`] where the bytes are no TOML text, then the keys' faults in the order in which
-/// the keys are tried, then those of the codecs ascending by address, each first with the fault of the least node identifier
-/// whose connection list has one and then with the graph's fault, and last [`FileFault::TooManyPins`], where the codecs have
-/// more than 16 candidate pins together. [`FileFault::OutOfMemory`] says nothing of the file.
+/// The file's first fault: [`FileFault::Toml`] where the bytes are no TOML text, then the keys' faults in the order in
+/// which the keys are tried, then those of the codecs ascending by address, each first with the fault of the least node
+/// identifier whose connection list has one and then with the graph's fault, and last [`FileFault::TooManyPins`], where
+/// the codecs have more than 16 candidate pins together. [`FileFault::OutOfMemory`] says nothing of the file.
 pub fn read_machine(alloc: Global, bytes: &[u8]) -> Result<Machine, FileFault>
     ensures reading { Reads bytes.now result }
     ensures only { ReadsOnly bytes.now result }

@@ -82,7 +82,8 @@ fn entries_at(
     place: Place,
     words: &RawNode,
 ) -> Result<Items<u16>, FileFault>
-    ensures value { IsMeant result (nodes.entries_of place words.now (values.value_at (table_view table.now) Key.List)) }
+    ensures value { IsMeant result
+        (nodes.entries_of place words.now (values.value_at (table_view table.now) Key.List)) }
     ensures few { IfOk result (λ entries. length entries ≤ most_entries) }
     ensures fit { IfOk result (λ entries. All (λ entry. entry < 2 ^ lists.entry_width words.now.long) entries) }
 {

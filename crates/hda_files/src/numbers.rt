@@ -56,7 +56,8 @@ fn numbers_of(
     most: u16,
 ) -> Result<&Array, FileFault>
     ensures value { MatchResult result
-        (λ array. values.numbers_of place key count most (view value.now) ≡ Ok (filter_map (values.number_up_to most) (values_in array.now)))
+        (λ array. values.numbers_of place key count most (view value.now) ≡ Ok
+        (filter_map (values.number_up_to most) (values_in array.now)))
         (λ fault. values.numbers_of place key count most (view value.now) ≡ Err fault) }
     ensures few { IfOk result (λ array. vec_len array.now ≤ count) }
 {
@@ -72,7 +73,8 @@ fn numbers_of(
 
 /// The whole numbers from 0 to `most` among the values of an array.
 fn numbers_in(alloc: Global, array: &Array, most: u16) -> Result<Items<u16>, FileFault>
-    ensures list { IfOk result (λ numbers. numbers ≡ filter_map (λ value. values.number_up_to most (view value)) array.now.items) }
+    ensures list { IfOk result (λ numbers. numbers ≡ filter_map (λ value. values.number_up_to most (view value))
+        array.now.items) }
     ensures memory { IfErr result (λ fault. fault ≡ FileFault.OutOfMemory) }
 {
     let numbers = array
@@ -84,7 +86,8 @@ fn numbers_in(alloc: Global, array: &Array, most: u16) -> Result<Items<u16>, Fil
 
 /// The whole numbers of 8 bits among the values of an array.
 fn bytes_in(alloc: Global, array: &Array) -> Result<Items<u8>, FileFault>
-    ensures list { IfOk result (λ numbers. numbers ≡ filter_map (λ value. values.number_up_to 255 (view value)) array.now.items) }
+    ensures list { IfOk result (λ numbers. numbers ≡ filter_map (λ value. values.number_up_to 255 (view value))
+        array.now.items) }
     ensures memory { IfErr result (λ fault. fault ≡ FileFault.OutOfMemory) }
 {
     let numbers = array

@@ -41,7 +41,8 @@ fn set_controls(settings: &mut Settings, graph: &Graph, nid: u8, keys: &NodeOpen
     set_given(settings, graph, nid, keys.format.map(Verb::SetFormat));
 }
 
-/// The verb that sets mute, in bit 7, and gain of both sides: of the output amplifier or else of the input amplifier at a place.
+/// The verb that sets mute, in bit 7, and gain of both sides: of the output amplifier or else of the input amplifier at
+/// a place.
 fn amplifier_verb(output: bool, place: u8, gain: u8) -> Verb
     requires { place < 2 ^ 4 }
     ensures value { result ≡ starts.amplifier_verb output place gain }

@@ -11,13 +11,28 @@ use std::io::{ErrorKind, Read, Seek, SeekFrom};
 use std::marker::Model;
 use std::rt::Files;
 
+/// The length of a page in bytes.
+const PAGE_BYTES: usize = 65_536;
+
+/// Bytes of the file `name` from a place on, as they were read last.
+#[derive(Drop)]
+struct Page {
+    name: String,
+    from: u64,
+    bytes: Vec<u8>,
+}
+
 /// The machine's files, by path. This project's own.
 ///
 /// Nothing is told of them. It has one count of faults for all names, and what is no file that can be
 /// read fails. Nothing is proved of what a file holds.
+///
+/// Where fewer are asked for it reads a page of 65,536 bytes, keeps it until it reads another, and gives its bytes
+/// as the file's. So a change of the file within the page is not noticed.
 #[derive(Drop)]
 pub struct FileShelf<R> {
     files: R,
+    page: Option<Page>,
     faults: u64,
     given: u64,
     empties: u64,
@@ -38,6 +53,7 @@ impl<R> FileShelf<R> {
     {
         FileShelf {
             files,
+            page: None,
             faults: 0,
             given: 0,
             empties: 0,
@@ -58,7 +74,7 @@ impl<R: Files> Shelf for FileShelf<R> {
 
     fn read_at(
         &mut self,
-        _alloc: Global,
+        alloc: Global,
         name: &str,
         from: u64,
         buf: &mut [u8],
@@ -71,7 +87,7 @@ impl<R: Files> Shelf for FileShelf<R> {
         ensures empties_rise { self.old.empties ≤ self.new.empties }
         ensures later { self.old.faults ≤ self.new.faults }
     {
-        match read_piece(&self.files, name, from, buf) {
+        match read_some(alloc, &self.files, &mut self.page, name, from, buf) {
             Ok(n) => {
                 self.given = self.given.saturating_add(n as u64);
                 self.empties = empties_after(self.empties, buf.len(), n);
@@ -136,6 +152,65 @@ impl<R: Print> Sink for OutSink<R> {
     }
 }
 
+/// The next bytes of the file from a place on: those of the page, if it has some, and else the file's.
+fn read_some<R: Files>(
+    alloc: Global,
+    files: &R,
+    page: &mut Option<Page>,
+    name: &str,
+    from: u64,
+    buf: &mut [u8],
+) -> io::Result<usize>
+    ensures { IfOk result (λ n. n ≤ length buf.new) }
+{
+    if let Some(last) = page.as_ref() {
+        let n = copy_from(last, name, from, buf);
+        if n > 0 {
+            return Ok(n);
+        }
+    }
+    if buf.len() >= PAGE_BYTES {
+        return read_piece(files, name, from, buf);
+    }
+    let read = read_page(alloc, files, name, from)?;
+    let n = copy_from(&read, name, from, buf);
+    *page = Some(read);
+    Ok(n)
+}
+
+/// Copies the bytes of a page that stand at a place of the file, as many as there are and `buf` takes.
+fn copy_from(page: &Page, name: &str, from: u64, buf: &mut [u8]) -> usize
+    ensures { result ≤ length buf.new }
+{
+    if page.name.as_str() != name || from < page.from {
+        return 0;
+    }
+    let at = from - page.from;
+    if at >= page.bytes.len() as u64 {
+        return 0;
+    }
+    let rest = &page.bytes.as_slice()[at as usize..];
+    let n = rest.len().min(buf.len());
+    buf[..n].copy_from_slice(&rest[..n]);
+    n
+}
+
+/// Reads a page of the file from a place on.
+fn read_page<R: Files>(alloc: Global, files: &R, name: &str, from: u64) -> io::Result<Page> {
+    let mut bytes = Vec::new(alloc);
+    bytes.resize(PAGE_BYTES, 0)?;
+    let n = read_piece(files, name, from, bytes.as_mut_slice())?;
+    bytes.truncate(n);
+    let mut owned = String::new(alloc);
+    owned.push_str(name)?;
+    Ok(Page {
+        name: owned,
+        from,
+        bytes,
+    })
+}
+
+/// Reads a piece of the file from a place on, in one call of the system.
 fn read_piece<R: Files>(files: &R, name: &str, from: u64, buf: &mut [u8]) -> io::Result<usize>
     ensures { IfOk result (λ n. n ≤ length buf.new) }
 {

@@ -15,7 +15,8 @@ use std::alloc::{AllocError, Global};
 use std::marker::Model;
 use stream_descriptor::{MOST_FRAME_BYTES, Stream};
 
-/// The registers of a controller and its two streams, of which the output stream moves. Contracts see what each is seen as.
+/// The registers of a controller and its two streams, of which the output stream moves. Contracts see what each is seen
+/// as.
 #[derive(Drop)]
 pub(crate) struct Device {
     registers: Registers,
@@ -37,7 +38,8 @@ impl Device {
     /// # Errors
     /// Want of memory.
     pub(crate) fn new(alloc: Global, shape: Shape) -> Result<Device, AllocError>
-        ensures { IfOk result (λ device. (memory : List ℕ) → IsWorld memory device (still_world memory (opening shape))) }
+        ensures { IfOk result (λ device. (memory : List ℕ)
+            → IsWorld memory device (still_world memory (opening shape))) }
     {
         Ok(Device {
             registers: Registers::new(shape),
@@ -55,7 +57,8 @@ impl Device {
 
     /// Writes a register, and starts or stops the streams whose RUN rose or fell.
     pub(crate) fn write(&mut self, at: u16, width: Width, value: u32)
-        ensures { (memory : List ℕ) (world : World) → IsWorld memory self.old world → IsWorld memory self.new (after_write at width value world) }
+        ensures { (memory : List ℕ) (world : World) → IsWorld memory self.old world
+            → IsWorld memory self.new (after_write at width value world) }
     {
         let effects = self.registers.write(at, width, value);
         let [input_started, output_started] = effects.started;
@@ -69,7 +72,8 @@ impl Device {
     /// Makes a step that names a stream.
     pub(crate) fn make_step(&mut self, memory: &[u8], step: Step)
         requires { IsStreamStep step }
-        ensures { (world : World) → IsWorld memory.now self.old world → IsWorld memory.now self.new (after_step step world) }
+        ensures { (world : World) → IsWorld memory.now self.old world
+            → IsWorld memory.now self.new (after_step step world) }
     {
         match step {
             Step::Link(frames) => self.pass_frames(frames),
@@ -80,7 +84,8 @@ impl Device {
 
     /// Lets some link frames pass.
     fn pass_frames(&mut self, frames: u32)
-        ensures { (memory : List ℕ) (world : World) → IsWorld memory self.old world → IsWorld memory self.new (times frames frame_step world) }
+        ensures { (memory : List ℕ) (world : World) → IsWorld memory self.old world
+            → IsWorld memory self.new (times frames frame_step world) }
     {
         for _ in 0..frames {
             self.pass_frame();
@@ -89,7 +94,8 @@ impl Device {
 
     /// Lets a link frame pass.
     fn pass_frame(&mut self)
-        ensures { (memory : List ℕ) (world : World) → IsWorld memory self.old world → IsWorld memory self.new (frame_step world) }
+        ensures { (memory : List ℕ) (world : World) → IsWorld memory self.old world
+            → IsWorld memory self.new (frame_step world) }
     {
         let mut carried = [0; MOST_FRAME_BYTES];
         self.registers.frame();
@@ -98,7 +104,8 @@ impl Device {
 
     /// Fetches for the output stream.
     fn fetch(&mut self, memory: &[u8], most: u16)
-        ensures { (world : World) → IsWorld memory.now self.old world → IsWorld memory.now self.new (after_step (step.Fetch 1 most) world) }
+        ensures { (world : World) → IsWorld memory.now self.old world
+            → IsWorld memory.now self.new (after_step (step.Fetch 1 most) world) }
     {
         self.output
             .fetch(&mut self.registers, memory, u32::from(most));

@@ -1,4 +1,5 @@
-//! A platform in memory without codecs, for tests of drivers and of streams: before each access it makes a step of its schedule.
+//! A platform in memory without codecs, for tests of drivers and of streams: before each access it makes a step of its
+//! schedule.
 ghost use Rattle.std.specs.Prelude.{◌≡◌, ◌≤◌, ◌<◌, ◌+◌, ◌*◌, All, IfOk, length, vec_len, vec_capacity};
 ghost use Rattle.std.proofs.Props.{props};
 ghost use Rattle.hda_world.specs.declared.world.TheConstants.{REGION_BYTES};
@@ -15,8 +16,8 @@ use hda_registers::Shape;
 use hda_world::{Entry, Journal, REGION_BYTES, Step};
 use std::alloc::{AllocError, Global};
 
-/// A controller without codecs and its memory. Before each access its device makes the next step of a schedule, while one is left. It
-/// notes all that happens in a journal, for which it has room from the start. This project's own.
+/// A controller without codecs and its memory. Before each access its device makes the next step of a schedule, while
+/// one is left. It notes all that happens in a journal, for which it has room from the start. This project's own.
 #[derive(Drop)]
 pub struct MemoryPlatform {
     shape: Shape,
@@ -46,8 +47,8 @@ impl MemoryPlatform {
     ghost use Rattle.hda_world.specs.JournalEvents.{events_of};
     ghost use Rattle.hda_platform.specs.ToldBy.{told_by, telling_of};
 
-    /// A controller in reset and a region of zeros, the steps that its device makes, one before each access, and room for so many
-    /// accesses and bytes of pieces of memory. The steps let link frames pass or name a stream.
+    /// A controller in reset and a region of zeros, the steps that its device makes, one before each access, and room
+    /// for so many accesses and bytes of pieces of memory. The steps let link frames pass or name a stream.
     ///
     /// # Errors
     /// Want of memory.

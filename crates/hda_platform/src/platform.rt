@@ -9,9 +9,9 @@ use hda_registers::Width;
 
 /// The driver's side of a controller and its memory (HDA 1.0a, 3.3 and 4). Between any two accesses the device may act.
 ///
-/// A platform that tells means a world and a journal. Each access then appends some steps of the device to the journal and after
-/// them the entry of the access itself, and its answer is what the world holds at that moment. Of the answers of a platform that
-/// tells nothing, nothing is known.
+/// A platform that tells means a world and a journal. Each access then appends some steps of the device to the journal
+/// and after them the entry of the access itself, and its answer is what the world holds at that moment. Of the answers
+/// of a platform that tells nothing, nothing is known.
 pub trait Platform {
     /// What it tells: a world at the start and the journal since, if it tells.
     ghost told: { Self → Option Telling };
@@ -45,7 +45,8 @@ pub trait Platform {
         requires room { 1 ≤ spare_accesses self.old }
         requires bytes_room { length into.old ≤ spare_bytes self.old }
         requires within { at + length into.old ≤ from.now.bytes }
-        ensures told { Between (λ old new. Accessed old new (DmaRead (from.now.address + at) into.new)) (told self.old) (told self.new) }
+        ensures told { Between (λ old new. Accessed old new (DmaRead (from.now.address + at) into.new)) (told self.old)
+            (told self.new) }
         ensures fixed { fixed self.new ≡ fixed self.old }
         ensures accesses { spare_accesses self.new + 1 ≡ spare_accesses self.old }
         ensures bytes { spare_bytes self.new + length into.new ≡ spare_bytes self.old };
@@ -56,7 +57,8 @@ pub trait Platform {
         requires bytes_room { length bytes.now ≤ spare_bytes self.old }
         requires begins { to.old.from ≤ at }
         requires ends { at + length bytes.now ≤ to.old.to }
-        ensures told { Between (λ old new. Accessed old new (DmaWrite (to.old.lent.now.address + (at - to.old.base)) bytes.now)) (told self.old) (told self.new) }
+        ensures told { Between (λ old new. Accessed old new (DmaWrite (to.old.lent.now.address + (at - to.old.base))
+            bytes.now)) (told self.old) (told self.new) }
         ensures fixed { fixed self.new ≡ fixed self.old }
         ensures accesses { spare_accesses self.new + 1 ≡ spare_accesses self.old }
         ensures bytes { spare_bytes self.new + length bytes.now ≡ spare_bytes self.old }

@@ -58,7 +58,8 @@ impl Access {
         }
     }
 
-    /// What a write leaves in a word: the covered bits of `kept` as written, and 0 in those of `cleared` that are written 1.
+    /// What a write leaves in a word: the covered bits of `kept` as written, and 0 in those of `cleared` that are
+    /// written 1.
     pub(crate) fn leaves(self, old: u32, kept: u32, cleared: u32) -> u32
         ensures { result ≡ left_by self kept cleared old }
     {

@@ -88,7 +88,8 @@ impl Model for Controller {
 
     ghost Value = { Global };
 
-    ghost view = { λ c. global_in c.control.0 c.wake c.interrupts.0 c.wall_clock c.corb_base c.corb_pointers c.corb_control.0
+    ghost view = { λ c. global_in c.control.0 c.wake c.interrupts.0 c.wall_clock c.corb_base c.corb_pointers
+        c.corb_control.0
         c.rirb_base c.rirb_pointers c.rirb_control.0 };
 }
 
@@ -175,7 +176,8 @@ impl Controller {
     /// The word with this number as it stands there, where INTSTS is `status`.
     pub(crate) fn word(&self, shape: Shape, status: u32, word: u16) -> u32
         ensures { (covered written : ℕ)
-            → global_shown shape self.now status (record { word = word; covered = covered; written = written }) ≡ bit_and result covered }
+            → global_shown shape self.now status
+            (record { word = word; covered = covered; written = written }) ≡ bit_and result covered }
     {
         match word {
             VERSION_AT => VERSION_WORD,
@@ -241,7 +243,8 @@ impl Controller {
         self.control.contains(GlobalControl::CRST)
     }
 
-    /// Whether the controller itself asks for an interrupt: RINTFL and RINTCTL are 1, or a codec asks whose wake bit is 1.
+    /// Whether the controller itself asks for an interrupt: RINTFL and RINTCTL are 1, or a codec asks whose wake bit is
+    /// 1.
     pub(crate) fn asks(&self) -> bool
         ensures { result ≡ controller_asks self.now }
     {

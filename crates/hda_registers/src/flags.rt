@@ -55,7 +55,8 @@ impl Flags for InterruptControl {
 
     ghost exact = { ⊤ };
 
-    ghost table = { (codes "INPUT", 0x1) ∷ (codes "OUTPUT", 0x2) ∷ (codes "CIE", 0x4000_0000) ∷ (codes "GIE", 0x8000_0000) ∷ [] };
+    ghost table = { (codes "INPUT", 0x1) ∷ (codes "OUTPUT", 0x2) ∷ (codes "CIE", 0x4000_0000) ∷
+        (codes "GIE", 0x8000_0000) ∷ [] };
 
     ghost set_of = { λ control. control.0 };
 
@@ -123,7 +124,8 @@ impl Flags for RirbControl {
 
     ghost exact = { ⊤ };
 
-    ghost table = { (codes "RINTCTL", 0x1) ∷ (codes "RIRBDMAEN", 0x2) ∷ (codes "RIRBOIC", 0x4) ∷ (codes "RINTFL", 0x100) ∷ [] };
+    ghost table = { (codes "RINTCTL", 0x1) ∷ (codes "RIRBDMAEN", 0x2) ∷ (codes "RIRBOIC", 0x4) ∷ (codes "RINTFL", 0x100)
+        ∷ [] };
 
     ghost set_of = { λ control. control.0 };
 
@@ -163,7 +165,8 @@ impl Flags for StreamControl {
 
     ghost exact = { ⊤ };
 
-    ghost table = { (codes "SRST", 0x1) ∷ (codes "RUN", 0x2) ∷ (codes "IOCE", 0x4) ∷ (codes "FEIE", 0x8) ∷ (codes "DEIE", 0x10)
+    ghost table = { (codes "SRST", 0x1) ∷ (codes "RUN", 0x2) ∷ (codes "IOCE", 0x4) ∷ (codes "FEIE", 0x8) ∷
+        (codes "DEIE", 0x10)
         ∷ (codes "BCIS", 0x400_0000) ∷ (codes "FIFOE", 0x800_0000) ∷ (codes "DESE", 0x1000_0000) ∷ (codes "FIFORDY", 0x2000_0000) ∷ [] };
 
     ghost set_of = { λ control. control.0 };

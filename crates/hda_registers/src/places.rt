@@ -1,4 +1,5 @@
-//! Where the registers stand, in bytes from the controller's first register (HDA 1.0a, 3.3), and how fast its clock goes.
+//! Where the registers stand, in bytes from the controller's first register (HDA 1.0a, 3.3), and how fast its clock
+//! goes.
 
 /// Global Capabilities: GCAP (HDA 1.0a, 3.3.2).
 pub const GCAP: u16 = 0x00;

@@ -1,13 +1,15 @@
 //! The words of the pointers of CORB and RIRB (HDA 1.0a, 3.3.20, 3.3.21, 3.3.27 and 3.3.28).
 ghost use Rattle.std.specs.Prelude.{◌≡◌, bit_and};
-ghost use Rattle.hda_registers.specs.Table.{CorbWritePointer, CorbReadPointer, CorbPointerReset, RirbWritePointer, ResponseCount, global_row};
+ghost use Rattle.hda_registers.specs.Table.{CorbWritePointer, CorbReadPointer, CorbPointerReset, RirbWritePointer};
+ghost use Rattle.hda_registers.specs.Table.{ResponseCount, global_row};
 ghost use Rattle.hda_registers.specs.Access.{part, ruled};
 
 use crate::accesses::Access;
 use crate::masks::{CORBRPRST, READ_POINTER, RESPONSE_COUNT, RIRBWPRST, WRITE_POINTER};
 use crate::shapes::Shape;
 
-/// What a write leaves of CORBWP, which is kept modulo the size, and of CORBRP, whose pointer is 0 where bit 15 is written 1.
+/// What a write leaves of CORBWP, which is kept modulo the size, and of CORBRP, whose pointer is 0 where bit 15 is
+/// written 1.
 pub(crate) fn corb_pointers_after(old: u32, shape: Shape, access: Access) -> u32
     requires { bit_and access.written access.covered ≡ access.written }
     ensures write_pointer { part 0 8 result ≡ ruled access (global_row shape CorbWritePointer) (part 0 8 old) }

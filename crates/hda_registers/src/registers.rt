@@ -1,7 +1,8 @@
 //! All registers of a controller: reads, writes, and what the device itself moves.
 ghost use Rattle.std.specs.Prelude.{◌≡◌, ◌==◌, ◌≤◌, ◌<◌, ◌+◌, ◌*◌, ◌%◌, ◌/◌, ◌^◌, ◌&&◌, IsTrue};
 ghost use Rattle.hda_registers.specs.Access.{effects_of, is_taken, placed, shown_at, value_at, written, bytes_of};
-ghost use Rattle.hda_registers.specs.Fields.{corb_address, is_out_of_reset, is_running, list_address, opening, reset_fields, responses_of, rirb_address, stream_of};
+ghost use Rattle.hda_registers.specs.Fields.{corb_address, is_out_of_reset, is_running, list_address, opening};
+ghost use Rattle.hda_registers.specs.Fields.{reset_fields, responses_of, rirb_address, stream_of};
 ghost use Rattle.hda_registers.specs.Moves.{framed, raised, moved, IsEvent, IsMove};
 ghost use Rattle.hda_registers.specs.Status.{any_asks, interrupt_status, line_of, worth};
 
@@ -47,8 +48,8 @@ impl Registers {
         }
     }
 
-    /// What a read of this width at this place gives. A place that is no multiple of the width, and one without a register,
-    /// reads 0.
+    /// What a read of this width at this place gives. A place that is no multiple of the width, and one without a
+    /// register, reads 0.
     pub fn read(&self, at: u16, width: Width) -> u32
         ensures { result ≡ value_at self.now at width }
     {
@@ -80,8 +81,9 @@ impl Registers {
         }
     }
 
-    /// Writes the low bits of the value, as many as the width has, and says what that did beyond the registers. A write at a
-    /// place that is no multiple of the width or has no register changes nothing, and while CRST is 0 only GCTL takes writes.
+    /// Writes the low bits of the value, as many as the width has, and says what that did beyond the registers. A write
+    /// at a place that is no multiple of the width or has no register changes nothing, and while CRST is 0 only GCTL
+    /// takes writes.
     pub fn write(&mut self, at: u16, width: Width, value: u32) -> Effects
         ensures registers { self.new ≡ written self.old at width value }
         ensures effects { result ≡ effects_of self.old at width value }
@@ -315,7 +317,8 @@ impl Registers {
         self.stream(stream).is_running()
     }
 
-    /// How many bytes of its buffer the stream has sent: LPIB (HDA 1.0a, 3.3.37). A stream is 0 for input and 1 for output.
+    /// How many bytes of its buffer the stream has sent: LPIB (HDA 1.0a, 3.3.37). A stream is 0 for input and 1 for
+    /// output.
     pub fn position(&self, stream: u8) -> u32
         requires { stream ≤ 1 }
         ensures { result ≡ (stream_of self.now stream).link_position }
@@ -347,7 +350,8 @@ impl Registers {
         self.stream(stream).format()
     }
 
-    /// The tag by which codecs know the stream, 0 for none (HDA 1.0a, 3.3.35). A stream is 0 for input and 1 for output.
+    /// The tag by which codecs know the stream, 0 for none (HDA 1.0a, 3.3.35). A stream is 0 for input and 1 for
+    /// output.
     pub fn tag(&self, stream: u8) -> u8
         requires { stream ≤ 1 }
         ensures { result ≡ (stream_of self.now stream).tag }

@@ -119,7 +119,8 @@ impl Stream {
     /// The word with this number as it stands there.
     pub(crate) fn word(&self, shape: Shape, word: u16) -> u32
         ensures { (covered written : ℕ)
-            → stream_shown shape self.now (record { word = word; covered = covered; written = written }) ≡ bit_and result covered }
+            → stream_shown shape self.now (record { word = word; covered = covered; written = written }) ≡ bit_and
+            result covered }
     {
         match word {
             CONTROL_AT => self.control.0 & (CONTROL_BITS | STATUS_BITS | FIFORDY),

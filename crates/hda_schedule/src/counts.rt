@@ -137,7 +137,8 @@ fn tally_of_part(part: &Part) -> Tally
 /// What the parts come to.
 fn tally_of_parts(parts: &[Part]) -> Tally
     ensures steps { result.steps ≡ held (sum_by (λ part. sum_by counts.item_steps (counts.items_in part)) parts.now) }
-    ensures frames { result.frames ≡ held (sum_by (λ part. sum_by counts.item_frames (counts.items_in part)) parts.now) }
+    ensures frames { result.frames ≡ held (sum_by (λ part. sum_by counts.item_frames (counts.items_in part))
+        parts.now) }
 {
     let mut tally = Tally::ZERO;
     for part in parts {

@@ -22,8 +22,8 @@ fn place_of(text: &[u8], separator: u8) -> Option<usize>
     text.iter().position(|b| *b == separator)
 }
 
-/// The lines of a text that are left. A line ends at a line feed or at the text's end; one carriage return directly before a line
-/// feed is dropped.
+/// The lines of a text that are left. A line ends at a line feed or at the text's end; one carriage return directly
+/// before a line feed is dropped.
 #[derive(Clone, Copy)]
 pub(crate) struct Lines<'a> {
     rest: &'a [u8],

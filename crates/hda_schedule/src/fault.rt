@@ -3,8 +3,8 @@ ghost use Rattle.std.specs.Prelude.{◌≡◌};
 
 use std::alloc::{AllocError, AllocFailed};
 
-/// The first fault of a schedule. Lines count from 1, and the first faulty one counts; the others come in the order in which they
-/// stand here.
+/// The first fault of a schedule. Lines count from 1, and the first faulty one counts; the others come in the order in
+/// which they stand here.
 #[derive(Clone, Copy, Debug, PartialEq, Eq)]
 pub enum SchedFault {
     /// The line of this number has no reading, or is an `end` without `repeat`.

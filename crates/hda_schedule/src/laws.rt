@@ -14,6 +14,7 @@ pub fn schedules_have_a_limit()
 /// Bytes have one reading, a schedule or a fault, and this fault is never want of memory.
 pub fn one_schedule()
     ensures memory { (bytes : List ℕ) → schedule_of bytes ≢ Err OutOfMemory }
-    ensures reading { (bytes : List ℕ) (one other : Result Schedule SchedFault) → IsReadingOf bytes one → IsReadingOf bytes other
+    ensures reading { (bytes : List ℕ) (one other : Result Schedule SchedFault) → IsReadingOf bytes one
+        → IsReadingOf bytes other
         → one ≢ Err OutOfMemory → other ≢ Err OutOfMemory → one ≡ other }
 {}

@@ -1,7 +1,8 @@
-//! Reads a schedule, a text that says in which order the device's steps and the driver's runs come. The format is this project's
-//! own.
+//! Reads a schedule, a text that says in which order the device's steps and the driver's runs come. The format is this
+//! project's own.
 //!
-//! A file is a list of lines. Lines of spaces alone are skipped, and so are those whose first byte other than a space is `#`.
+//! A file is a list of lines. Lines of spaces alone are skipped, and so are those whose first byte other than a space
+//! is `#`.
 //!
 //! | line | what it says |
 //! |---|---|
@@ -9,8 +10,8 @@
 //! | `run N`, `irq N`, each with groups | a line of the driver with a budget N of 0 to 4,294,967,295 |
 //! | `repeat K`, lines, `end` | what is passed K times, 1 to 1,000,000 |
 //!
-//! A group is `|` and then `-` or steps with `,` between them: steps of the device between two accesses of the driver. Numbers
-//! have one to ten decimal digits, node identifiers two hexadecimal ones.
+//! A group is `|` and then `-` or steps with `,` between them: steps of the device between two accesses of the driver.
+//! Numbers have one to ten decimal digits, node identifiers two hexadecimal ones.
 #![tactic(auto)]
 
 mod counts;

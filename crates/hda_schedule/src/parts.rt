@@ -128,7 +128,8 @@ fn items_ahead(
     mut items: Vec<Item>,
 ) -> Result<Items<Item>, AllocError>
     ensures items { IfOk result (λ all. all ≡ items.items ++ parts.items_ahead (rows_left lines.old)) }
-    ensures rest { OnOk result (parts.parts_of false (rows_left lines.new) ≡ parts.parts_of true (rows_left lines.old)) }
+    ensures rest { OnOk result (parts.parts_of false (rows_left lines.new) ≡ parts.parts_of true
+        (rows_left lines.old)) }
     ensures shorter { OnOk result (length (lines_left lines.new) ≤ length (lines_left lines.old)) }
 {
     loop {

@@ -35,8 +35,8 @@ fn limited(schedule: Schedule) -> Result<Schedule, SchedFault>
 /// Reads a schedule: its bytes, at most [`MOST_SCHEDULE_BYTES`].
 ///
 /// # Errors
-/// The fault of the first faulty line, [`SchedFault::Line`] or [`SchedFault::Nested`] with its number from 1. Where no line is
-/// faulty, [`SchedFault::Unclosed`], then [`SchedFault::TooManySteps`] and last [`SchedFault::TooManyFrames`].
+/// The fault of the first faulty line, [`SchedFault::Line`] or [`SchedFault::Nested`] with its number from 1. Where no
+/// line is faulty, [`SchedFault::Unclosed`], then [`SchedFault::TooManySteps`] and last [`SchedFault::TooManyFrames`].
 /// [`SchedFault::OutOfMemory`] says nothing of the schedule.
 pub fn read_schedule(alloc: Global, bytes: &[u8]) -> Result<Schedule, SchedFault>
     requires { length bytes.now ≤ MOST_SCHEDULE_BYTES }

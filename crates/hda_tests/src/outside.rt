@@ -229,6 +229,46 @@ fn reads_files_of_the_machine(rt: HostRuntime) -> Result<(), Fail> {
     Ok(())
 }
 
+// Pieces from within a page, over its edge, at the file's end and past it, of two files in turns.
+#[test]
+fn reads_a_file_of_the_machine_in_pieces(rt: HostRuntime) -> Result<(), Fail> {
+    let alloc = rt.alloc();
+    let (path, other) = ("reads_a_file_in_pieces", "reads_another_in_pieces");
+    let mut bytes = Vec::new(alloc);
+    for at in 0..70_001u32 {
+        bytes.push((at % 251) as u8)?;
+    }
+    fs::write(&rt, path, bytes.as_slice())?;
+    fs::write(&rt, other, "another")?;
+    let mut shelf = FileShelf::new(&rt);
+    let mut buf = [0u8; 100];
+    let table = [
+        (path, 0, 100),
+        (path, 100, 100),
+        (other, 0, 7),
+        (path, 65_500, 100),
+        (path, 50, 100),
+        (path, 65_500, 36),
+        (path, 65_536, 100),
+        (path, 70_000, 1),
+        (path, 70_001, 0),
+        (path, 70_002, 0),
+        (path, 0, 100),
+    ];
+    for (name, from, most) in table {
+        let from_usize = from as usize;
+        let n = shelf.read_at(alloc, name, from, &mut buf)?;
+        assert!(rt; n > 0 || most == 0, "{name} {from}");
+        assert!(rt; n <= 100, "{name} {from}");
+        if name == path && n > 0 {
+            assert_eq!(rt; buf[..n], bytes.as_slice()[from_usize..from_usize + n], "{name} {from}");
+        }
+    }
+    fs::remove_file(&rt, path)?;
+    fs::remove_file(&rt, other)?;
+    Ok(())
+}
+
 #[test]
 fn writes_standard_output(rt: HostRuntime) {
     let mut out = OutSink::new(&rt);

@@ -4,7 +4,8 @@ ghost use Rattle.clap.specs.Words.{app_of, rule_of};
 ghost use Rattle.hda_words.specs.Commands.{option_names};
 ghost use Rattle.hda_words.specs.Tables.{grammar_of};
 ghost use Rattle.hda_words.specs.Words.{has_single, is_among, parts_of};
-ghost use Rattle.hda_words.specs.ClapCommand.{FindsParts, command_app, operand_rule, operands_id, option_rule, values_found};
+ghost use Rattle.hda_words.specs.ClapCommand.{FindsParts, command_app, operand_rule, operands_id, option_rule};
+ghost use Rattle.hda_words.specs.ClapCommand.{values_found};
 
 use crate::request::WordsFault;
 use crate::table::{CommandRow, OptionRow};
@@ -35,7 +36,8 @@ fn operand_argument<'a>(alloc: Global) -> Arg<'a>
 
 /// The command of a row. `clap` lets its options and its operands be given any number of times.
 fn command_of<'a>(alloc: Global, row: &CommandRow) -> Result<Command<'a>, AllocError>
-    ensures { IfOk result (λ command. app_of command ≡ command_app row.now.name.now (option_names (grammar_of row.now))) }
+    ensures { IfOk result (λ command. app_of command ≡ command_app row.now.name.now
+        (option_names (grammar_of row.now))) }
 {
     let mut command = Command::new(alloc, row.name).disable_help_flag(true);
     for option in row.options {

@@ -27,8 +27,8 @@ fn is_single_hyphen(word: &str) -> bool
     word.as_bytes().starts_with(b"-".as_slice()) && !word.as_bytes().starts_with(b"--".as_slice())
 }
 
-/// Whether a word before any `--` has a single hyphen at its front. No command has options of one letter, and `clap` would take a
-/// hyphen alone for an operand.
+/// Whether a word before any `--` has a single hyphen at its front. No command has options of one letter, and `clap`
+/// would take a hyphen alone for an operand.
 fn has_single_hyphen(words: &[String]) -> bool
     ensures { result ≡ has_single (map string_bytes words.now) }
 {
@@ -80,7 +80,8 @@ fn operands_of<'a>(
     row: &CommandRow,
     matches: &ArgMatches<'a>,
 ) -> Result<Vec<&'a str>, WordsFault>
-    ensures found { IfOk result (λ operands. map (λ word. word.now) operands.items ≡ values_found matches.now operands_id) }
+    ensures found { IfOk result (λ operands. map (λ word. word.now) operands.items ≡ values_found matches.now
+        operands_id) }
     ensures count { IfOk result (λ operands. length operands.items ≡ row.now.operands) }
     ensures err { result ≡ Err WordsFault.NoCommand → length (values_found matches.now operands_id) ≢ row.now.operands }
 {
@@ -100,8 +101,10 @@ pub fn read_line<'a>(
 ) -> Result<Line<'a>, WordsFault>
     requires apart { is_among (option_names (grammar_of row.now)) operands_id ≡ false }
     requires named { 0 < length words.now }
-    ensures ok { IfOk result (λ line. line_of (grammar_of row.now) (drop 1 (map string_bytes words.now)) ≡ Some (line_seen line)) }
-    ensures err { result ≡ Err WordsFault.NoCommand → line_of (grammar_of row.now) (drop 1 (map string_bytes words.now)) ≡ None }
+    ensures ok { IfOk result (λ line. line_of (grammar_of row.now) (drop 1 (map string_bytes words.now)) ≡ Some
+        (line_seen line)) }
+    ensures err { result ≡ Err WordsFault.NoCommand
+        → line_of (grammar_of row.now) (drop 1 (map string_bytes words.now)) ≡ None }
 {
     if has_single_hyphen(&words[1..]) {
         return Err(WordsFault::NoCommand);

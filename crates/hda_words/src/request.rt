@@ -129,9 +129,9 @@ fn play_of<'a>(line: &Line<'a>) -> Request<'a>
 
 /// Reads the words that stand after the program's name.
 ///
-/// The first is the name of a command, and those after it are its operands and options. Without `--rate` and `--channels` a route is
-/// for 48,000 blocks in a second and 2 channels, and always for 16 bits. Without `--periods` and `--period` a sound is played through
-/// a ring of 4 periods of 8 units.
+/// The first is the name of a command, and those after it are its operands and options. Without `--rate` and
+/// `--channels` a route is for 48,000 blocks in a second and 2 channels, and always for 16 bits. Without `--periods`
+/// and `--period` a sound is played through a ring of 4 periods of 8 units.
 ///
 /// # Errors
 /// [`WordsFault::NoCommand`] where the words are those of no command, and want of memory.

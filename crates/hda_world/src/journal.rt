@@ -5,8 +5,8 @@ ghost use Rattle.hda_world.specs.Journals.{piece_end};
 
 use crate::entry::Entry;
 
-/// What happened, in order, and the bytes of the pieces of memory that were read and written. Each piece has its bytes among
-/// them. This project's own.
+/// What happened, in order, and the bytes of the pieces of memory that were read and written. Each piece has its bytes
+/// among them. This project's own.
 #[derive(Drop)]
 pub struct Journal {
     /// What happened, oldest first.

@@ -6,7 +6,8 @@ ghost use Rattle.device_steps.specs.declared.Step.{Step};
 ghost use Rattle.device_steps.specs.declared.Step.TheVariants as step;
 ghost use Rattle.hda_world.specs.Worlds.{World, codec_at, with_codec};
 ghost use Rattle.hda_world.specs.Steps.{after_step, after_steps};
-ghost use Rattle.hda_world.specs.Events.{Event, DmaWrite, after, AreHonest, streams_settled, registers_written, after_write, happens};
+ghost use Rattle.hda_world.specs.Events.{Event, DmaWrite, after, AreHonest, streams_settled, registers_written};
+ghost use Rattle.hda_world.specs.Events.{after_write, happens};
 ghost use Rattle.ring_entries.specs.Memory.{PieceStored};
 ghost use Rattle.hda_registers.specs.Access.{written, effects_of};
 ghost use Rattle.hda_registers.specs.Fields.{is_out_of_reset};
@@ -20,25 +21,28 @@ use crate::world::REGION_BYTES;
 
 /// Steps in a row are those of the front and then those of the back.
 pub fn steps_compose()
-    ensures { (front back : List Step) (world : World) → after_steps (front ++ back) world ≡ after_steps back (after_steps front world) }
+    ensures { (front back : List Step) (world : World)
+        → after_steps (front ++ back) world ≡ after_steps back (after_steps front world) }
 {}
 
 /// Events in a row are those of the front and then those of the back.
 pub fn events_compose()
-    ensures world { (front back : List Event) (world : World) → after (front ++ back) world ≡ after back (after front world) }
-    ensures honest { (front back : List Event) (world : World) → AreHonest front world → AreHonest back (after front world)
+    ensures world { (front back : List Event) (world : World)
+        → after (front ++ back) world ≡ after back (after front world) }
+    ensures honest { (front back : List Event) (world : World) → AreHonest front world
+        → AreHonest back (after front world)
         → AreHonest (front ++ back) world }
 {}
 
-/// While the input stream does not run, steps of the device write RIRB alone in memory. Among the registers they move the ring
-/// pointers, the response flag, the codecs' bits of the state change status and the wall clock alone, and a stream's descriptor
-/// only while that stream runs. Graphs stay, and the histories go on.
+/// While the input stream does not run, steps of the device write RIRB alone in memory. Among the registers they move
+/// the ring pointers, the response flag, the codecs' bits of the state change status and the wall clock alone, and a
+/// stream's descriptor only while that stream runs. Graphs stay, and the histories go on.
 pub fn steps_write_rirb_alone()
     ensures { (steps : List Step) (world : World) → StepsLeave world (after_steps steps world) }
 {}
 
-/// A step leaves each codec alone that it does not name, and so do steps in turn. The engine of CORB names the codec of the command
-/// that it fetches, if it fetches one.
+/// A step leaves each codec alone that it does not name, and so do steps in turn. The engine of CORB names the codec of
+/// the command that it fetches, if it fetches one.
 pub fn steps_leave_other_codecs()
     ensures one { (step : Step) (world : World) (address : ℕ) → NamesOthers step world address
         → codec_at address (after_step step world).codecs ≡ codec_at address world.codecs }
@@ -46,10 +50,11 @@ pub fn steps_leave_other_codecs()
         → codec_at address (after_steps steps world).codecs ≡ codec_at address world.codecs }
 {}
 
-/// How far the driver has read RIRB's responses is kept by steps of the device: while RINTFL is 0 nothing is unread, and always
-/// fewer responses than RIRB has entries.
+/// How far the driver has read RIRB's responses is kept by steps of the device: while RINTFL is 0 nothing is unread,
+/// and always fewer responses than RIRB has entries.
 pub fn steps_keep_reading()
-    ensures { (read : ℕ) (steps : List Step) (world : World) → HasReadTo read world → HasReadTo read (after_steps steps world) }
+    ensures { (read : ℕ) (steps : List Step) (world : World) → HasReadTo read world
+        → HasReadTo read (after_steps steps world) }
 {}
 
 /// From the frame of the discovery on each codec's bit of the state change status is 1, over any steps of the device.
@@ -57,8 +62,8 @@ pub fn steps_keep_discovery()
     ensures { (steps : List Step) (world : World) → IsDiscovered world → IsDiscovered (after_steps steps world) }
 {}
 
-/// After 25 link frames since CRST rose each codec's bit of the state change status is 1, and in the 24 before none changed
-/// (HDA 1.0a, 4.3; that it is in the 25th is this project's own).
+/// After 25 link frames since CRST rose each codec's bit of the state change status is 1, and in the 24 before none
+/// changed (HDA 1.0a, 4.3; that it is in the 25th is this project's own).
 pub fn discovery_comes_in_the_25th_frame()
     ensures set { (world : World) → is_out_of_reset world.registers.global ≡ true → world.frames ≡ 0
         → AreSet (after_step (step.Link 25) world).registers.global.state_status (addresses_of world.codecs) }
@@ -77,30 +82,38 @@ pub fn accesses_compose()
         → Makes (first ++ second) old new }
 {}
 
-/// A write of a register changes no memory and no codec's graph, settings or presence, and appends to no history. Where CRST was
-/// neither written 0 nor rises it changes the registers and the streams whose RUN rose or fell alone; where CRST rises the link frames
-/// are counted from 0 too. Where it is written 0 all that waits at the codecs and in the controller is dropped (HDA 1.0a, 5.5.1).
+/// A write of a register changes no memory and no codec's graph, settings or presence, and appends to no history. Where
+/// CRST was neither written 0 nor rises it changes the registers and the streams whose RUN rose or fell alone; where
+/// CRST rises the link frames are counted from 0 too. Where it is written 0 all that waits at the codecs and in the
+/// controller is dropped (HDA 1.0a, 5.5.1).
 pub fn register_write_leaves()
-    ensures memory { (world : World) (at value : ℕ) (width : Width) → (after_write at width value world).memory ≡ world.memory }
-    ensures codecs { (world : World) (at value : ℕ) (width : Width) → AccessLeaves world (after_write at width value world) }
+    ensures memory { (world : World) (at value : ℕ) (width : Width)
+        → (after_write at width value world).memory ≡ world.memory }
+    ensures codecs { (world : World) (at value : ℕ) (width : Width)
+        → AccessLeaves world (after_write at width value world) }
     ensures registers { (world : World) (at value : ℕ) (width : Width)
-        → (after_write at width value world).registers ≡ streams_settled world.registers (written world.registers at width value) }
-    ensures resetting { (world : World) (at value : ℕ) (width : Width) → (effects_of world.registers at width value).reset ≡ true
+        → (after_write at width value world).registers ≡ streams_settled world.registers
+        (written world.registers at width value) }
+    ensures resetting { (world : World) (at value : ℕ) (width : Width)
+        → (effects_of world.registers at width value).reset ≡ true
         → after_write at width value world ≡ record (registers_written (written world.registers at width value) world) {
           codecs = map cleared world.codecs;
           waiting = [];
           frames = 0;
         } }
-    ensures plain { (world : World) (at value : ℕ) (width : Width) → (effects_of world.registers at width value).reset ≡ false
+    ensures plain { (world : World) (at value : ℕ) (width : Width)
+        → (effects_of world.registers at width value).reset ≡ false
         → (effects_of world.registers at width value).left_reset ≡ false
         → after_write at width value world ≡ registers_written (written world.registers at width value) world }
-    ensures rising { (world : World) (at value : ℕ) (width : Width) → (effects_of world.registers at width value).reset ≡ false
+    ensures rising { (world : World) (at value : ℕ) (width : Width)
+        → (effects_of world.registers at width value).reset ≡ false
         → (effects_of world.registers at width value).left_reset ≡ true
-        → after_write at width value world ≡ record (registers_written (written world.registers at width value) world) { frames = 0 } }
+        → after_write at width value world ≡ record (registers_written (written world.registers at width value) world)
+        { frames = 0 } }
 {}
 
-/// A write that is neither at GCTL nor at a register of CORB or RIRB changes the registers, but none of these, and the streams whose
-/// RUN rose or fell alone.
+/// A write that is neither at GCTL nor at a register of CORB or RIRB changes the registers, but none of these, and the
+/// streams whose RUN rose or fell alone.
 pub fn write_beside_rings_leaves()
     ensures world { (world : World) (at value : ℕ) (width : Width) → IsBesideRings at
         → after_write at width value world ≡ registers_written (written world.registers at width value) world }

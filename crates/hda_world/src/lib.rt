@@ -1,4 +1,5 @@
-//! The world that driver and device act on in turn, the device's steps and the driver's accesses, and the journal of both.
+//! The world that driver and device act on in turn, the device's steps and the driver's accesses, and the journal of
+//! both.
 #![tactic(auto)]
 
 mod entry;

@@ -11,7 +11,8 @@ ghost use Rattle.hda_world.specs.Events.{Event, IsNoStep, after_write, happens};
 ghost use Rattle.hda_world.specs.Leaving.{NamesNoStream, StreamsStay};
 ghost use Rattle.hda_world.specs.Streaming.{HoldsFifo, HasPosition, ShowsReady, HasSent, StaysStopped};
 
-/// Steps of the device send no byte of the output stream that was not fetched, and fetch none for which its FIFO has no room.
+/// Steps of the device send no byte of the output stream that was not fetched, and fetch none for which its FIFO has no
+/// room.
 pub fn steps_keep_fifo()
     ensures { (steps : List Step) (world : World) → HoldsFifo world → HoldsFifo (after_steps steps world) }
 {}
@@ -26,15 +27,16 @@ pub fn steps_keep_position()
     ensures { (steps : List Step) (world : World) → HasPosition world → HasPosition (after_steps steps world) }
 {}
 
-/// FIFORDY says that the output stream runs, has a format, and holds the most bytes of a frame, over any steps of the device (HDA
-/// 1.0a, 3.3.36).
+/// FIFORDY says that the output stream runs, has a format, and holds the most bytes of a frame, over any steps of the
+/// device (HDA 1.0a, 3.3.36).
 pub fn steps_keep_ready()
     ensures { (steps : List Step) (world : World) → ShowsReady world → ShowsReady (after_steps steps world) }
 {}
 
 /// What link frames carried of the output stream is what was fetched, in order, over any steps of the device.
 pub fn steps_keep_order()
-    ensures { (from : ℕ) (steps : List Step) (world : World) → HasSent from world → HasSent from (after_steps steps world) }
+    ensures { (from : ℕ) (steps : List Step) (world : World) → HasSent from world
+        → HasSent from (after_steps steps world) }
 {}
 
 /// Steps of the device leave an output stream that does not run, as it is after an error of its descriptor too.
@@ -46,15 +48,18 @@ pub fn steps_leave_stopped_streams()
 /// A step that names no stream leaves both, and so do steps in turn.
 pub fn steps_leave_streams()
     ensures one { (step : Step) (world : World) → NamesNoStream step → StreamsStay world (after_step step world) }
-    ensures all { (steps : List Step) (world : World) → All NamesNoStream steps → StreamsStay world (after_steps steps world) }
+    ensures all { (steps : List Step) (world : World) → All NamesNoStream steps
+        → StreamsStay world (after_steps steps world) }
 {}
 
-/// A write that is neither at GCTL nor at a stream descriptor leaves both streams, and so does one to GCTL after which CRST is 1.
+/// A write that is neither at GCTL nor at a stream descriptor leaves both streams, and so does one to GCTL after which
+/// CRST is 1.
 pub fn write_beside_streams_leaves()
     ensures beside { (world : World) (at value : ℕ) (width : Width) → at / 4 ≢ 2 → IsBesideStreams at
         → StreamsStay world (after_write at width value world) }
     ensures running { (world : World) (at value : ℕ) (width : Width) → IsBesideStreams at
-        → is_out_of_reset (after_write at width value world).registers.global ≡ true → StreamsStay world (after_write at width value world) }
+        → is_out_of_reset (after_write at width value world).registers.global ≡ true
+        → StreamsStay world (after_write at width value world) }
 {}
 
 /// Accesses of the driver keep LPIB the bytes sent modulo CBL (HDA 1.0a, 3.3.37).
@@ -69,8 +74,10 @@ pub fn accesses_keep_ready()
 
 /// A write by which RUN rises begins the order of the sound at the next link frame, and every other write keeps it.
 pub fn writes_keep_order()
-    ensures begins { (world : World) (at value : ℕ) (width : Width) → rose world.registers.output (written world.registers at width value).output ≡ true
+    ensures begins { (world : World) (at value : ℕ) (width : Width)
+        → rose world.registers.output (written world.registers at width value).output ≡ true
         → HasSent (length world.carried) (after_write at width value world) }
-    ensures keeps { (world : World) (from at value : ℕ) (width : Width) → rose world.registers.output (written world.registers at width value).output ≡ false
+    ensures keeps { (world : World) (from at value : ℕ) (width : Width)
+        → rose world.registers.output (written world.registers at width value).output ≡ false
         → HasSent from world → HasSent from (after_write at width value world) }
 {}

@@ -30,8 +30,8 @@ use period_writer::{
 };
 use stream_rest::{a_first_run_can_begin, streams_rest_before_sound};
 
-/// A stream that plays or has played goes on as it is over steps of the device and over marks. A call that plays, and makes the accesses that
-/// progress expects of it, leads it to how its run left it, while WALCLK has not wrapped.
+/// A stream that plays or has played goes on as it is over steps of the device and over marks. A call that plays, and
+/// makes the accesses that progress expects of it, leads it to how its run left it, while WALCLK has not wrapped.
 pub fn the_stream_goes_on()
     ensures steps { (codecs : List CodecState) (ring : Ring) (pcm : List ℕ) (tally : Tally) (steps : List Step)
         (old new : Telling) → Went old new (map Stepped steps)
@@ -55,8 +55,9 @@ pub fn the_stream_goes_on()
     accesses_beside_keep_it_steady();
 }
 
-/// A first run sets the stream going: where it had not begun at any moment, streams rest, the engine of commands stands to the world, CORB has no command that was not
-/// fetched, and RIRB lies outside the ring's blocks. The codecs that hear it have the graphs and settings that they had before the call.
+/// A first run sets the stream going: where it had not begun at any moment, streams rest, the engine of commands stands
+/// to the world, CORB has no command that was not fetched, and RIRB lies outside the ring's blocks. The codecs that
+/// hear it have the graphs and settings that they had before the call.
 pub fn a_first_run_is_heard()
     ensures { (pcm : List ℕ) (irq : Bool) (budget : ℕ) (old new : BringUp) (writer writer' : WriterState)
         (supply : List ℕ) (made : List Event) (before after : Telling) (from read corb rirb : ℕ)
@@ -78,8 +79,9 @@ pub fn a_first_run_is_heard()
     accesses_beside_keep_it_steady();
 }
 
-/// After the last call the stream is stopped, and its tally is one of a stream that was set going. Where the device made no step in that call,
-/// each pin heard the line by how the last run ended. WALCLK has not wrapped at any moment of the call.
+/// After the last call the stream is stopped, and its tally is one of a stream that was set going. Where the device
+/// made no step in that call, each pin heard the line by how the last run ended. WALCLK has not wrapped at any moment
+/// of the call.
 pub fn the_last_run_is_heard()
     ensures { (codecs : List CodecState) (pcm : List ℕ) (old ended : BringUp) (writer : WriterState) (tally : Tally)
         (supply : List ℕ) (made last : List Event) (before after : Telling)
@@ -100,7 +102,8 @@ pub fn the_last_run_is_heard()
     runs_append_to_the_line();
 }
 
-/// Then it stays stopped, over steps of the device and the mark at the end of the last call, and no link frame carries anything more.
+/// Then it stays stopped, over steps of the device and the mark at the end of the last call, and no link frame carries
+/// anything more.
 pub fn a_stopped_stream_is_over()
     ensures steps { (steps : List Step) (old new : Telling) → Went old new (map Stepped steps) → HasStopped old
         → HasStopped new × ((world_of new).carried ≡ (world_of old).carried) }

@@ -1,5 +1,5 @@
-//! What is told of the runs of a driver: the output stream goes on as each run leaves it, and at the end each pin heard the line. Laws over the
-//! calls of `audio_driver`.
+//! What is told of the runs of a driver: the output stream goes on as each run leaves it, and at the end each pin heard
+//! the line. Laws over the calls of `audio_driver`.
 #![tactic(auto)]
 
 mod laws;

@@ -1,5 +1,6 @@
 //! The counters.
-ghost use Rattle.std.specs.Prelude.{◌≡◌, ◌≤◌, ◌<◌, ◌+◌, ◌++◌, ℕ, List, [], ◌∷◌, length, replicate, All, IfOk, vec_len, vec_capacity};
+ghost use Rattle.std.specs.Prelude.{◌≡◌, ◌≤◌, ◌<◌, ◌+◌, ◌++◌, ℕ, List, [], ◌∷◌, length, replicate, All, IfOk, vec_len};
+ghost use Rattle.std.specs.Prelude.{vec_capacity};
 ghost use Rattle.command_engine.specs.declared.answers.Event.{Event};
 ghost use Rattle.std.proofs.Props.{props};
 ghost use Rattle.jack_counts.specs.Jacks as spec;
@@ -53,7 +54,8 @@ impl Jacks {
     pub fn take_events(&mut self, engine: &mut Engine)
         requires few { self.old.taken + length engine.old.events.items ≤ 4294967295 }
         requires of_pins { All spec.IsOfPin engine.old.events.items }
-        ensures counts { (events : List Event) → IsCount events self.old → IsCount (events ++ engine.old.events.items) self.new }
+        ensures counts { (events : List Event) → IsCount events self.old
+            → IsCount (events ++ engine.old.events.items) self.new }
         ensures taken { self.new.taken ≡ self.old.taken + length engine.old.events.items }
         ensures events { engine.new.events.items ≡ [] }
         ensures rings { engine.new.rings ≡ engine.old.rings }
@@ -78,7 +80,8 @@ impl Jacks {
 
     /// The jacks that were told, codecs ascending and each one's tags ascending, with how often.
     pub fn into_list(self) -> Vec<Jack>
-        ensures { (events : List Event) → IsCount events self → All spec.IsOfPin events → spec.Counts events result.items }
+        ensures { (events : List Event) → IsCount events self → All spec.IsOfPin events
+            → spec.Counts events result.items }
     {
         let Jacks {
             times,

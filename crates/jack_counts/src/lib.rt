@@ -1,4 +1,5 @@
-//! How often pins told of something unasked, by codec and tag: the events of the command engine are counted, and listed at the end.
+//! How often pins told of something unasked, by codec and tag: the events of the command engine are counted, and listed
+//! at the end.
 #![tactic(auto)]
 
 mod jacks;

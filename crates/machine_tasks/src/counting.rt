@@ -17,8 +17,9 @@ use setup_verbs::verbs;
 use std::alloc::{AllocError, Global};
 use stream_format::Format;
 
-/// How many commands are sent to these codecs, four at most, before sound of this format is played: those of the walks over them, and then
-/// the set-up verbs of each by its plan. Takes memory for the verbs of one codec at a time. This project's own.
+/// How many commands are sent to these codecs, four at most, before sound of this format is played: those of the walks
+/// over them, and then the set-up verbs of each by its plan. Takes memory for the verbs of one codec at a time. This
+/// project's own.
 ///
 /// # Errors
 /// Want of memory.
@@ -99,7 +100,8 @@ fn connection_count(node: &RawNode) -> u32
     }
 }
 
-/// How many words the widget's connection list has: of two entries each in the long form, and else of four (HDA 1.0a, 7.3.3.3).
+/// How many words the widget's connection list has: of two entries each in the long form, and else of four (HDA 1.0a,
+/// 7.3.3.3).
 fn list_word_count(node: &RawNode) -> u32
     requires { HasReadableList node.now }
     ensures value { result ≡ words_for node.now.long (length node.now.entries) }

@@ -31,14 +31,14 @@ ghost use Rattle.machine_tasks.specs.Starting.{BeginsAt, IsAllFree};
 
 use route_setup::Setter;
 
-/// A machine that a codec file describes has well-formed graphs, of four codecs at most, and each codec begins with settings of its graph
-/// that have the configuration default of each pin. Its FIFO has 8 to 4,096 bytes.
+/// A machine that a codec file describes has well-formed graphs, of four codecs at most, and each codec begins with
+/// settings of its graph that have the configuration default of each pin. Its FIFO has 8 to 4,096 bytes.
 pub fn read_machines_are_whole()
     ensures { (machine : Machine) → IsSound machine → IsRead machine → IsWhole machine }
 {}
 
-/// What is to be done for a machine of which some pin has a route, with any ring of periods, sound and blocks, is the task of its codecs: the
-/// walks over them, and then the set-up verbs of each by its plan.
+/// What is to be done for a machine of which some pin has a route, with any ring of periods, sound and blocks, is the
+/// task of its codecs: the walks over them, and then the set-up verbs of each by its plan.
 pub fn machines_have_tasks()
     ensures { (format : Format) (machine : Machine) (plans : List Plan) (geometry : Geometry) (plays : Bool)
         (pcm : List ℕ) (blocks : Blocks)
@@ -48,7 +48,8 @@ pub fn machines_have_tasks()
         (task_of format machine plans geometry plays pcm blocks) }
 {}
 
-/// A driver that was just opened, for any number of calls, stands to the start of a machine as its task asks, and nothing was done yet.
+/// A driver that was just opened, for any number of calls, stands to the start of a machine as its task asks, and
+/// nothing was done yet.
 pub fn opened_drivers_can_begin()
     ensures { (format : Format) (machine : Machine) (plans : List Plan) (geometry : Geometry) (plays : Bool)
         (pcm : List ℕ) (most : ℕ) (bring_up : BringUp) (writer : WriterState)
@@ -57,9 +58,9 @@ pub fn opened_drivers_can_begin()
         (task_of format machine plans geometry plays pcm (blocks_of bring_up writer)) bring_up }
 {}
 
-/// A driver that was just opened stands to every world of which nothing was asked yet, for each task with its blocks: codecs stand by
-/// address, none but these announced itself, they have their pins' configuration defaults, and CORB's engine does not run. Nothing was
-/// done yet.
+/// A driver that was just opened stands to every world of which nothing was asked yet, for each task with its blocks:
+/// codecs stand by address, none but these announced itself, they have their pins' configuration defaults, and CORB's
+/// engine does not run. Nothing was done yet.
 pub fn opened_drivers_stand<T: Setter>()
     ensures { (setter : T) (format : Format) (verbs : RawCodec → List Command) (task : Task) (geometry : Geometry)
         (most : ℕ) (bring_up : BringUp) (writer : WriterState) (world : World)
@@ -70,7 +71,8 @@ pub fn opened_drivers_stand<T: Setter>()
         × (state_of bring_up ≡ state_opened) }
 {}
 
-/// In a pool that fills the region and of which nothing is taken there are runs for the blocks of a driver with any ring of periods.
+/// In a pool that fills the region and of which nothing is taken there are runs for the blocks of a driver with any
+/// ring of periods.
 pub fn a_full_pool_has_room()
     ensures { (geometry : Geometry) (pool : PoolState) → IsAllFree pool → HasNoRuns geometry pool → ⊥ }
 {}

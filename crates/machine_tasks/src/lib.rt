@@ -1,5 +1,5 @@
-//! What a driver has to do for a machine that a codec file describes: its commands and how many they are, and that a driver that was just
-//! opened can begin it.
+//! What a driver has to do for a machine that a codec file describes: its commands and how many they are, and that a
+//! driver that was just opened can begin it.
 #![tactic(auto)]
 
 mod counting;

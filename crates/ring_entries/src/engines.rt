@@ -8,8 +8,8 @@ use crate::entries::{COMMAND_BYTES, RESPONSE_BYTES, next_place, store_response, 
 use crate::response::Response;
 use hda_registers::{Moved, Registers};
 
-/// The command that [`fetch`] would fetch. `None` exactly where CRST or CORBRUN is 0, CORBRPRST is 1, or the read pointer is at
-/// the write pointer (HDA 1.0a, 4.4.1). Bytes outside the memory are 0.
+/// The command that [`fetch`] would fetch. `None` exactly where CRST or CORBRUN is 0, CORBRPRST is 1, or the read
+/// pointer is at the write pointer (HDA 1.0a, 4.4.1). Bytes outside the memory are 0.
 pub fn next_word(regs: &Registers, memory: &[u8]) -> Option<u32>
     ensures { result ≡ spec.next_word regs.now memory.now }
 {
@@ -50,22 +50,24 @@ fn command_address(regs: &Registers) -> usize
     regs.corb_address() as usize + COMMAND_BYTES * usize::from(place)
 }
 
-/// Whether RIRB's engine can write responses: CRST and its run bit are 1 and RINTFL is 0 (HDA 1.0a, 4.4.2; that it waits for
-/// RINTFL is this project's own).
+/// Whether RIRB's engine can write responses: CRST and its run bit are 1 and RINTFL is 0 (HDA 1.0a, 4.4.2; that it
+/// waits for RINTFL is this project's own).
 pub fn can_respond(regs: &Registers) -> bool
     ensures { result ≡ spec.can_respond regs.now }
 {
     regs.is_out_of_reset() && regs.is_rirb_running() && !regs.is_response_flag_set()
 }
 
-/// How many responses are written at once at most: RINTCNT, where 0 stands for 256, and fewer than the ring has entries.
+/// How many responses are written at once at most: RINTCNT, where 0 stands for 256, and fewer than the ring has
+/// entries.
 pub fn batch_of(regs: &Registers) -> u16
     ensures { result ≡ spec.batch_of regs.now }
 {
     regs.response_count().min(regs.shape().rirb.entries() - 1)
 }
 
-/// Writes a response to the entry after RIRB's write pointer, which moves on. An entry outside the memory is not written.
+/// Writes a response to the entry after RIRB's write pointer, which moves on. An entry outside the memory is not
+/// written.
 pub fn write_response(regs: &mut Registers, memory: &mut [u8], response: Response)
     requires { IsTrue (spec.can_respond regs.old) }
     ensures registers { regs.new ≡ entries.after_response regs.old }

@@ -54,7 +54,8 @@ pub(crate) fn lefts_of(earlier: &[PinPlan]) -> [Left; 256]
 /// Keeps the index of each hop for the node that it leaves.
 fn keep_indexes(lefts: &mut [Left; 256], hops: &[Hop])
     ensures { (nid index : ℕ) → nid < 256
-        → allows (left_at lefts.new nid) index ≡ (allows (left_at lefts.old nid) index && list_all (is_alike nid index) hops.now) }
+        → allows (left_at lefts.new nid) index ≡ (allows (left_at lefts.old nid) index && list_all (is_alike nid index)
+        hops.now) }
 {
     for hop in hops {
         let nid = usize::from(hop.nid);

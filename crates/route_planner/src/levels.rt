@@ -90,7 +90,8 @@ fn is_next(codec: &RawCodec, lefts: &[Left; 256], levels: &[u16; 256], nid: u8, 
 fn mark_level(codec: &RawCodec, lefts: &[Left; 256], levels: &mut [u16; 256], level: u16) -> bool
     requires bounded { spec.IsBounded codec.now }
     requires near { level < 65534 }
-    ensures marked { stage.IsNextLevel (spec.is_inner_at codec.now) (spec.target codec.now lefts.now) levels.old levels.new level }
+    ensures marked { stage.IsNextLevel (spec.is_inner_at codec.now) (spec.target codec.now lefts.now) levels.old
+        levels.new level }
     ensures fewer { OnTrue result (spec.count_far levels.new < spec.count_far levels.old) }
     ensures same { OnFalse result (levels.new ≡ levels.old) }
 {

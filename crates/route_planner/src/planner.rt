@@ -15,8 +15,8 @@ use hda_items::Items;
 use std::alloc::{AllocError, Global};
 use stream_format::Format;
 
-/// The plan of a graph for a stream format: for each candidate pin, in order, the least admissible path that the routes of
-/// earlier pins leave open, by the number of hops and then by the indexes in order. This project's own.
+/// The plan of a graph for a stream format: for each candidate pin, in order, the least admissible path that the routes
+/// of earlier pins leave open, by the number of hops and then by the indexes in order. This project's own.
 ///
 /// # Errors
 /// Want of memory.

@@ -24,7 +24,8 @@ impl Setter for Analog {
 
     ghost one_plan = { λ _. one_plan_of };
 
-    ghost opens = { λ _ graph plan format tag settings well is some few of. lead_to_set_up graph plan format tag well is some few settings of };
+    ghost opens = { λ _ graph plan format tag settings well is some few of. lead_to_set_up graph plan format tag well is
+        some few settings of };
 
     ghost encodable = { λ _. all_commands_of };
 

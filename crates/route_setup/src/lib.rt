@@ -1,4 +1,5 @@
-//! Set-up of codecs: how a plan is made of a graph, by which verbs its routes are opened, and the set-up of analog outputs.
+//! Set-up of codecs: how a plan is made of a graph, by which verbs its routes are opened, and the set-up of analog
+//! outputs.
 #![tactic(auto)]
 
 mod analog;

@@ -14,8 +14,8 @@ use std::alloc::{AllocError, Global};
 use stream_format::Format;
 use verb_codes::Command;
 
-/// How a codec is set up: the plan of its graph, and the verbs that open the plan's routes. All of it may depend on the setter, as where
-/// it is made for one codec of several. This project's own.
+/// How a codec is set up: the plan of its graph, and the verbs that open the plan's routes. All of it may depend on the
+/// setter, as where it is made for one codec of several. This project's own.
 pub trait Setter {
     /// Which plan is that of a graph for a stream format.
     ghost IsPlanBy: { Self → RawCodec → Format → Plan → Type 0 };
@@ -23,7 +23,8 @@ pub trait Setter {
     /// The verbs of a graph for its plan, a stream format and the stream's tag.
     ghost verbs_by: { Self → RawCodec → Plan → Format → ℕ → List Command };
 
-    /// What the verbs are for: whether a codec with this graph and these settings is set up for a plan, a format and a tag.
+    /// What the verbs are for: whether a codec with this graph and these settings is set up for a plan, a format and a
+    /// tag.
     ghost IsOpenBy: { Self → RawCodec → Entries → Plan → Format → ℕ → Type 0 };
 
     /// The plan of a graph for a stream format.
@@ -51,11 +52,13 @@ pub trait Setter {
         ensures { IfOk result (λ commands. commands.items ≡ verbs_by self.now graph.now plan.now format tag) };
 
     /// A graph has one plan for a format.
-    ghost one_plan: { (setter : Self) (graph : RawCodec) (format : Format) (plan other : Plan) → IsPlanBy setter graph format plan
+    ghost one_plan: { (setter : Self) (graph : RawCodec) (format : Format) (plan other : Plan)
+        → IsPlanBy setter graph format plan
         → IsPlanBy setter graph format other → other ≡ plan };
 
     /// The verbs of a well-formed graph lead from any settings of the graph to settings for which its codec is set up.
-    ghost opens: { (setter : Self) (graph : RawCodec) (plan : Plan) (format : Format) (tag : ℕ) (settings : Entries) → IsWellFormed graph
+    ghost opens: { (setter : Self) (graph : RawCodec) (plan : Plan) (format : Format) (tag : ℕ) (settings : Entries)
+        → IsWellFormed graph
         → IsPlanBy setter graph format plan → 1 ≤ tag → tag ≤ 15 → IsSettingsOf graph settings
         → IsOpenBy setter graph (settings_after graph settings (verbs_by setter graph plan format tag)) plan format tag };
 

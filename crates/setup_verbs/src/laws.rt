@@ -8,11 +8,14 @@ ghost use Rattle.route_planner.specs.Plans.{IsPlan};
 ghost use Rattle.setup_verbs.specs.VerbList.{setup_verbs};
 ghost use Rattle.setup_verbs.specs.SetUp.{IsCommandOf, LeadToSetUp};
 
-/// The set-up verbs of a well-formed graph's plan lead from any settings of the graph to settings that are set up: every route of the
-/// plan is open, and every other pin widget is silent. Each goes to the graph's codec, and can be encoded where that is one of 0 to 14.
+/// The set-up verbs of a well-formed graph's plan lead from any settings of the graph to settings that are set up:
+/// every route of the plan is open, and every other pin widget is silent. Each goes to the graph's codec, and can be
+/// encoded where that is one of 0 to 14.
 pub fn setup_verbs_set_up()
-    ensures set_up { (graph : RawCodec) (plan : Plan) (format : Format) (tag : ℕ) → IsWellFormed graph → IsPlan graph format plan
+    ensures set_up { (graph : RawCodec) (plan : Plan) (format : Format) (tag : ℕ) → IsWellFormed graph
+        → IsPlan graph format plan
         → 1 ≤ tag → tag ≤ 15 → LeadToSetUp graph plan format tag (setup_verbs graph plan format tag) }
-    ensures encodable { (graph : RawCodec) (plan : Plan) (format : Format) (tag : ℕ) → IsWellFormed graph → IsPlan graph format plan
+    ensures encodable { (graph : RawCodec) (plan : Plan) (format : Format) (tag : ℕ) → IsWellFormed graph
+        → IsPlan graph format plan
         → tag ≤ 15 → All (IsCommandOf graph) (setup_verbs graph plan format tag) }
 {}

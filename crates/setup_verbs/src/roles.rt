@@ -52,7 +52,8 @@ pub(crate) fn roles_of(pins: &[PinPlan]) -> [Role; 256]
 /// Gives the nodes of the entry's route their roles.
 fn add_entry(roles: &mut [Role; 256], entry: &PinPlan)
     ensures { (nid : ℕ) → nid < 256
-        → role_in roles.new nid ≡ spec.first_role (role_in roles.old nid) (spec.role_among (spec.entry_uses entry.now) nid) }
+        → role_in roles.new nid ≡ spec.first_role (role_in roles.old nid)
+        (spec.role_among (spec.entry_uses entry.now) nid) }
 {
     if let Outcome::Route(route) = &entry.outcome {
         add_hops(roles, route.hops.as_slice());
@@ -63,7 +64,8 @@ fn add_entry(roles: &mut [Role; 256], entry: &PinPlan)
 /// Gives the node that each hop leaves its role.
 fn add_hops(roles: &mut [Role; 256], hops: &[Hop])
     ensures { (nid : ℕ) → nid < 256
-        → role_in roles.new nid ≡ spec.first_role (role_in roles.old nid) (spec.role_among (spec.hop_uses hops.now) nid) }
+        → role_in roles.new nid ≡ spec.first_role (role_in roles.old nid)
+        (spec.role_among (spec.hop_uses hops.now) nid) }
 {
     for hop in hops {
         add_role(roles, hop.nid, Role::Passed(hop.index));
@@ -73,7 +75,8 @@ fn add_hops(roles: &mut [Role; 256], hops: &[Hop])
 /// Gives the node a role, unless it has one.
 fn add_role(roles: &mut [Role; 256], nid: u8, role: Role)
     ensures { (other : ℕ) → other < 256
-        → role_in roles.new other ≡ spec.first_role (role_in roles.old other) (if nid == other then role else Role.Unused) }
+        → role_in roles.new other ≡ spec.first_role (role_in roles.old other)
+        (if nid == other then role else Role.Unused) }
 {
     let place = usize::from(nid);
     roles[place] = roles[place].or(role);

@@ -19,7 +19,8 @@ pub(crate) fn send_if(
     applies: bool,
     verb: Verb,
 ) -> Result<(), AllocError>
-    ensures { OnOk result (commands.new.items ≡ commands.old.items ++ spec.commands_to codec.now nid (spec.only_if applies verb)) }
+    ensures { OnOk result (commands.new.items ≡ commands.old.items ++ spec.commands_to codec.now nid
+        (spec.only_if applies verb)) }
 {
     if applies {
         commands.push(Command {
@@ -42,7 +43,8 @@ fn neutral_gain(word: u32) -> u8
 /// Passes the input at this place at the 0 dB step of an amplifier with these capabilities.
 pub(crate) fn pass_input(word: u32, place: u8) -> Verb
     requires { place < 16 }
-    ensures { result ≡ Verb.SetAmp (amplifiers.setting_payload (spec.input_setting place false (amplifier_offset word))) }
+    ensures { result ≡ Verb.SetAmp
+        (amplifiers.setting_payload (spec.input_setting place false (amplifier_offset word))) }
 {
     let setting = AmpSetting {
         output: false,

@@ -13,9 +13,10 @@ use std::alloc::{AllocError, Global};
 use stream_format::Format;
 use verb_codes::{Command, Verb};
 
-/// The verbs that set the codec up for the plan of its graph, while the stream with this tag, 1 to 15, and format plays. First the
-/// function group and the nodes of routes are powered, then pins without a route are silenced, then converters on no route are
-/// released from their streams, and last the nodes of the routes are opened; in each step nodes ascend. This project's own.
+/// The verbs that set the codec up for the plan of its graph, while the stream with this tag, 1 to 15, and format
+/// plays. First the function group and the nodes of routes are powered, then pins without a route are silenced, then
+/// converters on no route are released from their streams, and last the nodes of the routes are opened; in each step
+/// nodes ascend. This project's own.
 ///
 /// # Errors
 /// Want of memory.

@@ -43,7 +43,8 @@ pub(crate) fn send_step(
     requires roles { spec.AreRoles plan.now roles.now }
     requires tag { tag ≤ 15 }
     requires fits { spec.FitsVerbs codec.now plan.now }
-    ensures { OnOk result (commands.new.items ≡ commands.old.items ++ spec.commands_of codec.now plan.now format tag step) }
+    ensures { OnOk result (commands.new.items ≡ commands.old.items ++ spec.commands_of codec.now plan.now format tag
+        step) }
 {
     for nid in 0..NODE_IDENTIFIERS as u8 {
         send_at(commands, codec, plan, roles, format, tag, step, nid)?;
@@ -65,7 +66,8 @@ fn send_at(
     requires roles { spec.AreRoles plan.now roles.now }
     requires tag { tag ≤ 15 }
     requires fits { spec.FitsVerbs codec.now plan.now }
-    ensures { OnOk result (commands.new.items ≡ commands.old.items ++ spec.commands_at codec.now plan.now format tag step nid) }
+    ensures { OnOk result (commands.new.items ≡ commands.old.items ++ spec.commands_at codec.now plan.now format tag
+        step nid) }
 {
     let role = roles[usize::from(nid)];
     match codec.node(nid) {

@@ -1,5 +1,6 @@
 //! An output stream.
-ghost use Rattle.std.specs.Prelude.{◌≡◌, ◌≤◌, ◌<◌, ◌+◌, ◌*◌, ◌%◌, true, false, [], IfOk, length, nat_le, ◌&&◌, take, drop, ◌++◌, if◌then◌else◌, option_map, None};
+ghost use Rattle.std.specs.Prelude.{◌≡◌, ◌≤◌, ◌<◌, ◌+◌, ◌*◌, ◌%◌, true, false, [], IfOk, length, nat_le, ◌&&◌, take};
+ghost use Rattle.std.specs.Prelude.{drop, ◌++◌, if◌then◌else◌, option_map, None};
 ghost use Rattle.hda_registers.specs.Laws.{IsHeldInReset};
 ghost use Rattle.hda_registers.specs.Access.{rose, fell};
 ghost use Rattle.hda_registers.specs.Fields.{Descriptor, is_out_of_reset, is_running, stream_of};
@@ -9,7 +10,8 @@ ghost use Rattle.stream_moves.specs.Streams as streams;
 ghost use Rattle.stream_moves.specs.Output as output;
 ghost use Rattle.hda_registers.specs.Status.{worth};
 ghost use Rattle.stream_format.specs.Cadence.{most_bytes};
-ghost use Rattle.stream_descriptor.specs.Running.{StandsFor, StoodFor, LeadsTo, CanPlay, stream_at, with_descriptor, fetched_at, found_at};
+ghost use Rattle.stream_descriptor.specs.Running.{StandsFor, StoodFor, LeadsTo, CanPlay, stream_at, with_descriptor};
+ghost use Rattle.stream_descriptor.specs.Running.{fetched_at, found_at};
 ghost use Rattle.stream_descriptor.specs.Frames.{IsAnswer};
 ghost use Rattle.stream_fetch.specs.Fetching as fetching;
 
@@ -60,13 +62,15 @@ impl Stream {
         })
     }
 
-    /// RUN rose at the descriptor: nothing was fetched and sent yet, and LPIB begins at 0 (HDA 1.0a, 3.3.35 and 3.3.37).
+    /// RUN rose at the descriptor: nothing was fetched and sent yet, and LPIB begins at 0 (HDA 1.0a, 3.3.35 and
+    /// 3.3.37).
     pub fn start(&mut self, regs: &mut Registers)
         requires { is_out_of_reset regs.old.global ≡ true }
         ensures index { self.new.index ≡ self.old.index }
         ensures registers { regs.new ≡ with_descriptor self.old.index
             (record (stream_of regs.old self.old.index) { link_position = 0; fifo_ready = 0 }) regs.old }
-        ensures stands { is_running (stream_of regs.old self.old.index) ≡ true → self.old.fetch.capacity ≡ regs.old.shape.fifo
+        ensures stands { is_running (stream_of regs.old self.old.index) ≡ true
+            → self.old.fetch.capacity ≡ regs.old.shape.fifo
             → StandsFor self.new regs.new begun }
     {
         self.fetch.start();
@@ -78,7 +82,8 @@ impl Stream {
     pub fn settle(&mut self, regs: &mut Registers, started: bool, stopped: bool)
         ensures index { self.new.index ≡ self.old.index }
         ensures leads { (old : Descriptor) (state : StreamState) → IsHeldInReset regs.old
-            → started ≡ rose old (stream_of regs.old self.old.index) → stopped ≡ fell old (stream_of regs.old self.old.index)
+            → started ≡ rose old (stream_of regs.old self.old.index)
+            → stopped ≡ fell old (stream_of regs.old self.old.index)
             → StoodFor self.old regs.old old state
             → LeadsTo self.new regs.old regs.new (record {
               descriptor = streams.settled old (stream_of regs.old self.old.index);
@@ -96,7 +101,8 @@ impl Stream {
     pub fn stop(&mut self, regs: &mut Registers)
         ensures index { self.new.index ≡ self.old.index }
         ensures registers { regs.new ≡ (if is_out_of_reset regs.old.global
-            then with_descriptor self.old.index (record (stream_of regs.old self.old.index) { fifo_ready = 0 }) regs.old else regs.old) }
+            then with_descriptor self.old.index (record (stream_of regs.old self.old.index) { fifo_ready = 0 }) regs.old
+            else regs.old) }
         ensures stands { (state : StreamState) → is_running (stream_of regs.old self.old.index) ≡ false
             → self.old.fetch.capacity ≡ regs.old.shape.fifo → StandsFor self.new regs.new state }
     {
@@ -106,8 +112,8 @@ impl Stream {
         }
     }
 
-    /// Fetches at most so many bytes of the list's buffers into the FIFO. Where the format word has no meaning or CBL or LVI is 0, or at
-    /// a list entry that can't be used, the stream stops with DESE (HDA 1.0a, 3.3.36 and 3.6).
+    /// Fetches at most so many bytes of the list's buffers into the FIFO. Where the format word has no meaning or CBL
+    /// or LVI is 0, or at a list entry that can't be used, the stream stops with DESE (HDA 1.0a, 3.3.36 and 3.6).
     pub fn fetch(&mut self, regs: &mut Registers, memory: &[u8], most: u32)
         ensures index { self.new.index ≡ self.old.index }
         ensures leads { (state : StreamState) → StandsFor self.old regs.old state
@@ -125,13 +131,16 @@ impl Stream {
         }
     }
 
-    /// Lets a link frame pass: the blocks that are due leave the FIFO, all of them or none, and stand at the front of `into`.
+    /// Lets a link frame pass: the blocks that are due leave the FIFO, all of them or none, and stand at the front of
+    /// `into`.
     pub fn frame(&mut self, regs: &mut Registers, into: &mut [u8; MOST_FRAME_BYTES]) -> Frame
         ensures index { self.new.index ≡ self.old.index }
         ensures leads { (state : StreamState) → StandsFor self.old regs.old state
-            → LeadsTo self.new regs.old regs.new (output.after_frame (found_at self.old.index regs.old state) (stream_at self.old.index regs.old state)) }
+            → LeadsTo self.new regs.old regs.new (output.after_frame (found_at self.old.index regs.old state)
+            (stream_at self.old.index regs.old state)) }
         ensures answer { (state : StreamState) → StandsFor self.old regs.old state
-            → IsAnswer (stream_at self.old.index regs.old state) (found_at self.old.index regs.old state) into.old into.new result }
+            → IsAnswer (stream_at self.old.index regs.old state) (found_at self.old.index regs.old state) into.old
+            into.new result }
     {
         if !self.is_playing(regs) {
             return Frame::Idle;
@@ -168,7 +177,8 @@ impl Stream {
         requires streams { CanPlay regs.old self.old.index format }
         ensures index { self.new.index ≡ self.old.index }
         ensures leads { (state : StreamState) → StandsFor self.old regs.old state
-            → LeadsTo self.new regs.old regs.new (output.fetch most regs.old.shape.fifo memory.now (stream_at self.old.index regs.old state)) }
+            → LeadsTo self.new regs.old regs.new (output.fetch most regs.old.shape.fifo memory.now
+            (stream_at self.old.index regs.old state)) }
     {
         let list = ListAt {
             address: regs.list_address(self.index),
@@ -190,9 +200,12 @@ impl Stream {
         requires streams { CanPlay regs.old self.old.index format }
         ensures index { self.new.index ≡ self.old.index }
         ensures leads { (state : StreamState) → StandsFor self.old regs.old state
-            → LeadsTo self.new regs.old regs.new (output.after_frame (output.frame_of (stream_at self.old.index regs.old state)) (stream_at self.old.index regs.old state)) }
+            → LeadsTo self.new regs.old regs.new
+            (output.after_frame (output.frame_of (stream_at self.old.index regs.old state))
+            (stream_at self.old.index regs.old state)) }
         ensures answer { (state : StreamState) → StandsFor self.old regs.old state
-            → IsAnswer (stream_at self.old.index regs.old state) (output.frame_of (stream_at self.old.index regs.old state)) into.old into.new result }
+            → IsAnswer (stream_at self.old.index regs.old state)
+            (output.frame_of (stream_at self.old.index regs.old state)) into.old into.new result }
     {
         let blocks = format.blocks(u64::from(self.frame));
         let due = bytes_due(format, self.frame);
@@ -233,7 +246,8 @@ impl Stream {
     /// Sets FIFOE: blocks were due that the FIFO does not hold (HDA 1.0a, 3.3.36).
     fn raise_missed(&self, regs: &mut Registers)
         requires out { is_out_of_reset regs.old.global ≡ true }
-        ensures { regs.new ≡ with_descriptor self.now.index (record (stream_of regs.old self.now.index) { fifo_error = 1 }) regs.old }
+        ensures { regs.new ≡ with_descriptor self.now.index
+            (record (stream_of regs.old self.now.index) { fifo_error = 1 }) regs.old }
     {
         regs.raise(Raise::FifoError(self.index));
     }
@@ -299,7 +313,8 @@ impl Stream {
         ensures capacity { self.new.fetch.capacity ≡ self.old.fetch.capacity }
         ensures empty { broken ≡ true → self.new.fetch.bytes ≡ [] }
         ensures kept { broken ≡ false → self.new ≡ self.old }
-        ensures broke { broken ≡ true → regs.new ≡ with_descriptor self.old.index (record (stream_of regs.old self.old.index) {
+        ensures broke { broken ≡ true → regs.new ≡ with_descriptor self.old.index
+            (record (stream_of regs.old self.old.index) {
           descriptor_error = 1;
           run = 0;
           fifo_ready = 0;

@@ -1,5 +1,6 @@
 //! A FIFO that is filled from a list of buffers.
-ghost use Rattle.std.specs.Prelude.{◌≡◌, ◌≤◌, ◌<◌, ◌+◌, ◌-◌, [], ◌∷◌, ◌++◌, true, false, IsTrue, IfOk, length, min, nat_le, drop, take};
+ghost use Rattle.std.specs.Prelude.{◌≡◌, ◌≤◌, ◌<◌, ◌+◌, ◌-◌, [], ◌∷◌, ◌++◌, true, false, IsTrue, IfOk, length, min};
+ghost use Rattle.std.specs.Prelude.{nat_le, drop, take};
 ghost use Rattle.stream_moves.specs.Streams.{StreamState, begun, held, held_bytes};
 ghost use Rattle.stream_moves.specs.Output as output;
 ghost use Rattle.stream_moves.specs.Lists.{is_good};
@@ -51,7 +52,8 @@ pub(crate) enum Bytes {
     Came(u32, bool),
 }
 
-/// The FIFO of a stream, with its place in the list of buffers. Contracts see how much it can hold, its bytes and the place.
+/// The FIFO of a stream, with its place in the list of buffers. Contracts see how much it can hold, its bytes and the
+/// place.
 #[derive(Drop)]
 pub struct Fetch {
     fifo: HeapCircularBuffer<u8>,
@@ -103,7 +105,8 @@ impl Fetch {
 
     /// The buffer that the next byte comes from.
     fn next_buffer(&self, memory: &[u8], base: u32) -> Buffer
-        ensures next { (state : StreamState) → StandsFor self.now state → result ≡ output.next_of memory.now base state }
+        ensures next { (state : StreamState) → StandsFor self.now state
+            → result ≡ output.next_of memory.now base state }
         ensures more { is_good memory.now result ≡ true → self.now.list.fetched < result.bytes }
     {
         match self.list.buffer {
@@ -116,8 +119,10 @@ impl Fetch {
     fn fetch_bytes(&mut self, list: ListAt, memory: &[u8], most: u32) -> Bytes
         requires { 1 ≤ most }
         ensures stands { (state : StreamState) → StandsFor self.old state
-            → StandsFor self.new (output.bytes_came (count_of result) self.old.capacity memory.now list.address list.last state) }
-        ensures found { (state : StreamState) → StandsFor self.old state → AreBytes self.old.capacity memory.now list.address list.last state result }
+            → StandsFor self.new (output.bytes_came (count_of result) self.old.capacity memory.now list.address
+            list.last state) }
+        ensures found { (state : StreamState) → StandsFor self.old state
+            → AreBytes self.old.capacity memory.now list.address list.last state result }
         ensures count { length self.new.bytes ≡ length self.old.bytes + count_of result }
         ensures within { AreAtMost most result }
         ensures capacity { self.new.capacity ≡ self.old.capacity }
@@ -137,7 +142,8 @@ impl Fetch {
         Bytes::Came(count, ends && buffer.interrupts)
     }
 
-    /// Fetches at most so many bytes of the list's buffers, in the list's order and round again, as far as there is room.
+    /// Fetches at most so many bytes of the list's buffers, in the list's order and round again, as far as there is
+    /// room.
     pub fn fetch(&mut self, list: ListAt, memory: &[u8], most: u32) -> Fetched
         ensures stands { (state : StreamState) → StandsFor self.old state
             → StandsFor self.new (output.bytes_came most self.old.capacity memory.now list.address list.last state) }
@@ -169,7 +175,8 @@ impl Fetch {
         fetched
     }
 
-    /// Moves the oldest bytes out of the FIFO. False exactly where it holds fewer than asked for, and then nothing changes.
+    /// Moves the oldest bytes out of the FIFO. False exactly where it holds fewer than asked for, and then nothing
+    /// changes.
     pub fn send(&mut self, into: &mut [u8]) -> bool
         ensures enough { result ≡ nat_le (length into.old) (length self.old.bytes) }
         ensures sent { IsTrue result → into.new ≡ take (length into.old) self.old.bytes }

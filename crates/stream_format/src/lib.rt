@@ -1,7 +1,8 @@
-//! Stream formats of High Definition Audio: their words, how many sample blocks each link frame carries, and the samples of a block.
+//! Stream formats of High Definition Audio: their words, how many sample blocks each link frame carries, and the
+//! samples of a block.
 //!
-//! A block holds one sample of each channel, that of channel 0 first. A sample stands in a container of 16 bits, or of 32 bits where
-//! it has 24 or 32 bits (HDA 1.0a, 4.5.1).
+//! A block holds one sample of each channel, that of channel 0 first. A sample stands in a container of 16 bits, or of
+//! 32 bits where it has 24 or 32 bits (HDA 1.0a, 4.5.1).
 #![tactic(auto)]
 
 mod cadence;

@@ -7,8 +7,8 @@ use crate::format::{Bits, Format};
 use byteorder::{ByteOrder, LittleEndian};
 
 impl Format {
-    /// The number in a channel's container of a block: of 16 bits, or of 32. A sample of 24 bits stands in the upper three bytes of
-    /// its container (HDA 1.0a, 4.5.1).
+    /// The number in a channel's container of a block: of 16 bits, or of 32. A sample of 24 bits stands in the upper
+    /// three bytes of its container (HDA 1.0a, 4.5.1).
     pub fn sample(&self, block: &[u8], channel: u8) -> i32
         requires channel { channel < self.now.channels }
         requires whole { block_bytes self.now ≤ length block.now }

@@ -22,8 +22,8 @@ pub struct Buffer {
 pub struct ListPlace {
     /// The entry in use, or else the one that is read next.
     pub index: u8,
-    /// The buffer in use. Its entry is read when its first byte is needed, and kept until its last byte was fetched; this project's
-    /// own.
+    /// The buffer in use. Its entry is read when its first byte is needed, and kept until its last byte was fetched;
+    /// this project's own.
     pub buffer: Option<Buffer>,
     /// How many bytes of it were fetched.
     pub fetched: u32,

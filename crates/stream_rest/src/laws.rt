@@ -19,19 +19,27 @@ ghost use Rattle.driver_progress.specs.Next.{expected};
 ghost use Rattle.stream_rest.specs.Resting.{Rests, LeavesRest, AreApartFrom};
 ghost use Rattle.stream_rest.specs.Silent.{plays_in};
 
-/// Where no link frame carried anything, a reset of the controller brings streams to rest. Those that rest go on resting over steps of the device, and over events that write nothing of the descriptors but a status. The
-/// accesses that progress expects of a stretch in which no sound is played are such events.
+/// Where no link frame carried anything, a reset of the controller brings streams to rest. Those that rest go on
+/// resting over steps of the device, and over events that write nothing of the descriptors but a status. The accesses
+/// that progress expects of a stretch in which no sound is played are such events.
 pub fn streams_rest_before_sound()
-    ensures reset { (world : World) → world.carried ≡ [] → Rests world.registers.shape.fifo (after_write GCTL Four 0 world) }
-    ensures steps { (fifo : ℕ) (steps : List Step) (world : World) → Rests fifo world → Rests fifo (after_steps steps world) }
-    ensures events { (fifo : ℕ) (events : List Event) (world : World) → All LeavesRest events → Rests fifo world → Rests fifo (after events world) }
-    ensures rows { (fifo : ℕ) (made : List Event) (old new : Telling) → Makes made old new → All LeavesRest made → Rests fifo (world_of old) → Rests fifo (world_of new) }
-    ensures stretches { (task : Task) (state : State) (turn : Option DriverLine) (seen : Seen) (made : List Event) → plays_in task turn state.phase ≡ false
+    ensures reset { (world : World) → world.carried ≡ []
+        → Rests world.registers.shape.fifo (after_write GCTL Four 0 world) }
+    ensures steps { (fifo : ℕ) (steps : List Step) (world : World) → Rests fifo world
+        → Rests fifo (after_steps steps world) }
+    ensures events { (fifo : ℕ) (events : List Event) (world : World) → All LeavesRest events → Rests fifo world
+        → Rests fifo (after events world) }
+    ensures rows { (fifo : ℕ) (made : List Event) (old new : Telling) → Makes made old new → All LeavesRest made
+        → Rests fifo (world_of old) → Rests fifo (world_of new) }
+    ensures stretches { (task : Task) (state : State) (turn : Option DriverLine) (seen : Seen) (made : List Event)
+        → plays_in task turn state.phase ≡ false
         → requests_of made ≡ expected task state turn seen → All LeavesRest made }
 {}
 
-/// A first run may begin where streams rest and the engine of commands stands to the world, with RIRB beside the ring's blocks.
+/// A first run may begin where streams rest and the engine of commands stands to the world, with RIRB beside the ring's
+/// blocks.
 pub fn a_first_run_can_begin()
-    ensures { (ring : Ring) (from read corb rirb : ℕ) (rings : RingPlaces) (world : World) → Rests ring.geometry.fifo world → Stands from read corb rirb rings world
+    ensures { (ring : Ring) (from read corb rirb : ℕ) (rings : RingPlaces) (world : World)
+        → Rests ring.geometry.fifo world → Stands from read corb rirb rings world
         → AreApartFrom ring rirb → CanBegin ring world }
 {}

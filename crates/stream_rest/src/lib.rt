@@ -1,5 +1,5 @@
-//! Streams that rest: a reset brings them to rest, they go on resting while codecs are brought up, and a first run of sound may begin then.
-//! Laws of the world.
+//! Streams that rest: a reset brings them to rest, they go on resting while codecs are brought up, and a first run of
+//! sound may begin then. Laws of the world.
 #![tactic(auto)]
 
 mod laws;

@@ -17,11 +17,12 @@ use route_setup::Setter;
 use stream_rest::streams_rest_before_sound;
 use told_bring_up::bring_ups_keep_to_progress;
 
-/// Each call of a driver that plays, in an open stretch of its own, for an interrupt or not, makes just the accesses that progress expects and
-/// leads where it says: for the codecs on the link, one to four with well-formed graphs, of which some pin has a route, while WALCLK has not
-/// wrapped. From its rise to its stop the output stream runs without an error. From the last answer on each codec is set up by its plan at
-/// every moment. What each pin heard at the end is the line of its pair, where the device made no step in the last stretch. Where no sound was
-/// played, the stream was never set going.
+/// Each call of a driver that plays, in an open stretch of its own, for an interrupt or not, makes just the accesses
+/// that progress expects and leads where it says: for the codecs on the link, one to four with well-formed graphs, of
+/// which some pin has a route, while WALCLK has not wrapped. From its rise to its stop the output stream runs without
+/// an error. From the last answer on each codec is set up by its plan at every moment. What each pin heard at the end
+/// is the line of its pair, where the device made no step in the last stretch. Where no sound was played, the stream
+/// was never set going.
 pub fn drivers_keep_to_progress<T: Setter>()
     ensures { (setter : T) (format : Format) (verbs : RawCodec → List Command) (graphs : List RawCodec) (task : Task)
         → IsTaskOfCodecs (λ graph. T.IsPlanBy setter graph format)

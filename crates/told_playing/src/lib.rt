@@ -1,4 +1,5 @@
-//! How a whole driver, as it is told, keeps to progress, sets its codecs up and is heard: laws over the calls of `audio_driver`.
+//! How a whole driver, as it is told, keeps to progress, sets its codecs up and is heard: laws over the calls of
+//! `audio_driver`.
 #![tactic(auto)]
 
 mod laws;

@@ -1,5 +1,6 @@
 //! Connection lists in words (HDA 1.0a, 7.3.3.3), both ways.
-ghost use Rattle.std.specs.Prelude.{◌≡◌, ◌≤◌, ◌<◌, ◌+◌, ◌-◌, ◌*◌, ◌^◌, [], ◌∷◌, ◌++◌, length, take, slice_index, EachIndex, MatchResult, IfOk, OnOk, Ok, true, false};
+ghost use Rattle.std.specs.Prelude.{◌≡◌, ◌≤◌, ◌<◌, ◌+◌, ◌-◌, ◌*◌, ◌^◌, [], ◌∷◌, ◌++◌, length, take, slice_index};
+ghost use Rattle.std.specs.Prelude.{EachIndex, MatchResult, IfOk, OnOk, Ok, true, false};
 ghost use Rattle.std.specs.List.{range_with_len};
 ghost use Rattle.verb_codes.specs.Lists as spec;
 
@@ -7,9 +8,9 @@ use crate::bits::{bits_of, joined};
 use crate::entries::{Entry, ListError};
 use std::alloc::{AllocError, Global};
 
-/// The nodes that the first `len` entries of a connection list stand for, in order. The words hold `len` entries, lowest bits first:
-/// two a word in the long form, else four. A range stands for all nodes from the one after the entry before it up to its own,
-/// so there can be more nodes than entries.
+/// The nodes that the first `len` entries of a connection list stand for, in order. The words hold `len` entries,
+/// lowest bits first: two a word in the long form, else four. A range stands for all nodes from the one after the entry
+/// before it up to its own, so there can be more nodes than entries.
 ///
 /// # Errors
 /// The fault of the first faulty entry, or want of memory.
@@ -22,8 +23,8 @@ pub fn expand_list(alloc: Global, len: u8, long: bool, words: &[u32]) -> Result<
     expand_entries(alloc, long, entries.as_slice())
 }
 
-/// The first `len` entries of a connection list, as they stand in its words: lowest bits first, two a word in the long form,
-/// else four. The words hold `len` entries.
+/// The first `len` entries of a connection list, as they stand in its words: lowest bits first, two a word in the long
+/// form, else four. The words hold `len` entries.
 ///
 /// # Errors
 /// Want of memory.
@@ -43,8 +44,9 @@ pub fn unpack_list(
     Ok(entries)
 }
 
-/// The nodes that the entries of a connection list stand for, in order. An entry has 16 bits in the long form, else 8. A range
-/// stands for all nodes from the one after the entry before it up to its own, so there can be more nodes than entries.
+/// The nodes that the entries of a connection list stand for, in order. An entry has 16 bits in the long form, else 8.
+/// A range stands for all nodes from the one after the entry before it up to its own, so there can be more nodes than
+/// entries.
 ///
 /// # Errors
 /// The fault of the first faulty entry, or want of memory.

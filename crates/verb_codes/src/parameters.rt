@@ -7,7 +7,8 @@ pub enum Parameter {
     Vendor,
     /// Revision ID (7.3.4.2), of the root.
     Revision,
-    /// Subordinate Node Count (7.3.4.3), of the root and a function group: the first node below in bits 23:16, how many in 7:0.
+    /// Subordinate Node Count (7.3.4.3), of the root and a function group: the first node below in bits 23:16, how many
+    /// in 7:0.
     Nodes,
     /// Function Group Type (7.3.4.4).
     GroupType,

@@ -1,9 +1,11 @@
 //! Commands and their verbs.
 
-/// A verb with its argument (HDA 1.0a, 7.3.3). A get verb asks for what the set verb of its name changes; a set verb is answered with 0.
+/// A verb with its argument (HDA 1.0a, 7.3.3). A get verb asks for what the set verb of its name changes; a set verb is
+/// answered with 0.
 #[derive(Clone, Copy, Debug, PartialEq, Eq)]
 pub enum Verb {
-    /// Get Parameter (7.3.3.1): asks for the parameter of this number (7.3.4). `Parameter` names those that a node can have.
+    /// Get Parameter (7.3.3.1): asks for the parameter of this number (7.3.4). `Parameter` names those that a node can
+    /// have.
     GetParam(u8),
     /// Connection Select Control (7.3.3.2): asks for the selected place of the connection list.
     GetSelect,
@@ -45,9 +47,11 @@ pub enum Verb {
     GetFormat,
     /// Converter Format (7.3.3.8): sets the stream format.
     SetFormat(u16),
-    /// Amplifier Gain/Mute (7.3.3.7): asks for one side of an amplifier, bit 15 output, else input; bit 13 left, else right; 3:0 the input's place.
+    /// Amplifier Gain/Mute (7.3.3.7): asks for one side of an amplifier, bit 15 output, else input; bit 13 left, else
+    /// right; 3:0 the input's place.
     GetAmp(u16),
-    /// Amplifier Gain/Mute (7.3.3.7): sets it, bit 15 output, 14 input, 13 left, 12 right, 11:8 the input's place, 7 mute, 6:0 gain.
+    /// Amplifier Gain/Mute (7.3.3.7): sets it, bit 15 output, 14 input, 13 left, 12 right, 11:8 the input's place, 7
+    /// mute, 6:0 gain.
     SetAmp(u16),
 }
 

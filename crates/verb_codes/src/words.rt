@@ -26,8 +26,9 @@ pub fn encode(command: &Command) -> u32
     joined(node, verb_bits(&command.verb), 20)
 }
 
-/// The command that this is the word of. `None` exactly where the word has no reading: for codec 15, a node identifier above 7Fh,
-/// an unknown verb, a payload other than 0 at a get verb without an argument, and GetAmp with a bit other than 15, 13 and 3:0.
+/// The command that this is the word of. `None` exactly where the word has no reading: for codec 15, a node identifier
+/// above 7Fh, an unknown verb, a payload other than 0 at a get verb without an argument, and GetAmp with a bit other
+/// than 15, 13 and 3:0.
 pub fn decode(word: u32) -> Option<Command>
     ensures reading { result ≡ spec.reading_of word }
     ensures exact { (c : Command) → (result ≡ Some c) ↔ (spec.IsInRange c × (word ≡ spec.word_of c)) }

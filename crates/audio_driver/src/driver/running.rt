@@ -44,8 +44,10 @@ impl<T: Setter> Driver<T> {
         ensures kept { calls.IsKept self.old.bring_up self.new.bring_up }
         ensures failed { OnErr result (self.new.bring_up.phase ≡ phases.Failed) }
         ensures cause { OnErr result (calls.takes_memory (states.phase_of self.old.bring_up self.old.writer) ≡ true) }
-        ensures writer { states.plays_now self.old.play self.old.bring_up ≡ false → self.new.writer ≡ self.old.writer }
-        ensures supply { states.plays_now self.old.play self.old.bring_up ≡ false → self.new.supply ≡ self.old.supply }
+        ensures writer { states.plays_now self.old.play self.old.bring_up ≡ false
+            → self.new.writer ≡ self.old.writer }
+        ensures supply { states.plays_now self.old.play self.old.bring_up ≡ false
+            → self.new.supply ≡ self.old.supply }
         ensures keeps { KeepsTerms self.old self.new }
         ensures calls { self.new.calls ≡ self.old.calls + 1 }
         ensures fixed { P.fixed platform.new ≡ P.fixed platform.old }
@@ -92,8 +94,10 @@ impl<T: Setter> Driver<T> {
         ensures kept { calls.IsKept self.old.bring_up self.new.bring_up }
         ensures failed { OnErr result (self.new.bring_up.phase ≡ phases.Failed) }
         ensures cause { OnErr result (calls.takes_memory (states.phase_of self.old.bring_up self.old.writer) ≡ true) }
-        ensures writer { states.plays_now self.old.play self.old.bring_up ≡ false → self.new.writer ≡ self.old.writer }
-        ensures supply { states.plays_now self.old.play self.old.bring_up ≡ false → self.new.supply ≡ self.old.supply }
+        ensures writer { states.plays_now self.old.play self.old.bring_up ≡ false
+            → self.new.writer ≡ self.old.writer }
+        ensures supply { states.plays_now self.old.play self.old.bring_up ≡ false
+            → self.new.supply ≡ self.old.supply }
         ensures keeps { KeepsTerms self.old self.new }
         ensures calls { self.new.calls ≡ self.old.calls + 1 }
         ensures fixed { P.fixed platform.new ≡ P.fixed platform.old }

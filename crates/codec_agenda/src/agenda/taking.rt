@@ -1,5 +1,6 @@
 //! What comes next on an agenda, and where an answer leads.
-ghost use Rattle.std.specs.Prelude.{◌≡◌, ◌≤◌, ◌<◌, ℕ, [], None, Some, All, length, slice_index, IfOk, IfSome, IsSome, OnOk};
+ghost use Rattle.std.specs.Prelude.{◌≡◌, ◌≤◌, ◌<◌, ℕ, [], None, Some, All, length, slice_index, IfOk, IfSome, IsSome};
+ghost use Rattle.std.specs.Prelude.{OnOk};
 ghost use Rattle.std.specs.Option.{is_some};
 ghost use Rattle.verb_codes.specs.Verbs.{IsInRange};
 ghost use Rattle.codec_graph.specs.declared.raw.RawCodec.{RawCodec};
@@ -45,7 +46,8 @@ impl Agenda {
         }
     }
 
-    /// The agenda of the codecs with these addresses, of which there is at least one: the walk over the first of them is at its beginning.
+    /// The agenda of the codecs with these addresses, of which there is at least one: the walk over the first of them
+    /// is at its beginning.
     ///
     /// # Errors
     /// Want of memory.
@@ -109,20 +111,24 @@ impl Agenda {
         Ok(())
     }
 
-    /// Takes the answer to the command that [`Agenda::next`] gives, which is not `None`. The setter says what plan a graph has, and which
-    /// verbs; it is the same at each answer.
+    /// Takes the answer to the command that [`Agenda::next`] gives, which is not `None`. The setter says what plan a
+    /// graph has, and which verbs; it is the same at each answer.
     ///
     /// # Errors
-    /// `Malformed` exactly where a codec's answers, all of them now, are not those of a well-formed graph. `NothingRouted` exactly where
-    /// this was the last walk's last answer and no plan of the graphs has a route. Or want of memory. After an error no command comes.
+    /// `Malformed` exactly where a codec's answers, all of them now, are not those of a well-formed graph.
+    /// `NothingRouted` exactly where this was the last walk's last answer and no plan of the graphs has a route. Or
+    /// want of memory. After an error no command comes.
     pub fn take<T: Setter>(&mut self, setter: &T, answer: u32) -> Result<(), AgendaFault>
         requires { IsSome (spec.next_of self.old.walk self.old.verbs.items self.old.answered) }
         ensures leads { OnOk result (spec.LedBy (λ graph. T.IsPlanBy setter.now graph self.old.format)
-            (λ graph plan. T.verbs_by setter.now graph plan self.old.format TAG) self.old.walk answer self.old self.new) }
+            (λ graph plan. T.verbs_by setter.now graph plan self.old.format TAG) self.old.walk answer self.old
+            self.new) }
         ensures malformed { (codec : ℕ) (fault : WalkFault) → result ≡ Err (AgendaFault.Malformed codec fault)
-            → (codec ≡ slice_index self.old.addresses.items (length self.old.graphs.items)) × spec.TellsFault self.old.walk answer fault }
+            → (codec ≡ slice_index self.old.addresses.items (length self.old.graphs.items))
+            × spec.TellsFault self.old.walk answer fault }
         ensures nothing { result ≡ Err AgendaFault.NothingRouted
-            → spec.TellsNoRoute (λ graph. T.IsPlanBy setter.now graph self.old.format) self.old.walk answer self.old.addresses.items self.old.graphs.items self.new }
+            → spec.TellsNoRoute (λ graph. T.IsPlanBy setter.now graph self.old.format) self.old.walk answer
+            self.old.addresses.items self.old.graphs.items self.new }
         ensures addresses { self.new.addresses ≡ self.old.addresses }
         ensures format { self.new.format ≡ self.old.format }
     {
@@ -149,11 +155,14 @@ impl Agenda {
         requires under_way { IsUnderWay self.old.addresses.items (length self.old.graphs.items) walk }
         requires fresh { self.old.answered ≡ 0 }
         ensures leads { OnOk result (spec.LedByDialogue (λ graph. T.IsPlanBy setter.now graph self.old.format)
-            (λ graph plan. T.verbs_by setter.now graph plan self.old.format TAG) (answered (remaining walk) answer) self.old.addresses.items self.old.graphs.items self.new) }
+            (λ graph plan. T.verbs_by setter.now graph plan self.old.format TAG) (answered (remaining walk) answer)
+            self.old.addresses.items self.old.graphs.items self.new) }
         ensures malformed { (codec : ℕ) (fault : WalkFault) → result ≡ Err (AgendaFault.Malformed codec fault)
-            → (codec ≡ slice_index self.old.addresses.items (length self.old.graphs.items)) × spec.GivesFault (answered (remaining walk) answer) fault }
+            → (codec ≡ slice_index self.old.addresses.items (length self.old.graphs.items))
+            × spec.GivesFault (answered (remaining walk) answer) fault }
         ensures nothing { result ≡ Err AgendaFault.NothingRouted
-            → spec.EndsLast (λ graph. T.IsPlanBy setter.now graph self.old.format) (answered (remaining walk) answer) self.old.addresses.items self.old.graphs.items self.new }
+            → spec.EndsLast (λ graph. T.IsPlanBy setter.now graph self.old.format) (answered (remaining walk) answer)
+            self.old.addresses.items self.old.graphs.items self.new }
         ensures addresses { self.new.addresses ≡ self.old.addresses }
         ensures format { self.new.format ≡ self.old.format }
     {
@@ -167,20 +176,24 @@ impl Agenda {
         Ok(())
     }
 
-    /// Ends the walk that is under way: its graph is one of those that were walked, and the next codec is walked or all are set up.
+    /// Ends the walk that is under way: its graph is one of those that were walked, and the next codec is walked or all
+    /// are set up.
     fn end_walk<T: Setter>(&mut self, setter: &T, walk: Walk) -> Result<(), AgendaFault>
         requires none { self.old.walk ≡ None }
         requires ends { question (remaining walk) ≡ None }
         requires there { length self.old.graphs.items < length self.old.addresses.items }
-        requires tells { TellsOf (slice_index self.old.addresses.items (length self.old.graphs.items)) (remaining walk) }
+        requires tells { TellsOf (slice_index self.old.addresses.items (length self.old.graphs.items))
+            (remaining walk) }
         requires fresh { self.old.answered ≡ 0 }
         ensures leads { OnOk result (spec.LedByDialogue (λ graph. T.IsPlanBy setter.now graph self.old.format)
-            (λ graph plan. T.verbs_by setter.now graph plan self.old.format TAG) (remaining walk) self.old.addresses.items self.old.graphs.items self.new) }
+            (λ graph plan. T.verbs_by setter.now graph plan self.old.format TAG) (remaining walk)
+            self.old.addresses.items self.old.graphs.items self.new) }
         ensures malformed { (codec : ℕ) (fault : WalkFault) → result ≡ Err (AgendaFault.Malformed codec fault)
             → (codec ≡ slice_index self.old.addresses.items (length self.old.graphs.items))
             × spec.GivesFault (remaining walk) fault }
         ensures nothing { result ≡ Err AgendaFault.NothingRouted
-            → spec.EndsLast (λ graph. T.IsPlanBy setter.now graph self.old.format) (remaining walk) self.old.addresses.items self.old.graphs.items self.new }
+            → spec.EndsLast (λ graph. T.IsPlanBy setter.now graph self.old.format) (remaining walk)
+            self.old.addresses.items self.old.graphs.items self.new }
         ensures addresses { self.new.addresses ≡ self.old.addresses }
         ensures format { self.new.format ≡ self.old.format }
     {
@@ -198,9 +211,11 @@ impl Agenda {
         requires none { self.old.walk ≡ None }
         requires fresh { self.old.answered ≡ 0 }
         ensures leads { OnOk result (spec.GoesOn (λ graph. T.IsPlanBy setter.now graph self.old.format)
-            (λ graph plan. T.verbs_by setter.now graph plan self.old.format TAG) self.old.addresses.items self.old.graphs.items self.new) }
+            (λ graph plan. T.verbs_by setter.now graph plan self.old.format TAG) self.old.addresses.items
+            self.old.graphs.items self.new) }
         ensures malformed { (codec : ℕ) (fault : WalkFault) → result ≡ Err (AgendaFault.Malformed codec fault) → ⊥ }
-        ensures nothing { result ≡ Err AgendaFault.NothingRouted → (length self.old.addresses.items ≤ length self.old.graphs.items)
+        ensures nothing { result ≡ Err AgendaFault.NothingRouted
+            → (length self.old.addresses.items ≤ length self.old.graphs.items)
             × spec.RoutesNothing (λ graph. T.IsPlanBy setter.now graph self.old.format) self.old.graphs.items self.new }
         ensures addresses { self.new.addresses ≡ self.old.addresses }
         ensures format { self.new.format ≡ self.old.format }

@@ -71,7 +71,9 @@ impl BringUp {
         requires few { self.old.looks < 1000000 }
         requires room { 261 ≤ P.spare_accesses platform.old }
         requires bytes_room { 2044 ≤ P.spare_bytes platform.old }
-        ensures leads { OnOk result (spec.Leads (λ graph. T.IsPlanBy setter.now graph self.old.agenda.format) (λ graph plan. T.verbs_by setter.now graph plan self.old.agenda.format TAG) false self.old self.new (P.told platform.old) (P.told platform.new)) }
+        ensures leads { OnOk result (spec.Leads (λ graph. T.IsPlanBy setter.now graph self.old.agenda.format)
+            (λ graph plan. T.verbs_by setter.now graph plan self.old.agenda.format TAG) false self.old self.new
+            (P.told platform.old) (P.told platform.new)) }
         ensures kept { spec.IsKept self.old self.new }
         ensures failed { OnErr result (self.new.phase ≡ phases.Failed) }
         ensures fixed { P.fixed platform.new ≡ P.fixed platform.old }
@@ -114,7 +116,9 @@ impl BringUp {
         requires few { self.old.looks ≤ 1000000 }
         requires room { 262 ≤ P.spare_accesses platform.old }
         requires bytes_room { 2040 ≤ P.spare_bytes platform.old }
-        ensures ends { OnOk result (spec.Ends (λ graph. T.IsPlanBy setter.now graph self.old.agenda.format) (λ graph plan. T.verbs_by setter.now graph plan self.old.agenda.format TAG) self.old self.new (P.told platform.old) (P.told platform.new)) }
+        ensures ends { OnOk result (spec.Ends (λ graph. T.IsPlanBy setter.now graph self.old.agenda.format)
+            (λ graph plan. T.verbs_by setter.now graph plan self.old.agenda.format TAG) self.old self.new
+            (P.told platform.old) (P.told platform.new)) }
         ensures kept { spec.IsKept self.old self.new }
         ensures failed { OnErr result (self.new.phase ≡ phases.Failed) }
         ensures shut { OnErr result (IsShut (P.told platform.new)) }

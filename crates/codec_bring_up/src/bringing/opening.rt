@@ -80,7 +80,8 @@ impl BringUp {
         ensures engine { result.engine ≡ self.engine }
         ensures graphs { result.graphs ≡ self.agenda.graphs }
         ensures plans { result.plans ≡ self.agenda.plans }
-        ensures jacks { (events : List Event) → IsCount events self.jacks → All IsOfPin events → Counts events result.jacks.items }
+        ensures jacks { (events : List Event) → IsCount events self.jacks → All IsOfPin events
+            → Counts events result.jacks.items }
     {
         let BringUp {
             alloc: _,

@@ -16,9 +16,9 @@ use route_setup::Setter;
 use std::alloc::AllocError;
 
 impl BringUp {
-    /// One call. In the first the controller is reset; then it looks whether the codecs had their time, and from then on for the answer to
-    /// each command, after which the next is submitted. Once all codecs are set up, or it ended before that, nothing is done. The setter is
-    /// the same at each call.
+    /// One call. In the first the controller is reset; then it looks whether the codecs had their time, and from then
+    /// on for the answer to each command, after which the next is submitted. Once all codecs are set up, or it ended
+    /// before that, nothing is done. The setter is the same at each call.
     ///
     /// # Errors
     /// Want of memory, in the phases where codecs are found and answers come. Then it is over, in the phase `Failed`.
@@ -30,7 +30,9 @@ impl BringUp {
         requires few { self.old.looks < 1000000 }
         requires room { 261 ≤ P.spare_accesses platform.old }
         requires bytes_room { 2044 ≤ P.spare_bytes platform.old }
-        ensures leads { OnOk result (spec.Leads (λ graph. T.IsPlanBy setter.now graph self.old.agenda.format) (λ graph plan. T.verbs_by setter.now graph plan self.old.agenda.format TAG) false self.old self.new (P.told platform.old) (P.told platform.new)) }
+        ensures leads { OnOk result (spec.Leads (λ graph. T.IsPlanBy setter.now graph self.old.agenda.format)
+            (λ graph plan. T.verbs_by setter.now graph plan self.old.agenda.format TAG) false self.old self.new
+            (P.told platform.old) (P.told platform.new)) }
         ensures kept { spec.IsKept self.old self.new }
         ensures failed { OnErr result (self.new.phase ≡ phases.Failed) }
         ensures cause { OnErr result (spec.takes_memory self.old.phase ≡ true) }
@@ -51,8 +53,8 @@ impl BringUp {
         }
     }
 
-    /// One call for an interrupt: where there is one, what [`BringUp::run`] does; else nothing but the look for it. Once it is over,
-    /// interrupts are not looked for.
+    /// One call for an interrupt: where there is one, what [`BringUp::run`] does; else nothing but the look for it.
+    /// Once it is over, interrupts are not looked for.
     ///
     /// # Errors
     /// Want of memory, in the phases where codecs are found and answers come. Then it is over, in the phase `Failed`.
@@ -64,7 +66,9 @@ impl BringUp {
         requires few { self.old.looks < 1000000 }
         requires room { 264 ≤ P.spare_accesses platform.old }
         requires bytes_room { 2044 ≤ P.spare_bytes platform.old }
-        ensures leads { OnOk result (spec.Leads (λ graph. T.IsPlanBy setter.now graph self.old.agenda.format) (λ graph plan. T.verbs_by setter.now graph plan self.old.agenda.format TAG) true self.old self.new (P.told platform.old) (P.told platform.new)) }
+        ensures leads { OnOk result (spec.Leads (λ graph. T.IsPlanBy setter.now graph self.old.agenda.format)
+            (λ graph plan. T.verbs_by setter.now graph plan self.old.agenda.format TAG) true self.old self.new
+            (P.told platform.old) (P.told platform.new)) }
         ensures kept { spec.IsKept self.old self.new }
         ensures failed { OnErr result (self.new.phase ≡ phases.Failed) }
         ensures cause { OnErr result (spec.takes_memory self.old.phase ≡ true) }
@@ -100,11 +104,12 @@ impl BringUp {
         self.jacks.take_events(&mut self.engine);
     }
 
-    /// The last call: while commands are sent it looks once more for an answer. It submits nothing. Where the controller was reset before, it
-    /// stops both rings and leaves the controller in reset.
+    /// The last call: while commands are sent it looks once more for an answer. It submits nothing. Where the
+    /// controller was reset before, it stops both rings and leaves the controller in reset.
     ///
     /// # Errors
-    /// Want of memory, while commands are sent. Then it is over, in the phase `Failed`; the controller is left in reset also then.
+    /// Want of memory, while commands are sent. Then it is over, in the phase `Failed`; the controller is left in reset
+    /// also then.
     pub fn end<P: Platform, T: Setter>(
         &mut self,
         platform: &mut P,
@@ -113,7 +118,9 @@ impl BringUp {
         requires few { self.old.looks ≤ 1000000 }
         requires room { 262 ≤ P.spare_accesses platform.old }
         requires bytes_room { 2040 ≤ P.spare_bytes platform.old }
-        ensures ends { OnOk result (spec.Ends (λ graph. T.IsPlanBy setter.now graph self.old.agenda.format) (λ graph plan. T.verbs_by setter.now graph plan self.old.agenda.format TAG) self.old self.new (P.told platform.old) (P.told platform.new)) }
+        ensures ends { OnOk result (spec.Ends (λ graph. T.IsPlanBy setter.now graph self.old.agenda.format)
+            (λ graph plan. T.verbs_by setter.now graph plan self.old.agenda.format TAG) self.old self.new
+            (P.told platform.old) (P.told platform.new)) }
         ensures kept { spec.IsKept self.old self.new }
         ensures failed { OnErr result (self.new.phase ≡ phases.Failed) }
         ensures cause { OnErr result (progress.is_asking self.old.phase ≡ true) }

@@ -24,22 +24,27 @@ use verb_codes::has_bit;
 const RESPONSES_WRITTEN: u32 = 1;
 
 impl Engine {
-    /// Looks for the answer to the outstanding command, at this clock. Where responses were written it reads all that are new: the
-    /// first to a command of the codec that is asked is the answer, other answers are dropped, and what was sent unasked becomes
-    /// events, in order. A command that has no answer stays outstanding. No event is left from earlier polls (HDA 1.0a, 4.4.2).
+    /// Looks for the answer to the outstanding command, at this clock. Where responses were written it reads all that
+    /// are new: the first to a command of the codec that is asked is the answer, other answers are dropped, and what
+    /// was sent unasked becomes events, in order. A command that has no answer stays outstanding. No event is left from
+    /// earlier polls (HDA 1.0a, 4.4.2).
     ///
-    /// On a platform that tells, where the engine stood to the world as a start, a submission or a poll left it: the poll reads just
-    /// the responses that were written since the last one. An answer is that of the outstanding command by the codec that it asks,
-    /// with the settings and the presence at the moment at which it took it. Then no other answer is on its way.
+    /// On a platform that tells, where the engine stood to the world as a start, a submission or a poll left it: the
+    /// poll reads just the responses that were written since the last one. An answer is that of the outstanding command
+    /// by the codec that it asks, with the settings and the presence at the moment at which it took it. Then no other
+    /// answer is on its way.
     ///
-    /// A write pointer names fewer new entries than RIRB has, whatever it reads, so at most 255; the queue holds 256 events.
+    /// A write pointer names fewer new entries than RIRB has, whatever it reads, so at most 255; the queue holds 256
+    /// events.
     #[tactic(auto, using(hda_world::proofs::Callers::rows))]
     pub fn poll<P: Platform>(&mut self, platform: &mut P, clock: u32) -> Poll
         requires events { self.old.events.items ≡ [] }
         requires room { 258 ≤ P.spare_accesses platform.old }
         requires bytes_room { 2040 ≤ P.spare_bytes platform.old }
-        ensures polls { spec.Polls self.old.rirb.address clock self.old.rings result self.new.rings self.new.events.items (P.told platform.old) (P.told platform.new) }
-        ensures tells { Between (told.PollTellsOf clock self.old.corb.address self.old.rirb.address self.old.rings result self.new.rings self.new.events.items) (P.told platform.old) (P.told platform.new) }
+        ensures polls { spec.Polls self.old.rirb.address clock self.old.rings result self.new.rings
+            self.new.events.items (P.told platform.old) (P.told platform.new) }
+        ensures tells { Between (told.PollTellsOf clock self.old.corb.address self.old.rirb.address self.old.rings
+            result self.new.rings self.new.events.items) (P.told platform.old) (P.told platform.new) }
         ensures corb { self.new.corb ≡ self.old.corb }
         ensures rirb { self.new.rirb ≡ self.old.rirb }
         ensures fixed { P.fixed platform.new ≡ P.fixed platform.old }
@@ -69,7 +74,8 @@ impl Engine {
         requires events { self.old.events.items ≡ [] }
         requires room { 257 ≤ P.spare_accesses platform.old }
         requires bytes_room { 2040 ≤ P.spare_bytes platform.old }
-        ensures reads { reading.ReadsNew self.old.rirb.address self.old.rings flag result self.new.rings self.new.events.items (P.told platform.old) (P.told platform.new) }
+        ensures reads { reading.ReadsNew self.old.rirb.address self.old.rings flag result self.new.rings
+            self.new.events.items (P.told platform.old) (P.told platform.new) }
         ensures corb { self.new.corb ≡ self.old.corb }
         ensures rirb { self.new.rirb ≡ self.old.rirb }
         ensures fixed { P.fixed platform.new ≡ P.fixed platform.old }
@@ -88,7 +94,8 @@ impl Engine {
         requires events { self.old.events.items ≡ [] }
         requires room { 257 ≤ P.spare_accesses platform.old }
         requires bytes_room { 2040 ≤ P.spare_bytes platform.old }
-        ensures reads { reading.ReadsBatch self.old.rirb.address self.old.rings result self.new.rings self.new.events.items (P.told platform.old) (P.told platform.new) }
+        ensures reads { reading.ReadsBatch self.old.rirb.address self.old.rings result self.new.rings
+            self.new.events.items (P.told platform.old) (P.told platform.new) }
         ensures corb { self.new.corb ≡ self.old.corb }
         ensures rirb { self.new.rirb ≡ self.old.rirb }
         ensures fixed { P.fixed platform.new ≡ P.fixed platform.old }
@@ -104,8 +111,8 @@ impl Engine {
     }
 }
 
-/// Reads so many entries of RIRB from the one after the last that was read on. It notes their events, and gives the answer among
-/// them.
+/// Reads so many entries of RIRB from the one after the last that was read on. It notes their events, and gives the
+/// answer among them.
 fn read_entries<P: Platform>(
     platform: &mut P,
     rirb: &Lent,
@@ -118,7 +125,8 @@ fn read_entries<P: Platform>(
     requires events_room { length events.old.items + count ≤ events.old.capacity }
     requires room { count ≤ P.spare_accesses platform.old }
     requires bytes_room { RESPONSE_BYTES * count ≤ P.spare_bytes platform.old }
-    ensures reads { reading.ReadsEntries rirb.now.address (entries_of rings.rirb) (rings.read + 1) count (spec.asked_of rings.outstanding)
+    ensures reads { reading.ReadsEntries rirb.now.address (entries_of rings.rirb) (rings.read + 1) count
+        (spec.asked_of rings.outstanding)
         events.old.items events.new.items result (P.told platform.old) (P.told platform.new) }
     ensures capacity { events.new.capacity ≡ events.old.capacity }
     ensures fixed { P.fixed platform.new ≡ P.fixed platform.old }

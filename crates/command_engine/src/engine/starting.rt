@@ -9,8 +9,8 @@ use crate::ring_places::{codecs_in, half_of, rings_found};
 use hda_platform::Platform;
 use hda_registers::{RingSize, Width, places};
 
-/// CORBRPRST, by which the driver resets CORB's read pointer (HDA 1.0a, 3.3.21), and RIRBWPRST, by which it resets RIRB's write
-/// pointer (3.3.27).
+/// CORBRPRST, by which the driver resets CORB's read pointer (HDA 1.0a, 3.3.21), and RIRBWPRST, by which it resets
+/// RIRB's write pointer (3.3.27).
 const POINTER_RESET: u32 = 0x8000;
 /// CORBRUN (HDA 1.0a, 3.3.22).
 const CORB_RUN: u32 = 2;
@@ -20,17 +20,20 @@ const RIRB_RUN: u32 = 3;
 const CONTROLLER_INTERRUPTS: u32 = 0xC000_0000;
 
 impl Engine {
-    /// Sets both rings going, each at the largest size that the controller supports, and gives the codecs that announced themselves:
-    /// bit n for the codec with address n (HDA 1.0a, 4.3 and 4.4). 0 exactly where no codec is there or a size register names no
-    /// size; then these alone were read, and the engine is as it was.
+    /// Sets both rings going, each at the largest size that the controller supports, and gives the codecs that
+    /// announced themselves: bit n for the codec with address n (HDA 1.0a, 4.3 and 4.4). 0 exactly where no codec is
+    /// there or a size register names no size; then these alone were read, and the engine is as it was.
     ///
-    /// On a platform that tells: where the controller was out of reset, neither ring ran, and no answer was on its way before the
-    /// call, at most the answers to commands of this engine can come after it. [`crate::a_reset_leads_to_a_start`] says what brings
-    /// that about. On any other world the accesses are the same, and nothing is said of answers.
+    /// On a platform that tells: where the controller was out of reset, neither ring ran, and no answer was on its way
+    /// before the call, at most the answers to commands of this engine can come after it.
+    /// [`crate::a_reset_leads_to_a_start`] says what brings that about. On any other world the accesses are the same,
+    /// and nothing is said of answers.
     pub fn start<P: Platform>(&mut self, platform: &mut P) -> u16
         requires room { 16 ≤ P.spare_accesses platform.old }
-        ensures starts { spec.Starts self.old.corb.address self.old.rirb.address self.old.rings result self.new.rings (P.told platform.old) (P.told platform.new) }
-        ensures tells { Between (told.Begins self.old.corb.address self.old.rirb.address result self.new.rings) (P.told platform.old) (P.told platform.new) }
+        ensures starts { spec.Starts self.old.corb.address self.old.rirb.address self.old.rings result self.new.rings
+            (P.told platform.old) (P.told platform.new) }
+        ensures tells { Between (told.Begins self.old.corb.address self.old.rirb.address result self.new.rings)
+            (P.told platform.old) (P.told platform.new) }
         ensures corb { self.new.corb ≡ self.old.corb }
         ensures rirb { self.new.rirb ≡ self.old.rirb }
         ensures events { self.new.events ≡ self.old.events }

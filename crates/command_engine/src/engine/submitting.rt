@@ -15,11 +15,11 @@ use hda_registers::{Width, places};
 use verb_codes::{Command, encode};
 
 impl Engine {
-    /// Submits a command at this clock: writes its word to the next entry of CORB, from 1 on, and moves CORB's write pointer there
-    /// (HDA 1.0a, 4.4.1).
+    /// Submits a command at this clock: writes its word to the next entry of CORB, from 1 on, and moves CORB's write
+    /// pointer there (HDA 1.0a, 4.4.1).
     ///
-    /// On a platform that tells, where the engine stood to the world as a start or a poll left it, the command is the only one that
-    /// codecs can take from then on, and its answer the only one that can come.
+    /// On a platform that tells, where the engine stood to the world as a start or a poll left it, the command is the
+    /// only one that codecs can take from then on, and its answer the only one that can come.
     #[tactic(auto, using(hda_world::proofs::Callers::rows))]
     pub fn submit<P: Platform>(&mut self, platform: &mut P, command: Command, clock: u32)
         requires started { self.old.rings.started ≡ true }
@@ -27,9 +27,12 @@ impl Engine {
         requires in_range { IsInRange command }
         requires room { 2 ≤ P.spare_accesses platform.old }
         requires bytes_room { COMMAND_BYTES ≤ P.spare_bytes platform.old }
-        ensures made { Between (Makes (spec.submit_accesses self.old.corb.address self.old.rings (word_of command))) (P.told platform.old) (P.told platform.new) }
-        ensures rings { self.new.rings ≡ spec.rings_submitted self.old.rings (record { codec = command.codec; word = word_of command; issued = clock }) }
-        ensures tells { Between (told.LeadsOn self.old.corb.address self.old.rirb.address self.old.rings self.new.rings) (P.told platform.old) (P.told platform.new) }
+        ensures made { Between (Makes (spec.submit_accesses self.old.corb.address self.old.rings (word_of command)))
+            (P.told platform.old) (P.told platform.new) }
+        ensures rings { self.new.rings ≡ spec.rings_submitted self.old.rings
+            (record { codec = command.codec; word = word_of command; issued = clock }) }
+        ensures tells { Between (told.LeadsOn self.old.corb.address self.old.rirb.address self.old.rings self.new.rings)
+            (P.told platform.old) (P.told platform.new) }
         ensures corb { self.new.corb ≡ self.old.corb }
         ensures rirb { self.new.rirb ≡ self.old.rirb }
         ensures events { self.new.events ≡ self.old.events }

@@ -1,4 +1,5 @@
-//! The accesses of a platform in memory: before each a step of its schedule is made, if one is left, and both are noted.
+//! The accesses of a platform in memory: before each a step of its schedule is made, if one is left, and both are
+//! noted.
 ghost use Rattle.std.specs.Prelude.{◌≡◌, ◌≤◌, ◌<◌, ◌+◌, ◌/◌, [], ◌∷◌};
 ghost use Rattle.hda_platform.specs.ToldBy.{told_by, told_whole};
 ghost use Rattle.hda_platform.specs.Devices.{IsStreamStep};
