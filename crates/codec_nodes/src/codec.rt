@@ -30,8 +30,12 @@ impl Model for Codec {
 
     ghost Value = { CodecState };
 
-    ghost view = { λ codec. record { graph = codec.graph; settings = codec.settings; present = codec.present; waiting
-        = codec.waiting } };
+    ghost view = { λ codec. record {
+      graph = codec.graph;
+      settings = codec.settings;
+      present = codec.present;
+      waiting = codec.waiting;
+    } };
 
     ghost invariant = { λ codec. IsSound
         (record { graph = codec.graph; settings = codec.settings; present = codec.present; waiting = codec.waiting }) };
@@ -51,8 +55,12 @@ impl Codec {
         present: Presence,
     ) -> Result<Codec, AllocError>
         requires { IsSettingsOf graph settings }
-        ensures value { IfOk result (λ codec. codec ≡ record { graph = graph; settings = settings; present = present;
-            waiting = [] }) }
+        ensures value { IfOk result (λ codec. codec ≡ record {
+          graph = graph;
+          settings = settings;
+          present = present;
+          waiting = [];
+        }) }
         ensures sound { IfOk result codecs.IsSound }
     {
         let waiting = Queue::new(alloc)?;

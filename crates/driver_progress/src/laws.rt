@@ -81,7 +81,7 @@ pub fn closings_are_worked()
 {}
 
 /// Worked stretches of the sound: the first run, one that finds all of it played, just in time, and one that ends a
-/// tick too late.
+/// tick too late; one that takes silence back, just within its 36 link frames, and one that takes a tick longer.
 pub fn runs_are_worked()
     ensures starts { worked.IsStretch (worked.at Ready 3 (worked.rings 3 1 None)) (worked.run 8) worked.starting []
         (worked.plays Playing (worked.first_tally ran.Playing)) }
@@ -91,6 +91,12 @@ pub fn runs_are_worked()
     ensures late { worked.IsStretch (worked.plays Playing (worked.first_tally ran.Playing)) (worked.run 0)
         (worked.playing 84501 worked.stopping) []
         (worked.plays (Late 12500 84501 144) (worked.first_tally (ran.Late 12500 84501 144))) }
+    ensures takes_back { worked.IsStretch (worked.plays Playing (worked.short_tally ran.Playing 768)) (worked.run 4)
+        (worked.taking_back 14500 32500 []) []
+        (worked.plays Playing (worked.back_tally 14500 32500)) }
+    ensures slow { worked.IsStretch (worked.plays Playing (worked.short_tally ran.Playing 768)) (worked.run 4)
+        (worked.taking_back 14500 32501 worked.stopping) []
+        (worked.plays (Late 14500 32501 36) (worked.short_tally (ran.Late 14500 32501 36) 352)) }
 {}
 
 /// Steps of the device leave a course as it is.

@@ -34,7 +34,8 @@ pub enum Phase {
     },
     /// A run ended too late, and the stream was stopped.
     Late {
-        /// The clock that the run before read first.
+        /// The clock from which the link frames count: the first one of the run before, or the late run's own where
+        /// it took silence back and was too slow.
         from: u32,
         /// The clock that the late run read last.
         to: u32,

@@ -261,7 +261,11 @@ fn reads_a_file_of_the_machine_in_pieces(rt: HostRuntime) -> Result<(), Fail> {
         assert!(rt; n > 0 || most == 0, "{name} {from}");
         assert!(rt; n <= 100, "{name} {from}");
         if name == path && n > 0 {
-            assert_eq!(rt; buf[..n], bytes.as_slice()[from_usize..from_usize + n], "{name} {from}");
+            assert_eq!(rt;
+                buf[..n],
+                bytes.as_slice()[from_usize..from_usize + n],
+                "{name} {from}"
+            );
         }
     }
     fs::remove_file(&rt, path)?;

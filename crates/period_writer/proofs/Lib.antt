@@ -1,6 +1,7 @@
 pub mod Worked
 pub mod Takes
 pub mod SameRuns
+pub mod SameStretches
 pub mod SupplyRuns
 pub mod Accounts
 pub mod Apart

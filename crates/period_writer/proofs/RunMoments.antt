@@ -356,6 +356,22 @@ module _ (ring : Ring) (pcm : List ℕ) (runs : ℕ) (tally : Tally) (facts : Ru
   pub after_upto : (frames : ℕ) (known : Bool) (upto : ℕ) (world : World) (event : Event) → Found frames known (extent_of line' at' upto sure) world → WritesAllowed ring allowed world event → GoesOn world event → IsAfter frames known world event
   after_upto frames known upto world event found allows on = after_found frames known line' upto same_sure world event found allows on
 
+  -- at the read of LPIB the link stands there, and nothing from the turn place on was fetched, where the earlier run is not too long ago
+  stands_there : (frames : ℕ) (world : World) → Clocked frames world → facts.lpib ≡ world.output.left % size_of ring → world.frames ≤ since + limit → world.output.left ≤ at'
+  stands_there frames world clocked reads within =
+      let together = within_reach ring.geometry tally.course.at world.output.left world.frames since clocked.0.1.before within (clocked.0.1.soon refl) in
+      let some = some_fifo ring.geometry in
+      let is_there = position_there (size_of ring) tally.course.at facts.lpib world.output.left some_size clocked.0.0.behind (omega (arith, together, some)) reads in
+      let here = at_is in
+      omega (arith, is_there, here)
+
+  pub unfetched : (frames : ℕ) (world : World) → Clocked frames world → facts.lpib ≡ world.output.left % size_of ring → world.frames ≤ since + limit → length world.output.entered ≤ turn
+  unfetched frames world clocked reads within =
+      let there = stands_there frames world clocked reads within in
+      let together = within_turn ring at' world.output.left world.frames world.frames some_block (omega arith) (omega arith) (omega (arith, there)) in
+      let ahead = clocked.0.0.fifo.ahead in
+      omega (arith, together, ahead)
+
   pub finds : (frames : ℕ) (world : World) → Clocked frames world → facts.lpib ≡ world.output.left % size_of ring → Found frames (nat_le world.frames (since + limit)) (over_at start) world
   finds frames world clocked reads = ((stood, clocked.0.1), (paced, passed)) where
     behind : at' ≤ world.output.left
@@ -364,19 +380,11 @@ module _ (ring : Ring) (pcm : List ℕ) (runs : ℕ) (tally : Tally) (facts : Ru
     stood : Stands ring (over_at start) world
     stood = relined ring line (mixed start) tally.course.at at' reach reach sure world mixed_first later behind sure_under clocked.0.0
 
-    there : world.frames ≤ since + limit → world.output.left ≤ at'
-    there within =
-        let together = within_reach ring.geometry tally.course.at world.output.left world.frames since clocked.0.1.before within (clocked.0.1.soon refl) in
-        let some = some_fifo ring.geometry in
-        let is_there = position_there (size_of ring) tally.course.at facts.lpib world.output.left some_size clocked.0.0.behind (omega (arith, together, some)) reads in
-        let here = at_is in
-        omega (arith, is_there, here)
-
     paced : Paced ring (nat_le world.frames (since + limit)) (record { at = at'; since = frames }) world
     paced = record {
       format_is = clocked.1.format_is;
       before = clocked.1.before;
-      soon = λ within. let there = there (search (rules, tests, within)) in omega (arith, there);
+      soon = λ within. let there = stands_there frames world clocked reads (search (rules, tests, within)) in omega (arith, there);
     }
 
     passed : Passed (since + limit) (nat_le world.frames (since + limit)) world

@@ -107,6 +107,9 @@ module _ (ring : Ring) (pcm : List ℕ) (runs : ℕ) (tally : Tally) (facts : Ru
   abbrev pub limit : ℕ
   limit = limit_in ring
 
+  abbrev pub turn_place : ℕ
+  turn_place = moments.turn ring pcm runs tally facts some_block is started written enough since clock_from
+
   abbrev pub writes : List Event
   writes = run_writes (bytes_in ring) ring.periods (measures ring.geometry) tally.course facts (drop tally.course.used pcm)
 
@@ -118,6 +121,7 @@ module _ (ring : Ring) (pcm : List ℕ) (runs : ℕ) (tally : Tally) (facts : Ru
     reads : Reads
     known : Bool
     known_is : world.frames ≤ since + limit → known ≡ true
+    unfetched : world.frames ≤ since + limit → length world.output.entered ≤ turn_place
     opened : Opened reads.0 known world
 
   front_led : Lead Moment Before (Read WALCLK Four facts.from ∷ Read POSITION Four facts.lpib ∷ []) Open
@@ -147,6 +151,7 @@ module _ (ring : Ring) (pcm : List ℕ) (runs : ℕ) (tally : Tally) (facts : Ru
                 reads = (frames, reads);
                 known = nat_le world.frames (since + limit);
                 known_is = λ within. search (rules, tests, within);
+                unfetched = moments.unfetched ring pcm runs tally facts some_block is started written enough since clock_from frames world clocked (honest ∙ read-output_position world.registers ∙ clocked.0.0.position);
                 opened = moments.finds ring pcm runs tally facts some_block is started written enough since clock_from frames world clocked (honest ∙ read-output_position world.registers ∙ clocked.0.0.position);
               },
             ))
@@ -181,6 +186,8 @@ module _ (ring : Ring) (pcm : List ℕ) (runs : ℕ) (tally : Tally) (facts : Ru
     pub reads : Reads
     pub known : Bool
     pub known_is : (after (early ++ Read POSITION Four facts.lpib ∷ []) world).frames ≤ since + limit → known ≡ true
+    pub unfetched : (after (early ++ Read POSITION Four facts.lpib ∷ []) world).frames ≤ since + limit
+        → length (after (early ++ Read POSITION Four facts.lpib ∷ []) world).output.entered ≤ turn_place
     pub turn_moments : AtEach (IsAfter reads.0 known) turn (after (early ++ Read POSITION Four facts.lpib ∷ []) world)
     pub closed : Closed reads.0 known (after turn (after (early ++ Read POSITION Four facts.lpib ∷ []) world))
 
@@ -190,6 +197,7 @@ module _ (ring : Ring) (pcm : List ℕ) (runs : ℕ) (tally : Tally) (facts : Ru
     last_honest : AreHonest last (after turn (after before world))
     front_moments : AtEach Moment before world
     known_is : (after before world).frames ≤ since + limit → known ≡ true
+    unfetched : (after before world).frames ≤ since + limit → length (after before world).output.entered ≤ turn_place
     turn_moments : AtEach (IsAfter reads.0 known) turn (after before world)
     closed : Closed reads.0 known (after turn (after before world))
 
@@ -205,6 +213,7 @@ module _ (ring : Ring) (pcm : List ℕ) (runs : ℕ) (tally : Tally) (facts : Ru
     reads = reads;
     known = known;
     known_is = is.known_is;
+    unfetched = is.unfetched;
     turn_moments = is.turn_moments;
     closed = is.closed;
   }
@@ -225,6 +234,7 @@ module _ (ring : Ring) (pcm : List ℕ) (runs : ℕ) (tally : Tally) (facts : Ru
         last_honest = AreHonest-back turn last (after front world) honest_back;
         front_moments = opens.0;
         known_is = opens.1.known_is;
+        unfetched = opens.1.unfetched;
         turn_moments = closes.0;
         closed = closes.1;
       }))

@@ -277,6 +277,7 @@ module _ (ring : Ring) (pcm : List ℕ) (runs : ℕ) (tally : Tally) (facts : Ru
       early = p.early;
       rest = p.turn ++ p.last;
       events_are = p.events_are;
+      unfetched = λ back few. let under = p.unfetched (few_is few) in let low = turn_low back in omega (arith, under, low);
       apart = λ back few. apart back (few_is few);
       ends = subst Ended (sym there) here.ends;
     } where

@@ -77,10 +77,13 @@ pub record TurnTells (ring : Ring) (pcm : List ℕ) (budget : ℕ) (tally : Tall
   -- the line of the runs so far, that of this run included unless it is late
   pub agree : AtEach Agree events (world_of old)
   -- the events up to the read of LPIB, and those after it. Where silence is taken back, and no more link frames passed from the earlier
-  -- run's first clock to that read than the limit says
+  -- run's first clock to that read than the limit says, nothing from where the sound begins on was fetched up to that read, nor while the
+  -- run takes no longer than it may
   pub early : List Event
   pub rest : List Event
   pub events_are : events ≡ (early ++ Read POSITION Four facts.lpib ∷ []) ++ rest
+  pub unfetched : takes_back (measures ring.geometry) tally.course facts ≡ true → 500 * (after (early ++ Read POSITION Four facts.lpib ∷ []) (world_of old)).frames ≤ tally.course.from + 500 * limit_in ring
+      → length (after (early ++ Read POSITION Four facts.lpib ∷ []) (world_of old)).output.entered ≤ run_start (measures ring.geometry) tally.course facts
   pub apart : takes_back (measures ring.geometry) tally.course facts ≡ true → 500 * (after (early ++ Read POSITION Four facts.lpib ∷ []) (world_of old)).frames ≤ tally.course.from + 500 * limit_in ring
       → AtEach (IsApart (run_start (measures ring.geometry) tally.course facts) facts.from (slack_in ring)) rest (after (early ++ Read POSITION Four facts.lpib ∷ []) (world_of old))
   pub ends : Ended (world_of new)

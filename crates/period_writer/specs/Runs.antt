@@ -4,7 +4,7 @@
 -- the ring. The link plays it in order, so at a run the link stands at a position b of the line, and the run makes the line longer up to
 -- its reach, one ring ahead of b: first sound, then silence. Where sound came late, the run takes back silence at the line's end: as much
 -- of it as the device can't have fetched before the run is over.
-use Rattle.std.specs.Prelude.{ℕ, ◌+◌, ◌*◌, ◌-◌, ◌%◌, ◌==◌, ◌&&◌, ◌||◌, not, Bool, true, false, min, max, nat_lt, nat_le, List, [], ◌∷◌, ◌++◌, slice_index, Option, Some, None, if◌then◌else◌}
+use Rattle.std.specs.Prelude.{ℕ, ◌+◌, ◌*◌, ◌-◌, ◌%◌, ◌≤◌, ◌==◌, ◌&&◌, ◌||◌, not, Bool, true, false, min, max, nat_lt, nat_le, List, [], ◌∷◌, ◌++◌, slice_index, Option, Some, None, if◌then◌else◌}
 use Rattle.stream_format.specs.Cadence.{block_bytes}
 use Rattle.period_writer.specs.Rings.{ring_bytes, limit_of, slack_of, ahead_of}
 pub use Rattle.period_writer.specs.Rings.{whole_blocks}
@@ -228,6 +228,12 @@ taken_up m total tally stretch = taken_up_if tally.course.ran stretch.clocks m t
 abbrev pub tally_on : Measures → (total : ℕ) → Tally → List Stretch → Tally
 tally_on m total tally [] = tally
 tally_on m total tally (stretch ∷ stretches) = tally_on m total (taken_up m total tally stretch) stretches
+
+-- before each of these stretches at least a ring of the sound is left
+abbrev pub HasRingLeft : Measures → (total : ℕ) → Tally → List Stretch → Type 0
+HasRingLeft m total tally [] = Unit {0}
+HasRingLeft m total tally (stretch ∷ stretches) =
+    (tally.course.used + m.ring ≤ total) × HasRingLeft m total (taken_up m total tally stretch) stretches
 
 abbrev pub tally_of_stretches : Measures → (total : ℕ) → List Stretch → Tally
 tally_of_stretches m total stretches = tally_on m total tally_opened stretches

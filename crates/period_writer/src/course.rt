@@ -33,8 +33,8 @@ pub enum Ran {
     Drained,
     /// The run ended too late, and the stream was stopped.
     Late {
-        /// The clock from which on it was late: the first one of the run before, or its own where it took too long
-        /// itself.
+        /// The clock from which the link frames count: the first one of the run before, or its own where it took
+        /// silence back and was too slow.
         from: u32,
         /// The clock that this run read last.
         to: u32,
@@ -56,7 +56,7 @@ pub struct Course {
     pub reach: u64,
     /// Below this position what was fetched is the line: its end, and less where a late run took silence back.
     pub sure: u64,
-    /// How many of them are sound.
+    /// How many of the line's bytes are sound.
     pub used: u64,
     /// Where the last byte of sound ends, 0 where there is none.
     pub sound_end: u64,

@@ -20,7 +20,7 @@ use Rattle.period_writer.specs.declared.course.Course.{Course}
 use Rattle.period_writer.specs.declared.course.Ran.{Ran}
 use Rattle.period_writer.specs.declared.course.Ran.TheVariants as ran
 use Rattle.period_writer.specs.declared.geometry.Geometry.{Geometry}
-use Rattle.period_writer.specs.Lines.{IsLine}
+use Rattle.period_writer.specs.Owning.{IsWritten}
 use Rattle.period_writer.specs.Runs.{Tally, tally_opened, measures, tally_of_stretches}
 use Rattle.audio_driver.specs.States.{phase_if, played_as, state_with}
 use Rattle.audio_driver.specs.declared.driver.closing.Closed.{Closed}
@@ -169,7 +169,7 @@ module _ (machine : Machine) (plans : List Plan) (wav : Wav) (geometry : Geometr
           recorded = recorded;
           runs = runs ∙ gone.leaves.runs;
           silences = silences ∙ gone.leaves.silences;
-          line = subst IsLine (sym recorded) (recorded_line laws geometry (length wav.pcm) (stretches_of (lines_of schedule) journal));
+          line = subst (IsWritten wav.pcm) (sym recorded) (recorded_line laws geometry wav.pcm (stretches_of (lines_of schedule) journal));
           phase_is = has_run gone.tally.course gone.tally.course.started refl gone.ended.phase _ gone.has.ended_is.by_phase;
           stream = streamed gone.has.heard;
         };

@@ -26,7 +26,7 @@ use Rattle.period_writer.specs.declared.course.Span.{Span}
 use Rattle.period_writer.specs.declared.course.Ran.TheVariants as ran
 use Rattle.period_writer.specs.declared.geometry.Geometry.{Geometry}
 use Rattle.period_writer.specs.Runs.{Tally, measures, tally_of_stretches}
-use Rattle.period_writer.specs.Lines.{IsLine}
+use Rattle.period_writer.specs.Owning.{IsWritten}
 use Rattle.period_writer.specs.Rings as rings
 use Rattle.driver_progress.specs.declared.phase.Phase.{Phase}
 use Rattle.driver_progress.specs.declared.phase.Phase.TheVariants.{Reset, Settling, Walking, SettingUp, Ready, Playing}
@@ -96,15 +96,15 @@ abbrev pub Lived : (started : Bool) → Tally → Telling → Type 0
 Lived false tally telling = WasSilent tally telling
 Lived true tally telling = HasStopped telling
 
--- runs and silences are those of the journal's stretches: no two silences of the line touch, and all else of it is
--- sound
+-- runs and silences are those of the journal's stretches: no two silences of the line touch, all else of it is the
+-- sound, and it is as long as the last run's reach
 pub record AreRecorded (schedule : Schedule) (task : Task) (phase : Phase) (tally : Tally) (telling : Telling)
     (played : Played) : Type 0 where
   pub recorded : tally ≡ tally_of_stretches (measures task.geometry) (length task.pcm)
       (stretches_of (lines_of schedule) telling.journal)
   pub runs : played.runs ≡ tally.runs
   pub silences : played.silences ≡ tally.silences
-  pub line : IsLine tally
+  pub line : IsWritten task.pcm tally
   pub phase_is : HasRunUpTo phase tally.course
   pub stream : Lived tally.course.started tally telling
 

@@ -40,7 +40,7 @@ IsWalkFault Playing sent of fault = ⊥
 IsWalkFault Drained sent of fault = ⊥
 IsWalkFault NothingRouted sent of fault = ⊥
 IsWalkFault (Unanswered codec command issued noticed) sent of fault =
-  fault ≡ Some (faults.Unanswered codec command issued noticed)
+    fault ≡ Some (faults.Unanswered codec command issued noticed)
 IsWalkFault (Late from to limit) sent of fault = ⊥
 IsWalkFault (Malformed codec fault') sent of fault = ⊥
 IsWalkFault Failed sent of fault = ⊥

@@ -29,7 +29,7 @@ use machine_tasks::{
     command_count, machines_have_tasks, machines_rest, opened_drivers_can_begin,
     read_machines_are_whole,
 };
-use period_writer::{Geometry, runs_append_to_the_line, runs_keep_the_course};
+use period_writer::{Geometry, runs_keep_the_course, runs_write_the_line};
 use rig::Rig;
 use route_planner::{Plan, one_order};
 use route_setup::Analog;
@@ -157,7 +157,7 @@ pub fn play<S: Shelf>(
     drivers_keep_to_progress::<Analog>();
     one_order();
     runs_keep_the_course();
-    runs_append_to_the_line();
+    runs_write_the_line();
     let format = head.format;
     let total = head.frames;
     let commands = command_count(alloc, machine.codecs.as_slice(), plans.as_slice(), format)?;

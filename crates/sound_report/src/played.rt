@@ -25,7 +25,8 @@ pub enum PlayFault {
     },
     /// A run ended too late, and the stream was stopped.
     Late {
-        /// The clock that the run before read first, in ticks of 1/24,000,000 s.
+        /// The clock from which the link frames count, in ticks of 1/24,000,000 s: the first one of the run before, or
+        /// the late run's own where it took silence back and was too slow.
         from: u32,
         /// The clock that the late run read last.
         to: u32,

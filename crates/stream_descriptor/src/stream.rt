@@ -315,10 +315,10 @@ impl Stream {
         ensures kept { broken ≡ false → self.new ≡ self.old }
         ensures broke { broken ≡ true → regs.new ≡ with_descriptor self.old.index
             (record (stream_of regs.old self.old.index) {
-          descriptor_error = 1;
-          run = 0;
-          fifo_ready = 0;
-        }) regs.old }
+              descriptor_error = 1;
+              run = 0;
+              fifo_ready = 0;
+            }) regs.old }
         ensures whole { broken ≡ false → regs.new ≡ regs.old }
     {
         if broken {

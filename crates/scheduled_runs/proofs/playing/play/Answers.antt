@@ -228,8 +228,9 @@ returns-clause-played g c =
       opened = c.runs_keep_the_course.ensures.opened;
       kept = c.runs_keep_the_course.ensures.kept;
       late = c.runs_keep_the_course.ensures.late;
-      line_opened = c.runs_append_to_the_line.ensures.opened;
-      line_kept = c.runs_append_to_the_line.ensures.kept;
+      line_opened = c.runs_write_the_line.ensures.opened;
+      line_kept = c.runs_write_the_line.ensures.kept;
+      line_late = c.runs_write_the_line.ensures.late;
     } in
     let journal = (telling_of c.drive.new.rig).journal in
     let heard : map handed_out c.parts-machine.result.1 ≡ lists_heard (world_of (telling_from REGION_BYTES machine journal)).carried machine.codecs c.args.plans.items =
