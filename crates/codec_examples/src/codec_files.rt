@@ -1,9 +1,9 @@
 //! Codec files for the tests, and the codecs that they describe.
-ghost use Rattle.std.specs.Prelude.{IfOk};
+ghost use Rattle.std.specs.Prelude.{IfOk, IfSome};
 ghost use Rattle.hda_files.specs.Machines.{IsSoundCodec};
 
 use hda_files::{CodecFile, read_machine};
-use std::alloc::{AllocError, Global};
+use std::alloc::Global;
 use std::test::Fail;
 
 /// The least codec with a route: the converter 02, the mixer 0C [02, 0B] and the pin 14 [0C].
@@ -24,30 +24,6 @@ nid = 0x14
 caps = 0x0040010D
 amp_out = 0x80000000
 pin_caps = 0x10
-default = 0x01014010
-list = [0x0C]
-";
-
-/// The converter 02, the mixer 0C [02, 0B] and the pin 14 [0C], which can mute, has an external amplifier, detects
-/// presence and sends unsolicited responses.
-pub const SMALL: &str = "
-[[codec]]
-address = 0
-vendor = 0x10EC0889
-power = 0x0F
-[[codec.node]]
-nid = 0x02
-caps = 0x00000001
-[[codec.node]]
-nid = 0x0C
-caps = 0x0020010B
-amp_in = 0x80000000
-list = [0x02, 0x0B]
-[[codec.node]]
-nid = 0x14
-caps = 0x0040018D
-amp_out = 0x80000000
-pin_caps = 0x10014
 default = 0x01014010
 list = [0x0C]
 ";
@@ -90,24 +66,6 @@ node = [
 ]
 ";
 
-/// Two pins that share selector 0F with these connections; converter 02 takes 48 kHz, and 03 what this PCM word says.
-pub fn two_pins(alloc: Global, list: &str, pcm: &str) -> Result<String, AllocError> {
-    format!(in alloc;
-        "
-[[codec]]
-address = 0
-vendor = 0x10EC0889
-node = [
-    {{nid = 0x02, caps = 0x11, formats = 1, pcm = 0x00020040}},
-    {{nid = 0x03, caps = 0x11, formats = 1, pcm = {pcm}}},
-    {{nid = 0x0F, caps = 0x300101, list = [{list}]}},
-    {{nid = 0x14, caps = 0x40010D, amp_out = 0x80000000, pin_caps = 0x10, default = 0x01014010, list = [0x0F]}},
-    {{nid = 0x15, caps = 0x40010D, amp_out = 0x80000000, pin_caps = 0x10, default = 0x01014011, list = [0x0F]}},
-]
-"
-    )
-}
-
 /// The codec that a codec file describes.
 pub fn read_codec(alloc: Global, text: &str) -> Result<CodecFile, Fail>
     ensures { IfOk result IsSoundCodec }
@@ -115,4 +73,16 @@ pub fn read_codec(alloc: Global, text: &str) -> Result<CodecFile, Fail>
     let machine = read_machine(alloc, text.as_bytes())?;
     let mut codecs = machine.codecs.into_vec();
     Ok(codecs.pop().ok_or("a machine has a codec")?)
+}
+
+/// The codec that a codec file describes by its bytes, if the file is good; the last one by its address where there are
+/// more.
+pub fn codec_of(alloc: Global, bytes: &[u8]) -> Option<CodecFile>
+    ensures { IfSome result IsSoundCodec }
+{
+    let Ok(machine) = read_machine(alloc, bytes) else {
+        return None;
+    };
+    let mut codecs = machine.codecs.into_vec();
+    codecs.pop()
 }

@@ -2,5 +2,7 @@
 #![tactic(auto)]
 
 mod codec_files;
+mod controls;
 
-pub use codec_files::{LARGE, LEAST, SMALL, read_codec, two_pins};
+pub use codec_files::{LARGE, LEAST, codec_of, read_codec};
+pub use controls::push_controls;

@@ -13,3 +13,4 @@ pub mod Unchanged
 pub mod Sound
 pub mod ListWords
 pub mod Callers
+mod Safety

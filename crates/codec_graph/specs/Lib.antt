@@ -11,3 +11,4 @@ pub mod CodecStates
 pub mod Checks
 pub mod Marks
 pub mod Openings
+pub mod SafeNodes

@@ -1,16 +1,15 @@
 //! The search for cycles of mixers and selectors.
 ghost use Rattle.std.specs.Prelude.{◌≡◌, ◌<◌, ◌↔◌, ◌⊎◌, ℕ, true, false, Contains, IsTrue, OnOk, IfErr, IfSome, IfNone};
-ghost use Rattle.std.specs.Prelude.{slice_index_or, replicate};
+ghost use Rattle.std.specs.Prelude.{slice_index_or};
 ghost use Rattle.codec_graph.specs.Faults.{has_bad_count};
 ghost use Rattle.codec_graph.specs.Cycles.{Reaches, IsOnCycle, IsCycleFault};
 ghost use Rattle.codec_graph.specs.Marks.{IsMarked};
 
 use crate::fault::GraphFault;
 use crate::limits::NODE_IDENTIFIERS;
+use crate::marks::{Marks, no_marks};
 use crate::raw::RawCodec;
-
-/// A mark for each node identifier that a connection list can name.
-type Marks = [bool; 256];
+use crate::safe_nodes::are_safe;
 
 /// Whether no connections through mixers and selectors alone lead back to where they began, or the least node from
 /// which some do. The nodes have to be those of the count.
@@ -19,6 +18,9 @@ pub(crate) fn check_cycles(codec: &RawCodec) -> Result<(), GraphFault>
     ensures acyclic { OnOk result ((nid : ℕ) → IsOnCycle codec.now nid → ⊥) }
     ensures cycle { IfErr result (IsCycleFault codec.now) }
 {
+    if are_safe(codec) {
+        return Ok(());
+    }
     for nid in 0..NODE_IDENTIFIERS as u8 {
         if is_on_cycle(codec, nid) {
             return Err(GraphFault::Cycle(nid));
@@ -46,13 +48,6 @@ fn reached_from(codec: &RawCodec, start: u8) -> Marks
         mark(&mut found, codec.inner_list(next));
     }
     found
-}
-
-/// Marks no node.
-fn no_marks() -> Marks
-    ensures { result ≡ replicate 256 false }
-{
-    [false; 256]
 }
 
 /// Marks each node of the list.

@@ -11,10 +11,12 @@ mod graph;
 mod laws;
 mod limits;
 mod listed;
+mod marks;
 mod parameters;
 mod presence;
 mod raw;
 mod readable;
+mod safe_nodes;
 mod settings;
 mod waiting;
 

@@ -166,8 +166,9 @@ fn a_pin_hears_until_it_is_silenced(rt: HostRuntime) -> Result<(), Fail> {
         Heard::Quiet,
         Heard::Hole,
     ];
-    assert!(rt; lists.len() == 1 && lists[0].pin == 0x14);
-    assert!(rt; lists[0].list.as_slice() == heard.as_slice());
+    assert!(rt; lists.len() == 1);
+    let list = lists.pin(rt.alloc(), 0)?;
+    assert!(rt; list.pin == 0x14 && list.list.as_slice() == heard.as_slice());
     Ok(())
 }
 
@@ -248,7 +249,9 @@ fn nothing_happens_where_nothing_is(rt: HostRuntime) -> Result<(), Fail> {
     // Nothing was fetched.
     desk.run(&mut memory, &[Step::Link(1)])?;
     let lists = desk.lists.into_lists();
-    assert!(rt; lists.len() == 1 && lists[0].list.as_slice() == [Heard::Hole].as_slice());
+    assert!(rt; lists.len() == 1);
+    let list = lists.pin(rt.alloc(), 0)?;
+    assert!(rt; list.list.as_slice() == [Heard::Hole].as_slice());
     Ok(())
 }
 

@@ -48,9 +48,10 @@ fn three_frames(alloc: Global, text: &str) -> Result<HeardLists, Fail> {
 fn pins_hear_frames(rt: HostRuntime) -> Result<(), Fail> {
     let lists = three_frames(rt.alloc(), LEAST)?.into_lists();
     assert!(rt; lists.len() == 1);
+    let list = lists.pin(rt.alloc(), 0)?;
     let heard = [Heard::Sound(1, 2), Heard::Sound(3, -1), Heard::Hole];
-    assert!(rt; lists[0].codec == 0 && lists[0].pin == 0x14);
-    assert!(rt; lists[0].list.as_slice() == heard.as_slice());
+    assert!(rt; list.codec == 0 && list.pin == 0x14);
+    assert!(rt; list.list.as_slice() == heard.as_slice());
     Ok(())
 }
 
@@ -60,10 +61,11 @@ fn pins_stand_in_their_order(rt: HostRuntime) -> Result<(), Fail> {
     let want = [0x14, 0x16, 0x15, 0x17, 0x1B];
     assert!(rt; lists.len() == want.len());
     for (place, pin) in want.iter().enumerate() {
-        let list = lists
-            .get(place)
-            .map(|list| (list.codec, list.pin, list.list.len()));
-        assert!(rt; list == Some((0, *pin, 3)), "{list:?}");
+        let list = lists.pin(rt.alloc(), place)?;
+        assert!(rt;
+            list.codec == 0 && list.pin == *pin && list.list.len() == 3,
+            "{list:?}"
+        );
     }
     Ok(())
 }

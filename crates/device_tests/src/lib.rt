@@ -8,13 +8,7 @@ mod codecs;
 #[cfg(test)]
 mod controller;
 #[cfg(test)]
-mod engine;
-#[cfg(test)]
-mod formats;
-#[cfg(test)]
 mod heard;
-#[cfg(test)]
-mod long_walks;
 #[cfg(test)]
 mod platform;
 #[cfg(test)]
@@ -23,15 +17,3 @@ mod pool;
 mod registers;
 #[cfg(test)]
 mod rings;
-#[cfg(test)]
-mod routes;
-#[cfg(test)]
-mod scripted;
-#[cfg(test)]
-mod setup;
-#[cfg(test)]
-mod sounds;
-#[cfg(test)]
-mod streams;
-#[cfg(test)]
-mod walks;

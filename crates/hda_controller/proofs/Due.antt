@@ -16,6 +16,7 @@ use Rattle.codec_sound.specs.HeardLists.{signal_with}
 use Rattle.codec_sound.proofs.Callers.{among-signal_of}
 use Rattle.heard_lists.specs.Listings.{Listing, HasRoom}
 use Rattle.hda_controller.specs.Hearing.{AreDue}
+use Rattle.hda_controller.specs.Unheard.{AreWhole, block_count}
 
 -- lists with room for some items have room for fewer
 pub HasRoom-fewer : (fewer items : ℕ) (lists : List Listing) → fewer ≤ items → HasRoom items lists → HasRoom fewer lists
@@ -57,6 +58,23 @@ module _ (word blocks : ℕ) (format : Format) (due : AreDue word blocks) (is : 
   -- and these are four at most
   pub few_items : (size : ℕ) (bytes : List ℕ) → size ≡ block_bytes format → length bytes ≡ 128 → length (take (blocks * size) bytes) / block_bytes format ≤ 4
   few_items size bytes block long = let count = due_count size bytes block long in let few = due_few in omega (arith, count, few)
+
+  -- they are whole
+  pub due_whole : (size : ℕ) (bytes : List ℕ) → size ≡ block_bytes format → length bytes ≡ 128 → AreWhole (layout_of word) (take (blocks * size) bytes)
+  due_whole size bytes block long =
+      let front : List ℕ = take (blocks * size) bytes in
+      subst (λ (found : Option Layout). AreWhole found front) is
+      (length-take-le (blocks * size) bytes (let fit = due_fit size block in omega (arith, fit, long))
+      ∙ (ap (λ (n : ℕ). blocks * n) block ∙ ap (λ (n : ℕ). n * block_bytes format) (sym (due_count size bytes block long))))
+
+  -- and four at most
+  pub due_items : (size : ℕ) (bytes : List ℕ) → size ≡ block_bytes format → length bytes ≡ 128 → block_count (layout_of word) (take (blocks * size) bytes) ≤ 4
+  due_items size bytes block long =
+      subst (λ (found : Option Layout). block_count found (take (blocks * size) bytes) ≤ 4) is (few_items size bytes block long)
+
+  -- of that layout
+  pub due_layout : (layout' : Layout) → layout_of word ≡ Some layout' → layout' ≡ layout format
+  due_layout layout' reads = ap (λ (o : Option Layout). unwrap_or o layout') (sym reads ∙ sym is)
 
 -- ---- the pairs that pins hear are among the format's channels
 

@@ -9,4 +9,5 @@ mod Hearing
 mod Due
 mod Growth
 mod Listed
+mod Unheard
 pub mod Callers

@@ -1,10 +1,9 @@
 //! The controller.
-ghost use Rattle.std.specs.Prelude.{◌≡◌, ◌+◌, ◌*◌, ℕ, List, All, IfOk, Contains, Some, true, map, take};
+ghost use Rattle.std.specs.Prelude.{◌≡◌, ◌+◌, ℕ, List, All, IfOk, Contains, Some, true, map};
 ghost use Rattle.hda_registers.specs.Access.{value_at};
 ghost use Rattle.hda_world.specs.Worlds.{World, output_of};
 ghost use Rattle.std.specs.Option.{option_map};
-ghost use Rattle.stream_format.specs.Cadence.{bytes_of_block};
-ghost use Rattle.stream_format.specs.Layouts.{Layout, layout, layout_of};
+ghost use Rattle.stream_format.specs.Layouts.{layout, layout_of};
 ghost use Rattle.stream_descriptor.specs.Running.{found_at};
 ghost use Rattle.stream_descriptor.specs.Frames.{IsAnswer};
 ghost use Rattle.hda_device.specs.Devices.{KeepsSound};
@@ -12,11 +11,13 @@ ghost use Rattle.hda_world.specs.Steps as steps;
 ghost use Rattle.hda_world.specs.Events.{after_write};
 ghost use Rattle.hda_device.specs.Codecs.{addresses_of, place_of, handed_now};
 ghost use Rattle.hda_files.specs.Machines.{IsSound};
-ghost use Rattle.heard_lists.specs.Listings.{Listing, HasRoom, AreListsOf, graphs_in, with_blocks};
+ghost use Rattle.heard_lists.specs.Listings.{Listing, HasRoom, AreListsOf, graphs_in};
 ghost use Rattle.hda_controller.specs.Controllers.{StandsFor, renewals_of, renewals_written, renewals_handed};
 ghost use Rattle.hda_controller.specs.Controllers.{renewals_at, is_candidate_of, signal_now};
-ghost use Rattle.hda_controller.specs.Hearing.{most_items, AreHeard, AreDue, Grew, renewals_stepped};
+ghost use Rattle.hda_controller.specs.Hearing.{most_items, AreHeard, Grew, renewals_stepped};
 ghost use Rattle.hda_controller.specs.Openings.{opening_world};
+
+mod hearing;
 
 use crate::opening::{all_signals_of, codecs_of, shape_of};
 use crate::places::place_of;
@@ -239,62 +240,6 @@ impl Controller {
             Step::Plug(codec, pin) => self.plug(codec, pin, true),
             Step::Unplug(codec, pin) => self.plug(codec, pin, false),
         }
-    }
-
-    /// Lets so many link frames pass.
-    fn link(&mut self, frames: u32, heard: &mut HeardLists)
-        requires room { HasRoom (4 * frames) heard.old }
-        requires lists { AreHeard self.old.device.codecs heard.old }
-        ensures stands { (memory : List ℕ) (world : World) → StandsFor memory self.old world
-            → StandsFor memory self.new (steps.times frames steps.frame_step world) }
-        ensures heard { (memory : List ℕ) (world : World) → StandsFor memory self.old world
-            → Grew world (steps.times frames steps.frame_step world) heard.old heard.new }
-        ensures room { (more : ℕ) → HasRoom (4 * frames + more) heard.old → HasRoom more heard.new }
-        ensures kept { self.new.kept ≡ self.old.kept }
-    {
-        let mut bytes = [0; MOST_FRAME_BYTES];
-        for _passed in 0..frames {
-            self.link_frame(&mut bytes, heard);
-        }
-    }
-
-    /// Lets a link frame pass. What it carries is heard on the lists, and its bytes stand at the front of `bytes`.
-    fn link_frame(&mut self, bytes: &mut [u8; MOST_FRAME_BYTES], heard: &mut HeardLists)
-        requires room { HasRoom 4 heard.old }
-        requires lists { AreHeard self.old.device.codecs heard.old }
-        ensures stands { (memory : List ℕ) (world : World) → StandsFor memory self.old world
-            → StandsFor memory self.new (steps.frame_step world) }
-        ensures heard { (memory : List ℕ) (world : World) → StandsFor memory self.old world
-            → Grew world (steps.frame_step world) heard.old heard.new }
-        ensures room { (more : ℕ) → HasRoom (4 + more) heard.old → HasRoom more heard.new }
-        ensures lists { AreHeard self.new.device.codecs heard.new }
-        ensures kept { self.new.kept ≡ self.old.kept }
-    {
-        // The controller stands for some world, by which a frame has at most four blocks.
-        self.device.is_some_world();
-        match self.frame(bytes) {
-            Frame::Idle => {}
-            Frame::Gap => {}
-            Frame::Blocks(blocks) => self.hear(blocks, bytes, heard),
-            Frame::Hole => heard.miss(),
-        }
-    }
-
-    /// Lets the lists hear so many blocks, which were due and stand at the front of `bytes`.
-    fn hear(&self, blocks: u32, bytes: &[u8; MOST_FRAME_BYTES], heard: &mut HeardLists)
-        requires due { AreDue self.now.device.registers.output.format blocks }
-        requires room { HasRoom 4 heard.old }
-        requires lists { AreHeard self.now.device.codecs heard.old }
-        ensures heard { (layout : Layout) → layout_of self.now.device.registers.output.format ≡ Some layout
-            → heard.new ≡ map (with_blocks (signal_now self.now.device) layout
-            (take (blocks * bytes_of_block layout.channels layout.bits) bytes.now)) heard.old }
-        ensures room { (more : ℕ) → HasRoom (4 + more) heard.old → HasRoom more heard.new }
-    {
-        let Some(format) = self.format() else {
-            unreachable!()
-        };
-        let size = (blocks * format.block_bytes()) as usize;
-        heard.hear(self, format, &bytes[..size]);
     }
 }
 

@@ -1,6 +1,6 @@
 -- The ways in which something is meant by words.
-use Rattle.std.proofs.Common.{◌≡◌, ◌≢◌, ℕ, ◌+◌, ◌++◌, List, [], ◌∷◌, length, Bool, true, false, inl, inr, Option, Some, refl, sym, ap, subst, arith, option_map}
-use Rattle.std.specs.Prelude.{if◌then◌else◌}
+use Rattle.std.proofs.Common.{◌≡◌, ◌≢◌, ℕ, ◌+◌, ◌++◌, List, [], ◌∷◌, length, Bool, true, false, inl, inr, Option, Some, refl, sym, ap, subst, arith}
+use Rattle.std.specs.Prelude.{if◌then◌else◌, option_and_then}
 use Rattle.std.specs.List.{Contains}
 use Rattle.stream_format.specs.declared.format.Format.{Format}
 use Rattle.route_planner.specs.declared.routes.Plan.{Plan}
@@ -20,7 +20,7 @@ use Rattle.scheduled_runs.specs.Walks.{walk_format}
 use Rattle.hda_program.specs.Causes.{HasBadCodecFile, HasBadRing, HasBadSchedule, HasBadWav, HasPlanned, HasStoppedUnread, HasUnreadFile, WantsRun, WantsSound}
 use Rattle.hda_program.specs.Promises.{HasRun}
 use Rattle.hda_program.specs.Files.{CodecStops, IsHeadOf, IsMachineOf, IsScheduleOf, ScheduleStops, bytes_before}
-use Rattle.hda_program.specs.Meanings.{Meant, of_run, telling, unrouted}
+use Rattle.hda_program.specs.Meanings.{Meant, run_meant, telling, unrouted}
 use Rattle.hda_program.specs.Rings.{IsRingOf}
 use Rattle.hda_program.proofs.WalkLemmas.{other_first, other_one, other_second}
 use Rattle.machine_tasks.specs.Tasks.{HavePlans}
@@ -47,10 +47,10 @@ Cause told failed unasked words OutOfMemory = ⊥
 Cause told failed unasked words GeometryRefused = HasBadRing told words
 Cause told failed unasked words WavShrank = ⊥
 
--- a text alone, for a cause, or a run
-pub data Case (Cause : Status → Type 0) (Run : Played → Type 0) (meant : Meant) : Type 0 where
+-- a text alone, for a cause, or a run that is told by a text
+pub data Case (Cause : Status → Type 0) (Run : Played → List ℕ → Type 0) (meant : Meant) : Type 0 where
   said : (status : Status) → Cause status → (text : List ℕ) → meant ≡ telling status text → Case Cause Run meant
-  ran : (played : Played) → Run played → meant ≡ of_run played → Case Cause Run meant
+  ran : (played : Played) (text : List ℕ) → Run played text → meant ≡ run_meant played text → Case Cause Run meant
 
 abbrev pub WordsCase : Option Files → (failed emptied unasked : List ℕ → Type 0) → (gave : ℕ → Type 0) → List (List ℕ) → Meant → Type 0
 WordsCase told failed emptied unasked gave words meant = Case (Cause told failed unasked words) (HasRun told failed emptied gave words) meant
@@ -91,7 +91,7 @@ module _ (told : Option Files) (failed emptied unasked : List ℕ → Type 0) (g
 
   route_cases : (name : List ℕ) (format : Format) (meant : Meant) → IsRouteOf words name format → RouteAnswers told failed name format meant → WordsCase told failed emptied unasked gave words meant
   route_cases name format meant is (inl stop) =
-      codec_stop name [] meant (names_of (route name (hertz format.rate) (bits_of format.bits) format.channels) name is (0, omega arith, refl)) (ap files_asked is) (ap (option_map codec_of) is)
+      codec_stop name [] meant (names_of (route name (hertz format.rate) (bits_of format.bits) format.channels) name is (0, omega arith, refl)) (ap files_asked is) (ap (option_and_then codec_of) is)
       (λ other within apart. none_after other within) stop
   route_cases name format meant is (inr answers) =
       route_plans name format answers.0 answers.2.0 meant is answers.1 answers.2.1 (have_route answers.2.0) refl answers.2.2
@@ -112,19 +112,22 @@ module _ (told : Option Files) (failed emptied unasked : List ℕ → Type 0) (g
         routed = none.0;
       }) _ none.1
   walk_plans codec name machine schedule plans meant is file steps planned (inr run) =
-      ran run.0 (inl (record {
-        codec_name = codec;
-        schedule_name = name;
-        machine = machine;
-        plans = plans;
-        schedule = schedule;
-        asks = is;
-        codec_file = file;
-        schedule_file = steps;
-        planned = planned;
-        routed = run.1;
-        run = run.2;
-      })) run.3
+      ran run.0 _ (inl (
+        inl (record {
+          codec_name = codec;
+          schedule_name = name;
+          machine = machine;
+          plans = plans;
+          schedule = schedule;
+          asks = is;
+          codec_file = file;
+          schedule_file = steps;
+          planned = planned;
+          routed = run.1;
+          run = run.2;
+        }),
+        refl,
+      )) run.3
 
   walk_machine : (codec name : List ℕ) (machine : Machine) (meant : Meant) → IsWalkOf words codec name → IsMachineOf told codec machine → MachineWalks told failed machine name meant
       → WordsCase told failed emptied unasked gave words meant
@@ -135,7 +138,7 @@ module _ (told : Option Files) (failed emptied unasked : List ℕ → Type 0) (g
 
   walk_cases : (codec name : List ℕ) (meant : Meant) → IsWalkOf words codec name → WalkAnswers told failed unasked codec name meant → WordsCase told failed emptied unasked gave words meant
   walk_cases codec name meant is (inl stop) =
-      codec_stop codec (name ∷ []) meant (names_of (walk codec name) codec is (0, omega arith, refl)) (ap files_asked is) (ap (option_map codec_of) is)
+      codec_stop codec (name ∷ []) meant (names_of (walk codec name) codec is (0, omega arith, refl)) (ap files_asked is) (ap (option_and_then codec_of) is)
       (λ other within apart. stop.1 other (other_one codec other apart)) stop.0
   walk_cases codec name meant is (inr answers) = walk_machine codec name answers.0 meant is answers.1 answers.2
 
@@ -174,31 +177,34 @@ module _ (told : Option Files) (failed emptied unasked : List ℕ → Type 0) (g
           routed = none.0;
         }) _ none.1
     play_plans machine head schedule geometry plans file wav_file steps ring planned (inr run) =
-        ran run.0 (inr (record {
-          codec_name = codec;
-          wav_name = wav;
-          schedule_name = name;
-          periods = periods;
-          period = period;
-          asks = is;
-          files = record {
-            machine = machine;
-            head = head;
-            geometry = geometry;
-            schedule = schedule;
-            plans = plans;
-            codec_file = file;
-            wav_file = wav_file;
-            schedule_file = steps;
-            ring = ring;
-            planned = planned;
-            routed = run.1;
-            run = run.2;
-            cut = run.4;
-            reads_little = run.5;
-            reads_frames = run.6;
-          };
-        })) run.3
+        ran run.0 _ (inl (
+          inr (record {
+            codec_name = codec;
+            wav_name = wav;
+            schedule_name = name;
+            periods = periods;
+            period = period;
+            asks = is;
+            files = record {
+              machine = machine;
+              head = head;
+              geometry = geometry;
+              schedule = schedule;
+              plans = plans;
+              codec_file = file;
+              wav_file = wav_file;
+              schedule_file = steps;
+              ring = ring;
+              planned = planned;
+              routed = run.1;
+              run = run.2;
+              cut = run.4;
+              reads_little = run.5;
+              reads_frames = run.6;
+            };
+          }),
+          refl,
+        )) run.3
 
     play_schedule : (machine : Machine) (head : WavHead) (schedule : Schedule) → (file : IsMachineOf told codec machine) → IsHeadOf told wav head → (steps : IsScheduleOf told name schedule)
         → SchedulePlays told failed emptied (steps_gave machine head schedule file steps) periods period wav machine head schedule meant → WordsCase told failed emptied unasked gave words meant
@@ -258,7 +264,7 @@ module _ (told : Option Files) (failed emptied unasked : List ℕ → Type 0) (g
 
     play_cases : PlayAnswers told failed emptied unasked gave codec wav name periods period meant → WordsCase told failed emptied unasked gave words meant
     play_cases (inl stop) =
-        codec_stop codec (wav ∷ name ∷ []) meant (names_of (play codec wav name periods period) codec is (0, omega arith, refl)) (ap files_asked is) (ap (option_map codec_of) is)
+        codec_stop codec (wav ∷ name ∷ []) meant (names_of (play codec wav name periods period) codec is (0, omega arith, refl)) (ap files_asked is) (ap (option_and_then codec_of) is)
         (λ other within apart. stop.1 other (other_one codec other apart)) stop.0
     play_cases (inr answers) = play_machine answers.0 answers.1 answers.2
 
@@ -268,4 +274,6 @@ module _ (told : Option Files) (failed emptied unasked : List ℕ → Type 0) (g
   cases meant (inl refused) = said WordsRefused refused.0 _ refused.1
   cases meant (inr (inl asked)) = route_cases asked.0 asked.1 meant asked.2 asked.3
   cases meant (inr (inr (inl asked))) = walk_cases asked.0 asked.1 meant asked.2 asked.3
-  cases meant (inr (inr (inr asked))) = play_cases asked.0 asked.1 asked.2 asked.3 asked.4 meant asked.5 asked.6
+  cases meant (inr (inr (inr (inl asked)))) = play_cases asked.0 asked.1 asked.2 asked.3 asked.4 meant asked.5 asked.6
+  cases meant (inr (inr (inr (inr asked)))) =
+      ran asked.2.played _ (inr (record { number = asked.0; asks = asked.1; run = asked.2.run; ends = asked.2.ends; line = refl })) asked.2.is

@@ -10,7 +10,7 @@ use Rattle.route_planner.specs.declared.routes.Plan.{Plan}
 use Rattle.hda_outside.specs.Shelf.{Files}
 use Rattle.hda_files.specs.declared.machine.Machine.{Machine}
 use Rattle.hda_schedule.specs.declared.schedule.Schedule.{Schedule}
-use Rattle.hda_words.specs.Asked.{Asked, bits_of, hertz, play, route, walk}
+use Rattle.hda_words.specs.Asked.{Asked, bits_of, hertz, play, route, walk, make}
 use Rattle.hda_words.proofs.Callers.{bits_of-same, hertz-same}
 use Rattle.period_writer.specs.declared.geometry.Geometry.{Geometry}
 use Rattle.period_writer.specs.declared.geometry.GeometryFault.{GeometryFault}
@@ -216,7 +216,9 @@ route_of_words told failed emptied unasked gave words name format meant routes (
     let channels : other.channels ≡ format.channels = cc in
     subst (λ (f : Format). RouteAnswers told failed name f meant) (same_format format other rates bits channels) (subst (λ (n : List ℕ). RouteAnswers told failed n other meant) name_is answers)
 route_of_words told failed emptied unasked gave words name format meant routes (inr (inr (inl (codec, schedule, asks, answers)))) = absurd (not_route_and_walk words name format codec schedule routes asks)
-route_of_words told failed emptied unasked gave words name format meant routes (inr (inr (inr (codec, wav, schedule, most, units, asks, answers)))) =
+route_of_words told failed emptied unasked gave words name format meant routes (inr (inr (inr (inr (number, asks, answers))))) =
+    let bad : make number ≡ route name (hertz format.rate) (bits_of format.bits) format.channels = same_asked words _ _ asks routes in cc
+route_of_words told failed emptied unasked gave words name format meant routes (inr (inr (inr (inl (codec, wav, schedule, most, units, asks, answers))))) =
     absurd (not_route_and_play words name format codec wav schedule most units routes asks)
 
 walk_of_words : (told : Option Files) (failed emptied unasked : List ℕ → Type 0) (gave : ℕ → Type 0) (words : List (List ℕ)) (codec name : List ℕ) (meant : Meant) → IsWalkOf words codec name
@@ -228,13 +230,16 @@ walk_of_words told failed emptied unasked gave words codec name meant walks (inr
     let codec_is : first ≡ codec = cc in
     let name_is : second ≡ name = cc in
     subst (λ (n : List ℕ). WalkAnswers told failed unasked codec n meant) name_is (subst (λ (n : List ℕ). WalkAnswers told failed unasked n second meant) codec_is answers)
-walk_of_words told failed emptied unasked gave words codec name meant walks (inr (inr (inr (first, second, third, most, units, asks, answers)))) =
+walk_of_words told failed emptied unasked gave words codec name meant walks (inr (inr (inr (inr (number, asks, answers))))) =
+    let bad : make number ≡ walk codec name = same_asked words _ _ asks walks in cc
+walk_of_words told failed emptied unasked gave words codec name meant walks (inr (inr (inr (inl (first, second, third, most, units, asks, answers))))) =
     let bad : play first second third most units ≡ walk codec name = same_asked words _ _ asks walks in cc
 
 -- what is answered to these words for a play
 abbrev PlayAnswersTo : Option Files → (failed emptied unasked : List ℕ → Type 0) → (gave : ℕ → Type 0) → Meant → Asked → Type 0
 PlayAnswersTo told failed emptied unasked gave meant (route codec rate bits channels) = ⊥
 PlayAnswersTo told failed emptied unasked gave meant (walk codec name) = ⊥
+PlayAnswersTo told failed emptied unasked gave meant (make number) = ⊥
 PlayAnswersTo told failed emptied unasked gave meant (play codec wav name periods period) = PlayAnswers told failed emptied unasked gave codec wav name periods period meant
 
 play_of_words : (told : Option Files) (failed emptied unasked : List ℕ → Type 0) (gave : ℕ → Type 0) (words : List (List ℕ)) (codec wav name : List ℕ) (periods period : ℕ) (meant : Meant)
@@ -245,7 +250,9 @@ play_of_words told failed emptied unasked gave words codec wav name periods peri
     absurd (not_route_and_play words asked.0 asked.1 codec wav name periods period asked.2 plays)
 play_of_words told failed emptied unasked gave words codec wav name periods period meant plays (inr (inr (inl (first, second, asks, answers)))) =
     let bad : walk first second ≡ play codec wav name periods period = same_asked words _ _ asks plays in cc
-play_of_words told failed emptied unasked gave words codec wav name periods period meant plays (inr (inr (inr (first, second, third, most, units, asks, answers)))) =
+play_of_words told failed emptied unasked gave words codec wav name periods period meant plays (inr (inr (inr (inr (number, asks, answers))))) =
+    let bad : make number ≡ play codec wav name periods period = same_asked words _ _ asks plays in cc
+play_of_words told failed emptied unasked gave words codec wav name periods period meant plays (inr (inr (inr (inl (first, second, third, most, units, asks, answers))))) =
     let same : play first second third most units ≡ play codec wav name periods period = same_asked words _ _ asks plays in
     subst (λ (a : Asked). PlayAnswersTo told failed emptied unasked gave meant a) same answers
 

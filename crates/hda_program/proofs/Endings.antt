@@ -1,5 +1,5 @@
 -- What the statuses of the program come to, and when it gives a run.
-use Rattle.std.proofs.Common.{◌≡◌, ◌≢◌, ◌∙◌, ◌≤◌, ℕ, List, Bool, true, false, inl, inr, Option, Some, None, refl, sym, ap, subst, arith}
+use Rattle.std.proofs.Common.{◌≡◌, ◌≢◌, ◌∙◌, ℕ, List, Bool, true, false, inl, inr, Option, Some, None, refl, sym, ap, subst, arith}
 use Rattle.std.specs.Prelude.{◌⊎◌, ◌==◌, ◌||◌, if◌then◌else◌, IfSome, IsNone, IsSome, IsSomeAnd}
 use Rattle.std.specs.List.{Contains}
 use Rattle.route_planner.specs.declared.routes.Plan.{Plan}
@@ -9,7 +9,7 @@ use Rattle.period_writer.specs.declared.geometry.Geometry.{Geometry}
 use Rattle.wav_reader.specs.declared.opened.WavHead.{WavHead}
 use Rattle.stream_format.specs.declared.format.Format.{Format}
 use Rattle.hda_outside.specs.Shelf.{Files}
-use Rattle.hda_words.specs.Asked.{Asked, bits_of, hertz, play, request_of, route, walk}
+use Rattle.hda_words.specs.Asked.{Asked, bits_of, hertz, make, play, request_of, route, walk}
 use Rattle.sound_report.specs.declared.played.Played.{Played}
 use Rattle.sound_report.specs.declared.played.PlayFault.{PlayFault}
 use Rattle.sound_report.specs.declared.played.PlayFault.TheVariants as fault
@@ -24,7 +24,8 @@ use Rattle.hda_program.specs.Asks.{IsNoCommand, IsPlayOf, IsRouteOf, IsWalkOf, N
 use Rattle.hda_program.specs.Files.{IsHeadIn}
 use Rattle.hda_program.specs.Causes.{HasBadCodecFile, HasBadRing, HasBadSchedule, HasBadWav, HasPlanned, HasStoppedUnread, HasUnreadFile, IsFailedCut, IsOfSound, IsOfWalk, IsRunless, IsShortCut, OfItsWav, WasShortened, WasUnread}
 use Rattle.hda_program.specs.Promises.{HasPlayedFiles, HasRun, KeepsPromise}
-use Rattle.hda_program.specs.Meanings.{Meant, end_status, fault_status, of_run, status_of, telling}
+use Rattle.hda_program.specs.Made.{HasMade, WantsMade}
+use Rattle.hda_program.specs.Meanings.{Meant, end_status, fault_status, run_meant, status_of, telling}
 use Rattle.hda_program.proofs.Cases.{Case, Cause as CauseOf, IsRouted, WordsCase, cases, ran, said}
 
 -- ---- numbers
@@ -79,12 +80,12 @@ run_ends None (Some (fault.FramesLeft written heard of)) = refl
 abbrev IsNoEnd : ℕ → Type 0
 IsNoEnd n = is_end n ≡ false
 
-number_run : (meant : Meant) (played : Played) → meant ≡ of_run played → number_of meant.status ≡ number_of (status_of played)
-number_run meant played e = ap (λ (m : Meant). number_of m.status) e
+number_run : (meant : Meant) (played : Played) (text : List ℕ) → meant ≡ run_meant played text → number_of meant.status ≡ number_of (status_of played)
+number_run meant played text e = ap (λ (m : Meant). number_of m.status) e
 
-run_differs : {X : Type 0} (meant : Meant) (played : Played) (n : ℕ) → meant ≡ of_run played → number_of meant.status ≡ n → IsNoEnd n → X
-run_differs meant played n e number no_end =
-    let is : number_of (status_of played) ≡ n = sym (number_run meant played e) ∙ number in
+run_differs : {X : Type 0} (meant : Meant) (played : Played) (text : List ℕ) (n : ℕ) → meant ≡ run_meant played text → number_of meant.status ≡ n → IsNoEnd n → X
+run_differs meant played text n e number no_end =
+    let is : number_of (status_of played) ≡ n = sym (number_run meant played text e) ∙ number in
     let bad : true ≡ false = sym (run_ends played.cut played.fault) ∙ ap is_end is ∙ no_end in cc
 
 -- ---- a cut
@@ -126,6 +127,10 @@ no_walk_end (Some (fault.CommandsLeft sent of)) n number (inr is) = omega (arith
 no_walk_end (Some (fault.FramesLeft written heard of)) n number (inl is) = omega (arith, number, is)
 no_walk_end (Some (fault.FramesLeft written heard of)) n number (inr is) = omega (arith, number, is)
 
+-- nor does what was made
+made_number : {words : List (List ℕ)} {text : List ℕ} (played : Played) → HasMade words played text → (n : ℕ) → number_of (status_of played) ≡ n → (n ≡ 3) ⊎ (n ≡ 14) → ⊥
+made_number played made n number either = no_walk_end played.fault n (sym (uncut_end played.cut played.fault made.run.uncut) ∙ number) either
+
 -- a sound of a told file does not get shorter
 never_cut : (files : Files) (name : List ℕ) (head : WavHead) (machine : Machine) (plans : List Plan) (geometry : Geometry) (schedule : Schedule) (played : Played)
     → IsHeadIn files name head → IsPlayedFrom (Some files) name head machine plans geometry schedule played → (cut : Option CutLine) → played.cut ≡ cut → IsShortCut cut → ⊥
@@ -156,11 +161,12 @@ module _ (failed emptied : List ℕ → Type 0) (gave : ℕ → Type 0) where
       never_short files wav run.head run.machine run.plans run.geometry run.schedule played run.wav_file.file run.run (played_short wav played run number).cut
 
   -- a run of the words
-  run_unread : {told : Option Files} {words : List (List ℕ)} (played : Played) → HasRun told failed emptied gave words played → number_of (status_of played) ≡ 3
+  run_unread : {told : Option Files} {words : List (List ℕ)} (played : Played) (text : List ℕ) → HasRun told failed emptied gave words played text → number_of (status_of played) ≡ 3
       → OfItsWav (λ wav. WasUnread failed wav played) words
-  run_unread played (inl walked) number =
+  run_unread played text (inl (inl walked, is)) number =
       absurd (no_walk_end played.fault 3 (sym (uncut_end played.cut played.fault walked.run.silent.uncut) ∙ number) (inl refl))
-  run_unread played (inr sounded) number = record {
+  run_unread played text (inr made) number = absurd (made_number played made 3 number (inl refl))
+  run_unread played text (inl (inr sounded, is)) number = record {
     codec_name = sounded.codec_name;
     wav_name = sounded.wav_name;
     schedule_name = sounded.schedule_name;
@@ -170,11 +176,12 @@ module _ (failed emptied : List ℕ → Type 0) (gave : ℕ → Type 0) where
     cut = played_unread sounded.wav_name played sounded.files number;
   }
 
-  run_short : {told : Option Files} {words : List (List ℕ)} (played : Played) → HasRun told failed emptied gave words played → number_of (status_of played) ≡ 14
+  run_short : {told : Option Files} {words : List (List ℕ)} (played : Played) (text : List ℕ) → HasRun told failed emptied gave words played text → number_of (status_of played) ≡ 14
       → OfItsWav (λ wav. WasShortened emptied wav played) words
-  run_short played (inl walked) number =
+  run_short played text (inl (inl walked, is)) number =
       absurd (no_walk_end played.fault 14 (sym (uncut_end played.cut played.fault walked.run.silent.uncut) ∙ number) (inr refl))
-  run_short played (inr sounded) number = record {
+  run_short played text (inr made) number = absurd (made_number played made 14 number (inr refl))
+  run_short played text (inl (inr sounded, is)) number = record {
     codec_name = sounded.codec_name;
     wav_name = sounded.wav_name;
     schedule_name = sounded.schedule_name;
@@ -184,10 +191,11 @@ module _ (failed emptied : List ℕ → Type 0) (gave : ℕ → Type 0) where
     cut = played_short sounded.wav_name played sounded.files number;
   }
 
-  run_told : (files : Files) {words : List (List ℕ)} (played : Played) → HasRun (Some files) failed emptied gave words played → number_of (status_of played) ≡ 14 → ⊥
-  run_told files played (inl walked) number =
+  run_told : (files : Files) {words : List (List ℕ)} (played : Played) (text : List ℕ) → HasRun (Some files) failed emptied gave words played text → number_of (status_of played) ≡ 14 → ⊥
+  run_told files played text (inl (inl walked, is)) number =
       no_walk_end played.fault 14 (sym (uncut_end played.cut played.fault walked.run.silent.uncut) ∙ number) (inr refl)
-  run_told files played (inr sounded) number = told_never_short files sounded.wav_name played sounded.files number
+  run_told files played text (inr made) number = made_number played made 14 number (inr refl)
+  run_told files played text (inl (inr sounded, is)) number = told_never_short files sounded.wav_name played sounded.files number
 
 -- ---- the words are those of one command
 
@@ -204,9 +212,11 @@ not_route_and_play words name format codec wav schedule periods period routes pl
     let bad : route name (hertz format.rate) (bits_of format.bits) format.channels ≡ play codec wav schedule periods period = same_asked words _ _ routes plays in cc
 
 -- no route makes a run
-no_run_of_route : (told : Option Files) (failed emptied : List ℕ → Type 0) (gave : ℕ → Type 0) (words : List (List ℕ)) (name : List ℕ) (format : Format) (played : Played) → IsRouteOf words name format → HasRun told failed emptied gave words played → ⊥
-no_run_of_route told failed emptied gave words name format played routes (inl walked) = not_route_and_walk words name format walked.codec_name walked.schedule_name routes walked.asks
-no_run_of_route told failed emptied gave words name format played routes (inr sounded) =
+no_run_of_route : (told : Option Files) (failed emptied : List ℕ → Type 0) (gave : ℕ → Type 0) (words : List (List ℕ)) (name : List ℕ) (format : Format) (played : Played) (text : List ℕ) → IsRouteOf words name format → HasRun told failed emptied gave words played text → ⊥
+no_run_of_route told failed emptied gave words name format played text routes (inl (inl walked, is)) = not_route_and_walk words name format walked.codec_name walked.schedule_name routes walked.asks
+no_run_of_route told failed emptied gave words name format played text routes (inr made) =
+    let bad : route name (hertz format.rate) (bits_of format.bits) format.channels ≡ make made.number = same_asked words _ _ routes made.asks in cc
+no_run_of_route told failed emptied gave words name format played text routes (inl (inr sounded, is)) =
     not_route_and_play words name format sounded.codec_name sounded.wav_name sounded.schedule_name sounded.periods sounded.period routes sounded.asks
 
 -- the words name their WAV file
@@ -219,8 +229,9 @@ named words codec wav name periods period is =
 -- ---- the causes
 
 -- plans of a run have a route
-was_planned : {told : Option Files} {failed emptied : List ℕ → Type 0} {gave : ℕ → Type 0} {words : List (List ℕ)} {played : Played} → HasRun told failed emptied gave words played → HasPlanned told words true
-was_planned (inl walked) = record {
+was_planned : {told : Option Files} {failed emptied : List ℕ → Type 0} {gave : ℕ → Type 0} {words : List (List ℕ)} {played : Played} {text : List ℕ} → HasRun told failed emptied gave words played text → HasPlanned told words true ⊎ WantsMade words
+was_planned (inr made) = inr (made.number, made.asks)
+was_planned (inl (inl walked, is)) = inl (record {
   codec_name = walked.codec_name;
   format = _;
   machine = walked.machine;
@@ -229,8 +240,8 @@ was_planned (inl walked) = record {
   codec_file = walked.codec_file;
   planned = walked.planned;
   routed = walked.routed;
-}
-was_planned (inr sounded) = record {
+})
+was_planned (inl (inr sounded, is)) = inl (record {
   codec_name = sounded.codec_name;
   format = sounded.files.head.format;
   machine = sounded.files.machine;
@@ -244,9 +255,9 @@ was_planned (inr sounded) = record {
   codec_file = sounded.files.codec_file;
   planned = sounded.files.planned;
   routed = sounded.files.routed;
-}
+})
 
-module _ (Cause : Status → Type 0) (Run : Played → Type 0) where
+module _ (Cause : Status → Type 0) (Run : Played → List ℕ → Type 0) where
   -- the cause of a text, by the number of its status
   said_cause : (n : ℕ) (meant : Meant) (status : Status) (text : List ℕ) → meant ≡ telling status text → number_of meant.status ≡ n → Cause status → Cause (status_with n)
   said_cause n meant status text e number cause =
@@ -256,14 +267,14 @@ module _ (Cause : Status → Type 0) (Run : Played → Type 0) where
 
   cause_at : (n : ℕ) → IsNoEnd n → (meant : Meant) → Case Cause Run meant → number_of meant.status ≡ n → Cause (status_with n)
   cause_at n no_end meant (said status cause text e) number = said_cause n meant status text e number cause
-  cause_at n no_end meant (ran played run e) number = run_differs meant played n e number no_end
+  cause_at n no_end meant (ran played text run e) number = run_differs meant played text n e number no_end
 
 -- some pin has a route, of a route or of a run
 some_routed : (told : Option Files) (failed emptied unasked : List ℕ → Type 0) (gave : ℕ → Type 0) (words : List (List ℕ)) (meant : Meant) → WordsCase told failed emptied unasked gave words meant → number_of meant.status ≡ 0
-    → HasPlanned told words true
+    → HasPlanned told words true ⊎ WantsMade words
 some_routed told failed emptied unasked gave words meant (said status cause text e) number =
-    let routed : IsRouted told words = said_cause (CauseOf told failed unasked words) (HasRun told failed emptied gave words) 0 meant status text e number cause in routed.3
-some_routed told failed emptied unasked gave words meant (ran played run e) number = was_planned run
+    let routed : IsRouted told words = said_cause (CauseOf told failed unasked words) (HasRun told failed emptied gave words) 0 meant status text e number cause in inl routed.3
+some_routed told failed emptied unasked gave words meant (ran played text run e) number = was_planned run
 
 -- ---- an end, by the case of what was meant
 
@@ -274,7 +285,7 @@ by_cases CanMean Of before after sink_failed given status cover (inl answered) =
     inl (record { meant = answered.meant; is = cover answered.meant answered.is; given = answered.given; written = answered.written })
 by_cases CanMean Of before after sink_failed given status cover (inr memory) = inr memory
 
-module _ (Cause : Status → Type 0) (Run : Played → Type 0) (before after : Option (List ℕ)) (sink_failed : Type 0) (play : Option Played) (status : ℕ) where
+module _ (Cause : Status → Type 0) (Run : Played → List ℕ → Type 0) (before after : Option (List ℕ)) (sink_failed : Type 0) (play : Option Played) (status : ℕ) where
   abbrev Ends : Type 0
   Ends = HasEndedWith (Case Cause Run) before after sink_failed play status
 
@@ -305,23 +316,23 @@ module _ (Cause : Status → Type 0) (Run : Played → Type 0) (before after : O
   no_run P meant of text e is =
       let none : play ≡ None = is ∙ ap (λ (m : Meant). m.play) e in subst (λ (o : Option Played). IfSome o P) (sym none) tt
 
-  run_of : (P : Played → Type 0) (meant : Meant) (played : Played) → meant ≡ of_run played → play ≡ meant.play → P played → IfSome play P
-  run_of P meant played e is holds =
+  run_of : (P : Played → Type 0) (meant : Meant) (played : Played) (text : List ℕ) → meant ≡ run_meant played text → play ≡ meant.play → P played → IfSome play P
+  run_of P meant played text e is holds =
       let some : play ≡ Some played = is ∙ ap (λ (m : Meant). m.play) e in subst (λ (o : Option Played). IfSome o P) (sym some) holds
 
   -- what holds of the run that was meant holds of the run that is given
-  of_given : (P : Played → Type 0) (meant : Meant) → Case Cause Run meant → play ≡ meant.play → ((played : Played) → Run played → meant ≡ of_run played → P played) → IfSome play P
+  of_given : (P : Played → Type 0) (meant : Meant) → Case Cause Run meant → play ≡ meant.play → ((played : Played) (text : List ℕ) → Run played text → meant ≡ run_meant played text → P played) → IfSome play P
   of_given P meant (said of cause text e) is holds = no_run P meant of text e is
-  of_given P meant (ran played run e) is holds = run_of P meant played e is (holds played run e)
+  of_given P meant (ran played text run e) is holds = run_of P meant played text e is (holds played text run e)
 
   given : (P : Played → Type 0) → Ends
-      → ((meant : Meant) (played : Played) → Run played → meant ≡ of_run played → HasWritten before after sink_failed meant status → P played) → IfSome play P
-  given P (inl answered) holds = of_given P answered.meant answered.is answered.given (λ played run e. holds answered.meant played run e answered.written)
+      → ((meant : Meant) (played : Played) (text : List ℕ) → Run played text → meant ≡ run_meant played text → HasWritten before after sink_failed meant status → P played) → IfSome play P
+  given P (inl answered) holds = of_given P answered.meant answered.is answered.given (λ played text run e. holds answered.meant played text run e answered.written)
   given P (inr memory) holds = subst (λ (o : Option Played). IfSome o P) (sym memory.1) tt
 
   pub promise_kept : Ends → IfSome play (KeepsPromise Run before after sink_failed status)
-  promise_kept ended = given (KeepsPromise Run before after sink_failed status) ended (λ meant played run e written.
-      record { run = run; text = subst (λ (m : Meant). HasWritten before after sink_failed m status) e written })
+  promise_kept ended = given (KeepsPromise Run before after sink_failed status) ended (λ meant played text run e written.
+      record { told_by = text; run = run; text = subst (λ (m : Meant). HasWritten before after sink_failed m status) e written })
 
   none_given : (o : Option Played) → IfSome o (λ played. ⊥) → IsNone o
   none_given None holds = refl
@@ -330,7 +341,7 @@ module _ (Cause : Status → Type 0) (Run : Played → Type 0) (before after : O
   -- no run is given at a status of a refusal
   refusal_runless : (n : ℕ) → Ends → status ≡ n → IsNoEnd n → (n ≢ 4) → (n ≢ 12) → IsNone play
   refusal_runless n ended is no_end no_sink no_memory =
-      none_given play (given (λ played. ⊥) ended (λ meant played run e written. run_differs meant played n e (meant_number meant n written is no_sink no_memory) no_end))
+      none_given play (given (λ played. ⊥) ended (λ meant played text run e written. run_differs meant played text n e (meant_number meant n written is no_sink no_memory) no_end))
 
   pub none_at : Ends → IsRunless status → IsNone play
   none_at ended (inl is) = refusal_runless 2 ended is refl (λ e. absurd (omega (arith, e))) (λ e. absurd (omega (arith, e)))
@@ -341,17 +352,17 @@ module _ (Cause : Status → Type 0) (Run : Played → Type 0) (before after : O
   none_at ended (inr (inr (inr (inr (inr is))))) = refusal_runless 13 ended is refl (λ e. absurd (omega (arith, e))) (λ e. absurd (omega (arith, e)))
 
   -- no run is given where none can be meant
-  none_meant : ((played : Played) → Run played → ⊥) → Ends → IsNone play
-  none_meant never ended = none_given play (given (λ played. ⊥) ended (λ meant played run e written. never played run))
+  none_meant : ((played : Played) (text : List ℕ) → Run played text → ⊥) → Ends → IsNone play
+  none_meant never ended = none_given play (given (λ played. ⊥) ended (λ meant played text run e written. never played text run))
 
   -- a run is given at the statuses of a run, where no text alone is meant with them
-  some_given : (meant : Meant) (played : Played) → meant ≡ of_run played → play ≡ meant.play → IsSome play
-  some_given meant played e is =
+  some_given : (meant : Meant) (played : Played) (text : List ℕ) → meant ≡ run_meant played text → play ≡ meant.play → IsSome play
+  some_given meant played text e is =
       let some : play ≡ Some played = is ∙ ap (λ (m : Meant). m.play) e in subst (λ (o : Option Played). IsSome o) (sym some) refl
 
   run_case : (n : ℕ) → (Cause (status_with n) → ⊥) → (meant : Meant) → Case Cause Run meant → play ≡ meant.play → number_of meant.status ≡ n → IsSome play
   run_case n none meant (said of cause text e) is number = absurd (none (said_cause Cause Run n meant of text e number cause))
-  run_case n none meant (ran played run e) is number = some_given meant played e is
+  run_case n none meant (ran played text run e) is number = some_given meant played text e is
 
   run_at : (n : ℕ) → (Cause (status_with n) → ⊥) → Ends → status ≡ n → (n ≢ 4) → (n ≢ 12) → IsSome play
   run_at n none (inl answered) is no_sink no_memory =
@@ -361,7 +372,7 @@ module _ (Cause : Status → Type 0) (Run : Played → Type 0) (before after : O
   -- a text alone was meant where no run is given
   said_case : (n : ℕ) → (meant : Meant) → Case Cause Run meant → play ≡ meant.play → number_of meant.status ≡ n → IsNone play → Cause (status_with n)
   said_case n meant (said of cause text e) is number none = said_cause Cause Run n meant of text e number cause
-  said_case n meant (ran played run e) is number none =
+  said_case n meant (ran played text run e) is number none =
       let some : play ≡ Some played = is ∙ ap (λ (m : Meant). m.play) e in
       let bad : true ≡ false = subst (λ (o : Option Played). IsNone o) some none in cc
 
@@ -378,23 +389,23 @@ module _ (Cause : Status → Type 0) (Run : Played → Type 0) (before after : O
   some_at done unanswered late left shrank ended (inr is) = run_at 14 shrank ended is (λ e. absurd (omega (arith, e))) (λ e. absurd (omega (arith, e)))
 
   -- what holds of each run with such a number holds of the run that is given with that status
-  pub of_run_at : (n : ℕ) (P : Played → Type 0) → ((played : Played) → Run played → number_of (status_of played) ≡ n → P played) → Ends → status ≡ n → (n ≢ 4) → (n ≢ 12) → IfSome play P
+  pub of_run_at : (n : ℕ) (P : Played → Type 0) → ((played : Played) (text : List ℕ) → Run played text → number_of (status_of played) ≡ n → P played) → Ends → status ≡ n → (n ≢ 4) → (n ≢ 12) → IfSome play P
   of_run_at n P holds ended is no_sink no_memory =
-      given P ended (λ meant played run e written. holds played run (sym (number_run meant played e) ∙ meant_number meant n written is no_sink no_memory))
+      given P ended (λ meant played text run e written. holds played text run (sym (number_run meant played text e) ∙ meant_number meant n written is no_sink no_memory))
 
   some_of : (P : Played → Type 0) (o : Option Played) → IsSome o → IfSome o P → IsSomeAnd o P
   some_of P None some holds = cc
   some_of P (Some played) some holds = holds
 
   -- the run of a file that got shorter
-  pub shrunk_at : (P : Played → Type 0) → ((played : Played) → Run played → number_of (status_of played) ≡ 14 → P played) → (Cause WavShrank → ⊥) → Ends → status ≡ 14 → IsSomeAnd play P
+  pub shrunk_at : (P : Played → Type 0) → ((played : Played) (text : List ℕ) → Run played text → number_of (status_of played) ≡ 14 → P played) → (Cause WavShrank → ⊥) → Ends → status ≡ 14 → IsSomeAnd play P
   shrunk_at P holds shrank ended is = some_of P play (run_at 14 shrank ended is (λ e. absurd (omega (arith, e))) (λ e. absurd (omega (arith, e)))) (of_run_at 14 P holds ended is (λ e. absurd (omega (arith, e))) (λ e. absurd (omega (arith, e))))
 
   no_some : (o : Option Played) → IsSome o → IfSome o (λ played. ⊥) → ⊥
   no_some None some holds = cc
   no_some (Some played) some holds = holds
 
-  pub never_shrunk : ((played : Played) → Run played → number_of (status_of played) ≡ 14 → ⊥) → (Cause WavShrank → ⊥) → Ends → status ≡ 14 → ⊥
+  pub never_shrunk : ((played : Played) (text : List ℕ) → Run played text → number_of (status_of played) ≡ 14 → ⊥) → (Cause WavShrank → ⊥) → Ends → status ≡ 14 → ⊥
   never_shrunk never shrank ended is = no_some play (run_at 14 shrank ended is (λ e. absurd (omega (arith, e))) (λ e. absurd (omega (arith, e)))) (of_run_at 14 (λ played. ⊥) never ended is (λ e. absurd (omega (arith, e))) (λ e. absurd (omega (arith, e))))
 
 -- ---- an end of the program
@@ -403,8 +414,8 @@ module _ (told : Option Files) (failed emptied unasked : List ℕ → Type 0) (g
   abbrev CauseHere : Status → Type 0
   CauseHere of = CauseOf told failed unasked words of
 
-  abbrev RunHere : Played → Type 0
-  RunHere played = HasRun told failed emptied gave words played
+  abbrev RunHere : Played → List ℕ → Type 0
+  RunHere played text = HasRun told failed emptied gave words played text
 
   by_words : HasEnded told failed emptied unasked gave words before after sink_failed play status → HasEndedWith (Case CauseHere RunHere) before after sink_failed play status
   by_words ended = by_cases (IsMeant told failed emptied unasked gave words) (Case CauseHere RunHere) before after sink_failed play status (cases told failed emptied unasked gave words) ended
@@ -419,8 +430,8 @@ module _ (told : Option Files) (failed emptied unasked : List ℕ → Type 0) (g
   unread_name : (meant : Meant) → WordsCase told failed emptied unasked gave words meant → number_of meant.status ≡ 3 → HasUnreadFile failed words
   unread_name meant (said of cause text e) number =
       let both : CauseHere ShelfFailed = said_cause CauseHere RunHere 3 meant of text e number cause in both.0
-  unread_name meant (ran played run e) number =
-      let of = run_unread failed emptied gave played run (sym (number_run meant played e) ∙ number) in
+  unread_name meant (ran played text run e) number =
+      let of = run_unread failed emptied gave played text run (sym (number_run meant played text e) ∙ number) in
       (of.wav_name, named words of.codec_name of.wav_name of.schedule_name of.periods of.period of.asks, of.cut.cause)
 
   pub shelf_failed : HasEnded told failed emptied unasked gave words before after sink_failed play status → status ≡ 3 → HasUnreadFile failed words
@@ -440,13 +451,13 @@ module _ (told : Option Files) (failed emptied unasked : List ℕ → Type 0) (g
       → IfSome play (λ played. OfItsWav (λ wav. WasUnread failed wav played) words)
   unread_run ended is =
       of_run_at CauseHere RunHere before after sink_failed play status 3 (λ played. OfItsWav (λ wav. WasUnread failed wav played) words)
-      (λ played run number. run_unread failed emptied gave played run number) (by_words ended) is (λ e. absurd (omega (arith, e))) (λ e. absurd (omega (arith, e)))
+      (λ played text run number. run_unread failed emptied gave played text run number) (by_words ended) is (λ e. absurd (omega (arith, e))) (λ e. absurd (omega (arith, e)))
 
   pub shrunk_run : HasEnded told failed emptied unasked gave words before after sink_failed play status → status ≡ 14
       → IsSomeAnd play (λ played. OfItsWav (λ wav. WasShortened emptied wav played) words)
   shrunk_run ended is =
       shrunk_at CauseHere RunHere before after sink_failed play status (λ played. OfItsWav (λ wav. WasShortened emptied wav played) words)
-      (λ played run number. run_short failed emptied gave played run number) (λ none. none) (by_words ended) is
+      (λ played text run number. run_short failed emptied gave played text run number) (λ none. none) (by_words ended) is
 
   pub refused_codec : HasEnded told failed emptied unasked gave words before after sink_failed play status → status ≡ 5 → HasBadCodecFile told words
   refused_codec = cause_of 5 refl (λ e. absurd (omega (arith, e))) (λ e. absurd (omega (arith, e)))
@@ -460,7 +471,7 @@ module _ (told : Option Files) (failed emptied unasked : List ℕ → Type 0) (g
   pub refused_geometry : HasEnded told failed emptied unasked gave words before after sink_failed play status → status ≡ 13 → HasBadRing told words
   refused_geometry = cause_of 13 refl (λ e. absurd (omega (arith, e))) (λ e. absurd (omega (arith, e)))
 
-  pub was_routed : HasEnded told failed emptied unasked gave words before after sink_failed play status → status ≡ 0 → HasPlanned told words true
+  pub was_routed : HasEnded told failed emptied unasked gave words before after sink_failed play status → status ≡ 0 → HasPlanned told words true ⊎ WantsMade words
   was_routed ended is =
       caused CauseHere RunHere before after sink_failed play status 0 (some_routed told failed emptied unasked gave words) (λ e. absurd (omega (arith, e))) (λ e. absurd (omega (arith, e))) (by_words ended) is
 
@@ -479,7 +490,7 @@ module _ (told : Option Files) (failed emptied unasked : List ℕ → Type 0) (g
   -- `route` makes no run
   pub route_runless : HasEnded told failed emptied unasked gave words before after sink_failed play status → (name : List ℕ) (format : Format) → IsRouteOf words name format → IsNone play
   route_runless ended name format routes =
-      none_meant CauseHere RunHere before after sink_failed play status (λ played run. no_run_of_route told failed emptied gave words name format played routes run) (by_words ended)
+      none_meant CauseHere RunHere before after sink_failed play status (λ played text run. no_run_of_route told failed emptied gave words name format played text routes run) (by_words ended)
 
   -- `walk` and `play` give their run at the statuses of a run, since nothing else is meant with them by their words
   runs : HasEnded told failed emptied unasked gave words before after sink_failed play status → (IsRouted told words → ⊥) → IsOfSound status → IsSome play
@@ -498,7 +509,7 @@ module _ (failed emptied unasked : List ℕ → Type 0) (gave : ℕ → Type 0) 
   never_told : (files : Files) → HasEnded (Some files) failed emptied unasked gave words before after sink_failed play status → status ≡ 14 → ⊥
   never_told files ended is =
       never_shrunk (CauseHere (Some files) failed emptied unasked gave words before after sink_failed play status) (RunHere (Some files) failed emptied unasked gave words before after sink_failed play status) before after sink_failed play status
-      (λ played run number. run_told failed emptied gave files played run number) (λ none. none)
+      (λ played text run number. run_told failed emptied gave files played text run number) (λ none. none)
       (by_words (Some files) failed emptied unasked gave words before after sink_failed play status ended) is
 
   pub never_shrinks : (told : Option Files) → HasEnded told failed emptied unasked gave words before after sink_failed play status → IfSome told (λ files. status ≢ 14)

@@ -8,3 +8,5 @@ mod PlayCases
 mod PlayEndings
 mod OneReading
 mod Complete
+mod Served
+mod MadeLemmas

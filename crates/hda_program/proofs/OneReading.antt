@@ -93,6 +93,13 @@ one_wav_format files name one other h k =
     let same : k.bytes ≡ h.bytes = one_file files name k.bytes h.bytes k.file h.file in
     one_format one.format other.format (layout_of_bytes h.bytes one other h.says (ap head_of (sym same) ∙ k.says))
 
+-- and the sound has one length
+pub one_wav_frames : (files : Files) (name : List ℕ) (one other : WavHead) → IsHeadIn files name one → IsHeadIn files name other → other.frames ≡ one.frames
+one_wav_frames files name one other h k =
+    let same : k.bytes ≡ h.bytes = one_file files name k.bytes h.bytes k.file h.file in
+    let both : Ok (head_in_file other) ≡ Ok (head_in_file one) = sym k.says ∙ ap head_of same ∙ h.says in
+    let heads : head_in_file other ≡ head_in_file one = cc in ap (λ (head : Head). head.frames) heads
+
 pub wav_unrefused : (files : Files) (name text : List ℕ) (head : WavHead) → IsHeadIn files name head → IsWavRefused (Some files) name text → ⊥
 wav_unrefused files name text head h (inl long) = not_longer files name most_wav_bytes h.bytes (record { file = h.file; short = h.short }) long.0
 wav_unrefused files name text head h (inr faulty) =
@@ -109,6 +116,11 @@ schedule_unrefused files name text schedule h (inl long) = not_longer files name
 schedule_unrefused files name text schedule h (inr refused) =
     let same : h.bytes ≡ refused.0 = one_file files name h.bytes refused.0 h.file.file refused.1.file in
     schedule_unfaulty refused.0 schedule refused.2.fault (ap schedule_of (sym same) ∙ h.reads) refused.2.reads
+
+pub one_schedule : (files : Files) (name : List ℕ) (one other : Schedule) → IsScheduleOf (Some files) name one → IsScheduleOf (Some files) name other → other ≡ one
+one_schedule files name one other h k =
+    let same : k.bytes ≡ h.bytes = one_file files name k.bytes h.bytes k.file.file h.file.file in
+    let both : Ok other ≡ Ok one = sym k.reads ∙ ap schedule_of same ∙ h.reads in cc
 
 -- ---- plans
 

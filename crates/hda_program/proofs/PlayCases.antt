@@ -1,5 +1,5 @@
 -- The ways in which something is meant by `play` of three files.
-use Rattle.std.proofs.Common.{◌≡◌, ◌≢◌, ℕ, ◌+◌, List, [], ◌∷◌, length, inl, inr, Option, refl, arith}
+use Rattle.std.proofs.Common.{◌≢◌, ℕ, ◌+◌, List, [], ◌∷◌, length, inl, inr, Option, refl, arith}
 use Rattle.route_planner.specs.declared.routes.Plan.{Plan}
 use Rattle.hda_outside.specs.Shelf.{Files}
 use Rattle.hda_files.specs.declared.machine.Machine.{Machine}
@@ -11,7 +11,7 @@ use Rattle.sound_report.specs.declared.status.Status.TheVariants.{Done, WordsRef
 use Rattle.machine_tasks.specs.Tasks.{HavePlans}
 use Rattle.hda_program.specs.Answers.{MachinePlays, PlansPlay, PlayAnswers, SchedulePlays, SoundPlays}
 use Rattle.hda_program.specs.Causes.{HasStoppedUnread}
-use Rattle.hda_program.specs.Promises.{HasPlayedFiles}
+use Rattle.hda_program.specs.Promises.{HasPlayedFiles, IsReported}
 use Rattle.hda_program.specs.Files.{IsHeadOf, IsMachineOf, IsScheduleOf, bytes_before}
 use Rattle.hda_program.specs.Meanings.{Meant}
 use Rattle.hda_program.specs.Rings.{IsRingOf}
@@ -41,7 +41,7 @@ UnreadOf failed unasked codec wav name = HasStoppedUnread failed unasked (codec 
 
 module _ (told : Option Files) (failed emptied unasked : List ℕ → Type 0) (gave : ℕ → Type 0) (codec wav name : List ℕ) (periods period : ℕ) (meant : Meant) where
   abbrev PlayCase : Type 0
-  PlayCase = Case (IsRefusal (UnreadOf failed unasked codec wav name)) (HasPlayedFiles told failed emptied gave codec wav name periods period) meant
+  PlayCase = Case (IsRefusal (UnreadOf failed unasked codec wav name)) (IsReported (HasPlayedFiles told failed emptied gave codec wav name periods period)) meant
 
   -- what the files gave at most
   abbrev of_codec : (machine : Machine) → IsMachineOf told codec machine → ℕ → Type 0
@@ -58,23 +58,26 @@ module _ (told : Option Files) (failed emptied unasked : List ℕ → Type 0) (g
       → PlansPlay told failed emptied (of_steps machine head schedule file steps) wav machine head geometry schedule plans meant → PlayCase
   of_plans machine head schedule geometry plans file wav_file steps ring planned (inl none) = said NothingRouted tt _ none.1
   of_plans machine head schedule geometry plans file wav_file steps ring planned (inr run) =
-      ran run.0 (record {
-        machine = machine;
-        head = head;
-        geometry = geometry;
-        schedule = schedule;
-        plans = plans;
-        codec_file = file;
-        wav_file = wav_file;
-        schedule_file = steps;
-        ring = ring;
-        planned = planned;
-        routed = run.1;
-        run = run.2;
-        cut = run.4;
-        reads_little = run.5;
-        reads_frames = run.6;
-      }) run.3
+      ran run.0 _ (
+        record {
+          machine = machine;
+          head = head;
+          geometry = geometry;
+          schedule = schedule;
+          plans = plans;
+          codec_file = file;
+          wav_file = wav_file;
+          schedule_file = steps;
+          ring = ring;
+          planned = planned;
+          routed = run.1;
+          run = run.2;
+          cut = run.4;
+          reads_little = run.5;
+          reads_frames = run.6;
+        },
+        refl,
+      ) run.3
 
   of_schedule : (machine : Machine) (head : WavHead) (schedule : Schedule) → (file : IsMachineOf told codec machine) → IsHeadOf told wav head
       → (steps : IsScheduleOf told name schedule) → SchedulePlays told failed emptied (of_steps machine head schedule file steps) periods period wav machine head schedule meant → PlayCase

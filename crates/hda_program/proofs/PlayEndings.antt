@@ -6,14 +6,14 @@ use Rattle.sound_report.specs.declared.played.Played.{Played}
 use Rattle.sound_report.specs.declared.status.Status.{Status}
 use Rattle.hda_program.specs.Answers.{HasEndedPlay, HasEndedWith, PlayAnswers}
 use Rattle.hda_program.specs.Causes.{IsOfSound, IsRunless, WasShortened, WasUnread}
-use Rattle.hda_program.specs.Promises.{HasPlayedFiles, KeepsPromise}
+use Rattle.hda_program.specs.Promises.{HasPlayedFiles, IsReported, KeepsPromise}
 use Rattle.hda_program.proofs.Cases.{Case}
 use Rattle.hda_program.proofs.Endings.{by_cases, never_shrunk, none_at, of_run_at, played_short, played_unread, promise_kept, said_at, shrunk_at, some_at, told_never_short}
 use Rattle.hda_program.proofs.PlayCases.{IsRefusal, UnreadOf, play_cases}
 
 module _ (told : Option Files) (failed emptied unasked : List ℕ → Type 0) (gave : ℕ → Type 0) (codec wav name : List ℕ) (periods period : ℕ) (before after : Option (List ℕ)) (sink_failed : Type 0) (play : Option Played) (status : ℕ) where
-  abbrev Run : Played → Type 0
-  Run played = HasPlayedFiles told failed emptied gave codec wav name periods period played
+  abbrev Run : Played → List ℕ → Type 0
+  Run = IsReported (HasPlayedFiles told failed emptied gave codec wav name periods period)
 
   abbrev Refused : Status → Type 0
   Refused = IsRefusal (UnreadOf failed unasked codec wav name)
@@ -25,7 +25,7 @@ module _ (told : Option Files) (failed emptied unasked : List ℕ → Type 0) (g
   by_files ended =
       by_cases (PlayAnswers told failed emptied unasked gave codec wav name periods period) (Case Refused Run) before after sink_failed play status (play_cases told failed emptied unasked gave codec wav name periods period) ended
 
-  pub files_promised : HasEndedHere → IfSome play (KeepsPromise (HasPlayedFiles told failed emptied gave codec wav name periods period) before after sink_failed status)
+  pub files_promised : HasEndedHere → IfSome play (KeepsPromise (IsReported (HasPlayedFiles told failed emptied gave codec wav name periods period)) before after sink_failed status)
   files_promised ended = promise_kept Refused Run before after sink_failed play status (by_files ended)
 
   pub files_runless : HasEndedHere → IsRunless status → IsNone play
@@ -36,7 +36,7 @@ module _ (told : Option Files) (failed emptied unasked : List ℕ → Type 0) (g
 
   pub files_unread : HasEndedHere → status ≡ 3 → IfSome play (WasUnread failed wav)
   files_unread ended is =
-      of_run_at Refused Run before after sink_failed play status 3 (WasUnread failed wav) (λ played run number. played_unread failed emptied gave wav played run number) (by_files ended) is
+      of_run_at Refused Run before after sink_failed play status 3 (WasUnread failed wav) (λ played text run number. played_unread failed emptied gave wav played run.0 number) (by_files ended) is
       (λ e. absurd (omega (arith, e))) (λ e. absurd (omega (arith, e)))
 
   pub files_stopped : HasEndedHere → status ≡ 3 → IsNone play → UnreadOf failed unasked codec wav name
@@ -44,13 +44,13 @@ module _ (told : Option Files) (failed emptied unasked : List ℕ → Type 0) (g
 
   pub files_shrunk : HasEndedHere → status ≡ 14 → IsSomeAnd play (WasShortened emptied wav)
   files_shrunk ended is =
-      shrunk_at Refused Run before after sink_failed play status (WasShortened emptied wav) (λ played run number. played_short failed emptied gave wav played run number) (λ none. none) (by_files ended) is
+      shrunk_at Refused Run before after sink_failed play status (WasShortened emptied wav) (λ played text run number. played_short failed emptied gave wav played run.0 number) (λ none. none) (by_files ended) is
 
 module _ (failed emptied unasked : List ℕ → Type 0) (gave : ℕ → Type 0) (codec wav name : List ℕ) (periods period : ℕ) (before after : Option (List ℕ)) (sink_failed : Type 0) (play : Option Played) (status : ℕ) where
   never_told : (files : Files) → HasEndedPlay (Some files) failed emptied unasked gave codec wav name periods period before after sink_failed play status → status ≡ 14 → ⊥
   never_told files ended is =
       never_shrunk (Refused (Some files) failed emptied unasked gave codec wav name periods period before after sink_failed play status) (Run (Some files) failed emptied unasked gave codec wav name periods period before after sink_failed play status) before after sink_failed play status
-      (λ played run number. told_never_short failed emptied gave files wav played run number) (λ none. none)
+      (λ played text run number. told_never_short failed emptied gave files wav played run.0 number) (λ none. none)
       (by_files (Some files) failed emptied unasked gave codec wav name periods period before after sink_failed play status ended) is
 
   pub files_never_shrink : (told : Option Files) → HasEndedPlay told failed emptied unasked gave codec wav name periods period before after sink_failed play status → IfSome told (λ files. status ≢ 14)

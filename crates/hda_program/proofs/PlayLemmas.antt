@@ -1,5 +1,5 @@
 -- What is said of a shelf that had been asked before holds of both together, for a sound that is to be played.
-use Rattle.std.proofs.Common.{◌≡◌, ℕ, ◌+◌, List, length, inl, inr, Option, Some, None, subst}
+use Rattle.std.proofs.Common.{ℕ, ◌+◌, List, length, inl, inr, Option, Some, None}
 use Rattle.hda_outside.specs.Shelf.{Files}
 use Rattle.hda_files.specs.declared.machine.Machine.{Machine}
 use Rattle.hda_schedule.specs.declared.schedule.Schedule.{Schedule}

@@ -34,7 +34,8 @@ pub request_meant : (told : Option Files) (failed emptied unasked : List ℕ →
 request_meant told failed emptied unasked gave words (request.Route codec format) meant is answers = inr (inl (codec.now, format, is, answers))
 request_meant told failed emptied unasked gave words (request.Walk codec schedule) meant is answers = inr (inr (inl (codec.now, schedule.now, is, answers)))
 request_meant told failed emptied unasked gave words (request.Play codec wav schedule periods period) meant is answers =
-    inr (inr (inr (codec.now, wav.now, schedule.now, periods, period, is, answers)))
+    inr (inr (inr (inl (codec.now, wav.now, schedule.now, periods, period, is, answers))))
+request_meant told failed emptied unasked gave words (request.Make number) meant is answers = inr (inr (inr (inr (number, is, answers))))
 
 -- a name that the words do not name is none of the request's files
 pub other_name : (words : List (List ℕ)) (asked : Asked) (name : List ℕ) → request_of words ≡ Some asked → (Names words name → ⊥) → Contains (files_of asked) name → ⊥

@@ -24,6 +24,7 @@ use Rattle.hda_program.specs.Rings.{IsRingOf, RingStops}
 use Rattle.hda_program.specs.Meanings.{Meant, telling, unrouted, of_run}
 use Rattle.machine_tasks.specs.Tasks.{HavePlans}
 use Rattle.codec_agenda.specs.Planned.{have_route}
+use Rattle.hda_program.specs.Made.{IsMakeOf, MakeAnswers}
 use Rattle.hda_program.specs.Text.{usage_line}
 
 -- ---- `route`
@@ -132,6 +133,7 @@ RequestAnswers told failed emptied unasked gave (request.Walk codec schedule) me
     WalkAnswers told failed unasked codec.now schedule.now meant
 RequestAnswers told failed emptied unasked gave (request.Play codec wav schedule periods period) meant =
     PlayAnswers told failed emptied unasked gave codec.now wav.now schedule.now periods period meant
+RequestAnswers told failed emptied unasked gave (request.Make number) meant = MakeAnswers number meant
 
 -- what the program answers to its words, where the shelf told these files, failed under some names, answered under some
 -- with no byte, was not asked under some, and gave no more than some numbers of bytes
@@ -142,9 +144,10 @@ IsMeant told failed emptied unasked gave words meant =
     ⊎ (((name : List ℕ) × (format : Format) × IsRouteOf words name format × RouteAnswers told failed name format meant)
     ⊎ (((codec : List ℕ) × (name : List ℕ) × IsWalkOf words codec name
     × WalkAnswers told failed unasked codec name meant)
-    ⊎ ((codec : List ℕ) × (wav : List ℕ) × (name : List ℕ) × (periods : ℕ) × (period : ℕ)
+    ⊎ (((codec : List ℕ) × (wav : List ℕ) × (name : List ℕ) × (periods : ℕ) × (period : ℕ)
     × IsPlayOf words codec wav name periods period
-    × PlayAnswers told failed emptied unasked gave codec wav name periods period meant)))
+    × PlayAnswers told failed emptied unasked gave codec wav name periods period meant)
+    ⊎ ((number : ℕ) × IsMakeOf words number × MakeAnswers number meant))))
 
 -- ---- the end
 

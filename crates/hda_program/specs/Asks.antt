@@ -1,7 +1,7 @@
 -- What the words ask for, and which files they name. This project's own.
-use Rattle.std.specs.Prelude.{◌≡◌, ℕ, List, [], ◌∷◌, Option, Some, None, Contains, option_map}
+use Rattle.std.specs.Prelude.{◌≡◌, ℕ, List, [], ◌∷◌, Option, Some, None, Contains, option_and_then}
 use Rattle.stream_format.specs.declared.format.Format.{Format}
-use Rattle.hda_words.specs.Asked.{Asked, route, walk, play, hertz, bits_of, request_of}
+use Rattle.hda_words.specs.Asked.{Asked, route, walk, play, make, hertz, bits_of, request_of}
 
 -- the words are those of no command
 abbrev pub IsNoCommand : List (List ℕ) → Type 0
@@ -26,6 +26,7 @@ abbrev pub files_of : Asked → List (List ℕ)
 files_of (route codec rate bits channels) = codec ∷ []
 files_of (walk codec schedule) = codec ∷ schedule ∷ []
 files_of (play codec wav schedule periods period) = codec ∷ wav ∷ schedule ∷ []
+files_of (make number) = []
 
 abbrev pub files_asked : Option Asked → List (List ℕ)
 files_asked None = []
@@ -39,12 +40,13 @@ Names words name = Contains (files_asked (request_of words)) name
 abbrev pub AsksForItsFiles : List (List ℕ) → (List ℕ → ℕ) → (List ℕ → ℕ) → Type 0
 AsksForItsFiles words before after = (name : List ℕ) → (Names words name → ⊥) → after name ≡ before name
 
--- the name of the codec file
-abbrev pub codec_of : Asked → List ℕ
-codec_of (route codec rate bits channels) = codec
-codec_of (walk codec schedule) = codec
-codec_of (play codec wav schedule periods period) = codec
+-- the name of the codec file, where they name one
+abbrev pub codec_of : Asked → Option (List ℕ)
+codec_of (route codec rate bits channels) = Some codec
+codec_of (walk codec schedule) = Some codec
+codec_of (play codec wav schedule periods period) = Some codec
+codec_of (make number) = None
 
 -- the words name a codec file
 abbrev pub NamesCodecFile : List (List ℕ) → List ℕ → Type 0
-NamesCodecFile words name = option_map codec_of (request_of words) ≡ Some name
+NamesCodecFile words name = option_and_then codec_of (request_of words) ≡ Some name

@@ -1,9 +1,11 @@
 pub mod Text
 pub mod Asks
 pub mod Meanings
+pub mod Made
 -- what the files come to, and what private functions promise one another of them
 pub mod Files
 pub mod Rings
+pub mod Served
 pub mod Answers
 pub mod Causes
 pub mod Promises

@@ -15,7 +15,9 @@ use Rattle.sound_report.specs.declared.status.Status.TheVariants.{Done, ShelfFai
 use Rattle.sound_report.specs.declared.status.Status.TheVariants.{Unanswered, Late, ScheduleEnded, OutOfMemory}
 use Rattle.sound_report.specs.declared.status.Status.TheVariants.{WavShrank}
 use Rattle.sound_report.specs.PlanLines.{plans_lines}
+use Rattle.sound_report.specs.Statuses.{number_of}
 use Rattle.sound_report.specs.Texts.{text_of}
+use Rattle.made_runs.specs.Lines.{made_line}
 use Rattle.hda_program.specs.declared.message.Message.{Message}
 use Rattle.hda_program.specs.declared.answer.Answer.{Answer}
 use Rattle.hda_program.specs.declared.answer.Answer.TheVariants as answer
@@ -53,9 +55,17 @@ written_status (Ok done) status = status
 written_status (Err outside.Failed) status = SinkFailed
 written_status (Err outside.OutOfMemory) status = OutOfMemory
 
+-- a run that is told by this text
+abbrev pub run_meant : Played → (text : List ℕ) → Meant
+run_meant played text = record { status = status_of played; text = text; play = Some played }
+
 -- a run, with its report for a text
 abbrev pub of_run : Played → Meant
-of_run played = record { status = status_of played; text = text_of played; play = Some played }
+of_run played = run_meant played (text_of played)
+
+-- a run of the inputs that are made of a number, with its line for a text
+abbrev pub of_made : (number : ℕ) → Played → Meant
+of_made number played = run_meant played (made_line number (number_of (status_of played)) played)
 
 -- plans of which none has a route, and a line that says so
 abbrev pub unrouted : List CodecFile → List Plan → Meant
@@ -68,3 +78,4 @@ message_meant message = telling message.status (string_bytes message.text)
 abbrev pub answer_meant : Answer → Meant
 answer_meant (answer.Message message) = message_meant message
 answer_meant (answer.Run played) = of_run played
+answer_meant (answer.Made number played) = of_made number played

@@ -14,7 +14,9 @@ use Rattle.scheduled_runs.specs.Plays.{IsCutUnder, IsPlayedFrom, most_of_frames,
 use Rattle.hda_program.specs.Files.{IsMachineOf, IsHeadOf, IsScheduleOf, bytes_before}
 use Rattle.hda_program.specs.Rings.{IsRingOf}
 use Rattle.hda_program.specs.Answers.{HasWritten}
-use Rattle.hda_program.specs.Meanings.{of_run}
+use Rattle.sound_report.specs.Texts.{text_of}
+use Rattle.hda_program.specs.Made.{HasMade}
+use Rattle.hda_program.specs.Meanings.{run_meant}
 use Rattle.machine_tasks.specs.Tasks.{HavePlans}
 use Rattle.codec_agenda.specs.Planned.{have_route}
 
@@ -76,15 +78,26 @@ pub record HasPlayed (told : Option Files) (failed emptied : List ℕ → Type 0
   pub asks : IsPlayOf words codec_name wav_name schedule_name periods period
   pub files : HasPlayedFiles told failed emptied gave codec_name wav_name schedule_name periods period played
 
+-- a run of this kind, told by its report
+abbrev pub IsReported : (IsRun : Played → Type 0) → Played → (text : List ℕ) → Type 0
+IsReported IsRun played text = IsRun played × (text ≡ text_of played)
+
 -- the run is the walk for which the words ask, or the play
-abbrev pub HasRun : Option Files → (failed emptied : List ℕ → Type 0) → (gave : ℕ → Type 0) → List (List ℕ) → Played
-    → Type 0
-HasRun told failed emptied gave words played = HasWalked told words played
+abbrev pub HasWalkedOrPlayed : Option Files → (failed emptied : List ℕ → Type 0) → (gave : ℕ → Type 0)
+    → List (List ℕ) → Played → Type 0
+HasWalkedOrPlayed told failed emptied gave words played = HasWalked told words played
     ⊎ HasPlayed told failed emptied gave words played
 
--- the promise of a run: it is the one that was asked for, and its report was written whole, with the status of its end,
--- or its front at the status of a fault of the sink or of want of memory
-pub record KeepsPromise (IsRun : Played → Type 0) (before after : Option (List ℕ)) (sink_failed : Type 0) (status : ℕ)
-    (played : Played) : Type 0 where
-  pub run : IsRun played
-  pub text : HasWritten before after sink_failed (of_run played) status
+-- and it is told by its report; or it is that of made inputs, told by its line
+abbrev pub HasRun : Option Files → (failed emptied : List ℕ → Type 0) → (gave : ℕ → Type 0) → List (List ℕ) → Played
+    → (text : List ℕ) → Type 0
+HasRun told failed emptied gave words played text =
+    IsReported (HasWalkedOrPlayed told failed emptied gave words) played text ⊎ HasMade words played text
+
+-- the promise of a run: it is the one that was asked for, told by a text, which was written whole, with the status of
+-- its end, or its front at the status of a fault of the sink or of want of memory
+pub record KeepsPromise (IsRun : Played → (text : List ℕ) → Type 0) (before after : Option (List ℕ))
+    (sink_failed : Type 0) (status : ℕ) (played : Played) : Type 0 where
+  pub told_by : List ℕ
+  pub run : IsRun played told_by
+  pub text : HasWritten before after sink_failed (run_meant played told_by) status

@@ -6,6 +6,7 @@ ghost use Rattle.hda_program.specs.Asks.{AsksForItsFiles, files_of};
 ghost use Rattle.hda_program.specs.Meanings.{answer_meant};
 ghost use Rattle.hda_program.specs.Files.{EmptiedUnder, FailedUnder, GivenAtMost, UnaskedUnder};
 
+use crate::make::answer_make;
 use crate::message::{Message, words_refused};
 use crate::play::answer_play;
 use crate::route::answer_route;
@@ -22,6 +23,8 @@ pub(crate) enum Answer {
     Message(Message),
     /// A run of the driver, whose report is the text.
     Run(Played),
+    /// A run of the inputs that are made of a number, whose line is the text.
+    Made(u16, Played),
 }
 
 /// What the program answers to its words.
@@ -86,5 +89,6 @@ fn answer_request<S: Shelf>(
             periods,
             period,
         } => answer_play(alloc, shelf, codec, wav, schedule, periods, period),
+        Request::Make { number } => answer_make(alloc, number),
     }
 }

@@ -5,13 +5,19 @@ ghost use Rattle.hda_words.specs.Asked.{IsRingInRange};
 ghost use Rattle.sound_report.specs.Statuses.{number_of};
 ghost use Rattle.hda_program.specs.Answers.{HasEndedPlay};
 ghost use Rattle.hda_program.specs.Causes.{HasStoppedUnread, IsOfSound, IsRunless, WasShortened, WasUnread};
-ghost use Rattle.hda_program.specs.Promises.{HasPlayedFiles, KeepsPromise};
+ghost use Rattle.hda_program.specs.Promises.{HasPlayedFiles, IsReported, KeepsPromise};
 ghost use Rattle.hda_program.specs.Complete.{CanPlay, HasPlayedOn};
 ghost use Rattle.hda_program.specs.Files.{EmptiedUnder, FailedUnder, GivenAtMost, UnaskedUnder};
+ghost use Rattle.period_writer.specs.declared.geometry.Geometry.{Geometry};
+ghost use Rattle.served_runs.specs.Served.{ServesPlay};
+ghost use Rattle.hda_program.specs.Rings.{IsRingOf};
+ghost use Rattle.hda_program.specs.Served.{EndsSo, PlaysSo, PlaysWhole};
 
 use crate::play::answer_play;
 use crate::run::{Ended, write_answer};
 use hda_outside::{Shelf, Sink};
+use machine_tasks::read_machines_are_whole;
+use served_runs::{plays_all_so, plays_end_so};
 use sound_report::Status;
 use std::alloc::Global;
 
@@ -43,11 +49,11 @@ pub fn play_files<S: Shelf, K: Sink>(
 
     // The promise of `play`: the run that is given is that of these files and this ring, few bytes were read for it,
     // and its report was written.
-    ensures promise { IfSome result.play (KeepsPromise (HasPlayedFiles (S.told shelf.old)
+    ensures promise { IfSome result.play (KeepsPromise (IsReported (HasPlayedFiles (S.told shelf.old)
         (FailedUnder (S.faults shelf.old) (S.faults shelf.new))
         (EmptiedUnder (S.empties shelf.old) (S.empties shelf.new))
         (GivenAtMost (S.given shelf.old) (S.given shelf.new))
-        codec.now wav.now schedule.now periods period)
+        codec.now wav.now schedule.now periods period))
         (K.taken out.old) (K.taken out.new) (Rose (K.faults out.old) (K.faults out.new)) result.status) }
 
     // When a run is given.
@@ -72,6 +78,21 @@ pub fn play_files<S: Shelf, K: Sink>(
         wav.now schedule.now periods period
         → (Rose (K.faults out.old) (K.faults out.new) → ⊥) → HasPlayedOn result.status }
 
+    // What comes of a schedule that serves: the sound ends so by how many driver lines it has, and all of it is played
+    // where it is fed.
+    ensures served { (geometry : Geometry)
+        → (can : CanPlay (S.told shelf.old) (FailedUnder (S.faults shelf.old) (S.faults shelf.new)) codec.now wav.now
+        schedule.now periods period)
+        → (Rose (K.faults out.old) (K.faults out.new) → ⊥) → IsRingOf periods period can.machine can.head geometry
+        → ServesPlay can.head.format can.machine can.plans geometry can.schedule
+        → EndsSo (PlaysSo can.machine can.plans can.head can.schedule) result.play result.status }
+    ensures served_whole { (geometry : Geometry)
+        → (can : CanPlay (S.told shelf.old) (FailedUnder (S.faults shelf.old) (S.faults shelf.new)) codec.now wav.now
+        schedule.now periods period)
+        → (Rose (K.faults out.old) (K.faults out.new) → ⊥) → IsRingOf periods period can.machine can.head geometry
+        → ServesPlay can.head.format can.machine can.plans geometry can.schedule
+        → EndsSo (PlaysWhole can.machine can.plans can.head geometry can.schedule) result.play result.status }
+
     // The shelf is asked under the three names alone.
     ensures asked { (other : List ℕ) → other ≢ codec.now → other ≢ wav.now → other ≢ schedule.now
         → S.asked shelf.new other ≡ S.asked shelf.old other }
@@ -82,6 +103,9 @@ pub fn play_files<S: Shelf, K: Sink>(
     ensures empties_later { (name : List ℕ) → S.empties shelf.old name ≤ S.empties shelf.new name }
     ensures sink_later { K.faults out.old ≤ K.faults out.new }
 {
+    read_machines_are_whole();
+    plays_end_so();
+    plays_all_so();
     match answer_play(alloc, shelf, codec, wav, schedule, periods, period) {
         Ok(answer) => write_answer(alloc, out, answer),
         Err(_) => Ended {

@@ -5,6 +5,7 @@
 mod answer;
 mod codec;
 mod files;
+mod make;
 mod message;
 mod plans;
 mod play;

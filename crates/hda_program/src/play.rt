@@ -19,6 +19,7 @@ use codec_agenda::have_route;
 use hda_files::Machine;
 use hda_outside::Shelf;
 use hda_schedule::Schedule;
+use machine_tasks::read_machines_are_whole;
 use period_writer::Geometry;
 use scheduled_runs::play;
 use std::alloc::{AllocError, Global};
@@ -193,6 +194,7 @@ fn play_ring<S: Shelf>(
     ensures later { (other : List ℕ) → S.faults shelf.old other ≤ S.faults shelf.new other }
     ensures empties_later { (other : List ℕ) → S.empties shelf.old other ≤ S.empties shelf.new other }
 {
+    read_machines_are_whole();
     let plans = plans_of(alloc, machine.codecs.as_slice(), head.format)?;
     if have_route(plans.as_slice()) {
         let played = play(alloc, shelf, machine, plans, head, wav, geometry, schedule)?;

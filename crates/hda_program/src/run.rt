@@ -1,5 +1,6 @@
 //! The program over any shelf and sink.
-ghost use Rattle.std.specs.Prelude.{◌≡◌, ◌≢◌, ◌≤◌, ℕ, List, map, string_bytes, IfSome, IsNone, IsSome, IsSomeAnd, true};
+ghost use Rattle.std.specs.Prelude.{◌≡◌, ◌≢◌, ◌≤◌, ◌⊎◌, ℕ, List, map, string_bytes, IfSome, IsNone, IsSome, IsSomeAnd};
+ghost use Rattle.std.specs.Prelude.{true};
 ghost use Rattle.std.specs.Prelude.{false};
 ghost use Rattle.stream_format.specs.declared.format.Format.{Format};
 ghost use Rattle.hda_outside.specs.Counts.{Rose};
@@ -10,13 +11,23 @@ ghost use Rattle.hda_program.specs.Asks.{AsksForItsFiles, IsNoCommand, IsPlayOf,
 ghost use Rattle.hda_program.specs.Causes.{HasBadCodecFile, HasBadRing, HasBadSchedule, HasBadWav, HasPlanned};
 ghost use Rattle.hda_program.specs.Causes.{HasStoppedUnread, HasUnreadFile, IsOfSound, IsOfWalk, IsRunless};
 ghost use Rattle.hda_program.specs.Causes.{OfItsWav, WasShortened, WasUnread};
+ghost use Rattle.hda_program.specs.Made.{IsMakeOf, IsOfMade, WantsMade};
 ghost use Rattle.hda_program.specs.Promises.{HasRun, KeepsPromise};
 ghost use Rattle.hda_program.specs.Complete.{CanPlay, CanRoute, CanWalk, HasPlayedOn, HasRoutes, HasWalkedOn};
-ghost use Rattle.hda_program.specs.Meanings.{answer_meant, fault_status, of_run, status_of, telling, written_status};
+ghost use Rattle.hda_program.specs.Meanings.{answer_meant, fault_status, of_made, of_run, status_of, telling};
+ghost use Rattle.hda_program.specs.Meanings.{written_status};
 ghost use Rattle.hda_program.specs.Files.{EmptiedUnder, FailedUnder, GivenAtMost, UnaskedUnder};
+ghost use Rattle.period_writer.specs.declared.geometry.Geometry.{Geometry};
+ghost use Rattle.scheduled_runs.specs.Walks.{walk_format};
+ghost use Rattle.served_runs.specs.Served.{ServesBringUp, ServesPlay};
+ghost use Rattle.hda_program.specs.Rings.{IsRingOf};
+ghost use Rattle.hda_program.specs.Served.{EndsSo, PlaysSo, PlaysWhole, WalksSo};
 
 use crate::answer::{Answer, answer_words};
 use hda_outside::{Fault, Shelf, Sink, write_all};
+use machine_tasks::read_machines_are_whole;
+use made_runs::made_line;
+use served_runs::{plays_all_so, plays_end_so, walks_end_so};
 use sound_report::{CutLine, PlayFault, Played, Status, write_report};
 use std::alloc::Global;
 
@@ -32,8 +43,9 @@ pub struct Ended {
 /// Runs the command of these words, those after the program's name, and writes its text.
 ///
 /// The statuses are those of [`Status`]. `route` ends with 0 where some pin has a route, `walk` where all codecs were
-/// set up, `play` where all frames of sound were played. `walk` and `play` give their run of the driver, also where its
-/// text could not be written. Where the files and the ring are good, some pin has a route and neither shelf nor sink
+/// set up, `play` where all frames of sound were played, and `make`, whose inputs are made of a number, wherever its
+/// line could be written. `walk`, `play` and `make` give their run of the driver, also where its text could not be
+/// written. Where the files and the ring are good, some pin has a route and neither shelf nor sink
 /// fails, nothing is refused. `play` reads the sound while it is played; where its reading is cut the run goes on over
 /// what was read.
 pub fn hda_main<S: Shelf, K: Sink>(
@@ -50,8 +62,8 @@ pub fn hda_main<S: Shelf, K: Sink>(
         (map string_bytes words.now) (K.taken out.old) (K.taken out.new) (Rose (K.faults out.old) (K.faults out.new))
         result.play result.status }
 
-    // The promise of `walk` and of `play`: the run that is given is the one that the words ask for, few bytes were read
-    // for a sound, and its report was written.
+    // The promise of `walk`, of `play` and of `make`: the run that is given is the one that the words ask for, few
+    // bytes were read for a sound, and its report was written, or its line.
     ensures promise { IfSome result.play (KeepsPromise (HasRun (S.told shelf.old)
         (FailedUnder (S.faults shelf.old) (S.faults shelf.new))
         (EmptiedUnder (S.empties shelf.old) (S.empties shelf.new))
@@ -65,6 +77,8 @@ pub fn hda_main<S: Shelf, K: Sink>(
         → IsNone result.play }
     ensures walk_runs { (codec schedule : List ℕ) → IsWalkOf (map string_bytes words.now) codec schedule
         → IsOfWalk result.status → IsSome result.play }
+    ensures make_runs { (number : ℕ) → IsMakeOf (map string_bytes words.now) number
+        → (result.status ≡ number_of Status.OutOfMemory → ⊥) → IsSome result.play }
     ensures play_runs { (codec wav schedule : List ℕ) (periods period : ℕ)
         → IsPlayOf (map string_bytes words.now) codec wav schedule periods period
         → IsOfSound result.status → IsSome result.play }
@@ -96,7 +110,7 @@ pub fn hda_main<S: Shelf, K: Sink>(
     ensures refused_geometry { result.status ≡ number_of Status.GeometryRefused
         → HasBadRing (S.told shelf.old) (map string_bytes words.now) }
     ensures routed { result.status ≡ number_of Status.Done → HasPlanned (S.told shelf.old) (map string_bytes words.now)
-        true }
+        true ⊎ WantsMade (map string_bytes words.now) }
     ensures nothing_routed { result.status ≡ number_of Status.NothingRouted
         → HasPlanned (S.told shelf.old) (map string_bytes words.now) false }
     ensures unwritten { result.status ≡ number_of Status.SinkFailed → Rose (K.faults out.old) (K.faults out.new) }
@@ -114,6 +128,32 @@ pub fn hda_main<S: Shelf, K: Sink>(
         period
         → (Rose (K.faults out.old) (K.faults out.new) → ⊥) → HasPlayedOn result.status }
 
+    // What is made of a number is played to its end.
+    ensures make_ends { (number : ℕ) → IsMakeOf (map string_bytes words.now) number
+        → IsOfMade (Rose (K.faults out.old) (K.faults out.new)) result.status }
+
+    // What comes of schedules that serve: a walk ends so by how many driver lines they have, and so does a sound; and
+    // all of a sound is played where it is fed.
+    ensures walk_served { (codec schedule : List ℕ) → IsWalkOf (map string_bytes words.now) codec schedule
+        → (can : CanWalk (S.told shelf.old) (FailedUnder (S.faults shelf.old) (S.faults shelf.new)) codec schedule)
+        → (Rose (K.faults out.old) (K.faults out.new) → ⊥)
+        → ServesBringUp walk_format can.machine can.plans can.schedule
+        → EndsSo (WalksSo can.machine can.plans can.schedule) result.play result.status }
+    ensures play_served { (codec wav schedule : List ℕ) (periods period : ℕ) (geometry : Geometry)
+        → IsPlayOf (map string_bytes words.now) codec wav schedule periods period
+        → (can : CanPlay (S.told shelf.old) (FailedUnder (S.faults shelf.old) (S.faults shelf.new)) codec wav schedule
+        periods period)
+        → (Rose (K.faults out.old) (K.faults out.new) → ⊥) → IsRingOf periods period can.machine can.head geometry
+        → ServesPlay can.head.format can.machine can.plans geometry can.schedule
+        → EndsSo (PlaysSo can.machine can.plans can.head can.schedule) result.play result.status }
+    ensures play_served_whole { (codec wav schedule : List ℕ) (periods period : ℕ) (geometry : Geometry)
+        → IsPlayOf (map string_bytes words.now) codec wav schedule periods period
+        → (can : CanPlay (S.told shelf.old) (FailedUnder (S.faults shelf.old) (S.faults shelf.new)) codec wav schedule
+        periods period)
+        → (Rose (K.faults out.old) (K.faults out.new) → ⊥) → IsRingOf periods period can.machine can.head geometry
+        → ServesPlay can.head.format can.machine can.plans geometry can.schedule
+        → EndsSo (PlaysWhole can.machine can.plans can.head geometry can.schedule) result.play result.status }
+
     // The shelf is asked under the names of the words alone.
     ensures asked { AsksForItsFiles (map string_bytes words.now) (S.asked shelf.old) (S.asked shelf.new) }
 
@@ -123,6 +163,10 @@ pub fn hda_main<S: Shelf, K: Sink>(
     ensures empties_later { (name : List ℕ) → S.empties shelf.old name ≤ S.empties shelf.new name }
     ensures sink_later { K.faults out.old ≤ K.faults out.new }
 {
+    read_machines_are_whole();
+    walks_end_so();
+    plays_end_so();
+    plays_all_so();
     match answer_words(alloc, words, shelf) {
         Ok(answer) => write_answer(alloc, out, answer),
         Err(_) => Ended {
@@ -148,6 +192,10 @@ pub(crate) fn write_answer<K: Sink>(alloc: Global, out: &mut K, answer: Answer) 
             status: write_run(alloc, out, &played).number(),
             play: Some(played),
         },
+        Answer::Made(number, made) => Ended {
+            status: write_made(alloc, out, number, &made).number(),
+            play: Some(made),
+        },
     }
 }
 
@@ -167,6 +215,19 @@ fn write_run<K: Sink>(alloc: Global, out: &mut K, played: &Played) -> Status
     ensures later { K.faults out.old ≤ K.faults out.new }
 {
     written_status(write_report(alloc, out, played), status_of(played))
+}
+
+/// Writes the line of a run of made inputs, and gives the status of its end, or that of the fault.
+fn write_made<K: Sink>(alloc: Global, out: &mut K, number: u16, played: &Played) -> Status
+    ensures written { HasWritten (K.taken out.old) (K.taken out.new) (Rose (K.faults out.old) (K.faults out.new))
+        (of_made number played.now) (number_of result) }
+    ensures later { K.faults out.old ≤ K.faults out.new }
+{
+    let status = status_of(played);
+    match made_line(alloc, number, status.number(), played) {
+        Ok(line) => write_text(alloc, out, line.as_bytes(), status),
+        Err(_) => Status::OutOfMemory,
+    }
 }
 
 /// The status of a text that was written so: its own, or that of the fault.

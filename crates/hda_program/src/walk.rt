@@ -14,6 +14,7 @@ use codec_agenda::have_route;
 use hda_files::Machine;
 use hda_outside::Shelf;
 use hda_schedule::Schedule;
+use machine_tasks::read_machines_are_whole;
 use scheduled_runs::{walk, walk_format};
 use std::alloc::{AllocError, Global};
 
@@ -78,6 +79,7 @@ fn walk_schedule(alloc: Global, machine: Machine, schedule: &Schedule) -> Result
     requires good { IsGoodSchedule schedule.now }
     ensures { IfOk result (λ answer. ScheduleAnswers machine schedule.now (answer_meant answer)) }
 {
+    read_machines_are_whole();
     let plans = plans_of(alloc, machine.codecs.as_slice(), walk_format())?;
     if have_route(plans.as_slice()) {
         Ok(Answer::Run(walk(alloc, machine, plans, schedule)?))

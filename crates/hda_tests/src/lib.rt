@@ -4,22 +4,14 @@
 #![tactic(auto)]
 
 #[cfg(test)]
-mod files;
-#[cfg(test)]
 mod graphs;
 #[cfg(test)]
 mod items;
 #[cfg(test)]
 mod outside;
 #[cfg(test)]
-mod plans;
-#[cfg(test)]
-mod schedules;
-#[cfg(test)]
 mod streams;
 #[cfg(test)]
 mod verbs;
 #[cfg(test)]
 mod wavs;
-#[cfg(test)]
-mod words;

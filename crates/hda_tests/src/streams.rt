@@ -1,88 +1,16 @@
-//! Sound that is read while it is taken: how long files are, what opening a WAV file answers, and what a supply gives out, also where the
-//! shelf fails or the file gets shorter.
-use crate::wavs::{CHANGES, MONO, RIFF, SOUND, STEREO, changed, joined, of_front};
-use hda_outside::{Cut, MemShelf, ReadAll, SureShelf, file_length};
+//! Sound that is read while it is taken: what a supply gives out, also where the shelf fails or the file gets shorter.
+use crate::wavs::{MONO, RIFF, STEREO, joined};
+use hda_outside::{Cut, MemShelf, SureShelf};
 use std::alloc::{AllocError, Global};
 use std::process::Abort;
 use std::test::Fail;
-use wav_reader::{Supply, Wav, WavFault, WavOpen, open_wav, read_wav};
+use wav_reader::{Supply, Wav, open_wav, read_wav};
 
 /// One file, as a shelf takes it.
 fn named(alloc: Global, bytes: Vec<u8>) -> Result<Vec<(String, Vec<u8>)>, AllocError> {
     let mut files = Vec::new(alloc);
     files.push((String::from_str(alloc, "file")?, bytes))?;
     Ok(files)
-}
-
-/// Lengths of files, the most that is asked for, and what is answered.
-const LENGTHS: [(usize, u64, Result<u64, ReadAll>); 14] = [
-    (0, 0, Ok(0)),
-    (0, 1, Ok(0)),
-    (0, u64::MAX, Ok(0)),
-    (1, 0, Err(ReadAll::TooLong)),
-    (1, 1, Ok(1)),
-    (1, 2, Ok(1)),
-    (2, 1, Err(ReadAll::TooLong)),
-    (2, 7, Ok(2)),
-    (3, 3, Ok(3)),
-    (64, 63, Err(ReadAll::TooLong)),
-    (64, 64, Ok(64)),
-    (64, 67_108_864, Ok(64)),
-    (4_096, u64::MAX, Ok(4_096)),
-    (4_096, 4_095, Err(ReadAll::TooLong)),
-];
-
-#[test]
-fn measures_files(rt: HostRuntime) -> Result<(), Fail> {
-    let alloc = rt.alloc();
-    for (len, most, want) in LENGTHS {
-        let mut shelf = SureShelf::new(named(alloc, vec![in alloc; 7; len]?)?);
-        let got = file_length(alloc, &mut shelf, "file", most);
-        assert_eq!(rt; got, want, "{len} {most}");
-        let got = file_length(alloc, &mut shelf, "gone", most);
-        assert_eq!(rt; got, Err(ReadAll::Failed), "{most}");
-    }
-    Ok(())
-}
-
-/// How many frames a file has and where they begin, or its fault; without either where the shelf or memory was wanting.
-fn opened(
-    alloc: Global,
-    bytes: Vec<u8>,
-) -> Result<Option<Result<(u64, u64), WavFault>>, AllocError> {
-    let mut shelf = SureShelf::new(named(alloc, bytes)?);
-    Ok(match open_wav(alloc, &mut shelf, "file") {
-        Ok(head) => Some(Ok((head.frames, head.from))),
-        Err(WavOpen::Wav(fault)) => Some(Err(fault)),
-        Err(_) => None,
-    })
-}
-
-#[test]
-fn opens_each_front(rt: HostRuntime) -> Result<(), Fail> {
-    let alloc = rt.alloc();
-    let file = joined(alloc, &[RIFF, STEREO, SOUND])?;
-    for len in 0..53 {
-        let front = file.get(..len).ok_or("a front")?;
-        let got = opened(alloc, Vec::from_slice(alloc, front)?)?;
-        let want = of_front(len).map(|frames| (frames, 44));
-        assert_eq!(rt; got, Some(want), "{len}");
-    }
-    Ok(())
-}
-
-#[test]
-fn opens_changed_files(rt: HostRuntime) -> Result<(), Fail> {
-    let alloc = rt.alloc();
-    for (place, change, want) in CHANGES {
-        let got = opened(alloc, changed(alloc, place, change)?)?;
-        let want = want.map(|frames| (frames, 44));
-        assert_eq!(rt; got, Some(want), "{place} {change:?}");
-    }
-    let list = b"LIST\x03\0\0\0abc\0";
-    let bytes = joined(alloc, &[RIFF, list, MONO, list, SOUND])?;
-    assert_eq!(rt; opened(alloc, bytes)?, Some(Ok((4, 68))));
-    Ok(())
 }
 
 /// A file of so many bytes of sound, of one channel or of two.

@@ -2,7 +2,7 @@
 use Rattle.std.specs.Prelude.{ℕ, List, [], ◌∷◌, codes, map}
 use Rattle.hda_words.specs.Numbers.{Numbers, listed, between}
 use Rattle.hda_words.specs.declared.table.CommandName.{CommandName}
-use Rattle.hda_words.specs.declared.table.CommandName.TheVariants.{Route, Walk, Play}
+use Rattle.hda_words.specs.declared.table.CommandName.TheVariants.{Route, Walk, Play, Make}
 
 -- an option `--name`, the numbers that it takes, and that which stands for it where it isn't given
 pub record OptionGrammar : Type 0 where
@@ -64,6 +64,14 @@ play_grammar = record {
   options = periods_option ∷ period_option ∷ [];
 }
 
+-- `make N`
+abbrev pub make_grammar : CommandGrammar
+make_grammar = record { command = Make; name = codes "make"; operands = 1; options = [] }
+
+-- the numbers of which an input is made
+abbrev pub made_numbers : Numbers
+made_numbers = between 0 65535
+
 -- all commands of the program
 abbrev pub commands : List CommandGrammar
-commands = route_grammar ∷ walk_grammar ∷ play_grammar ∷ []
+commands = route_grammar ∷ walk_grammar ∷ play_grammar ∷ make_grammar ∷ []

@@ -1,14 +1,14 @@
 //! What the words ask the program to do.
-ghost use Rattle.std.specs.Prelude.{◌≡◌, IfOk, Some, None, Err, map, string_bytes, true};
+ghost use Rattle.std.specs.Prelude.{◌≡◌, IfOk, IfSome, Some, None, Err, map, option_map, string_bytes, true};
 ghost use Rattle.hda_words.specs.Asked.{asked_by, asked_of, hertz, request_of, IsInRange};
-ghost use Rattle.hda_words.specs.Commands.{play_grammar, rate_option, route_grammar, walk_grammar};
+ghost use Rattle.hda_words.specs.Commands.{make_grammar, play_grammar, rate_option, route_grammar, walk_grammar};
 ghost use Rattle.hda_words.specs.Lines.{IsLineOf};
 ghost use Rattle.hda_words.specs.Numbers.{is_taken};
 ghost use Rattle.hda_words.specs.Seen.{line_seen};
 ghost use Rattle.hda_words.specs.declared.request.WordsFault.TheVariants.{OutOfMemory};
 
 use crate::line::{Line, read_line};
-use crate::table::{CommandName, command_named};
+use crate::table::{CommandName, MADE_NUMBERS, command_named};
 use std::alloc::{AllocError, AllocFailed, Global};
 use stream_format::{Bits, Format, Rate};
 
@@ -41,6 +41,11 @@ pub enum Request<'a> {
         periods: u8,
         /// How many units of 384 bytes a period has: 1 to 128.
         period: u8,
+    },
+    /// Plays the input that is made of a number.
+    Make {
+        /// The number.
+        number: u16,
     },
 }
 
@@ -87,7 +92,7 @@ fn rate_of(number: u64) -> Rate
 /// What a line of `route` asks.
 fn route_of<'a>(line: &Line<'a>) -> Request<'a>
     requires { IsLineOf route_grammar (line_seen line.now) }
-    ensures { asked_by result ≡ asked_of CommandName.Route (line_seen line.now) }
+    ensures { asked_of CommandName.Route (line_seen line.now) ≡ Some (asked_by result) }
 {
     let rate = rate_of(line.numbers[0]);
     let channels = line.numbers[1] as u8;
@@ -104,7 +109,7 @@ fn route_of<'a>(line: &Line<'a>) -> Request<'a>
 /// What a line of `walk` asks.
 fn walk_of<'a>(line: &Line<'a>) -> Request<'a>
     requires { IsLineOf walk_grammar (line_seen line.now) }
-    ensures { asked_by result ≡ asked_of CommandName.Walk (line_seen line.now) }
+    ensures { asked_of CommandName.Walk (line_seen line.now) ≡ Some (asked_by result) }
 {
     Request::Walk {
         codec: line.operands[0],
@@ -115,7 +120,7 @@ fn walk_of<'a>(line: &Line<'a>) -> Request<'a>
 /// What a line of `play` asks.
 fn play_of<'a>(line: &Line<'a>) -> Request<'a>
     requires { IsLineOf play_grammar (line_seen line.now) }
-    ensures asked { asked_by result ≡ asked_of CommandName.Play (line_seen line.now) }
+    ensures asked { asked_of CommandName.Play (line_seen line.now) ≡ Some (asked_by result) }
     ensures ranges { IsInRange result }
 {
     Request::Play {
@@ -127,11 +132,24 @@ fn play_of<'a>(line: &Line<'a>) -> Request<'a>
     }
 }
 
+/// What a line of `make` asks, where its operand is a number of which an input is made.
+fn make_of<'a>(line: &Line<'a>) -> Option<Request<'a>>
+    requires { IsLineOf make_grammar (line_seen line.now) }
+    ensures asked { asked_of CommandName.Make (line_seen line.now) ≡ option_map asked_by result }
+    ensures ranges { IfSome result IsInRange }
+{
+    let number = MADE_NUMBERS.read(line.operands[0])?;
+    Some(Request::Make {
+        number: number as u16,
+    })
+}
+
 /// Reads the words that stand after the program's name.
 ///
 /// The first is the name of a command, and those after it are its operands and options. Without `--rate` and
 /// `--channels` a route is for 48,000 blocks in a second and 2 channels, and always for 16 bits. Without `--periods`
-/// and `--period` a sound is played through a ring of 4 periods of 8 units.
+/// and `--period` a sound is played through a ring of 4 periods of 8 units. The operand of `make` is a number of 0 to
+/// 65,535.
 ///
 /// # Errors
 /// [`WordsFault::NoCommand`] where the words are those of no command, and want of memory.
@@ -147,5 +165,6 @@ pub fn read_words<'a>(alloc: Global, words: &'a [String]) -> Result<Request<'a>,
         CommandName::Route => Ok(route_of(&line)),
         CommandName::Walk => Ok(walk_of(&line)),
         CommandName::Play => Ok(play_of(&line)),
+        CommandName::Make => make_of(&line).ok_or(WordsFault::NoCommand),
     }
 }

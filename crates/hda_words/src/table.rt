@@ -13,6 +13,8 @@ pub enum CommandName {
     Walk,
     /// Plays a WAV file through the codecs of a codec file by a schedule.
     Play,
+    /// Plays the input that is made of a number.
+    Make,
 }
 
 /// The numbers that an option takes.
@@ -92,7 +94,17 @@ const PLAY: CommandRow = CommandRow {
     options: &PLAY_OPTIONS,
 };
 
-const COMMANDS: [CommandRow; 3] = [ROUTE, WALK, PLAY];
+const MAKE: CommandRow = CommandRow {
+    command: CommandName::Make,
+    name: "make",
+    operands: 1,
+    options: &[],
+};
+
+const COMMANDS: [CommandRow; 4] = [ROUTE, WALK, PLAY, MAKE];
+
+/// The numbers of which an input is made.
+pub const MADE_NUMBERS: Numbers = Numbers::Between(0, 65535);
 
 /// The row with this name.
 fn row_named(rows: &[CommandRow], name: &str) -> Option<CommandRow>

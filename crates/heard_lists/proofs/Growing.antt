@@ -1,5 +1,7 @@
 -- Lists that grow.
-use Rattle.std.proofs.Common.{◌≡◌, ◌≢◌, ◌≤◌, ◌<◌, ◌+◌, ◌-◌, ℕ, suc, List, [], ◌∷◌, ◌++◌, length, map, get_or, set, drop, nat_eq, Bool, true, false, Some, if◌then◌else◌, tests, rules, refl, sym, ap, subst, ◌∙◌, arith, ◌*◌, length-append, length-set, Option}
+use Rattle.std.proofs.Common.{◌≡◌, ◌≢◌, ◌≤◌, ◌<◌, ◌+◌, ◌-◌, ℕ, suc, List, [], ◌∷◌, ◌++◌, length, map, get_or, set, drop}
+use Rattle.std.proofs.Common.{nat_eq, Bool, true, false, Some, if◌then◌else◌, tests, rules, refl, sym, ap, subst, ◌∙◌}
+use Rattle.std.proofs.Common.{arith, ◌*◌, length-append, length-set, Option}
 use Rattle.std.specs.List.{find, range_with_len, AllZip}
 use Rattle.std.proofs.Math.Nat.{suc-mul}
 use Rattle.std.proofs.lemmas.List.{drop_more, get_or-set_other, map-append, append-nil, append_assoc, length-map}
@@ -16,24 +18,33 @@ use Rattle.codec_sound.specs.declared.heard.Heard.TheVariants.{Hole}
 use Rattle.codec_sound.specs.HeardLists.{signal_in, items_of, frame_items, block_at, block_size, item_of, heard}
 use Rattle.codec_sound.proofs.Callers.{heard-append, items-missed, items-empty}
 use Rattle.route_planner.specs.Order.{IsOrder}
-use Rattle.heard_lists.specs.Listings.{HasRoom, with_blocks, Listing, AreListsOf, AreEmpty, places_of, places_in, is_of, pins_of, empty_lists, with_items, items_before, grown}
+use Rattle.heard_lists.specs.Listings.{HasRoom, with_blocks, Listing, AreListsOf, AreEmpty, places_of, places_in, is_of}
+use Rattle.heard_lists.specs.Listings.{pins_of, empty_lists, with_items, items_before, grown}
 
 -- ---- one list
 
 -- one more item
 pub with_more : (listing : Listing) (items : List Heard) (item : Heard)
-    → record (with_items items listing) { list = (with_items items listing).list ++ item ∷ []; room = (with_items items listing).room - 1 } ≡ with_items (items ++ item ∷ []) listing
+    → record (with_items items listing) {
+      list = (with_items items listing).list ++ item ∷ [];
+      room
+          = (with_items items listing).room - 1;
+    } ≡ with_items (items ++ item ∷ []) listing
 with_more listing items item =
-    ap (λ (list : List Heard). record listing { list = list; room = listing.room - length items - 1 }) (append_assoc listing.list items (item ∷ []))
-    ∙ ap (λ (room : ℕ). record listing { list = listing.list ++ (items ++ item ∷ []); room = room }) (fewer listing.room)
+    ap (λ (list : List Heard). record listing { list = list; room = listing.room - length items - 1 })
+    (append_assoc listing.list items (item ∷ []))
+    ∙ ap (λ (room : ℕ). record listing { list = listing.list ++ (items ++ item ∷ []); room = room })
+    (fewer listing.room)
   where
     fewer : (room : ℕ) → room - length items - 1 ≡ room - length (items ++ item ∷ [])
     fewer room = simp (length-append) omega arith
 
 -- and items after items
-pub with_both : (listing : Listing) (first second : List Heard) → with_items second (with_items first listing) ≡ with_items (first ++ second) listing
+pub with_both : (listing : Listing) (first second : List Heard)
+    → with_items second (with_items first listing) ≡ with_items (first ++ second) listing
 with_both listing first second =
-    ap (λ (list : List Heard). record listing { list = list; room = listing.room - length first - length second }) (append_assoc listing.list first second)
+    ap (λ (list : List Heard). record listing { list = list; room = listing.room - length first - length second })
+    (append_assoc listing.list first second)
     ∙ ap (λ (room : ℕ). record listing { list = listing.list ++ (first ++ second); room = room }) (fewer listing.room)
   where
     fewer : (room : ℕ) → room - length first - length second ≡ room - length (first ++ second)
@@ -50,16 +61,20 @@ with_none listing =
 
 -- ---- the blocks of a frame
 
-pub length-before : (layout : Layout) (signal : Signal) (bytes : List ℕ) (count : ℕ) → length (items_before layout signal bytes count) ≡ count
+pub length-before : (layout : Layout) (signal : Signal) (bytes : List ℕ) (count : ℕ)
+    → length (items_before layout signal bytes count) ≡ count
 length-before layout signal bytes count = simp (length-map, length-range_with_len)
 
 pub before-more : (layout : Layout) (signal : Signal) (bytes : List ℕ) (count : ℕ)
-    → items_before layout signal bytes (count + 1) ≡ items_before layout signal bytes count ++ item_of layout signal (block_at (block_size layout) bytes count) ∷ []
+    → items_before layout signal bytes (count + 1) ≡ items_before layout signal bytes count ++ item_of layout signal
+    (block_at (block_size layout) bytes count) ∷ []
 before-more layout signal bytes count =
-    ap (map (item_of layout signal)) (map-range_with_len_more (block_at (block_size layout) bytes) 0 count count (omega arith))
-    ∙ map-append (item_of layout signal) (map (block_at (block_size layout) bytes) (range_with_len 0 count)) (block_at (block_size layout) bytes count ∷ [])
+    ap (map (item_of layout signal)) (map-range_with_len_more (block_at (block_size layout) bytes) 0 count count
+    (omega arith))
+    ∙ map-append (item_of layout signal) (map (block_at (block_size layout) bytes) (range_with_len 0 count))
+    (block_at (block_size layout) bytes count ∷ [])
 
-suc_times : (place size : ℕ) → (place + 1) * size ≡ place * size + size
+pub suc_times : (place size : ℕ) → (place + 1) * size ≡ place * size + size
 suc_times place size = let e : place + 1 ≡ suc place = omega arith in ap (λ (n : ℕ). n * size) e ∙ suc-mul place size
 
 -- a block ends one block's size after its begin
@@ -68,7 +83,8 @@ piece_of place size = let e : (place + 1) * size ≡ place * size + size = suc_t
 
 -- ---- the lists of codecs
 
-places-push : (graphs : List RawCodec) (orders : List (List ℕ)) (graph : RawCodec) (pins : List ℕ) → AllZip IsOrder graphs orders
+places-push : (graphs : List RawCodec) (orders : List (List ℕ)) (graph : RawCodec) (pins : List ℕ)
+    → AllZip IsOrder graphs orders
     → places_in (graphs ++ graph ∷ []) (orders ++ pins ∷ []) ≡ places_in graphs orders ++ places_of graph.address pins
 places-push [] [] graph pins h = append-nil (places_of graph.address pins)
 places-push [] (first ∷ orders) graph pins h = absurd h
@@ -77,18 +93,24 @@ places-push (first ∷ graphs) (order ∷ orders) graph pins h =
     ap (λ (rest : List (ℕ × ℕ)). places_of first.address order ++ rest) (places-push graphs orders graph pins h.1)
     ∙ sym (append_assoc (places_of first.address order) (places_in graphs orders) (places_of graph.address pins))
 
-ordered-push : (graphs : List RawCodec) (orders : List (List ℕ)) (graph : RawCodec) (pins : List ℕ) → AllZip IsOrder graphs orders → IsOrder graph pins
+ordered-push : (graphs : List RawCodec) (orders : List (List ℕ)) (graph : RawCodec) (pins : List ℕ)
+    → AllZip IsOrder graphs orders → IsOrder graph pins
     → AllZip IsOrder (graphs ++ graph ∷ []) (orders ++ pins ∷ [])
 ordered-push [] [] graph pins h order = (order, tt)
 ordered-push [] (first ∷ orders) graph pins h order = absurd h
 ordered-push (first ∷ graphs) [] graph pins h order = absurd h
-ordered-push (first ∷ graphs) (other ∷ orders) graph pins h order = (h.0, ordered-push graphs orders graph pins h.1 order)
+ordered-push (first ∷ graphs) (other ∷ orders) graph pins h order = (
+  h.0,
+  ordered-push graphs orders graph pins h.1
+      order,
+)
 
 pins-empty : (address : ℕ) (pins : List ℕ) → pins_of (empty_lists address pins) ≡ places_of address pins
 pins-empty address [] = refl
 pins-empty address (pin ∷ pins) = ap (λ (rest : List (ℕ × ℕ)). (address, pin) ∷ rest) (pins-empty address pins)
 
-pub AreListsOf-push : (graphs : List RawCodec) (lists : List Listing) (graph : RawCodec) (pins : List ℕ) → AreListsOf graphs lists → IsOrder graph pins
+pub AreListsOf-push : (graphs : List RawCodec) (lists : List Listing) (graph : RawCodec) (pins : List ℕ)
+    → AreListsOf graphs lists → IsOrder graph pins
     → AreListsOf (graphs ++ graph ∷ []) (lists ++ empty_lists graph.address pins)
 AreListsOf-push graphs lists graph pins are order = record {
   orders = are.orders ++ pins ∷ [];
@@ -104,30 +126,37 @@ AreListsOf-none = record { orders = []; ordered = tt; pins = refl }
 
 -- ---- frames in turn
 
-pub grown-append : (first second : List CarriedFrame) (lists : List Listing) → grown second (grown first lists) ≡ grown (first ++ second) lists
+pub grown-append : (first second : List CarriedFrame) (lists : List Listing)
+    → grown second (grown first lists) ≡ grown (first ++ second) lists
 grown-append first second [] = refl
 grown-append first second (listing ∷ lists) =
-    let one : with_items (heard listing.codec listing.pin second) (with_items (heard listing.codec listing.pin first) listing) ≡ with_items (heard listing.codec listing.pin (first ++ second)) listing =
+    let one : with_items (heard listing.codec listing.pin second) (with_items (heard listing.codec listing.pin first)
+    listing) ≡ with_items (heard listing.codec listing.pin (first ++ second)) listing =
     with_both listing (heard listing.codec listing.pin first) (heard listing.codec listing.pin second)
-    ∙ ap (λ (items : List Heard). with_items items listing) (sym (heard-append listing.codec listing.pin first second)) in
+    ∙ ap (λ (items : List Heard). with_items items listing) (sym (heard-append listing.codec listing.pin first second))
+    in
     ap (λ (l : Listing). l ∷ grown second (grown first lists)) one
-    ∙ ap (λ (rest : List Listing). with_items (heard listing.codec listing.pin (first ++ second)) listing ∷ rest) (grown-append first second lists)
+    ∙ ap (λ (rest : List Listing). with_items (heard listing.codec listing.pin (first ++ second)) listing ∷ rest)
+    (grown-append first second lists)
 
 pub grown-none : (lists : List Listing) → grown [] lists ≡ lists
 grown-none [] = refl
 grown-none (listing ∷ lists) =
-    ap (λ (l : Listing). l ∷ grown [] lists) (with_none listing) ∙ ap (λ (rest : List Listing). listing ∷ rest) (grown-none lists)
+    ap (λ (l : Listing). l ∷ grown [] lists) (with_none listing) ∙ ap (λ (rest : List Listing). listing ∷ rest)
+    (grown-none lists)
 
 -- ---- loops over lists
 
 -- a list that isn't looked for
-pub find-on : (p : Listing → Bool) (lists : List Listing) (i : ℕ) (listing : Listing) → i < length lists → listing ≡ get_or lists i listing → p listing ≡ false
+pub find-on : (p : Listing → Bool) (lists : List Listing) (i : ℕ) (listing : Listing) → i < length lists
+    → listing ≡ get_or lists i listing → p listing ≡ false
     → find p (drop (i + 1) lists) ≡ find p (drop i lists)
 find-on p lists i listing inside is other =
     sym (ap (find p) (drop_more lists i listing inside ∙ ap (λ (l : Listing). l ∷ drop (i + 1) lists) (sym is))
     ∙ ap (λ (found : Bool). if found then Some listing else find p (drop (i + 1) lists)) other)
 
-pub found-is : (codec pin : ℕ) (listing : Listing) → ◌≡◌ {A = ℕ × ℕ} (listing.codec, listing.pin) (codec, pin) → is_of codec pin listing ≡ true
+pub found-is : (codec pin : ℕ) (listing : Listing) → ◌≡◌ {A = ℕ × ℕ} (listing.codec, listing.pin) (codec, pin)
+    → is_of codec pin listing ≡ true
 found-is codec pin listing e =
     let address : listing.codec ≡ codec = ap (λ (p : ℕ × ℕ). p.0) e in
     let node : listing.pin ≡ pin = ap (λ (p : ℕ × ℕ). p.1) e in
@@ -135,7 +164,8 @@ found-is codec pin listing e =
 
 -- one more list has room
 pub room-more : (lists : List Listing) (i items : ℕ) (new : Listing) → i < length lists → items ≤ new.room
-    → ((k : ℕ) (d : Listing) → k < i → items ≤ (get_or lists k d).room) → (k : ℕ) (d : Listing) → k < i + 1 → items ≤ (get_or (set lists i new) k d).room
+    → ((k : ℕ) (d : Listing) → k < i → items ≤ (get_or lists k d).room) → (k : ℕ) (d : Listing) → k < i + 1
+    → items ≤ (get_or (set lists i new) k d).room
 room-more lists i items new inside some before k d within = by_place (nat_eq k i) refl
   where
     by_place : (same : Bool) → nat_eq k i ≡ same → items ≤ (get_or (set lists i new) k d).room
@@ -149,21 +179,25 @@ room-more lists i items new inside some before k d within = by_place (nat_eq k i
 
 pub AreEmpty-empty : (address : ℕ) (pins : List ℕ) → AreEmpty (empty_lists address pins)
 AreEmpty-empty address pins =
-    All-map (λ (listing : Listing). listing.list ≡ []) (λ (pin : ℕ). record { codec = address; pin = pin; list = []; room = 0 }) pins (λ k d within. refl)
+    All-map (λ (listing : Listing). listing.list ≡ [])
+    (λ (pin : ℕ). record { codec = address; pin = pin; list = []; room = 0 }) pins (λ k d within. refl)
 
 -- a list that has no less room than the one that it replaces
-pub room-kept : (lists : List Listing) (i more : ℕ) (new : Listing) → i < length lists → (get_or lists i new).room ≤ new.room → HasRoom more lists → HasRoom more (set lists i new)
+pub room-kept : (lists : List Listing) (i more : ℕ) (new : Listing) → i < length lists
+    → (get_or lists i new).room ≤ new.room → HasRoom more lists → HasRoom more (set lists i new)
 room-kept lists i more new inside no_less holds k d within = by_place (nat_eq k i) refl
   where
     by_place : (same : Bool) → nat_eq k i ≡ same → more ≤ (get_or (set lists i new) k d).room
     by_place true is =
         let here : k ≡ i = search (rules, tests) in
         let some : more ≤ (get_or lists i new).room = holds i new inside in
-        subst (λ (l : Listing). more ≤ l.room) (sym (get_or-set_at lists i k new d here inside)) (omega (arith, some, no_less))
+        subst (λ (l : Listing). more ≤ l.room) (sym (get_or-set_at lists i k new d here inside))
+        (omega (arith, some, no_less))
     by_place false is =
         let apart : k ≢ i = search (rules, tests) in
         let long : length (set lists i new) ≡ length lists = length-set lists i new in
-        subst (λ (l : Listing). more ≤ l.room) (sym (get_or-set_other lists i k new d apart)) (holds k d (omega (arith, long, within)))
+        subst (λ (l : Listing). more ≤ l.room) (sym (get_or-set_other lists i k new d apart))
+        (holds k d (omega (arith, long, within)))
 
 -- ---- one frame
 
@@ -172,38 +206,53 @@ heard-one codec pin frame = append-nil (frame_items codec pin frame)
 
 -- what each list gains by a frame
 grown-by : (items : Listing → List Heard) (frame : CarriedFrame) (lists : List Listing)
-    → ((listing : Listing) → frame_items listing.codec listing.pin frame ≡ items listing) → map (λ (listing : Listing). with_items (items listing) listing) lists ≡ grown (frame ∷ []) lists
+    → ((listing : Listing) → frame_items listing.codec listing.pin frame ≡ items listing)
+    → map (λ (listing : Listing). with_items (items listing) listing) lists ≡ grown (frame ∷ []) lists
 grown-by items frame [] same = refl
 grown-by items frame (listing ∷ lists) same =
     ap (λ (l : Listing). l ∷ map (λ (listing : Listing). with_items (items listing) listing) lists)
     (ap (λ (i : List Heard). with_items i listing) (sym (heard-one listing.codec listing.pin frame ∙ same listing)))
-    ∙ ap (λ (rest : List Listing). with_items (heard listing.codec listing.pin (frame ∷ [])) listing ∷ rest) (grown-by items frame lists same)
+    ∙ ap (λ (rest : List Listing). with_items (heard listing.codec listing.pin (frame ∷ [])) listing ∷ rest)
+    (grown-by items frame lists same)
 
-pub blocks-grow : (frame : CarriedFrame) (layout : Layout) (bytes : List ℕ) (lists : List Listing) → layout_of frame.format ≡ Some layout → frame.carriage ≡ Sent bytes
+pub blocks-grow : (frame : CarriedFrame) (layout : Layout) (bytes : List ℕ) (lists : List Listing)
+    → layout_of frame.format ≡ Some layout → frame.carriage ≡ Sent bytes
     → map (with_blocks (λ codec pin. signal_in codec pin frame) layout bytes) lists ≡ grown (frame ∷ []) lists
 blocks-grow frame layout bytes lists reading carried =
     grown-by (λ listing. items_of (Some layout) (signal_in listing.codec listing.pin frame) (Sent bytes)) frame lists
-    (λ listing. ap (λ (found : Option Layout). items_of found (signal_in listing.codec listing.pin frame) frame.carriage) reading
+    (λ listing. ap (λ (found : Option Layout). items_of found (signal_in listing.codec listing.pin frame)
+    frame.carriage) reading
     ∙ ap (items_of (Some layout) (signal_in listing.codec listing.pin frame)) carried)
 
-pub hole-grows : (frame : CarriedFrame) (lists : List Listing) → frame.carriage ≡ Missed → map (with_items (Hole ∷ [])) lists ≡ grown (frame ∷ []) lists
-hole-grows frame lists missed = grown-by (λ listing. Hole ∷ []) frame lists (λ listing. items-missed listing.codec listing.pin frame missed)
+pub hole-grows : (frame : CarriedFrame) (lists : List Listing) → frame.carriage ≡ Missed
+    → map (with_items (Hole ∷ [])) lists ≡ grown (frame ∷ []) lists
+hole-grows frame lists missed = grown-by (λ listing. Hole ∷ []) frame lists
+    (λ listing. items-missed listing.codec listing.pin frame missed)
 
-pub gap-grows : (frame : CarriedFrame) (lists : List Listing) → frame.carriage ≡ Sent [] → lists ≡ grown (frame ∷ []) lists
-gap-grows frame lists none = sym (grown-nothing lists) ∙ grown-by (λ listing. []) frame lists (λ listing. items-empty listing.codec listing.pin frame none)
+pub gap-grows : (frame : CarriedFrame) (lists : List Listing) → frame.carriage ≡ Sent []
+    → lists ≡ grown (frame ∷ []) lists
+gap-grows frame lists none = sym (grown-nothing lists) ∙ grown-by (λ listing. []) frame lists
+    (λ listing. items-empty listing.codec listing.pin frame none)
   where
     grown-nothing : (lists : List Listing) → map (λ (listing : Listing). with_items [] listing) lists ≡ lists
     grown-nothing [] = refl
     grown-nothing (listing ∷ lists) =
-        ap (λ (l : Listing). l ∷ map (λ (listing : Listing). with_items [] listing) lists) (with_none listing) ∙ ap (λ (rest : List Listing). listing ∷ rest) (grown-nothing lists)
+        ap (λ (l : Listing). l ∷ map (λ (listing : Listing). with_items [] listing) lists) (with_none listing) ∙ ap
+        (λ (rest : List Listing). listing ∷ rest) (grown-nothing lists)
 
 -- ---- the room that is left
 
-pub room-after : (count more : ℕ) (items : Listing → List Heard) (lists : List Listing) → ((listing : Listing) → length (items listing) ≡ count) → HasRoom (count + more) lists
+pub room-after : (count more : ℕ) (items : Listing → List Heard) (lists : List Listing)
+    → ((listing : Listing) → length (items listing) ≡ count) → HasRoom (count + more) lists
     → HasRoom more (map (λ (listing : Listing). with_items (items listing) listing) lists)
 room-after count more items lists size has =
-    All-map (λ (listing : Listing). more ≤ listing.room) (λ (listing : Listing). with_items (items listing) listing) lists
+    All-map (λ (listing : Listing). more ≤ listing.room) (λ (listing : Listing). with_items (items listing) listing)
+    lists
     (λ k d within. left (get_or lists k d) (has k d within))
   where
     left : (listing : Listing) → count + more ≤ listing.room → more ≤ listing.room - length (items listing)
     left listing fits = let same = size listing in omega (arith, same, fits)
+
+-- lists with room for some items have room for fewer
+pub HasRoom-fewer : (fewer items : ℕ) (lists : List Listing) → fewer ≤ items → HasRoom items lists → HasRoom fewer lists
+HasRoom-fewer fewer items lists no_more has k d within = let room = has k d within in omega (arith, no_more, room)

@@ -1,2 +1,10 @@
 pub mod Callers
 mod Growing
+mod Pieced
+mod Placed
+mod Taken
+mod Joined
+mod Stretched
+mod Raw
+mod Rooms
+mod Reserved

@@ -1,13 +1,19 @@
-//! The heard lists of a machine: what each candidate pin of its codecs hears of the stream, block by block. This project's own.
+//! The heard lists of a machine: what each candidate pin of its codecs hears of the stream, block by block. This
+//! project's own.
 #![tactic(auto)]
 
 mod blocks;
+mod heard_pins;
 mod laws;
 mod lists;
+mod pieces;
 mod pin_list;
 mod sounds;
+mod stretches;
 
+pub use heard_pins::HeardPins;
 pub use laws::{frames_grow_lists, lists_grow_on};
 pub use lists::HeardLists;
 pub use pin_list::PinHeard;
 pub use sounds::Sounds;
+pub use stretches::{Kind, Stretch};

@@ -1,42 +1,68 @@
 //! The heard lists of a machine.
-ghost use Rattle.std.specs.Prelude.{◌≡◌, ◌≤◌, ◌<◌, ◌+◌, ◌/◌, ◌++◌, ℕ, All, length, [], ◌∷◌, IfOk, OnOk, Contains, map, vec_len, vec_capacity};
+ghost use Rattle.std.specs.Prelude.{◌≡◌, ◌≤◌, ◌<◌, ◌+◌, ◌*◌, ◌/◌, ◌^◌, ◌++◌, ℕ, List, All, length, [], ◌∷◌, IfOk, OnOk};
+ghost use Rattle.std.specs.Prelude.{Contains, map, drop, vec_len, vec_capacity, get_or, IsTrue};
+ghost use Rattle.std.specs.List.{AllZip, flat_map};
 ghost use Rattle.codec_sound.specs.declared.heard.Heard.TheVariants.{Hole};
+ghost use Rattle.codec_sound.specs.declared.signals.Signal.TheVariants.{Silence};
 ghost use Rattle.stream_format.specs.Cadence.{block_bytes};
 ghost use Rattle.stream_format.specs.Layouts.{layout};
 ghost use Rattle.codec_sound.specs.Signals.{IsAmong};
-ghost use Rattle.heard_lists.specs.Listings.{with_blocks, HasRoom, AreListsOf, AreEmpty, graphs_in, pins_of, empty_lists, handed_out, list_of, with_items};
+ghost use Rattle.heard_lists.specs.Listings.{Listing, with_blocks, HasRoom, AreListsOf, AreEmpty, graphs_in, pins_of};
+ghost use Rattle.heard_lists.specs.Listings.{empty_lists, handed_out, list_of, with_items};
+ghost use Rattle.heard_lists.specs.declared.pieces.Piece.{Piece};
+ghost use Rattle.heard_lists.specs.Pieces.{signalled, pieces_items, pieces_size, empty_pins, without_room, HaveRoom};
+ghost use Rattle.heard_lists.specs.Pieces.{AreAsIn, GoesOn, TookIn};
+ghost use Rattle.heard_lists.specs.Stretches.{sound_bytes, stretches_of};
 
-use crate::pin_list::{PinHeard, PinList};
+use crate::blocks::{push_blocks, push_holes};
+use crate::pieces::Piece;
+use crate::pin_list::PinList;
 use crate::sounds::Sounds;
-use codec_sound::Heard;
+use crate::stretches::{Stretch, put_pieces};
+use codec_sound::{Heard, Signal};
 use hda_files::Machine;
 use route_planner::order;
 use std::alloc::{AllocError, AllocFailed, Global};
 use std::marker::Model;
-use stream_format::Format;
+use stream_format::{Bits, Format};
 
-/// What the candidate pins of a machine's codecs hear, a list each. Contracts see the lists, each with the room that was made for it.
-/// This project's own.
+/// How many bytes a block has at most: eight channels of 32 bits.
+const MOST_BLOCK_BYTES: usize = 32;
+
+/// For how many more items room is made at least, so that steps of a link frame seldom make any.
+const LEAST_ROOM: u64 = 256;
+
+/// What the candidate pins of a machine's codecs hear, a list each. The bytes of the blocks are kept once for all pins.
+/// Contracts see the lists, each with the room that was made for it. This project's own.
 #[derive(Drop)]
 pub struct HeardLists {
     lists: Vec<PinList>,
-    /// Empty, with room for all lists as they are handed out.
-    heard: Vec<PinHeard>,
+    pieces: Vec<Piece>,
+    /// The bytes of all blocks, oldest first.
+    bytes: Vec<u8>,
+    /// How many link frames missed their blocks since the last piece.
+    holes: usize,
+    /// For how many more items there is room.
+    room: usize,
 }
 
 impl Model for HeardLists {
-    ghost use Rattle.std.specs.Prelude.{◌≡◌, ◌≤◌, [], List, length, vec_len, vec_capacity};
+    ghost use Rattle.std.specs.Prelude.{◌≤◌, ◌<◌, ◌+◌, ◌*◌, ◌^◌, List, map, vec_len, vec_capacity};
     ghost use Rattle.heard_lists.specs.Listings.{Listing};
+    ghost use Rattle.heard_lists.specs.Pieces.{listing_of, AreKept};
 
     ghost Value = { List Listing };
 
-    ghost view = { λ h. h.lists.items };
+    ghost view = { λ h. map (listing_of h.pieces.items h.bytes.items h.holes h.room) h.lists.items };
 
-    ghost invariant = { λ h. (h.heard.items ≡ []) × (vec_len h.heard ≡ 0) × (length h.lists.items ≤ vec_capacity h.heard) };
+    ghost invariant = { λ h. AreKept h.lists.items h.pieces.items h.bytes.items h.room
+        × (vec_len h.bytes + 32 * h.room ≤ vec_capacity h.bytes)
+        × (vec_len h.pieces + h.room ≤ vec_capacity h.pieces) × (h.holes + h.room < 2 ^ 64) };
 }
 
 impl HeardLists {
-    /// An empty list for each candidate pin of the machine's codecs, codecs ascending by address and each one's pins in their order.
+    /// An empty list for each candidate pin of the machine's codecs, codecs ascending by address and each one's pins in
+    /// their order.
     ///
     /// # Errors
     /// Want of memory.
@@ -49,8 +75,13 @@ impl HeardLists {
             let pins = order(alloc, &codec.graph)?;
             add_lists(&mut lists, codec.graph.raw().address, pins.as_slice())?;
         }
-        let heard = Vec::with_capacity(alloc, lists.len())?;
-        Ok(HeardLists { lists, heard })
+        Ok(HeardLists {
+            lists,
+            pieces: Vec::new(alloc),
+            bytes: Vec::new(alloc),
+            holes: 0,
+            room: 0,
+        })
     }
 
     /// Makes room for so many more items in each list.
@@ -62,32 +93,171 @@ impl HeardLists {
         ensures kept { (items : ℕ) → HasRoom items self.old → HasRoom items self.new }
         ensures lists { map handed_out self.new ≡ map handed_out self.old }
     {
-        reserve_all(self.lists.as_mut_slice(), blocks as usize)
+        if blocks as usize <= self.room {
+            return Ok(());
+        }
+        self.make_room(blocks.max(LEAST_ROOM))
     }
 
-    /// What a candidate pin of the codec with this address heard, oldest first.
-    pub fn of(&self, codec: u8, pin: u8) -> &[Heard]
-        requires { Contains (pins_of self.now) (codec, pin) }
-        ensures { result.now ≡ list_of codec pin self.now }
+    /// Makes room for so many more items in each list, unless there is.
+    fn make_room(&mut self, blocks: u64) -> Result<(), AllocError>
+        ensures room { OnOk result (HasRoom blocks self.new) }
+        ensures kept { (items : ℕ) → HasRoom items self.old → HasRoom items self.new }
+        ensures lists { map handed_out self.new ≡ map handed_out self.old }
     {
-        for list in &self.lists {
-            if list.codec() == codec && list.pin() == pin {
-                return list.as_slice();
+        let items = blocks as usize;
+        if items <= self.room {
+            return Ok(());
+        }
+        let Some(bytes) = items.checked_mul(MOST_BLOCK_BYTES) else {
+            return Err(AllocError);
+        };
+        if self.holes.checked_add(items).is_none() {
+            return Err(AllocError);
+        }
+        self.bytes.reserve(bytes)?;
+        self.pieces.reserve(items)?;
+        reserve_all(self.lists.as_mut_slice(), items)?;
+        self.room = items;
+        Ok(())
+    }
+
+    /// No list at all.
+    pub fn none(alloc: Global) -> HeardLists
+        ensures { result ≡ [] }
+    {
+        HeardLists {
+            lists: Vec::new(alloc),
+            pieces: Vec::new(alloc),
+            bytes: Vec::new(alloc),
+            holes: 0,
+            room: 0,
+        }
+    }
+
+    /// How many lists there are.
+    pub fn len(&self) -> usize
+        ensures { result ≡ length self.now }
+    {
+        self.lists.len()
+    }
+
+    /// The address of the codec of the list at a place, counted from 0, and its pin's node identifier.
+    pub fn head(&self, place: usize) -> (u8, u8)
+        requires { place < length self.now }
+        ensures { (listing : Listing) → result
+            ≡ ((get_or self.now place listing).codec, (get_or self.now place listing).pin) }
+    {
+        let list = &self.lists[place];
+        (list.codec(), list.pin())
+    }
+
+    /// Puts the items of the list at a place, counted from 0, behind others, oldest first.
+    ///
+    /// # Errors
+    /// Want of memory. Some of them may stand there then.
+    pub fn push_list(&self, place: usize, items: &mut Vec<Heard>) -> Result<(), AllocError>
+        requires { place < length self.now }
+        ensures { (listing : Listing) → OnOk result
+            (items.new.items ≡ items.old.items ++ (get_or self.now place listing).list) }
+    {
+        push_pieces(
+            items,
+            self.pieces.as_slice(),
+            self.lists[place].signals(),
+            self.bytes.as_slice(),
+        )?;
+        push_holes(items, self.holes)
+    }
+
+    /// Puts the list at a place, counted from 0, in place of what stands there: its stretches, oldest first, and the
+    /// bytes of its sound, each sample in the container of this size.
+    ///
+    /// # Errors
+    /// Want of memory. Stretches and bytes are some then.
+    pub fn put_stretches(
+        &self,
+        place: usize,
+        bits: Bits,
+        stretches: &mut Vec<Stretch>,
+        sound: &mut Vec<u8>,
+    ) -> Result<(), AllocError>
+        requires { place < length self.now }
+        ensures stretches { (listing : Listing) → OnOk result
+            (stretches.new.items ≡ stretches_of (get_or self.now place listing).list) }
+        ensures sound { (listing : Listing) → OnOk result
+            (sound.new.items ≡ flat_map (sound_bytes bits) (get_or self.now place listing).list) }
+    {
+        stretches.clear();
+        sound.clear();
+        put_pieces(
+            stretches,
+            sound,
+            bits,
+            self.pieces.as_slice(),
+            self.lists[place].signals(),
+            self.bytes.as_slice(),
+            self.holes,
+        )
+    }
+
+    /// What a candidate pin of the codec with this address heard, oldest first, as a list of its own.
+    ///
+    /// # Errors
+    /// Want of memory.
+    pub fn of(&self, alloc: Global, codec: u8, pin: u8) -> Result<Vec<Heard>, AllocError>
+        requires { Contains (pins_of self.now) (codec, pin) }
+        ensures { IfOk result (λ items. items.items ≡ list_of codec pin self.now) }
+    {
+        let place = self.place_of(codec, pin);
+        let mut items = Vec::new(alloc);
+        self.push_list(place, &mut items)?;
+        Ok(items)
+    }
+
+    /// At which place the list of a candidate pin stands.
+    fn place_of(&self, codec: u8, pin: u8) -> usize
+        requires { Contains (pins_of self.now) (codec, pin) }
+        ensures within { result < length self.now }
+        ensures list { (listing : Listing) → (get_or self.now result listing).list ≡ list_of codec pin self.now }
+    {
+        for place in 0..self.len() {
+            let (its_codec, its_pin) = self.head(place);
+            if its_codec == codec && its_pin == pin {
+                return place;
             }
         }
         unreachable!()
     }
 
-    /// Adds to each list what its pin hears of a link frame with these bytes of blocks. There is room for an item a block, each pin's
-    /// signal is known, and the pairs that pins hear are among the format's channels.
+    /// Adds to each list what its pin hears of the blocks with these bytes, those of a link frame or of several in a
+    /// row. There is room for an item a block, each pin's signal is known, and the pairs that pins hear are among the
+    /// format's channels.
     pub fn hear<S: Sounds>(&mut self, sounds: &S, format: Format, bytes: &[u8])
         requires room { HasRoom (length bytes.now / block_bytes format) self.old }
         requires known { All (λ listing. S.IsKnown sounds.now listing.codec listing.pin) self.old }
-        requires pairs { All (λ listing. IsAmong format.channels (S.signal_of sounds.now listing.codec listing.pin)) self.old }
+        requires pairs { All (λ listing.
+            IsAmong format.channels (S.signal_of sounds.now listing.codec listing.pin)) self.old }
         ensures lists { self.new ≡ map (with_blocks (S.signal_of sounds.now) (layout format) bytes.now) self.old }
-        ensures room { (more : ℕ) → HasRoom (length bytes.now / block_bytes format + more) self.old → HasRoom more self.new }
+        ensures room { (more : ℕ) → HasRoom (length bytes.now / block_bytes format + more) self.old
+            → HasRoom more self.new }
     {
-        hear_all(self.lists.as_mut_slice(), sounds, format, bytes);
+        let size = format.block_bytes() as usize;
+        let blocks = bytes.len() / size;
+        if blocks == 0 || self.lists.is_empty() {
+            return;
+        }
+        take_in(
+            self.lists.as_mut_slice(),
+            &mut self.pieces,
+            self.holes,
+            sounds,
+            format,
+            blocks,
+        );
+        self.holes = 0;
+        append(&mut self.bytes, &bytes[..blocks * size]);
+        self.room -= blocks;
     }
 
     /// Adds a hole to each list: a link frame missed its blocks. There is room for it.
@@ -96,24 +266,17 @@ impl HeardLists {
         ensures lists { self.new ≡ map (with_items (Hole ∷ [])) self.old }
         ensures room { (more : ℕ) → HasRoom (1 + more) self.old → HasRoom more self.new }
     {
-        miss_all(self.lists.as_mut_slice());
-    }
-
-    /// The lists, codecs ascending by address and each one's pins in their order.
-    pub fn into_lists(self) -> Vec<PinHeard>
-        ensures { result.items ≡ map handed_out self }
-    {
-        let HeardLists { lists, mut heard } = self;
-        for list in lists {
-            hand_out(&mut heard, list.into_heard());
+        if self.lists.is_empty() {
+            return;
         }
-        heard
+        self.holes += 1;
+        self.room -= 1;
     }
 }
 
-/// Adds an empty list for each of a codec's pins.
+/// Adds a pin without signals for each of a codec's pins.
 fn add_lists(lists: &mut Vec<PinList>, codec: u8, pins: &[u8]) -> Result<(), AllocFailed<PinList>>
-    ensures { OnOk result (lists.new.items ≡ lists.old.items ++ empty_lists codec pins.now) }
+    ensures { OnOk result (lists.new.items ≡ lists.old.items ++ empty_pins codec pins.now) }
 {
     let alloc = *lists.allocator();
     for pin in pins {
@@ -122,49 +285,178 @@ fn add_lists(lists: &mut Vec<PinList>, codec: u8, pins: &[u8]) -> Result<(), All
     Ok(())
 }
 
-/// Makes room for so many more items in each list.
-fn reserve_all(lists: &mut [PinList], items: usize) -> Result<(), AllocError>
-    ensures room { OnOk result (HasRoom items lists.new) }
-    ensures kept { (more : ℕ) → HasRoom more lists.old → HasRoom more lists.new }
-    ensures lists { map handed_out lists.new ≡ map handed_out lists.old }
+/// Makes room for so many more signals of each pin.
+fn reserve_all(lists: &mut [PinList], signals: usize) -> Result<(), AllocError>
+    ensures room { OnOk result (HaveRoom signals lists.new) }
+    ensures kept { (more : ℕ) → HaveRoom more lists.old → HaveRoom more lists.new }
+    ensures lists { map without_room lists.new ≡ map without_room lists.old }
 {
     for list in lists.iter_mut() {
-        list.reserve(items)?;
+        list.reserve(signals)?;
     }
     Ok(())
 }
 
-/// Adds to each list what its pin hears of a link frame with these bytes of blocks.
-fn hear_all<S: Sounds>(lists: &mut [PinList], sounds: &S, format: Format, bytes: &[u8])
-    requires room { HasRoom (length bytes.now / block_bytes format) lists.old }
-    requires known { All (λ listing. S.IsKnown sounds.now listing.codec listing.pin) lists.old }
-    requires pairs { All (λ listing. IsAmong format.channels (S.signal_of sounds.now listing.codec listing.pin)) lists.old }
-    ensures { lists.new ≡ map (with_blocks (S.signal_of sounds.now) (layout format) bytes.now) lists.old }
+/// Takes blocks into the last piece where they go on with it, and else begins a new one with so many holes.
+fn take_in<S: Sounds>(
+    lists: &mut [PinList],
+    pieces: &mut Vec<Piece>,
+    holes: usize,
+    sounds: &S,
+    format: Format,
+    blocks: usize,
+)
+    requires known { All (λ pin. S.IsKnown sounds.now pin.codec pin.pin) lists.old }
+    requires each { All (λ pin. length pin.signals ≡ length pieces.old.items) lists.old }
+    requires pairs { All (λ pin. IsAmong format.channels (S.signal_of sounds.now pin.codec pin.pin)) lists.old }
+    requires room { HaveRoom 1 lists.old }
+    requires piece { vec_len pieces.old < vec_capacity pieces.old }
+    requires few { pieces_size pieces.old.items + blocks < 2 ^ 64 }
+    ensures took { TookIn (S.signal_of sounds.now) format blocks holes lists.old lists.new pieces.old.items
+        pieces.new.items }
+    ensures length { vec_len pieces.new ≤ vec_len pieces.old + 1 }
+    ensures capacity { vec_capacity pieces.old ≤ vec_capacity pieces.new }
+{
+    if goes_on(lists, pieces.as_slice(), holes, sounds, format) {
+        lengthen(pieces, blocks);
+        return;
+    }
+    push_piece(
+        pieces,
+        Piece {
+            holes,
+            format,
+            blocks,
+        },
+    );
+    add_signals(lists, sounds);
+}
+
+/// Whether blocks of this format go on with the last piece: no frame missed its blocks since, and each pin has the
+/// signal that it has in that piece.
+fn goes_on<S: Sounds>(
+    lists: &[PinList],
+    pieces: &[Piece],
+    holes: usize,
+    sounds: &S,
+    format: Format,
+) -> bool
+    requires known { All (λ pin. S.IsKnown sounds.now pin.codec pin.pin) lists.now }
+    requires each { All (λ pin. length pin.signals ≡ length pieces.now) lists.now }
+    ensures { IsTrue result → GoesOn lists.now pieces.now holes (S.signal_of sounds.now) format }
+{
+    if holes != 0 || pieces.is_empty() {
+        return false;
+    }
+    let last = pieces.len() - 1;
+    is_same(pieces[last].format, format) && are_as_in(lists, sounds, last)
+}
+
+/// Whether two formats are the same.
+fn is_same(first: Format, second: Format) -> bool
+    ensures { IsTrue result → layout first ≡ layout second }
+{
+    first.rate == second.rate && first.bits == second.bits && first.channels == second.channels
+}
+
+/// Whether each pin has the signal that it has in a piece.
+fn are_as_in<S: Sounds>(lists: &[PinList], sounds: &S, piece: usize) -> bool
+    requires known { All (λ pin. S.IsKnown sounds.now pin.codec pin.pin) lists.now }
+    requires there { All (λ pin. piece < length pin.signals) lists.now }
+    ensures { IsTrue result → AreAsIn lists.now piece (S.signal_of sounds.now) }
+{
+    for list in lists {
+        if list.signal(piece) != sounds.signal(list.codec(), list.pin()) {
+            return false;
+        }
+    }
+    true
+}
+
+/// Adds blocks to the last piece.
+fn lengthen(pieces: &mut Vec<Piece>, blocks: usize)
+    requires some { 0 < length pieces.old.items }
+    requires few { pieces_size pieces.old.items + blocks < 2 ^ 64 }
+    ensures items { (before : List Piece) (last : Piece) → pieces.old.items ≡ before ++ last ∷ []
+        → pieces.new.items ≡ before ++ record last { blocks = last.blocks + blocks } ∷ [] }
+    ensures length { vec_len pieces.new ≡ vec_len pieces.old }
+    ensures capacity { vec_capacity pieces.old ≤ vec_capacity pieces.new }
+{
+    let last = pieces.len() - 1;
+    pieces[last].blocks += blocks;
+}
+
+/// Puts a piece last, for which there is room.
+fn push_piece(pieces: &mut Vec<Piece>, piece: Piece)
+    requires { vec_len pieces.old < vec_capacity pieces.old }
+    ensures items { pieces.new.items ≡ pieces.old.items ++ piece ∷ [] }
+    ensures length { vec_len pieces.new ≡ vec_len pieces.old + 1 }
+    ensures capacity { vec_capacity pieces.old ≤ vec_capacity pieces.new }
+{
+    if pieces.push(piece).is_err() {
+        unreachable!();
+    }
+}
+
+/// Puts bytes last, for which there is room.
+fn append(bytes: &mut Vec<u8>, more: &[u8])
+    requires { vec_len bytes.old + length more.now ≤ vec_capacity bytes.old }
+    ensures items { bytes.new.items ≡ bytes.old.items ++ more.now }
+    ensures length { vec_len bytes.new ≡ vec_len bytes.old + length more.now }
+    ensures capacity { vec_capacity bytes.old ≤ vec_capacity bytes.new }
+{
+    if bytes.extend_from_slice(more).is_err() {
+        unreachable!();
+    }
+}
+
+/// Adds to each pin its signal in a new piece.
+fn add_signals<S: Sounds>(lists: &mut [PinList], sounds: &S)
+    requires room { HaveRoom 1 lists.old }
+    requires known { All (λ pin. S.IsKnown sounds.now pin.codec pin.pin) lists.old }
+    ensures { lists.new ≡ map (signalled (S.signal_of sounds.now)) lists.old }
 {
     for list in lists.iter_mut() {
         let signal = sounds.signal(list.codec(), list.pin());
-        list.hear(signal, format, bytes);
+        list.push(signal);
     }
 }
 
-/// Adds a hole to each list.
-fn miss_all(lists: &mut [PinList])
-    requires { HasRoom 1 lists.old }
-    ensures { lists.new ≡ map (with_items (Hole ∷ [])) lists.old }
+/// Puts last what a pin with these signals heard in pieces.
+fn push_pieces(
+    items: &mut Vec<Heard>,
+    pieces: &[Piece],
+    signals: &[Signal],
+    bytes: &[u8],
+) -> Result<(), AllocError>
+    requires among { AllZip (λ piece signal. IsAmong piece.format.channels signal) pieces.now signals.now }
+    requires whole { pieces_size pieces.now ≤ length bytes.now }
+    ensures { OnOk result (items.new.items ≡ items.old.items ++ pieces_items pieces.now signals.now bytes.now) }
 {
-    for list in lists.iter_mut() {
-        list.push(Heard::Hole);
+    let mut rest = bytes;
+    for place in 0..pieces.len() {
+        let piece = pieces[place];
+        let signal = signal_at(signals, place);
+        push_holes(items, piece.holes)?;
+        push_blocks(items, signal, piece.format, rest, piece.blocks)?;
+        rest = after(rest, piece.format, piece.blocks);
     }
+    Ok(())
 }
 
-/// Puts a list last, for which there is room.
-fn hand_out(heard: &mut Vec<PinHeard>, list: PinHeard)
-    requires { vec_len heard.old < vec_capacity heard.old }
-    ensures items { heard.new.items ≡ heard.old.items ++ list ∷ [] }
-    ensures length { vec_len heard.new ≡ vec_len heard.old + 1 }
-    ensures capacity { vec_capacity heard.old ≤ vec_capacity heard.new }
+/// The bytes after so many blocks.
+pub(crate) fn after(bytes: &[u8], format: Format, blocks: usize) -> &[u8]
+    requires { blocks * block_bytes format ≤ length bytes.now }
+    ensures { result.now ≡ drop (blocks * block_bytes format) bytes.now }
 {
-    if heard.push(list).is_err() {
-        unreachable!();
-    }
+    let size = format.block_bytes() as usize;
+    &bytes[blocks * size..]
+}
+
+/// The signal at a place.
+pub(crate) fn signal_at(signals: &[Signal], place: usize) -> Signal
+    requires { place < length signals.now }
+    ensures { result ≡ get_or signals.now place Silence }
+{
+    signals[place]
 }

@@ -1,14 +1,15 @@
-//! The list of what one pin heard.
-ghost use Rattle.std.specs.Prelude.{◌≡◌, ◌≤◌, ◌<◌, ◌-◌, ◌++◌, [], ◌∷◌, OnOk, OnErr, max};
-ghost use Rattle.heard_lists.specs.Listings.{Listing, handed_out};
+//! The signals of one pin.
+ghost use Rattle.std.specs.Prelude.{◌≡◌, ◌≤◌, ◌<◌, ◌++◌, [], OnOk, OnErr, max, length, get_or};
+ghost use Rattle.codec_sound.specs.declared.signals.Signal.TheVariants.{Silence};
+ghost use Rattle.heard_lists.specs.Pieces.{PinSignals, with_signal};
 
-use codec_sound::Heard;
+use codec_sound::{Heard, Signal};
 use hda_items::Items;
 use std::alloc::{AllocError, Global};
 use std::marker::Model;
 
-/// What a candidate pin heard: one item for each block of the stream, and one for each link frame that missed its blocks. This
-/// project's own.
+/// What a candidate pin heard: one item for each block of the stream, and one for each link frame that missed its
+/// blocks. This project's own.
 #[derive(Debug, Drop)]
 pub struct PinHeard {
     /// The address of the pin's codec.
@@ -19,64 +20,72 @@ pub struct PinHeard {
     pub list: Items<Heard>,
 }
 
-/// The list of a pin while it grows, with room that was made for it.
+/// A pin, with its signal in each piece of what was heard.
 #[derive(Drop)]
 pub(crate) struct PinList {
     codec: u8,
     pin: u8,
-    items: Vec<Heard>,
-    /// For how many more items there is room.
+    signals: Vec<Signal>,
+    /// For how many more signals there is room.
     room: usize,
 }
 
 impl Model for PinList {
     ghost use Rattle.std.specs.Prelude.{◌≤◌, ◌+◌, vec_len, vec_capacity};
-    ghost use Rattle.heard_lists.specs.Listings.{Listing};
+    ghost use Rattle.heard_lists.specs.Pieces.{PinSignals};
 
-    ghost Value = { Listing };
+    ghost Value = { PinSignals };
 
-    ghost view = { λ l. record { codec = l.codec; pin = l.pin; list = l.items.items; room = l.room } };
+    ghost view = { λ l. record { codec = l.codec; pin = l.pin; signals = l.signals.items; room = l.room } };
 
-    ghost invariant = { λ l. vec_len l.items + l.room ≤ vec_capacity l.items };
+    ghost invariant = { λ l. vec_len l.signals + l.room ≤ vec_capacity l.signals };
 }
 
 impl PinList {
-    /// An empty list without room.
+    /// A pin without signals, and without room.
     pub(crate) fn new(alloc: Global, codec: u8, pin: u8) -> PinList
-        ensures { result ≡ record { codec = codec; pin = pin; list = []; room = 0 } }
+        ensures { result ≡ record { codec = codec; pin = pin; signals = []; room = 0 } }
     {
         PinList {
             codec,
             pin,
-            items: Vec::new(alloc),
+            signals: Vec::new(alloc),
             room: 0,
         }
     }
 
-    /// Makes room for so many more items.
+    /// Makes room for so many more signals.
     ///
     /// # Errors
-    /// Want of memory. The list stays as it was.
-    pub(crate) fn reserve(&mut self, items: usize) -> Result<(), AllocError>
-        ensures ok { OnOk result (self.new ≡ record self.old { room = max self.old.room items }) }
+    /// Want of memory. Nothing changes then.
+    pub(crate) fn reserve(&mut self, signals: usize) -> Result<(), AllocError>
+        ensures ok { OnOk result (self.new ≡ record self.old { room = max self.old.room signals }) }
         ensures err { OnErr result (self.new ≡ self.old) }
     {
-        if items > self.room {
-            self.items.reserve(items)?;
-            self.room = items;
+        if signals > self.room {
+            self.signals.reserve(signals)?;
+            self.room = signals;
         }
         Ok(())
     }
 
-    /// Puts an item last, for which there is room.
-    pub(crate) fn push(&mut self, item: Heard)
+    /// Puts a signal last, for which there is room.
+    pub(crate) fn push(&mut self, signal: Signal)
         requires { 0 < self.old.room }
-        ensures { self.new ≡ record self.old { list = self.old.list ++ item ∷ []; room = self.old.room - 1 } }
+        ensures { self.new ≡ with_signal signal self.old }
     {
-        if self.items.push(item).is_err() {
+        if self.signals.push(signal).is_err() {
             unreachable!();
         }
         self.room -= 1;
+    }
+
+    /// The signal in the piece with this number, counted from 0.
+    pub(crate) fn signal(&self, piece: usize) -> Signal
+        requires { piece < length self.now.signals }
+        ensures { result ≡ get_or self.now.signals piece Silence }
+    {
+        self.signals[piece]
     }
 
     /// The address of the pin's codec.
@@ -93,21 +102,10 @@ impl PinList {
         self.pin
     }
 
-    /// The items, oldest first.
-    pub(crate) fn as_slice(&self) -> &[Heard]
-        ensures { result.now ≡ self.now.list }
+    /// Its signals, one for each piece.
+    pub(crate) fn signals(&self) -> &[Signal]
+        ensures { result.now ≡ self.now.signals }
     {
-        self.items.as_slice()
-    }
-
-    /// The list as it is handed out.
-    pub(crate) fn into_heard(self) -> PinHeard
-        ensures { result ≡ handed_out self }
-    {
-        PinHeard {
-            codec: self.codec,
-            pin: self.pin,
-            list: Items::from_vec(self.items),
-        }
+        self.signals.as_slice()
     }
 }

@@ -1,4 +1,4 @@
--- What holds of each machine that a codec file describes. This project's own.
+-- What holds of each machine that a codec file describes, and of others. This project's own.
 use Rattle.std.specs.Prelude.{◌≤◌, ℕ, List, length, All, Ok}
 use Rattle.codec_graph.specs.Cycles.{IsWellFormed}
 use Rattle.codec_histories.specs.Readings.{KeepsDefaults}

@@ -42,7 +42,7 @@ pub fn read_machines_are_whole()
 pub fn machines_have_tasks()
     ensures { (format : Format) (machine : Machine) (plans : List Plan) (geometry : Geometry) (plays : Bool)
         (pcm : List ℕ) (blocks : Blocks)
-        → IsSound machine → IsRead machine → HavePlans format machine.codecs plans → have_route plans ≡ true
+        → IsSound machine → IsWhole machine → HavePlans format machine.codecs plans → have_route plans ≡ true
         → IsTaskOfCodecs (λ (graph : RawCodec). IsPlan graph format) (verbs_by format)
         (verbs_in format machine.codecs plans) (graphs_of machine.codecs)
         (task_of format machine plans geometry plays pcm blocks) }
@@ -53,7 +53,7 @@ pub fn machines_have_tasks()
 pub fn opened_drivers_can_begin()
     ensures { (format : Format) (machine : Machine) (plans : List Plan) (geometry : Geometry) (plays : Bool)
         (pcm : List ℕ) (most : ℕ) (bring_up : BringUp) (writer : WriterState)
-        → IsSound machine → IsRead machine → IsOpened geometry most bring_up writer
+        → IsSound machine → IsWhole machine → IsOpened geometry most bring_up writer
         → BeginsAt format machine plans
         (task_of format machine plans geometry plays pcm (blocks_of bring_up writer)) bring_up }
 {}

@@ -1,15 +1,14 @@
 //! What pins heard, beyond the sound of a plain run.
+use crate::hearing::{one_pin, two_pins};
 use crate::plays::play;
 use codec_sound::Heard;
-use hda_items::Items;
-use heard_lists::PinHeard;
 use sound_report::Played;
 use std::alloc::Global;
 use stream_format::{Bits, Format, Rate};
 
-/// Stretches of each kind, and a second pin that heard other ones.
+/// Stretches of each kind, and a second pin that heard other ones of the same link frames.
 pub(crate) fn kinds(alloc: Global) -> Option<Played> {
-    let heard = [
+    let first = [
         Heard::Quiet,
         Heard::Quiet,
         Heard::Altered,
@@ -22,15 +21,21 @@ pub(crate) fn kinds(alloc: Global) -> Option<Played> {
         Heard::Hole,
         Heard::Quiet,
     ];
-    let mut played = play(alloc, 7, &[], &[], &heard)?;
-    played
-        .heard
-        .push(PinHeard {
-            codec: 3,
-            pin: 0x7f,
-            list: Items::from_slice(alloc, &[Heard::Hole]).ok()?,
-        })
-        .ok()?;
+    let second = [
+        Heard::Sound(1, 2),
+        Heard::Sound(3, -1),
+        Heard::Quiet,
+        Heard::Hole,
+        Heard::Quiet,
+        Heard::Altered,
+        Heard::Sound(4, 5),
+        Heard::Sound(-32_768, 32_767),
+        Heard::Hole,
+        Heard::Hole,
+        Heard::Altered,
+    ];
+    let mut played = play(alloc, 7, &[], &[], &[])?;
+    played.heard = two_pins(alloc, played.format.bits, &first, &second)?;
     Some(played)
 }
 
@@ -40,11 +45,12 @@ pub(crate) fn wide(alloc: Global) -> Option<Played> {
         Heard::Sound(0x100, -0x100),
         Heard::Sound(0x1234_5600, i32::MIN),
     ];
-    let mut played = play(alloc, 2, &[], &[], &heard)?;
+    let mut played = play(alloc, 2, &[], &[], &[])?;
     played.format = Format {
         rate: Rate::R48,
         bits: Bits::B24,
         channels: 2,
     };
+    played.heard = one_pin(alloc, Bits::B24, &heard)?;
     Some(played)
 }

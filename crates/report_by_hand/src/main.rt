@@ -3,6 +3,7 @@
 #![tactic(auto)]
 
 mod heard;
+mod hearing;
 mod plays;
 mod walks;
 

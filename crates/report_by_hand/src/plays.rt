@@ -1,8 +1,8 @@
 //! Sound played through the codec of the walks, with a ring of 768 bytes.
+use crate::hearing::one_pin;
 use crate::walks::set_up;
 use codec_sound::Heard;
 use hda_items::Items;
-use heard_lists::PinHeard;
 use period_writer::{Run, Span};
 use sound_report::{CutLine, PlayFault, Played};
 use std::alloc::Global;
@@ -32,14 +32,7 @@ pub(crate) fn play(
     played.read = total;
     played.runs = Items::from_slice(alloc, runs).ok()?;
     played.silences = Items::from_slice(alloc, silences).ok()?;
-    played
-        .heard
-        .push(PinHeard {
-            codec: 0,
-            pin: 0x14,
-            list: Items::from_slice(alloc, heard).ok()?,
-        })
-        .ok()?;
+    played.heard = one_pin(alloc, played.format.bits, heard)?;
     Some(played)
 }
 

@@ -3,6 +3,7 @@ use driver_progress::Jack;
 use hda_files::{Machine, read_machine};
 use hda_items::Items;
 use hda_world::Journal;
+use heard_lists::HeardPins;
 use route_planner::{Plan, plan};
 use sound_report::{PlayFault, Played};
 use std::alloc::Global;
@@ -53,7 +54,7 @@ pub(crate) fn set_up(alloc: Global) -> Option<Played> {
         graphs: Items::new(alloc),
         runs: Items::new(alloc),
         silences: Items::new(alloc),
-        heard: Items::new(alloc),
+        heard: HeardPins::none(alloc),
         jacks: Items::new(alloc),
         journal: Journal {
             entries: Vec::new(alloc),

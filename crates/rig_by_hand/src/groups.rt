@@ -90,9 +90,9 @@ fn run(alloc: Global, rig: &mut Rig, lent: &mut Lent) -> Result<(), AllocError>
     Ok(())
 }
 
-/// How many items the pin of the first codec heard. `None` where it is no candidate pin.
+/// How many items the pin of the first codec heard. `None` where it is no candidate pin, or where memory is wanting.
 #[tactic(auto, using(rig::proofs::Callers::candidate_known))]
-fn heard_by(rig: &Rig, pin: u8) -> Option<usize>
+fn heard_by(alloc: Global, rig: &Rig, pin: u8) -> Option<usize>
     requires { IsSound (setting_of rig.now).machine }
 {
     let codecs = rig.machine().codecs.as_slice();
@@ -103,7 +103,8 @@ fn heard_by(rig: &Rig, pin: u8) -> Option<usize>
     if !codec.graph.is_candidate(pin) {
         return None;
     }
-    Some(rig.heard(codec.graph.raw().address, pin).len())
+    let items = rig.heard(alloc, codec.graph.raw().address, pin).ok()?;
+    Some(items.len())
 }
 
 /// A rig of the codec's machine. `None` where memory is wanting: the codec's text is good.
@@ -132,7 +133,7 @@ pub(crate) fn run_groups(alloc: Global) -> Option<Ended> {
     let outcome = run(alloc, &mut rig, &mut lent);
     pool.give(lent.back());
     outcome.ok()?;
-    let heard = heard_by(&rig, 0x14)?;
+    let heard = heard_by(alloc, &rig, 0x14)?;
     let (machine, lists, journal) = rig.parts();
     Some(Ended {
         journal,

@@ -1,4 +1,5 @@
 -- Where the blocks of a driver lie that runs over a machine. This project's own.
+use Rattle.std.specs.Prelude.{◌≡◌, ◌%◌}
 use Rattle.dma_pool.specs.Pools.{PoolState}
 use Rattle.period_writer.specs.declared.geometry.Geometry.{Geometry}
 use Rattle.driver_progress.specs.Tasks.{Blocks}
@@ -12,3 +13,6 @@ pub record AreFirstFits (geometry : Geometry) (blocks : Blocks) : Type 0 where
   pub taken : PoolState
   pub all_free : IsAllFree free
   pub opens : Opens geometry free blocks.corb blocks.rirb blocks.list blocks.periods taken
+  -- both rings of commands begin at a multiple of 128
+  pub corb_aligned : blocks.corb % 128 ≡ 0
+  pub rirb_aligned : blocks.rirb % 128 ≡ 0

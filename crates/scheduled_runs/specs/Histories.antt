@@ -8,6 +8,7 @@ use Rattle.route_planner.specs.Plans.{IsPlan}
 use Rattle.setup_verbs.specs.SetUp.{IsSetUp}
 use Rattle.hda_schedule.specs.declared.schedule.Schedule.{Schedule}
 use Rattle.hda_files.specs.declared.machine.Machine.{Machine}
+use Rattle.hda_files.specs.Machines.{IsSound}
 use Rattle.hda_world.specs.declared.world.TheConstants.{REGION_BYTES}
 use Rattle.hda_world.specs.Events.{Event, AreHonest}
 use Rattle.hda_world.specs.JournalEvents.{events_of}
@@ -36,10 +37,11 @@ journal_of played = events_of played.journal
 abbrev pub told_by : Machine → Played → Telling
 told_by machine played = telling_from REGION_BYTES machine (journal_of played)
 
--- what went into the run is kept with it: the machine with the plans of its codecs, whether it is a walk, and the
--- format and the frames of its sound
+-- what went into the run is kept with it: the machine, which is sound, with the plans of its codecs, whether it is a
+-- walk, and the format and the frames of its sound
 pub record HasInput (walk : Bool) (format : Format) (frames : ℕ) (machine : Machine) (plans : List Plan)
     (played : Played) : Type 0 where
+  pub sound : IsSound machine
   pub machine_is : played.machine ≡ machine
   pub plans_are : played.plans ≡ plans
   pub walk_is : played.walk ≡ walk

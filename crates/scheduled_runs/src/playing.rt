@@ -8,7 +8,7 @@ ghost use Rattle.scheduled_runs.specs.Reading as reading;
 ghost use Rattle.codec_agenda.specs.Planned.{have_route};
 ghost use Rattle.hda_files.specs.Machines.{IsSound};
 ghost use Rattle.hda_schedule.specs.Schedules.{IsLimited};
-ghost use Rattle.machine_tasks.specs.Reading.{IsRead};
+ghost use Rattle.machine_tasks.specs.Reading.{IsWhole};
 ghost use Rattle.machine_tasks.specs.Tasks.{HavePlans};
 ghost use Rattle.scheduled_runs.specs.Ends.{can_end};
 ghost use Rattle.scheduled_runs.specs.Plays as spec;
@@ -25,10 +25,7 @@ use hda_files::Machine;
 use hda_items::Items;
 use hda_outside::{Cut, Shelf};
 use hda_schedule::Schedule;
-use machine_tasks::{
-    command_count, machines_have_tasks, machines_rest, opened_drivers_can_begin,
-    read_machines_are_whole,
-};
+use machine_tasks::{command_count, machines_have_tasks, machines_rest, opened_drivers_can_begin};
 use period_writer::{Geometry, runs_keep_the_course, runs_write_the_line};
 use rig::Rig;
 use route_planner::{Plan, one_order};
@@ -110,9 +107,9 @@ fn cut_line(alloc: Global, cut: Option<Cut>, name: &str) -> Result<Option<CutLin
 /// resets the controller, walks over all codecs, plans their routes, sends the verbs that open them, and plays the
 /// sound through a ring of this geometry. The sound is that of the WAV file `name`, of which `head` says what stands
 /// before it; it is read while it plays, before each call that may play as much as the ring takes. Where the shelf
-/// fails or the file gets shorter meanwhile, the run goes on over the sound that was read until then. The machine is
-/// one that a codec file describes, with these plans of its codecs for the format of the sound, of which some has a
-/// route.
+/// fails or the file gets shorter meanwhile, the run goes on over the sound that was read until then. The machine has
+/// well-formed graphs, as each has that a codec file describes, and these plans of its codecs for the format of the
+/// sound, of which some has a route.
 ///
 /// # Errors
 /// Want of memory.
@@ -127,7 +124,7 @@ pub fn play<S: Shelf>(
     schedule: &Schedule,
 ) -> Result<Played, AllocError>
     requires sound { IsSound machine }
-    requires read { IsRead machine }
+    requires whole { IsWhole machine }
     requires plans { HavePlans head.format machine.codecs plans.items }
     requires routed { have_route plans.items ≡ true }
     requires short { head.length ≤ 67108864 }
@@ -150,7 +147,6 @@ pub fn play<S: Shelf>(
     ensures later { (other : List ℕ) → S.faults shelf.old other ≤ S.faults shelf.new other }
     ensures empties_later { (other : List ℕ) → S.empties shelf.old other ≤ S.empties shelf.new other }
 {
-    read_machines_are_whole();
     machines_have_tasks();
     machines_rest();
     opened_drivers_can_begin();
@@ -189,7 +185,7 @@ pub fn play<S: Shelf>(
         graphs: Items::from_vec(closed.graphs),
         runs: Items::from_vec(closed.runs),
         silences: Items::from_vec(closed.silences),
-        heard: Items::from_vec(heard.into_lists()),
+        heard: heard.into_lists(),
         jacks: Items::from_vec(closed.jacks),
         journal,
         walk: false,

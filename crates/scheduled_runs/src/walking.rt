@@ -3,7 +3,7 @@ ghost use Rattle.std.specs.Prelude.{◌≡◌, ◌≤◌, ◌+◌, true, false, 
 ghost use Rattle.codec_agenda.specs.Planned.{have_route};
 ghost use Rattle.hda_files.specs.Machines.{IsSound};
 ghost use Rattle.hda_schedule.specs.Schedules.{IsLimited};
-ghost use Rattle.machine_tasks.specs.Reading.{IsRead};
+ghost use Rattle.machine_tasks.specs.Reading.{IsWhole};
 ghost use Rattle.machine_tasks.specs.Tasks.{HavePlans};
 ghost use Rattle.scheduled_runs.specs.Ends.{can_end};
 ghost use Rattle.scheduled_runs.specs.Feeding.{IsSilent};
@@ -19,10 +19,8 @@ use hda_files::Machine;
 use hda_items::Items;
 use hda_outside::SureShelf;
 use hda_schedule::Schedule;
-use machine_tasks::{
-    command_count, machines_have_tasks, machines_rest, opened_drivers_can_begin,
-    read_machines_are_whole,
-};
+use heard_lists::HeardPins;
+use machine_tasks::{command_count, machines_have_tasks, machines_rest, opened_drivers_can_begin};
 use period_writer::Geometry;
 use rig::Rig;
 use route_planner::Plan;
@@ -118,8 +116,8 @@ pub(crate) fn walk_fault(phase: Phase, sent: u32, of: u32) -> Option<PlayFault>
 
 /// Runs a driver over a machine by a schedule until its codecs are set up for the first stream, in the format of
 /// [`walk_format`], or the schedule ends: it resets the controller, walks over all codecs, plans their routes and sends
-/// the verbs that open them. Nothing is played. The machine is one that a codec file describes, with these plans of its
-/// codecs, of which some has a route.
+/// the verbs that open them. Nothing is played. The machine has well-formed graphs, as each has that a codec file
+/// describes, and these plans of its codecs, of which some has a route.
 ///
 /// # Errors
 /// Want of memory.
@@ -130,13 +128,12 @@ pub fn walk(
     schedule: &Schedule,
 ) -> Result<Played, AllocError>
     requires sound { IsSound machine }
-    requires read { IsRead machine }
+    requires whole { IsWhole machine }
     requires plans { HavePlans spec.walk_format machine.codecs plans.items }
     requires routed { have_route plans.items ≡ true }
     requires limits { IsLimited schedule.now }
     ensures { IfOk result (λ played. spec.IsWalked machine plans.items schedule.now played) }
 {
-    read_machines_are_whole();
     machines_have_tasks();
     machines_rest();
     opened_drivers_can_begin();
@@ -173,7 +170,7 @@ pub fn walk(
         graphs: Items::from_vec(closed.graphs),
         runs: Items::from_vec(closed.runs),
         silences: Items::from_vec(closed.silences),
-        heard: Items::new(alloc),
+        heard: HeardPins::none(alloc),
         jacks: Items::from_vec(closed.jacks),
         journal,
         walk: true,

@@ -184,9 +184,12 @@ pub(crate) fn play_text(alloc: Global, play: &Play) -> Option<String> {
     writer.close(&mut pool);
     outcome.ok()?;
     let (_machine, lists, _journal) = rig.parts();
-    let lists = lists.into_lists();
-    let list = lists.as_slice().first()?;
-    let items = heard(alloc, list.list.as_slice()).ok()?;
+    if lists.len() == 0 {
+        return None;
+    }
+    let mut items = Vec::new(alloc);
+    lists.push_list(0, &mut items).ok()?;
+    let items = heard(alloc, items.as_slice()).ok()?;
     let mut text = format!(in alloc; "{}\n", play.name).ok()?;
     text.push_str(&lines.ok()?).ok()?;
     text.push_str(&items).ok()?;

@@ -1,4 +1,4 @@
 mod PageLemmas
 mod PlanParts
 mod SoundLines
-mod StretchLemmas
+mod HeardText

@@ -4,3 +4,5 @@ pub mod RunLines
 pub mod PinParts
 pub mod Texts
 pub mod Pages
+-- what private functions promise one another
+pub mod StretchTexts

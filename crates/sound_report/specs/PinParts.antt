@@ -1,14 +1,13 @@
 -- The parts of pins: what each candidate pin heard, in stretches of one kind that are as long as can be. This project's own.
-use Rattle.std.specs.Prelude.{ℕ, ℤ, ◌+◌, ◌-◌, ◌/◌, Bool, true, false, List, [], ◌∷◌, ◌++◌, length, map, codes, decimal, if◌then◌else◌}
+use Rattle.std.specs.Prelude.{ℕ, ◌+◌, ◌-◌, ◌/◌, Bool, true, false, List, [], ◌∷◌, ◌++◌, length, map, codes, decimal, if◌then◌else◌}
 use Rattle.std.specs.List.{flat_map, range_with_len}
-use Rattle.std.specs.Int.{bytes_low_first, cast_unsigned, w32}
 use Rattle.std.specs.Fork.{slice_chunk}
 use Rattle.hex.specs.Hex.{encode_lower}
 use Rattle.stream_format.specs.declared.format.Bits.{Bits}
-use Rattle.stream_format.specs.Cadence.{container_bytes}
 use Rattle.codec_sound.specs.declared.heard.Heard.{Heard}
 use Rattle.codec_sound.specs.declared.heard.Heard.TheVariants.{Sound, Quiet, Hole, Altered}
 use Rattle.heard_lists.specs.declared.pin_list.PinHeard.{PinHeard}
+use Rattle.heard_lists.specs.Stretches.{sound_bytes}
 use Rattle.sound_report.specs.PlanLines.{nid_text, newline}
 
 -- ---- stretches
@@ -34,24 +33,13 @@ stretches (item ∷ items) = before item (stretches items)
 
 -- ---- sound
 
--- a sample: the bytes of its container, in two's complement and lowest byte first
-abbrev pub sample_bytes : Bits → ℤ → List ℕ
-sample_bytes bits sample = bytes_low_first 0 (container_bytes bits) (cast_unsigned w32 sample)
-
--- a block: left, then right
-abbrev pub block_bytes : Bits → Heard → List ℕ
-block_bytes bits (Sound left right) = sample_bytes bits left ++ sample_bytes bits right
-block_bytes bits Quiet = []
-block_bytes bits Hole = []
-block_bytes bits Altered = []
-
 -- how many blocks a line has
 abbrev pub line_blocks : ℕ
 line_blocks = 16
 
 -- some blocks of sound in one line, each byte as two lower hexadecimal digits
 abbrev pub sound_line : Bits → List Heard → List ℕ
-sound_line bits blocks = codes "sound " ++ encode_lower (flat_map (block_bytes bits) blocks) ++ newline
+sound_line bits blocks = codes "sound " ++ encode_lower (flat_map (sound_bytes bits) blocks) ++ newline
 
 -- the first lines of blocks: so many blocks in each, in the last as many as are left
 abbrev pub lines_before : List Heard → ℕ → List (List Heard)

@@ -2,6 +2,7 @@
 //! ended. It goes out page by page. This project's own.
 #![tactic(auto)]
 
+mod digits;
 mod ends;
 mod lines;
 mod pages;

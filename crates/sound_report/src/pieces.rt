@@ -2,6 +2,7 @@
 ghost use Rattle.std.specs.Prelude.{◌≡◌, ◌++◌, OnOk, decimal};
 ghost use Rattle.hex.specs.Hex.{encode_lower};
 
+use crate::digits::put_digits;
 use std::alloc::AllocError;
 use std::io::Write;
 
@@ -40,8 +41,6 @@ pub(crate) fn push_hex(out: &mut Vec<u8>, bytes: &[u8]) -> Result<(), AllocError
         return Err(AllocError);
     };
     out.resize(end, 0)?;
-    if hex::encode_to_slice(bytes, &mut out[start..]).is_err() {
-        unreachable!();
-    }
+    put_digits(bytes, &mut out[start..]);
     Ok(())
 }

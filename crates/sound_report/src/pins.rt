@@ -1,16 +1,17 @@
 //! The parts of pins. A `push` call appends to a text, and a `write` call to the page, which goes out where it is
 //! full.
-ghost use Rattle.std.specs.Prelude.{◌≡◌, ◌<◌, ◌≤◌, max, ◌∷◌, ◌++◌, length, drop, codes, OnOk};
+ghost use Rattle.std.specs.Prelude.{◌≡◌, ◌<◌, ◌≤◌, ◌*◌, max, min, ◌∷◌, ◌++◌, length, get_or, drop, OnOk};
 ghost use Rattle.std.specs.List.{flat_map};
 ghost use Rattle.hda_outside.specs.Counts.{Rose};
+ghost use Rattle.heard_lists.specs.declared.pin_list.PinHeard.{PinHeard};
 ghost use Rattle.sound_report.specs.Pages.{Writes};
 ghost use Rattle.sound_report.specs.PinParts as text;
+ghost use Rattle.sound_report.specs.StretchTexts as told;
 
 use crate::pages::turn;
 use crate::pieces::{push_hex, push_word};
-use codec_sound::Heard;
 use hda_outside::{Fault, Sink};
-use heard_lists::PinHeard;
+use heard_lists::{HeardPins, Kind, Stretch};
 use std::alloc::AllocError;
 use std::io::Write;
 use stream_format::Bits;
@@ -18,87 +19,41 @@ use stream_format::Bits;
 /// How many blocks of sound a line has.
 const LINE_BLOCKS: usize = 16;
 
-/// The most bytes that the samples of a line have.
-const LINE_BYTES: usize = 128;
-
-/// Whether two items are of one kind.
-fn is_like(first: &Heard, second: &Heard) -> bool
-    ensures { result ≡ text.is_like first.now second.now }
+/// How many bytes the two samples of a block have.
+fn block_len(bits: Bits) -> usize
+    ensures value { result ≡ told.block_len bits }
+    ensures some { 0 < result }
 {
-    matches!(
-        (first, second),
-        (Heard::Sound(_, _), Heard::Sound(_, _))
-            | (Heard::Quiet, Heard::Quiet)
-            | (Heard::Hole, Heard::Hole)
-            | (Heard::Altered, Heard::Altered)
-    )
-}
-
-/// Appends the bytes of a sample.
-fn push_sample(bytes: &mut Vec<u8>, bits: Bits, sample: i32) -> Result<(), AllocError>
-    ensures { OnOk result (bytes.new.items ≡ bytes.old.items ++ text.sample_bytes bits sample) }
-{
-    let container = sample.to_le_bytes();
     match bits {
-        Bits::B16 => bytes.extend_from_slice(&container[..2]),
-        Bits::B24 | Bits::B32 => bytes.extend_from_slice(&container),
+        Bits::B16 => 4,
+        Bits::B24 | Bits::B32 => 8,
     }
 }
 
-/// Appends the bytes of a block.
-fn push_block(bytes: &mut Vec<u8>, bits: Bits, block: &Heard) -> Result<(), AllocError>
-    ensures { OnOk result (bytes.new.items ≡ bytes.old.items ++ text.block_bytes bits block.now) }
+/// A line of sound, whose blocks have these samples.
+fn push_sound_line(page: &mut Vec<u8>, samples: &[u8]) -> Result<(), AllocError>
+    ensures { OnOk result (page.new.items ≡ page.old.items ++ told.samples_line samples.now) }
 {
-    match *block {
-        Heard::Sound(left, right) => {
-            push_sample(bytes, bits, left)?;
-            push_sample(bytes, bits, right)
-        }
-        Heard::Quiet | Heard::Hole | Heard::Altered => Ok(()),
-    }
-}
-
-/// Appends the bytes of blocks.
-fn push_blocks(bytes: &mut Vec<u8>, bits: Bits, blocks: &[Heard]) -> Result<(), AllocError>
-    ensures { OnOk result (bytes.new.items ≡ bytes.old.items ++ flat_map (text.block_bytes bits) blocks.now) }
-{
-    for block in blocks {
-        push_block(bytes, bits, block)?;
-    }
-    Ok(())
-}
-
-/// A line of blocks of sound, whose bytes are gathered in `bytes`.
-fn push_sound_line(
-    page: &mut Vec<u8>,
-    bytes: &mut Vec<u8>,
-    bits: Bits,
-    blocks: &[Heard],
-) -> Result<(), AllocError>
-    ensures { OnOk result (page.new.items ≡ page.old.items ++ text.sound_line bits blocks.now) }
-{
-    bytes.clear();
-    push_blocks(bytes, bits, blocks)?;
     push_word(page, "sound ")?;
-    push_hex(page, bytes.as_slice())?;
+    push_hex(page, samples)?;
     push_word(page, "\n")
 }
 
-/// Blocks of sound, line by line.
+/// Blocks of sound with these samples, line by line.
 fn write_sound_lines<K: Sink>(
     out: &mut K,
     page: &mut Vec<u8>,
     bits: Bits,
-    blocks: &[Heard],
+    samples: &[u8],
 ) -> Result<(), Fault>
-    ensures text { Writes result (K.taken out.old) (K.taken out.new) (page.old.items ++ text.sound_lines bits blocks.now) page.new.items }
+    ensures text { Writes result (K.taken out.old) (K.taken out.new)
+        (page.old.items ++ told.samples_lines bits samples.now) page.new.items }
     ensures pieces { K.longest out.new ≤ max (K.longest out.old) 4096 }
     ensures later { K.faults out.old ≤ K.faults out.new }
     ensures failed { result ≡ Err Fault.Failed → Rose (K.faults out.old) (K.faults out.new) }
 {
-    let mut bytes = Vec::with_capacity(*page.allocator(), LINE_BYTES)?;
-    for line in blocks.chunks(LINE_BLOCKS) {
-        push_sound_line(page, &mut bytes, bits, line)?;
+    for line in samples.chunks(LINE_BLOCKS * block_len(bits)) {
+        push_sound_line(page, line)?;
         turn(out, page)?;
     }
     Ok(())
@@ -111,7 +66,8 @@ fn write_count<K: Sink>(
     word: &str,
     items: usize,
 ) -> Result<(), Fault>
-    ensures text { Writes result (K.taken out.old) (K.taken out.new) (page.old.items ++ text.count_line word.now items) page.new.items }
+    ensures text { Writes result (K.taken out.old) (K.taken out.new) (page.old.items ++ text.count_line word.now items)
+        page.new.items }
     ensures pieces { K.longest out.new ≤ max (K.longest out.old) 4096 }
     ensures later { K.faults out.old ≤ K.faults out.new }
     ensures failed { result ≡ Err Fault.Failed → Rose (K.faults out.old) (K.faults out.new) }
@@ -120,58 +76,69 @@ fn write_count<K: Sink>(
     turn(out, page)
 }
 
-/// The lines of a stretch.
+/// The lines of a stretch, which has these samples.
 fn write_stretch<K: Sink>(
     out: &mut K,
     page: &mut Vec<u8>,
     bits: Bits,
-    stretch: &[Heard],
+    stretch: Stretch,
+    samples: &[u8],
 ) -> Result<(), Fault>
-    ensures text { Writes result (K.taken out.old) (K.taken out.new) (page.old.items ++ text.stretch_lines bits stretch.now) page.new.items }
+    ensures text { Writes result (K.taken out.old) (K.taken out.new)
+        (page.old.items ++ told.stretch_text bits stretch.kind stretch.items samples.now) page.new.items }
     ensures pieces { K.longest out.new ≤ max (K.longest out.old) 4096 }
     ensures later { K.faults out.old ≤ K.faults out.new }
     ensures failed { result ≡ Err Fault.Failed → Rose (K.faults out.old) (K.faults out.new) }
 {
-    let items = stretch.len();
-    match stretch.first() {
-        Some(Heard::Sound(_, _)) => write_sound_lines(out, page, bits, stretch),
-        Some(Heard::Quiet) => write_count(out, page, "quiet", items),
-        Some(Heard::Hole) => write_count(out, page, "hole", items),
-        Some(Heard::Altered) => write_count(out, page, "altered", items),
-        None => Ok(()),
+    match stretch.kind {
+        Kind::Sound => write_sound_lines(out, page, bits, samples),
+        Kind::Quiet => write_count(out, page, "quiet", stretch.items),
+        Kind::Hole => write_count(out, page, "hole", stretch.items),
+        Kind::Altered => write_count(out, page, "altered", stretch.items),
     }
 }
 
-/// The first stretch of some items.
-fn first_stretch(items: &[Heard]) -> &[Heard]
-    requires { 0 < length items.now }
-    ensures some { 0 < length result.now }
-    ensures within { length result.now ≤ length items.now }
-    ensures first { text.stretches items.now ≡ result.now ∷ text.stretches (drop (length result.now) items.now) }
+/// How many of these bytes are the samples of a stretch at their front.
+fn samples_len(bits: Bits, stretch: Stretch, rest: &[u8]) -> usize
+    ensures { result ≡ min (told.samples_len bits stretch.kind stretch.items) (length rest.now) }
 {
-    match items.chunk_by(is_like).next() {
-        Some(stretch) => stretch,
-        None => unreachable!(),
+    match stretch.kind {
+        Kind::Sound => stretch
+            .items
+            .saturating_mul(block_len(bits))
+            .min(rest.len()),
+        Kind::Quiet | Kind::Hole | Kind::Altered => 0,
     }
 }
 
-/// What a pin heard, stretch by stretch.
+/// The bytes after so many.
+fn after(bytes: &[u8], len: usize) -> &[u8]
+    requires { len ≤ length bytes.now }
+    ensures { result.now ≡ drop len bytes.now }
+{
+    &bytes[len..]
+}
+
+/// What a pin heard, stretch by stretch, with the samples of all of them.
 fn write_heard<K: Sink>(
     out: &mut K,
     page: &mut Vec<u8>,
     bits: Bits,
-    items: &[Heard],
+    stretches: &[Stretch],
+    samples: &[u8],
 ) -> Result<(), Fault>
-    ensures text { Writes result (K.taken out.old) (K.taken out.new) (page.old.items ++ text.heard_lines bits items.now) page.new.items }
+    ensures text { Writes result (K.taken out.old) (K.taken out.new)
+        (page.old.items ++ told.stretches_text bits stretches.now samples.now) page.new.items }
     ensures pieces { K.longest out.new ≤ max (K.longest out.old) 4096 }
     ensures later { K.faults out.old ≤ K.faults out.new }
     ensures failed { result ≡ Err Fault.Failed → Rose (K.faults out.old) (K.faults out.new) }
 {
-    let mut rest = items;
-    while !rest.is_empty() {
-        let stretch = first_stretch(rest);
-        write_stretch(out, page, bits, stretch)?;
-        rest = &rest[stretch.len()..];
+    let mut rest = samples;
+    for place in 0..stretches.len() {
+        let stretch = stretches[place];
+        let len = samples_len(bits, stretch, rest);
+        write_stretch(out, page, bits, stretch, &rest[..len])?;
+        rest = after(rest, len);
     }
     Ok(())
 }
@@ -186,20 +153,55 @@ fn push_pin_line(page: &mut Vec<u8>, codec: u8, pin: u8) -> Result<(), AllocErro
     push_word(page, "\n")
 }
 
-/// The part of a pin.
+/// The part of a pin that heard these stretches, with the samples of all of them.
 fn write_pin<K: Sink>(
     out: &mut K,
     page: &mut Vec<u8>,
     bits: Bits,
-    pin: &PinHeard,
+    codec: u8,
+    pin: u8,
+    stretches: &[Stretch],
+    samples: &[u8],
 ) -> Result<(), Fault>
-    ensures text { Writes result (K.taken out.old) (K.taken out.new) (page.old.items ++ text.pin_part bits pin.now) page.new.items }
+    ensures text { Writes result (K.taken out.old) (K.taken out.new) (page.old.items
+        ++ (text.pin_line codec pin ++ told.stretches_text bits stretches.now samples.now)) page.new.items }
     ensures pieces { K.longest out.new ≤ max (K.longest out.old) 4096 }
     ensures later { K.faults out.old ≤ K.faults out.new }
     ensures failed { result ≡ Err Fault.Failed → Rose (K.faults out.old) (K.faults out.new) }
 {
-    push_pin_line(page, pin.codec, pin.pin)?;
-    write_heard(out, page, bits, pin.list.as_slice())
+    push_pin_line(page, codec, pin)?;
+    write_heard(out, page, bits, stretches, samples)
+}
+
+/// The part of the pin at a place, counted from 0, whose stretches and samples are gathered in `stretches` and
+/// `samples`.
+fn write_pin_at<K: Sink>(
+    out: &mut K,
+    page: &mut Vec<u8>,
+    stretches: &mut Vec<Stretch>,
+    samples: &mut Vec<u8>,
+    bits: Bits,
+    pins: &HeardPins,
+    place: usize,
+) -> Result<(), Fault>
+    requires { place < length pins.now }
+    ensures text { (pin : PinHeard) → Writes result (K.taken out.old) (K.taken out.new)
+        (page.old.items ++ text.pin_part bits (get_or pins.now place pin)) page.new.items }
+    ensures pieces { K.longest out.new ≤ max (K.longest out.old) 4096 }
+    ensures later { K.faults out.old ≤ K.faults out.new }
+    ensures failed { result ≡ Err Fault.Failed → Rose (K.faults out.old) (K.faults out.new) }
+{
+    let (codec, pin) = pins.head(place);
+    pins.put_stretches(place, bits, stretches, samples)?;
+    write_pin(
+        out,
+        page,
+        bits,
+        codec,
+        pin,
+        stretches.as_slice(),
+        samples.as_slice(),
+    )
 }
 
 /// The parts of pins.
@@ -210,15 +212,19 @@ pub(crate) fn write_pins<K: Sink>(
     out: &mut K,
     page: &mut Vec<u8>,
     bits: Bits,
-    pins: &[PinHeard],
+    pins: &HeardPins,
 ) -> Result<(), Fault>
-    ensures text { Writes result (K.taken out.old) (K.taken out.new) (page.old.items ++ flat_map (text.pin_part bits) pins.now) page.new.items }
+    ensures text { Writes result (K.taken out.old) (K.taken out.new)
+        (page.old.items ++ flat_map (text.pin_part bits) pins.now) page.new.items }
     ensures pieces { K.longest out.new ≤ max (K.longest out.old) 4096 }
     ensures later { K.faults out.old ≤ K.faults out.new }
     ensures failed { result ≡ Err Fault.Failed → Rose (K.faults out.old) (K.faults out.new) }
 {
-    for pin in pins {
-        write_pin(out, page, bits, pin)?;
+    let alloc = *page.allocator();
+    let mut stretches = Vec::new(alloc);
+    let mut samples = Vec::new(alloc);
+    for place in 0..pins.len() {
+        write_pin_at(out, page, &mut stretches, &mut samples, bits, pins, place)?;
     }
     Ok(())
 }

@@ -4,7 +4,7 @@ use driver_progress::Jack;
 use hda_files::Machine;
 use hda_items::Items;
 use hda_world::Journal;
-use heard_lists::PinHeard;
+use heard_lists::HeardPins;
 use period_writer::{Run, Span};
 use route_planner::Plan;
 use stream_format::Format;
@@ -82,7 +82,7 @@ pub struct Played {
     /// Where the line has silence, ascending; none for a walk.
     pub silences: Items<Span>,
     /// What each candidate pin heard, codec by codec and in order; none for a walk.
-    pub heard: Items<PinHeard>,
+    pub heard: HeardPins,
     /// How often responses that came unasked were read, ascending by codec and tag.
     pub jacks: Items<Jack>,
     /// What driver and device did.

@@ -24,7 +24,7 @@ fn write_middle<K: Sink>(out: &mut K, page: &mut Vec<u8>, played: &Played) -> Re
     write_lines(out, page, played.runs.as_slice())?;
     write_lines(out, page, played.silences.as_slice())?;
     write_lines(out, page, played.jacks.as_slice())?;
-    write_pins(out, page, played.format.bits, played.heard.as_slice())
+    write_pins(out, page, played.format.bits, &played.heard)
 }
 
 /// Writes the text of a run of the driver in pieces, in the order of its lines: the plans, the recorded runs, the silences, the jacks,

@@ -3,16 +3,31 @@ ghost use Rattle.std.specs.Prelude.{◌≤◌, Contains};
 ghost use Rattle.dma_pool.specs.declared.runs.Run.{Run};
 ghost use Rattle.dma_pool.specs.Blocks.{run_at};
 
-use crate::play::{Script, play_over, small_ring};
-use crate::rings::free_in;
-use crate::rows::{Bytes, bytes_of};
-use crate::scripted::Access::{self, Memory, Read, Write};
 use dma_pool::{Block, NoRun, Pool};
 use hda_registers::Width::Four;
-use std::alloc::Global;
+use std::alloc::{AllocError, Global};
 use std::mem::replace;
 use std::process::Abort;
 use std::test::Fail;
+use writer_plays::Access::{self, Memory, Read, Write};
+use writer_plays::{Script, free_in, play_over, small_ring, sound_at};
+
+/// Bytes of memory: how many, and the position of the first in the sound where they are sound.
+type Bytes = (u32, Option<u32>);
+
+/// The bytes that a list describes.
+fn bytes_of(alloc: Global, parts: &[Bytes]) -> Result<Vec<u8>, AllocError> {
+    let mut bytes = Vec::new(alloc);
+    for (len, sound) in parts {
+        for index in 0..*len {
+            bytes.push(match sound {
+                Some(first) => sound_at(first.saturating_add(index)),
+                None => 0,
+            })?;
+        }
+    }
+    Ok(bytes)
+}
 
 /// The granules that stay taken where the list's granule and both periods have just their holes.
 const HOLES: [usize; 5] = [1, 5, 9, 10, 11];
@@ -130,10 +145,10 @@ fn stands_at(alloc: Global, pool: Pool, places: [u32; 3], free: u32) -> Result<b
     let script = Script {
         frames: 2,
         first: (0, 0, 8),
-        turns: &[],
+        turns: Vec::new(alloc),
         otherwise: 0,
     };
-    let played = play_over(alloc, small_ring()?, pool, &script)?;
+    let played = play_over(alloc, small_ring()?, pool, &script).ok_or("no play")?;
     let wanted = [
         Memory(list as usize, 16),
         Memory(list.saturating_add(16) as usize, 16),
@@ -194,10 +209,10 @@ fn runs_scattered(alloc: Global, pool: Pool) -> Result<bool, Fail> {
     let script = Script {
         frames: 512,
         first: (0, 0, 768),
-        turns: &[(0, 200, 0, 768), (0, 500, 0, 768), (0, 100, 0, 768)],
+        turns: vec![in alloc; (0, 200, 0, 768), (0, 500, 0, 768), (0, 100, 0, 768)]?,
         otherwise: 0,
     };
-    let played = play_over(alloc, small_ring()?, pool, &script)?;
+    let played = play_over(alloc, small_ring()?, pool, &script).ok_or("no play")?;
     let bytes = bytes_of(alloc, &SCATTERED_BYTES)?;
     let later = played.accesses.as_slice().get(17..);
     Ok(
@@ -239,9 +254,9 @@ fn a_ring_stands_in_holes(rt: HostRuntime) {
 #[should_panic(expected = "as many are free as before")]
 fn a_ring_takes_all_holes_or_none(rt: HostRuntime) {
     let (pool, _kept) = holed(&rt, rt.alloc(), &HOLES);
-    assert!(rt; value_of(&rt, free_in(rt.alloc(), pool)) == (Some(0), 7));
+    assert!(rt; free_in(rt.alloc(), pool) == Some((Some(0), 7)));
     let (pool, _also_kept) = holed(&rt, rt.alloc(), &FEWER);
-    assert!(rt; value_of(&rt, free_in(rt.alloc(), pool)) == (None, 6));
+    assert!(rt; free_in(rt.alloc(), pool) == Some((None, 6)));
     panic!(rt; "as many are free as before");
 }
 

@@ -1,5 +1,5 @@
 //! What a rig has.
-ghost use Rattle.std.specs.Prelude.{◌≡◌, true};
+ghost use Rattle.std.specs.Prelude.{◌≡◌, true, IfOk};
 ghost use Rattle.codec_sound.specs.HeardLists.{heard};
 ghost use Rattle.hda_world.specs.JournalEvents.{events_of};
 ghost use Rattle.hda_world.specs.Tellings.{world_of};
@@ -15,14 +15,19 @@ use codec_sound::Heard;
 use hda_files::Machine;
 use hda_world::Journal;
 use heard_lists::HeardLists;
+use std::alloc::{AllocError, Global};
 
 impl Rig {
-    /// What a candidate pin of the codec with this address heard, oldest first.
-    pub fn heard(&self, codec: u8, pin: u8) -> &[Heard]
+    /// What a candidate pin of the codec with this address heard, oldest first, as a list of its own.
+    ///
+    /// # Errors
+    /// Want of memory.
+    pub fn heard(&self, alloc: Global, codec: u8, pin: u8) -> Result<Vec<Heard>, AllocError>
         requires { is_candidate_of (codecs_in (setting_of self.now).machine.codecs) codec pin ≡ true }
-        ensures { result.now ≡ heard codec pin (world_of (telling_of self.now)).carried }
+        ensures { IfOk result (λ items. items.items ≡ heard codec pin (world_of (telling_of self.now)).carried) }
     {
-        self.recording.heard.of(codec, pin)
+        let items = self.recording.heard.of(alloc, codec, pin)?;
+        Ok(items)
     }
 
     /// All that happened, oldest first.

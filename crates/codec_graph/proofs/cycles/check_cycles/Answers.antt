@@ -18,3 +18,9 @@ returns-clause-acyclic c = λ nid cycle. elim (cases_lt nid 128) as (λ _. ⊥) 
   | inl lt ↦ c.loop-nid.invariant nid (omega (arith, lt)) cycle
   | inr ge ↦ no_cycle_past c.args.codec.now (counted c.args.codec.now c.requires) nid ge cycle
 ]
+
+pub returns-then-are_safe-clause-acyclic : goal.returns-then-are_safe-clause-acyclic
+returns-then-are_safe-clause-acyclic c = λ nid cycle. elim (cases_lt nid 128) as (λ _. ⊥) [
+  | inl lt ↦ c.if-are_safe.ensures refl nid lt cycle
+  | inr ge ↦ no_cycle_past c.args.codec.now (counted c.args.codec.now c.requires) nid ge cycle
+]

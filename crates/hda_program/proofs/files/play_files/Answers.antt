@@ -1,8 +1,9 @@
-use Rattle.std.proofs.Common.{◌≡◌, ◌+◌, ◌≤◌, inl}
+use Rattle.std.proofs.Common.{◌≡◌, ◌+◌, ◌≤◌, inl, inr}
 use Rattle.hda_outside.specs.Counts.{Rose}
 use Rattle.hda_program.specs.Meanings.{answer_meant}
 use Rattle.hda_program.proofs.Complete.{files_complete}
 use Rattle.hda_program.proofs.PlayEndings.{files_never_shrink, files_promised, files_runless, files_runs, files_shrunk, files_stopped, files_unread}
+use Rattle.hda_program.proofs.Served.{files_serve, files_serve_whole}
 use Rattle.hda_program.proofs.files.play_files.Goals as goal
 
 pub returns-in-Ok-clause-promise : goal.returns-in-Ok-clause-promise
@@ -62,3 +63,27 @@ returns-in-Ok-clause-completes g c = λ can sink. files_complete (g.K.Sink.taken
     (λ name. Rose (g.S.Shelf.empties c.args.shelf.now name) (g.S.Shelf.empties c.answer_play.new.shelf name)) (λ name. g.S.Shelf.asked c.answer_play.new.shelf name ≡ g.S.Shelf.asked c.args.shelf.now name) (λ n. g.S.Shelf.given c.answer_play.new.shelf ≤ g.S.Shelf.given c.args.shelf.now + n)
     c.args.codec.now c.args.wav.now c.args.schedule.now c.args.periods c.args.period can
     (inl (record { meant = answer_meant c.in-Ok.answer; is = c.in-Ok.ensures.answers; given = c.write_answer.ensures.play; written = c.write_answer.ensures.written }))
+
+pub returns-in-Ok-clause-served : goal.returns-in-Ok-clause-served
+returns-in-Ok-clause-served g c = λ geometry can sink shape serves. files_serve (g.K.Sink.taken c.args.out.now) (g.K.Sink.taken c.write_answer.new.out)
+    (Rose (g.K.Sink.faults c.args.out.now) (g.K.Sink.faults c.write_answer.new.out)) c.write_answer.result.play c.write_answer.result.status sink
+    (g.S.Shelf.told c.args.shelf.now) (λ name. Rose (g.S.Shelf.faults c.args.shelf.now name) (g.S.Shelf.faults c.answer_play.new.shelf name))
+    (λ name. Rose (g.S.Shelf.empties c.args.shelf.now name) (g.S.Shelf.empties c.answer_play.new.shelf name)) (λ name. g.S.Shelf.asked c.answer_play.new.shelf name ≡ g.S.Shelf.asked c.args.shelf.now name) (λ n. g.S.Shelf.given c.answer_play.new.shelf ≤ g.S.Shelf.given c.args.shelf.now + n)
+    (λ machine plans wav geometry schedule played sound read. c.plays_end_so.ensures machine plans wav geometry schedule played sound (c.read_machines_are_whole.ensures machine sound read))
+    (λ machine plans wav geometry schedule played frames sound read. c.plays_all_so.ensures machine plans wav geometry schedule played frames sound (c.read_machines_are_whole.ensures machine sound read)) c.args.codec.now c.args.wav.now c.args.schedule.now c.args.periods c.args.period geometry can shape serves
+    (inl (record { meant = answer_meant c.in-Ok.answer; is = c.in-Ok.ensures.answers; given = c.write_answer.ensures.play; written = c.write_answer.ensures.written }))
+
+pub returns-in-Ok-clause-served_whole : goal.returns-in-Ok-clause-served_whole
+returns-in-Ok-clause-served_whole g c = λ geometry can sink shape serves. files_serve_whole (g.K.Sink.taken c.args.out.now) (g.K.Sink.taken c.write_answer.new.out)
+    (Rose (g.K.Sink.faults c.args.out.now) (g.K.Sink.faults c.write_answer.new.out)) c.write_answer.result.play c.write_answer.result.status sink
+    (g.S.Shelf.told c.args.shelf.now) (λ name. Rose (g.S.Shelf.faults c.args.shelf.now name) (g.S.Shelf.faults c.answer_play.new.shelf name))
+    (λ name. Rose (g.S.Shelf.empties c.args.shelf.now name) (g.S.Shelf.empties c.answer_play.new.shelf name)) (λ name. g.S.Shelf.asked c.answer_play.new.shelf name ≡ g.S.Shelf.asked c.args.shelf.now name) (λ n. g.S.Shelf.given c.answer_play.new.shelf ≤ g.S.Shelf.given c.args.shelf.now + n)
+    (λ machine plans wav geometry schedule played sound read. c.plays_end_so.ensures machine plans wav geometry schedule played sound (c.read_machines_are_whole.ensures machine sound read))
+    (λ machine plans wav geometry schedule played frames sound read. c.plays_all_so.ensures machine plans wav geometry schedule played frames sound (c.read_machines_are_whole.ensures machine sound read)) c.args.codec.now c.args.wav.now c.args.schedule.now c.args.periods c.args.period geometry can shape serves
+    (inl (record { meant = answer_meant c.in-Ok.answer; is = c.in-Ok.ensures.answers; given = c.write_answer.ensures.play; written = c.write_answer.ensures.written }))
+
+pub returns-in-Err-clause-served : goal.returns-in-Err-clause-served
+returns-in-Err-clause-served g c = λ geometry can sink shape serves. record { run = tt; status_is = inr c.number.ensures }
+
+pub returns-in-Err-clause-served_whole : goal.returns-in-Err-clause-served_whole
+returns-in-Err-clause-served_whole g c = λ geometry can sink shape serves. record { run = tt; status_is = inr c.number.ensures }

@@ -1,8 +1,10 @@
-use Rattle.std.proofs.Common.{◌≡◌, ◌+◌, ◌≤◌, map, string_bytes, inl}
+use Rattle.std.proofs.Common.{◌≡◌, ◌+◌, ◌≤◌, map, string_bytes, inl, inr}
 use Rattle.hda_outside.specs.Counts.{Rose}
 use Rattle.hda_program.specs.Meanings.{answer_meant}
 use Rattle.hda_program.proofs.Complete.{play_complete, route_complete, walk_complete}
 use Rattle.hda_program.proofs.Endings.{never_shrinks, refused_words, shrunk_run, sink_faulted, stopped_unread, run_promised, runless, unread_run, route_runless, walk_runs, play_runs, shelf_failed, refused_codec, refused_wav, refused_schedule, refused_geometry, was_routed, was_unrouted}
+use Rattle.hda_program.proofs.MadeLemmas.{make_complete, make_runs}
+use Rattle.hda_program.proofs.Served.{play_serves, play_serves_whole, walk_serves}
 use Rattle.hda_program.proofs.run.hda_main.Goals as goal
 
 pub returns-in-Ok-clause-promise : goal.returns-in-Ok-clause-promise
@@ -155,3 +157,60 @@ returns-in-Ok-clause-play_completes g c = λ codec wav name periods period plays
     (λ name. Rose (g.S.Shelf.empties c.args.shelf.now name) (g.S.Shelf.empties c.answer_words.new.shelf name)) (λ name. g.S.Shelf.asked c.answer_words.new.shelf name ≡ g.S.Shelf.asked c.args.shelf.now name) (λ n. g.S.Shelf.given c.answer_words.new.shelf ≤ g.S.Shelf.given c.args.shelf.now + n)
     (map string_bytes c.args.words.now) codec wav name periods period plays can
     (inl (record { meant = answer_meant c.in-Ok.answer; is = c.in-Ok.ensures.meant; given = c.write_answer.ensures.play; written = c.write_answer.ensures.written }))
+
+pub returns-in-Ok-clause-walk_served : goal.returns-in-Ok-clause-walk_served
+returns-in-Ok-clause-walk_served g c = λ codec name walks can sink serves. walk_serves (g.K.Sink.taken c.args.out.now) (g.K.Sink.taken c.write_answer.new.out)
+    (Rose (g.K.Sink.faults c.args.out.now) (g.K.Sink.faults c.write_answer.new.out)) c.write_answer.result.play c.write_answer.result.status sink
+    (g.S.Shelf.told c.args.shelf.now) (λ name. Rose (g.S.Shelf.faults c.args.shelf.now name) (g.S.Shelf.faults c.answer_words.new.shelf name))
+    (λ name. Rose (g.S.Shelf.empties c.args.shelf.now name) (g.S.Shelf.empties c.answer_words.new.shelf name)) (λ name. g.S.Shelf.asked c.answer_words.new.shelf name ≡ g.S.Shelf.asked c.args.shelf.now name) (λ n. g.S.Shelf.given c.answer_words.new.shelf ≤ g.S.Shelf.given c.args.shelf.now + n)
+    (λ machine plans schedule played sound read. c.walks_end_so.ensures machine plans schedule played sound (c.read_machines_are_whole.ensures machine sound read)) (map string_bytes c.args.words.now) codec name walks can
+    (inl (record { meant = answer_meant c.in-Ok.answer; is = c.in-Ok.ensures.meant; given = c.write_answer.ensures.play; written = c.write_answer.ensures.written })) serves
+
+pub returns-in-Ok-clause-play_served : goal.returns-in-Ok-clause-play_served
+returns-in-Ok-clause-play_served g c = λ codec wav name periods period geometry plays can sink shape serves. play_serves (g.K.Sink.taken c.args.out.now) (g.K.Sink.taken c.write_answer.new.out)
+    (Rose (g.K.Sink.faults c.args.out.now) (g.K.Sink.faults c.write_answer.new.out)) c.write_answer.result.play c.write_answer.result.status sink
+    (g.S.Shelf.told c.args.shelf.now) (λ name. Rose (g.S.Shelf.faults c.args.shelf.now name) (g.S.Shelf.faults c.answer_words.new.shelf name))
+    (λ name. Rose (g.S.Shelf.empties c.args.shelf.now name) (g.S.Shelf.empties c.answer_words.new.shelf name)) (λ name. g.S.Shelf.asked c.answer_words.new.shelf name ≡ g.S.Shelf.asked c.args.shelf.now name) (λ n. g.S.Shelf.given c.answer_words.new.shelf ≤ g.S.Shelf.given c.args.shelf.now + n)
+    (λ machine plans wav geometry schedule played sound read. c.plays_end_so.ensures machine plans wav geometry schedule played sound (c.read_machines_are_whole.ensures machine sound read))
+    (λ machine plans wav geometry schedule played frames sound read. c.plays_all_so.ensures machine plans wav geometry schedule played frames sound (c.read_machines_are_whole.ensures machine sound read)) codec wav name periods period geometry can shape serves (map string_bytes c.args.words.now) plays
+    (inl (record { meant = answer_meant c.in-Ok.answer; is = c.in-Ok.ensures.meant; given = c.write_answer.ensures.play; written = c.write_answer.ensures.written }))
+
+pub returns-in-Ok-clause-play_served_whole : goal.returns-in-Ok-clause-play_served_whole
+returns-in-Ok-clause-play_served_whole g c = λ codec wav name periods period geometry plays can sink shape serves. play_serves_whole (g.K.Sink.taken c.args.out.now) (g.K.Sink.taken c.write_answer.new.out)
+    (Rose (g.K.Sink.faults c.args.out.now) (g.K.Sink.faults c.write_answer.new.out)) c.write_answer.result.play c.write_answer.result.status sink
+    (g.S.Shelf.told c.args.shelf.now) (λ name. Rose (g.S.Shelf.faults c.args.shelf.now name) (g.S.Shelf.faults c.answer_words.new.shelf name))
+    (λ name. Rose (g.S.Shelf.empties c.args.shelf.now name) (g.S.Shelf.empties c.answer_words.new.shelf name)) (λ name. g.S.Shelf.asked c.answer_words.new.shelf name ≡ g.S.Shelf.asked c.args.shelf.now name) (λ n. g.S.Shelf.given c.answer_words.new.shelf ≤ g.S.Shelf.given c.args.shelf.now + n)
+    (λ machine plans wav geometry schedule played sound read. c.plays_end_so.ensures machine plans wav geometry schedule played sound (c.read_machines_are_whole.ensures machine sound read))
+    (λ machine plans wav geometry schedule played frames sound read. c.plays_all_so.ensures machine plans wav geometry schedule played frames sound (c.read_machines_are_whole.ensures machine sound read)) codec wav name periods period geometry can shape serves (map string_bytes c.args.words.now) plays
+    (inl (record { meant = answer_meant c.in-Ok.answer; is = c.in-Ok.ensures.meant; given = c.write_answer.ensures.play; written = c.write_answer.ensures.written }))
+
+pub returns-in-Err-clause-walk_served : goal.returns-in-Err-clause-walk_served
+returns-in-Err-clause-walk_served g c = λ codec name walks can sink serves. record { run = tt; status_is = inr c.number.ensures }
+
+pub returns-in-Err-clause-play_served : goal.returns-in-Err-clause-play_served
+returns-in-Err-clause-play_served g c = λ codec wav name periods period geometry plays can sink shape serves. record { run = tt; status_is = inr c.number.ensures }
+
+pub returns-in-Err-clause-play_served_whole : goal.returns-in-Err-clause-play_served_whole
+returns-in-Err-clause-play_served_whole g c = λ codec wav name periods period geometry plays can sink shape serves. record { run = tt; status_is = inr c.number.ensures }
+
+pub returns-in-Ok-clause-make_runs : goal.returns-in-Ok-clause-make_runs
+returns-in-Ok-clause-make_runs g c = λ number makes. make_runs (g.K.Sink.taken c.args.out.now) (g.K.Sink.taken c.write_answer.new.out)
+    (Rose (g.K.Sink.faults c.args.out.now) (g.K.Sink.faults c.write_answer.new.out)) c.write_answer.result.play c.write_answer.result.status
+    (g.S.Shelf.told c.args.shelf.now) (λ name. Rose (g.S.Shelf.faults c.args.shelf.now name) (g.S.Shelf.faults c.answer_words.new.shelf name))
+    (λ name. Rose (g.S.Shelf.empties c.args.shelf.now name) (g.S.Shelf.empties c.answer_words.new.shelf name)) (λ name. g.S.Shelf.asked c.answer_words.new.shelf name ≡ g.S.Shelf.asked c.args.shelf.now name) (λ n. g.S.Shelf.given c.answer_words.new.shelf ≤ g.S.Shelf.given c.args.shelf.now + n)
+    (map string_bytes c.args.words.now) number makes
+    (inl (record { meant = answer_meant c.in-Ok.answer; is = c.in-Ok.ensures.meant; given = c.write_answer.ensures.play; written = c.write_answer.ensures.written }))
+
+pub returns-in-Ok-clause-make_ends : goal.returns-in-Ok-clause-make_ends
+returns-in-Ok-clause-make_ends g c = λ number makes. make_complete (g.K.Sink.taken c.args.out.now) (g.K.Sink.taken c.write_answer.new.out)
+    (Rose (g.K.Sink.faults c.args.out.now) (g.K.Sink.faults c.write_answer.new.out)) c.write_answer.result.play c.write_answer.result.status
+    (g.S.Shelf.told c.args.shelf.now) (λ name. Rose (g.S.Shelf.faults c.args.shelf.now name) (g.S.Shelf.faults c.answer_words.new.shelf name))
+    (λ name. Rose (g.S.Shelf.empties c.args.shelf.now name) (g.S.Shelf.empties c.answer_words.new.shelf name)) (λ name. g.S.Shelf.asked c.answer_words.new.shelf name ≡ g.S.Shelf.asked c.args.shelf.now name) (λ n. g.S.Shelf.given c.answer_words.new.shelf ≤ g.S.Shelf.given c.args.shelf.now + n)
+    (map string_bytes c.args.words.now) number makes
+    (inl (record { meant = answer_meant c.in-Ok.answer; is = c.in-Ok.ensures.meant; given = c.write_answer.ensures.play; written = c.write_answer.ensures.written }))
+
+pub returns-in-Err-clause-make_runs : goal.returns-in-Err-clause-make_runs
+returns-in-Err-clause-make_runs g c = λ number makes enough. absurd (enough c.number.ensures)
+
+pub returns-in-Err-clause-make_ends : goal.returns-in-Err-clause-make_ends
+returns-in-Err-clause-make_ends g c = λ number makes. inr (inr c.number.ensures)

@@ -14,6 +14,8 @@ returns-in-Ok-clause-first_fits c = record {
   taken = c.in-Ok.driver.pool;
   all_free = record { granules = ap (λ (pool : PoolState). pool.granules) c.in_ok-pool.ensures; free = ap (λ (pool : PoolState). pool.taken) c.in_ok-pool.ensures };
   opens = c.in-Ok.ensures.takes;
+  corb_aligned = c.in-Ok.driver.bring_up.engine.corb.aligned;
+  rirb_aligned = c.in-Ok.driver.bring_up.engine.rirb.aligned;
 }
 
 pub returns-in-Ok-clause-apart : goal.returns-in-Ok-clause-apart

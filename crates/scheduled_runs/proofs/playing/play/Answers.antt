@@ -86,9 +86,9 @@ can_before g c = record {
       opened_can_go c.args.machine c.args.head.format c.args.plans.items c.args.geometry _ c.in_ok-driver.driver.play true pcm c.in_ok-driver.driver.bring_up
       c.in_ok-driver.driver.writer pcm c.in_ok-driver.ensures.play (λ plays. refl) c.in_ok-driver.ensures.opened c.in_ok-driver.ensures.apart c.requires.fifo c.requires.format
       (c.machines_have_tasks.ensures c.args.head.format c.args.machine c.args.plans.items c.args.geometry true pcm (blocks_of c.in_ok-driver.driver.bring_up c.in_ok-driver.driver.writer)
-      c.requires.sound c.requires.read c.requires.plans c.requires.routed)
+      c.requires.sound c.requires.whole c.requires.plans c.requires.routed)
       (c.opened_drivers_can_begin.ensures c.args.head.format c.args.machine c.args.plans.items c.args.geometry true pcm _ c.in_ok-driver.driver.bring_up c.in_ok-driver.driver.writer
-      c.requires.sound c.requires.read c.in_ok-driver.ensures.opened)
+      c.requires.sound c.requires.whole c.in_ok-driver.ensures.opened)
       (c.machines_rest.ensures c.args.machine);
 }
 
@@ -107,9 +107,9 @@ can_after g c = record {
       opened_can_go c.args.machine c.args.head.format c.args.plans.items c.args.geometry _ c.in_ok-driver.driver.play true pcm c.in_ok-driver.driver.bring_up
       c.in_ok-driver.driver.writer pcm c.in_ok-driver.ensures.play (λ plays. refl) c.in_ok-driver.ensures.opened c.in_ok-driver.ensures.apart c.requires.fifo c.requires.format
       (c.machines_have_tasks.ensures c.args.head.format c.args.machine c.args.plans.items c.args.geometry true pcm (blocks_of c.in_ok-driver.driver.bring_up c.in_ok-driver.driver.writer)
-      c.requires.sound c.requires.read c.requires.plans c.requires.routed)
+      c.requires.sound c.requires.whole c.requires.plans c.requires.routed)
       (c.opened_drivers_can_begin.ensures c.args.head.format c.args.machine c.args.plans.items c.args.geometry true pcm _ c.in_ok-driver.driver.bring_up c.in_ok-driver.driver.writer
-      c.requires.sound c.requires.read c.in_ok-driver.ensures.opened)
+      c.requires.sound c.requires.whole c.in_ok-driver.ensures.opened)
       (c.machines_rest.ensures c.args.machine);
 }
 
@@ -217,8 +217,8 @@ returns-clause-played g c =
       graphs = c.from_vec-2.result;
       runs = c.from_vec-3.result;
       silences = c.from_vec-4.result;
-      heard = c.from_vec-5.result;
-      jacks = c.from_vec-6.result;
+      heard = c.into_lists.result;
+      jacks = c.from_vec-5.result;
       journal = c.parts-machine.result.2;
       walk = false;
       fault = c.play_fault-fault.result;
@@ -240,7 +240,7 @@ returns-clause-played g c =
     c.requires.plans in
     let by = driven machine c.args.plans.items wav c.args.geometry blocks c.args.schedule.now opened closed journal was
     laws played told (sym (can_after g c).ring_is) c.requires.format c.requires.plans c.from_vec-2.ensures c.from_vec-3.ensures c.from_vec-4.ensures
-    (c.from_vec-5.ensures ∙ c.into_lists.ensures ∙ heard)
+    (c.into_lists.ensures ∙ heard)
     (subst (λ (block : ℕ). IsPlayFault closed.phase closed.sent c.in_ok-commands.commands block head.frames closed.runs.items closed.silences.items c.play_fault-fault.result)
     c.block_bytes-2.ensures c.play_fault-fault.ensures) in
     record {
@@ -252,6 +252,7 @@ returns-clause-played g c =
           c.in_ok-cut.ensures;
       run = record {
         input = record {
+          sound = c.requires.sound;
           machine_is = c.parts-machine.ensures.machine ∙ c.in_ok-driven.ensures.machine ∙ c.in_ok-rig.ensures.machine;
           plans_are = c.from_vec.ensures;
           walk_is = refl;
@@ -269,7 +270,7 @@ returns-clause-played g c =
         opened = by.opened;
         runs = by.runs;
         heard = by.heard;
-        jacks = subst (λ jacks. Counts (told_in (events_of c.parts-machine.result.2)) jacks) (sym c.from_vec-6.ensures)
+        jacks = subst (λ jacks. Counts (told_in (events_of c.parts-machine.result.2)) jacks) (sym c.from_vec-5.ensures)
             (subst (λ (events : List Event). Counts (told_in events) closed.jacks.items) (sym told) was.jacks);
         commands = c.in_ok-commands.ensures
             ∙ ap (λ (codecs : List CodecFile). length (commands_of head.format codecs c.as_slice-2.result.now)) c.as_slice.ensures

@@ -54,8 +54,8 @@ can_go c =
     let blocks = blocks_of driver.bring_up driver.writer in
     opened_can_go c.args.machine walk_format c.args.plans.items fresh.geometry _ driver.play false [] driver.bring_up driver.writer (sound_of c) c.in_ok-driver.ensures.play (λ plays. cc) fresh.opened fresh.apart fresh.ring.fifo_is
     fresh.ring.format_is
-    (c.machines_have_tasks.ensures walk_format c.args.machine c.args.plans.items fresh.geometry false [] blocks c.requires.sound c.requires.read c.requires.plans c.requires.routed)
-    (c.opened_drivers_can_begin.ensures walk_format c.args.machine c.args.plans.items fresh.geometry false [] _ driver.bring_up driver.writer c.requires.sound c.requires.read fresh.opened)
+    (c.machines_have_tasks.ensures walk_format c.args.machine c.args.plans.items fresh.geometry false [] blocks c.requires.sound c.requires.whole c.requires.plans c.requires.routed)
+    (c.opened_drivers_can_begin.ensures walk_format c.args.machine c.args.plans.items fresh.geometry false [] _ driver.bring_up driver.writer c.requires.sound c.requires.whole fresh.opened)
     (c.machines_rest.ensures c.args.machine)
 
 -- where it has gone
@@ -88,7 +88,7 @@ returns c =
       graphs = c.from_vec-2.result;
       runs = c.from_vec-3.result;
       silences = c.from_vec-4.result;
-      heard = c.new-3.result;
+      heard = c.none.result;
       jacks = c.from_vec-5.result;
       journal = c.parts-machine.result.2;
       walk = true;
@@ -99,6 +99,7 @@ returns c =
     played told c.from_vec-2.ensures c.walk_fault.ensures in
     record {
       input = record {
+        sound = c.requires.sound;
         machine_is = c.parts-machine.ensures.machine ∙ c.in_ok-driven.ensures.machine ∙ c.in_ok-rig.ensures.machine;
         plans_are = c.from_vec.ensures;
         walk_is = refl;
@@ -119,7 +120,7 @@ returns c =
       silent = record {
         runs = c.from_vec-3.ensures ∙ gone.leaves.runs ∙ ap (λ (tally : Tally). tally.runs) none;
         silences = c.from_vec-4.ensures ∙ gone.leaves.silences ∙ ap (λ (tally : Tally). tally.silences) none;
-        heard = c.new-3.ensures;
+        heard = c.none.ensures;
         unread = refl;
         uncut = refl;
       };

@@ -1,17 +1,17 @@
 use Rattle.std.proofs.Common.{rules, ◌∙◌}
 use Rattle.sound_report.proofs.PageLemmas.{line_more, no_memory, no_sink}
-use Rattle.sound_report.proofs.SoundLines.{sound_lines-front}
+use Rattle.sound_report.proofs.SoundLines.{samples_lines-front}
 use Rattle.sound_report.proofs.pins.write_sound_lines.Goals as goal
 
 pub returns-in_err-push_sound_line-clause-text : goal.returns-in_err-push_sound_line-clause-text
 returns-in_err-push_sound_line-clause-text g c =
-    no_memory c.from_residual-in_err-push_sound_line.result _ c.from_residual-in_err-push_sound_line.ensures.0 c.loop-line.invariant.text
+    no_memory c.from_residual.result _ c.from_residual.ensures.0 c.loop-line.invariant.text
 
 pub returns-in_err-turn-clause-text : goal.returns-in_err-turn-clause-text
 returns-in_err-turn-clause-text g c =
     let steps = c.in-Some.ensures.steps in
     no_sink c.from_residual-in_err-turn.result _ c.loop-line.page.items _ _ _ c.from_residual-in_err-turn.ensures.0 c.loop-line.invariant.text
-    (sound_lines-front c.args.bits _ _ _ steps.1.0 (rw c.loop-line.invariant.size at steps.1.1) steps.1.2) c.in_ok-push_sound_line.ensures c.in_err-turn.ensures.text
+    (samples_lines-front c.args.bits _ _ _ _ c.loop-line.invariant.size steps.1.0 steps.1.1 steps.1.2) c.in_ok-push_sound_line.ensures c.in_err-turn.ensures.text
 
 pub loop-line-preserved : goal.loop-line-preserved
 loop-line-preserved g c =
@@ -20,7 +20,7 @@ loop-line-preserved g c =
       size = steps.0 ∙ c.loop-line.invariant.size;
       text =
           line_more c.loop-line.page.items _ _ _ c.loop-line.invariant.text
-          (sound_lines-front c.args.bits _ _ _ steps.1.0 (rw c.loop-line.invariant.size at steps.1.1) steps.1.2) c.in_ok-push_sound_line.ensures c.in_ok-turn.ensures.text;
+          (samples_lines-front c.args.bits _ _ _ _ c.loop-line.invariant.size steps.1.0 steps.1.1 steps.1.2) c.in_ok-push_sound_line.ensures c.in_ok-turn.ensures.text;
       pieces = search rules;
       later = search rules;
     }

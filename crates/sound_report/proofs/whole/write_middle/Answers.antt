@@ -31,4 +31,4 @@ returns-clause-text g c =
     (then_more page _ _
     (then_more page _ _ (rw c.as_slice.ensures at c.in_ok-write_lines.ensures.text) (rw c.as_slice-2.ensures at c.in_ok-write_lines-2.ensures.text))
     (rw c.as_slice-3.ensures at c.in_ok-write_lines-3.ensures.text))
-    (rw c.as_slice-4.ensures at c.write_pins.ensures.text)
+    c.write_pins.ensures.text

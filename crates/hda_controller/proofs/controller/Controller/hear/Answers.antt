@@ -1,27 +1,17 @@
-use Rattle.std.proofs.Common.{◌≡◌, ◌≤◌, ◌+◌, ◌*◌, ◌/◌, length, take, get_or, rules, arith}
-use Rattle.stream_format.specs.Cadence.{block_bytes}
-use Rattle.heard_lists.specs.Listings.{Listing}
+use Rattle.std.proofs.Common.{◌≡◌, ◌+◌, ℕ, get_or, Option, refl, sym, subst, arith}
+use Rattle.stream_format.specs.Layouts.{Layout}
+use Rattle.heard_lists.specs.Listings.{Listing, HasRoom}
 use Rattle.hda_world.specs.Worlds.{codec_at}
-use Rattle.hda_controller.proofs.Due.{HasRoom-fewer, due_fit, few_items, among}
+use Rattle.hda_controller.specs.Controllers.{signal_now}
+use Rattle.hda_controller.specs.Hearing.{AreHeard}
+use Rattle.hda_controller.specs.Unheard.{block_count, with_heard}
+use Rattle.hda_controller.proofs.Due.{among}
+use Rattle.hda_controller.proofs.Unheard.{listed-on}
 use Rattle.hda_controller.proofs.controller.Controller.hear.Goals as goal
 
-pub overflow_mul-size : goal.overflow_mul-size
-overflow_mul-size c =
-    let fit : c.args.blocks * c.block_bytes.result ≤ 128 =
-    due_fit c.args.self.now.device.registers.output.format c.args.blocks c.in-Some.format c.requires.due c.in-Some.ensures c.block_bytes.result c.block_bytes.ensures in
-    search rules
-
-pub shared_ref_as_front-hear : goal.shared_ref_as_front-hear
-shared_ref_as_front-hear c =
-    due_fit c.args.self.now.device.registers.output.format c.args.blocks c.in-Some.format c.requires.due c.in-Some.ensures c.block_bytes.result c.block_bytes.ensures
-
 pub hear-requires-clause-room : goal.hear-requires-clause-room
-hear-requires-clause-room c k d within =
-    let long : length c.args.bytes.now ≡ 128 = search rules in
-    let few =
-    few_items c.args.self.now.device.registers.output.format c.args.blocks c.in-Some.format c.requires.due c.in-Some.ensures c.block_bytes.result c.args.bytes.now c.block_bytes.ensures long in
-    let room = c.requires.room k d within in
-    omega (arith, few, room)
+hear-requires-clause-room c =
+    subst (λ (found : Option Layout). HasRoom (block_count found c.args.bytes.now) c.args.heard.now) (sym c.in-Some.ensures) c.requires.room
 
 pub hear-requires-clause-pairs : goal.hear-requires-clause-pairs
 hear-requires-clause-pairs c k d within =
@@ -29,10 +19,26 @@ hear-requires-clause-pairs c k d within =
     let device = c.args.self.now.device in
     among c.in-Some.format (codec_at listing.codec device.codecs) device.registers.output.tag device.registers.output.format listing.pin c.in-Some.ensures
 
-pub returns-clause-room : goal.returns-clause-room
-returns-clause-room c more has =
-    let long : length c.args.bytes.now ≡ 128 = search rules in
-    let few =
-    few_items c.args.self.now.device.registers.output.format c.args.blocks c.in-Some.format c.requires.due c.in-Some.ensures c.block_bytes.result c.args.bytes.now c.block_bytes.ensures long in
+pub returns-in-Some-clause-heard : goal.returns-in-Some-clause-heard
+returns-in-Some-clause-heard c =
+    subst (λ (found : Option Layout). c.hear.new.self ≡ with_heard found (signal_now c.args.self.now.device) c.args.bytes.now c.args.heard.now) c.in-Some.ensures c.hear.ensures.lists
+
+pub returns-in-Some-clause-room : goal.returns-in-Some-clause-room
+returns-in-Some-clause-room c more has =
     c.hear.ensures.room more
-    (HasRoom-fewer (length (take (c.args.blocks * c.block_bytes.result) c.args.bytes.now) / block_bytes c.in-Some.format + more) (4 + more) c.args.heard.now (omega (arith, few)) has)
+    (subst (λ (found : Option Layout). HasRoom (block_count found c.args.bytes.now + more) c.args.heard.now) (sym c.in-Some.ensures) has)
+
+pub returns-in-Some-clause-lists : goal.returns-in-Some-clause-lists
+returns-in-Some-clause-lists c =
+    subst (AreHeard c.args.self.now.device.codecs) (sym (returns-in-Some-clause-heard c))
+    (listed-on c.args.self.now.device.codecs _ (signal_now c.args.self.now.device) c.args.bytes.now c.args.heard.now c.requires.lists)
+
+pub returns-in_default-clause-heard : goal.returns-in_default-clause-heard
+returns-in_default-clause-heard c =
+    subst (λ (found : Option Layout). c.args.heard.now ≡ with_heard found (signal_now c.args.self.now.device) c.args.bytes.now c.args.heard.now) c.in_default.ensures refl
+
+pub returns-in_default-clause-room : goal.returns-in_default-clause-room
+returns-in_default-clause-room c more has =
+    let none : 0 + more ≡ more = omega arith in
+    subst (λ (items : ℕ). HasRoom items c.args.heard.now) none
+    (subst (λ (found : Option Layout). HasRoom (block_count found c.args.bytes.now + more) c.args.heard.now) (sym c.in_default.ensures) has)

@@ -11,5 +11,5 @@ of-requires c =
 pub returns : goal.returns
 returns c =
     let recording = c.args.self.now.recording in
-    c.of.ensures ∙ list_heard c.args.codec c.args.pin _ recording.heard (heard_there recording.stands)
+    c.in_ok-items.ensures ∙ list_heard c.args.codec c.args.pin _ recording.heard (heard_there recording.stands)
     (candidate_listed recording.machine.codecs c.args.codec c.args.pin recording.heard recording.pins c.requires)

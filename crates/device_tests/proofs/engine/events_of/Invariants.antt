@@ -1,6 +1,0 @@
-use Rattle.std.proofs.Common.{◌≡◌}
-use Rattle.device_tests.proofs.engine.events_of.Given as goal
-
--- the blocks stay
-abbrev pub invariant-loop-turn : goal.invariant-loop-turn
-invariant-loop-turn l = (l.engine.corb ≡ l.initial.engine.corb) × (l.engine.rirb ≡ l.initial.engine.rirb)

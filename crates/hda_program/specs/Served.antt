@@ -1,0 +1,45 @@
+-- How a walk and a sound end by schedules that serve them. This project's own.
+use Rattle.std.specs.Prelude.{◌≡◌, ◌⊎◌, ◌*◌, ℕ, List, Option, IfSome, IsSomeAnd}
+use Rattle.stream_format.specs.Cadence.{block_bytes}
+use Rattle.route_planner.specs.declared.routes.Plan.{Plan}
+use Rattle.hda_files.specs.declared.machine.Machine.{Machine}
+use Rattle.hda_schedule.specs.declared.schedule.Schedule.{Schedule}
+use Rattle.period_writer.specs.declared.geometry.Geometry.{Geometry}
+use Rattle.period_writer.specs.Runs.{measures}
+use Rattle.wav_reader.specs.declared.opened.WavHead.{WavHead}
+use Rattle.sound_report.specs.declared.played.Played.{Played}
+use Rattle.sound_report.specs.declared.status.Status.TheVariants.{OutOfMemory}
+use Rattle.sound_report.specs.Statuses.{number_of}
+use Rattle.scheduled_runs.specs.Walks.{walk_format}
+use Rattle.scheduled_runs.specs.Histories.{commands_for, journal_of, told_by}
+use Rattle.served_runs.specs.Served.{all_rounds, line_count, WalkEnds, PlayEnds, IsFedWhole, PlaysAll}
+use Rattle.hda_program.specs.Meanings.{fault_status}
+
+-- a run that is given ended so. The status says how, and then there is a run; or memory was wanting
+pub record EndsSo (Ends : Played → Type 0) (given : Option Played) (status : ℕ) : Type 0 where
+  pub run : IfSome given Ends
+  pub status_is : IsSomeAnd given (λ (played : Played). status ≡ number_of (fault_status played.fault))
+      ⊎ (status ≡ number_of OutOfMemory)
+
+-- so a walk ends over a machine whose codecs have these plans, by the driver lines of a schedule
+abbrev pub WalksSo : Machine → List Plan → Schedule → Played → Type 0
+WalksSo machine plans schedule played =
+    WalkEnds (commands_for walk_format machine plans) (line_count schedule) played.fault
+
+-- and so the sound that a WAV file says
+abbrev pub PlaysSo : Machine → List Plan → WavHead → Schedule → Played → Type 0
+PlaysSo machine plans head schedule played =
+    PlayEnds (commands_for head.format machine plans) (line_count schedule) (block_bytes head.format) head.frames
+    played.runs played.silences played.fault
+
+-- how many bytes it has
+abbrev pub sound_bytes : WavHead → ℕ
+sound_bytes head = head.frames * block_bytes head.format
+
+-- where it is fed through a ring it is played whole
+abbrev pub PlaysWhole : Machine → List Plan → WavHead → Geometry → Schedule → Played → Type 0
+PlaysWhole machine plans head geometry schedule played =
+    IsFedWhole (commands_for head.format machine plans) (measures geometry).ring (sound_bytes head)
+    (all_rounds schedule)
+    (told_by machine played).start (journal_of played)
+    → PlaysAll (sound_bytes head) played.silences played.fault

@@ -1,6 +1,0 @@
-use Rattle.codec_graph.specs.Settings.{IsSettingsOf}
-use Rattle.hda_tests.proofs.graphs.first_wrong.Given as goal
-
--- the settings stay those of the graph
-abbrev pub invariant-loop-word : goal.invariant-loop-word
-invariant-loop-word l = IsSettingsOf l.graph l.settings

@@ -1,0 +1,4 @@
+pub mod MadePlan
+pub mod MadeRounds
+pub mod Holes
+pub mod Whole

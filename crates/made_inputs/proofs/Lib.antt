@@ -1,0 +1,6 @@
+mod Turns
+mod Written
+mod Limits
+mod Frames
+mod Graphs
+pub mod Callers

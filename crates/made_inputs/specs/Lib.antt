@@ -1,0 +1,3 @@
+pub mod MadeSound
+pub mod MadeSchedule
+pub mod MadeMachine

@@ -1,0 +1,3 @@
+pub mod MadeRuns
+pub mod Shelves
+pub mod Lines

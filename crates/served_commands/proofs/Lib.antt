@@ -1,0 +1,4 @@
+pub mod Lower
+pub mod Steps
+pub mod RoundTrips
+pub mod Polled

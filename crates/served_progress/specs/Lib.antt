@@ -1,0 +1,4 @@
+pub mod Rounds
+pub mod Serving
+pub mod Coming
+pub mod Runs

@@ -1,0 +1,11 @@
+pub mod Positions
+pub mod Full
+pub mod Moments
+pub mod Rolling
+pub mod Setting
+pub mod Fed
+pub mod FedRounds
+pub mod First
+pub mod Rings
+pub mod Ending
+pub mod Callers

@@ -1,0 +1,61 @@
+//! The verbs that set codecs up.
+use crate::formats::stereo;
+use codec_examples::codec_of;
+use codec_graph::Graph;
+use route_planner::plan;
+use route_setup::{Analog, Setter, verbs};
+use std::alloc::{AllocError, Global};
+use std::fmt::Write;
+use stream_format::{Bits, Format};
+use test_cases::push_hex;
+use verb_codes::{Command, encode};
+
+/// The tag of the stream.
+const TAG: u8 = 1;
+
+/// The words that set the codec of a file up for two channels of 16 bits at a rate, with the tag 1.
+pub fn tell(alloc: Global, words: &[Vec<u8>]) -> Result<String, AllocError> {
+    let [file, rate] = words else {
+        return format!(in alloc; "no codec");
+    };
+    let Some(codec) = codec_of(alloc, file) else {
+        return format!(in alloc; "refused");
+    };
+    let format = stereo(rate, Bits::B16);
+    let plan = plan(alloc, &codec.graph, format)?;
+    let commands = verbs(alloc, &codec.graph, &plan, format, TAG)?;
+    let mut asked = Vec::new(alloc);
+    for command in &commands {
+        asked.push(encode(command))?;
+    }
+    let mut text = String::new(alloc);
+    push_hex(&mut text, asked.as_slice())?;
+    Ok(text)
+}
+
+/// The verbs of any setter for a graph, with the tag 15.
+fn commands_by<S: Setter>(
+    alloc: Global,
+    setter: &S,
+    graph: &Graph,
+    format: Format,
+) -> Result<Vec<Command>, AllocError> {
+    let plan = setter.plan(alloc, graph, format)?;
+    setter.verbs(alloc, graph, &plan, format, 15)
+}
+
+/// The nodes and verbs that set the codec of a file up, by the setter.
+pub fn tell_setter(alloc: Global, words: &[Vec<u8>]) -> Result<String, AllocError> {
+    let [file, rate] = words else {
+        return format!(in alloc; "no codec");
+    };
+    let Some(codec) = codec_of(alloc, file) else {
+        return format!(in alloc; "refused");
+    };
+    let commands = commands_by(alloc, &Analog, &codec.graph, stereo(rate, Bits::B16))?;
+    let mut text = String::new(alloc);
+    for command in &commands {
+        write!(text, "\n  {:02x} {:?}", command.nid, command.verb)?;
+    }
+    Ok(text)
+}

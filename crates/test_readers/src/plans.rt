@@ -1,0 +1,61 @@
+//! The plans of codec files.
+use codec_examples::codec_of;
+use route_planner::{Bits, Format, Outcome, Plan, Rate, order, plan};
+use std::alloc::{AllocError, Global};
+use std::fmt::Write;
+use test_cases::{number_of, push_hex, text_of};
+
+/// The rate with this name.
+fn rate_named(name: &str) -> Rate {
+    match name {
+        "8000" => Rate::R8,
+        "16000" => Rate::R16,
+        "44100" => Rate::R44,
+        "96000" => Rate::R96,
+        "192000" => Rate::R192,
+        _ => Rate::R48,
+    }
+}
+
+/// A line for each pin: the pin, its pair, its hops and its converter.
+fn push_plan(text: &mut String, plan: &Plan) -> Result<(), AllocError> {
+    for entry in plan.pins.as_slice() {
+        write!(text, "\n  {:02x} pair {}:", entry.pin, entry.pair)?;
+        match &entry.outcome {
+            Outcome::Route(route) => {
+                for hop in route.hops.as_slice() {
+                    write!(text, " {:02x}.{}", hop.nid, hop.index)?;
+                }
+                write!(text, " {:02x}", route.converter)?;
+            }
+            Outcome::Blocked => text.push_str(" blocked")?,
+            Outcome::NoPath => text.push_str(" nopath")?,
+        }
+    }
+    Ok(())
+}
+
+/// The order of the pins of a file's codec and its plan, for samples of 16 bits at a rate, with 2, 4, 6 or 8 channels.
+pub fn tell(alloc: Global, words: &[Vec<u8>]) -> Result<String, AllocError> {
+    let [file, rate, channels] = words else {
+        return format!(in alloc; "no plan");
+    };
+    let Some(codec) = codec_of(alloc, file) else {
+        return format!(in alloc; "refused");
+    };
+    let channels = match number_of(channels) {
+        2 => 2,
+        4 => 4,
+        6 => 6,
+        _ => 8,
+    };
+    let format = Format {
+        rate: rate_named(text_of(rate)),
+        bits: Bits::B16,
+        channels,
+    };
+    let mut text = String::new(alloc);
+    push_hex(&mut text, order(alloc, &codec.graph)?.as_slice())?;
+    push_plan(&mut text, &plan(alloc, &codec.graph, format)?)?;
+    Ok(text)
+}
