@@ -89,6 +89,7 @@ def make(folder):
         cases[name] = (words, time, memory)
 
     add("start", [], 1.0, None)
+    add("make", ["make", "65535"], 3.0, None)
     many = plain_commands(wide_48, folder)
     few = plain_commands(one, folder)
     frames = 1_990_000

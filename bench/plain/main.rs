@@ -5,6 +5,7 @@
 mod device;
 mod driver;
 mod graph;
+mod making;
 mod playing;
 mod report;
 mod schedule;
@@ -70,18 +71,10 @@ fn route(name: &str, channels: u8) -> Result<u8, Fault> {
     Ok(0)
 }
 
-fn drive(codec: &str, wav: Option<&str>, schedule: &str) -> Result<u8, Fault> {
-    let machine = machine(codec)?;
-    let (rate, sound) = match wav {
-        Some(name) => sound(name)?,
-        None => (48_000, Vec::new()),
-    };
-    let text = String::from_utf8(read(schedule)?).map_err(|_| Fault::File)?;
-    let parts = schedule::read(&text).ok_or(Fault::File)?;
-    let format = Format { rate, channels: 2 };
+/// The driver and the device once the schedule has ended.
+fn driven(machine: &Machine, format: Format, sound: Vec<u8>, plays: bool, parts: &[schedule::Part]) -> (Driver, Device) {
     let addresses: Vec<u8> = machine.codecs.iter().map(|codec| codec.address).collect();
-    let plans: Vec<_> = machine.codecs.iter().map(|codec| codec.plan(format)).collect();
-    let most = match rate {
+    let most = match format.rate {
         96_000 => 8,
         192_000 => 16,
         _ => 4,
@@ -92,10 +85,34 @@ fn drive(codec: &str, wav: Option<&str>, schedule: &str) -> Result<u8, Fault> {
         limit,
         ahead: (machine.fifo as u64).next_multiple_of(4) + limit / 4 * most,
     };
-    let total = sound.len() as u64 / 4;
     let mut device = Device::new(&machine.codecs, Stream::new(format, RING, machine.fifo));
-    let mut driver = Driver::new(BringUp::new(format), sound, wav.is_some(), pace);
-    pass(&mut driver, &mut device, &addresses, &parts);
+    let mut driver = Driver::new(BringUp::new(format), sound, plays, pace);
+    pass(&mut driver, &mut device, &addresses, parts);
+    (driver, device)
+}
+
+fn make(number: u16) -> Result<u8, Fault> {
+    let machine = read_machine(making::CODEC.as_bytes()).ok_or(Fault::File)?;
+    let format = Format {
+        rate: 48_000,
+        channels: 2,
+    };
+    let (driver, device) = driven(&machine, format, making::sound(number), true, &making::schedule(number));
+    Ok(making::write_line(&mut io::stdout().lock(), number, &driver, &device.stream)?)
+}
+
+fn drive(codec: &str, wav: Option<&str>, schedule: &str) -> Result<u8, Fault> {
+    let machine = machine(codec)?;
+    let (rate, sound) = match wav {
+        Some(name) => sound(name)?,
+        None => (48_000, Vec::new()),
+    };
+    let text = String::from_utf8(read(schedule)?).map_err(|_| Fault::File)?;
+    let parts = schedule::read(&text).ok_or(Fault::File)?;
+    let format = Format { rate, channels: 2 };
+    let plans: Vec<_> = machine.codecs.iter().map(|codec| codec.plan(format)).collect();
+    let total = sound.len() as u64 / 4;
+    let (driver, device) = driven(&machine, format, sound, wav.is_some(), &parts);
     let mut out = io::stdout().lock();
     Ok(report::write_run(
         &mut out,
@@ -117,6 +134,7 @@ fn run() -> Result<u8, Fault> {
         ["route", codec, "--channels", channels] => route(codec, channels.parse().map_err(|_| Fault::Words)?),
         ["walk", codec, schedule] => drive(codec, None, schedule),
         ["play", codec, wav, schedule] => drive(codec, Some(wav), schedule),
+        ["make", number] => make(number.parse().map_err(|_| Fault::Words)?),
         _ => Err(Fault::Words),
     }
 }
