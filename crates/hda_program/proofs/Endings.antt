@@ -24,7 +24,7 @@ use Rattle.hda_program.specs.Asks.{IsNoCommand, IsPlayOf, IsRouteOf, IsWalkOf, N
 use Rattle.hda_program.specs.Files.{IsHeadIn}
 use Rattle.hda_program.specs.Causes.{HasBadCodecFile, HasBadRing, HasBadSchedule, HasBadWav, HasPlanned, HasStoppedUnread, HasUnreadFile, IsFailedCut, IsOfSound, IsOfWalk, IsRunless, IsShortCut, OfItsWav, WasShortened, WasUnread}
 use Rattle.hda_program.specs.Promises.{HasPlayedFiles, HasRun, KeepsPromise}
-use Rattle.hda_program.specs.Made.{HasMade, WantsMade}
+use Rattle.hda_program.specs.Made.{HasMadeRun, WantsMade}
 use Rattle.hda_program.specs.Meanings.{Meant, end_status, fault_status, run_meant, status_of, telling}
 use Rattle.hda_program.proofs.Cases.{Case, Cause as CauseOf, IsRouted, WordsCase, cases, ran, said}
 
@@ -128,7 +128,7 @@ no_walk_end (Some (fault.FramesLeft written heard of)) n number (inl is) = omega
 no_walk_end (Some (fault.FramesLeft written heard of)) n number (inr is) = omega (arith, number, is)
 
 -- nor does what was made
-made_number : {words : List (List ℕ)} {text : List ℕ} (played : Played) → HasMade words played text → (n : ℕ) → number_of (status_of played) ≡ n → (n ≡ 3) ⊎ (n ≡ 14) → ⊥
+made_number : {words : List (List ℕ)} {text : List ℕ} (played : Played) → HasMadeRun words played text → (n : ℕ) → number_of (status_of played) ≡ n → (n ≡ 3) ⊎ (n ≡ 14) → ⊥
 made_number played made n number either = no_walk_end played.fault n (sym (uncut_end played.cut played.fault made.run.uncut) ∙ number) either
 
 -- a sound of a told file does not get shorter

@@ -10,3 +10,7 @@ mod OneReading
 mod Complete
 mod Served
 mod MadeLemmas
+mod MadePlan
+mod MadeRounds
+mod MadeHoles
+mod MadeWhole

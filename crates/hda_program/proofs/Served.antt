@@ -32,7 +32,7 @@ use Rattle.scheduled_runs.specs.Walks.{walk_format, IsWalked}
 use Rattle.scheduled_runs.specs.Plays.{IsCutUnder, IsPlayed, IsReadUpTo, sound_with}
 use Rattle.scheduled_runs.specs.Histories.{commands_for, journal_of, told_by}
 use Rattle.served_progress.specs.Serving.{ServesSound}
-use Rattle.served_runs.specs.Served.{all_rounds, line_count, ServesBringUp, ServesPlay, WalkEnds, PlayEnds, IsFedWhole, PlaysAll}
+use Rattle.served_runs.specs.Served.{all_rounds, line_count, ServesBringUp, ServesPlay, ServedWalkEnds, ServedPlayEnds, IsFedWhole, PlaysAll}
 use Rattle.hda_program.specs.Answers.{HasEnded, HasEndedPlay, HasWritten}
 use Rattle.hda_program.specs.Asks.{IsWalkOf, IsPlayOf}
 use Rattle.hda_program.specs.Causes.{IsOfPlay, IsOfWalk, IsShortCut}
@@ -96,13 +96,13 @@ one_measure periods period fifo format one other h k = measured periods period f
 abbrev pub WalkLaw : Type 0
 WalkLaw =
     (machine : Machine) (plans : List Plan) (schedule : Schedule) (played : Played) → IsSound machine → IsRead machine → HavePlans walk_format machine.codecs plans → IsLimited schedule → ServesBringUp walk_format machine plans schedule
-    → IsWalked machine plans schedule played → WalkEnds (commands_for walk_format machine plans) (line_count schedule) played.fault
+    → IsWalked machine plans schedule played → ServedWalkEnds (commands_for walk_format machine plans) (line_count schedule) played.fault
 
 abbrev pub PlayLaw : Type 0
 PlayLaw =
     (machine : Machine) (plans : List Plan) (wav : Wav) (geometry : Geometry) (schedule : Schedule) (played : Played) → IsSound machine → IsRead machine → HavePlans wav.format machine.codecs plans → IsLimited schedule
     → ServesPlay wav.format machine plans geometry schedule → IsPlayed machine plans wav geometry schedule played
-    → PlayEnds (commands_for wav.format machine plans) (line_count schedule) (block_bytes wav.format) played.total played.runs played.silences played.fault
+    → ServedPlayEnds (commands_for wav.format machine plans) (line_count schedule) (block_bytes wav.format) played.total played.runs played.silences played.fault
 
 abbrev pub WholeLaw : Type 0
 WholeLaw =
@@ -145,7 +145,7 @@ module _ (told : Option Files) (failed : List ℕ → Type 0) where
   abbrev SoundsSo : Geometry → Played → Machine → List Plan → Format → ℕ → Schedule → Type 0
   SoundsSo geometry played machine plans format frames schedule =
       ServesPlay format machine plans geometry schedule
-      → PlayEnds (commands_for format machine plans) (line_count schedule) (block_bytes format) frames played.runs played.silences played.fault
+      → ServedPlayEnds (commands_for format machine plans) (line_count schedule) (block_bytes format) frames played.runs played.silences played.fault
       × (IsFedWhole (commands_for format machine plans) (measures geometry).ring (frames * block_bytes format) (all_rounds schedule) (told_by machine played).start (journal_of played)
       → PlaysAll (frames * block_bytes format) played.silences played.fault)
 
@@ -167,7 +167,7 @@ module _ (told : Option Files) (failed : List ℕ → Type 0) where
       let all : played.read ≡ run.head.frames = subst (λ (cut : Option CutLine). IsReadUpTo cut played.read run.head.frames) uncut from.sound.up_to in
       let bytes : length from.pcm ≡ run.head.frames * block_bytes run.head.format = from.sound.blocks ∙ ap (λ (n : ℕ). n * block_bytes run.head.format) all in
       let long : length from.pcm ≡ run.head.frames * block_bytes run.geometry.format = bytes ∙ ap (λ (format : Format). run.head.frames * block_bytes format) (sym run.ring.format_is) in (
-        subst (λ (total : ℕ). PlayEnds commands (line_count run.schedule) (block_bytes run.head.format) total played.runs played.silences played.fault) sounded.input.frames_are
+        subst (λ (total : ℕ). ServedPlayEnds commands (line_count run.schedule) (block_bytes run.head.format) total played.runs played.silences played.fault) sounded.input.frames_are
             (law run.machine run.plans wav' run.geometry run.schedule played sounded.input.sound read run.planned limits serves' sounded),
         λ fed. subst (λ (bytes : ℕ). PlaysAll bytes played.silences played.fault) bytes
             (whole_law run.machine run.plans wav' run.geometry run.schedule played run.head.frames sounded.input.sound read run.planned limits serves' sounded long

@@ -1,6 +1,7 @@
 pub mod Text
 pub mod Asks
 pub mod Meanings
+pub mod MadeEnds
 pub mod Made
 -- what the files come to, and what private functions promise one another of them
 pub mod Files

@@ -6,7 +6,7 @@ use Rattle.sound_report.specs.declared.status.Status.TheVariants.{Done, SinkFail
 use Rattle.sound_report.specs.Statuses.{number_of}
 use Rattle.made_runs.specs.MadeRuns.{IsMadeRun}
 use Rattle.made_runs.specs.Lines.{made_line}
-use Rattle.made_ends.specs.MadeEnds.{MadeRunEnds}
+use Rattle.hda_program.specs.MadeEnds.{MadeRunEnds}
 use Rattle.hda_program.specs.Meanings.{Meant, of_made, status_of}
 
 -- the words ask for the inputs that are made of this number
@@ -26,7 +26,7 @@ pub record MakeAnswers (number : ℕ) (meant : Meant) : Type 0 where
 
 -- the run is that of the number for which the words ask: the made sound through the made machine, by the made schedule.
 -- All of it was played without a hole, by as many runs as the schedule has turns and one more, and the text is its line
-pub record HasMade (words : List (List ℕ)) (played : Played) (text : List ℕ) : Type 0 where
+pub record HasMadeRun (words : List (List ℕ)) (played : Played) (text : List ℕ) : Type 0 where
   pub number : ℕ
   pub asks : IsMakeOf words number
   pub run : IsMadeRun number played

@@ -1,5 +1,5 @@
--- The promises of `walk` and of `play`: what the run is that is given, part by part, and the text that was written of
--- it. This project's own.
+-- The promises of `walk`, of `play` and of `make`: what the run is that is given, part by part, and the text that was
+-- written of it. This project's own.
 use Rattle.std.specs.Prelude.{◌≡◌, ◌⊎◌, ◌+◌, ℕ, true, List, length, Option}
 use Rattle.route_planner.specs.declared.routes.Plan.{Plan}
 use Rattle.hda_files.specs.declared.machine.Machine.{Machine}
@@ -15,7 +15,7 @@ use Rattle.hda_program.specs.Files.{IsMachineOf, IsHeadOf, IsScheduleOf, bytes_b
 use Rattle.hda_program.specs.Rings.{IsRingOf}
 use Rattle.hda_program.specs.Answers.{HasWritten}
 use Rattle.sound_report.specs.Texts.{text_of}
-use Rattle.hda_program.specs.Made.{HasMade}
+use Rattle.hda_program.specs.Made.{HasMadeRun}
 use Rattle.hda_program.specs.Meanings.{run_meant}
 use Rattle.machine_tasks.specs.Tasks.{HavePlans}
 use Rattle.codec_agenda.specs.Planned.{have_route}
@@ -92,7 +92,7 @@ HasWalkedOrPlayed told failed emptied gave words played = HasWalked told words p
 abbrev pub HasRun : Option Files → (failed emptied : List ℕ → Type 0) → (gave : ℕ → Type 0) → List (List ℕ) → Played
     → (text : List ℕ) → Type 0
 HasRun told failed emptied gave words played text =
-    IsReported (HasWalkedOrPlayed told failed emptied gave words) played text ⊎ HasMade words played text
+    IsReported (HasWalkedOrPlayed told failed emptied gave words) played text ⊎ HasMadeRun words played text
 
 -- the promise of a run: it is the one that was asked for, told by a text, which was written whole, with the status of
 -- its end, or its front at the status of a fault of the sink or of want of memory

@@ -12,7 +12,7 @@ use Rattle.sound_report.specs.declared.status.Status.TheVariants.{OutOfMemory}
 use Rattle.sound_report.specs.Statuses.{number_of}
 use Rattle.scheduled_runs.specs.Walks.{walk_format}
 use Rattle.scheduled_runs.specs.Histories.{commands_for, journal_of, told_by}
-use Rattle.served_runs.specs.Served.{all_rounds, line_count, WalkEnds, PlayEnds, IsFedWhole, PlaysAll}
+use Rattle.served_runs.specs.Served.{all_rounds, line_count, ServedWalkEnds, ServedPlayEnds, IsFedWhole, PlaysAll}
 use Rattle.hda_program.specs.Meanings.{fault_status}
 
 -- a run that is given ended so. The status says how, and then there is a run; or memory was wanting
@@ -24,22 +24,22 @@ pub record EndsSo (Ends : Played → Type 0) (given : Option Played) (status : �
 -- so a walk ends over a machine whose codecs have these plans, by the driver lines of a schedule
 abbrev pub WalksSo : Machine → List Plan → Schedule → Played → Type 0
 WalksSo machine plans schedule played =
-    WalkEnds (commands_for walk_format machine plans) (line_count schedule) played.fault
+    ServedWalkEnds (commands_for walk_format machine plans) (line_count schedule) played.fault
 
 -- and so the sound that a WAV file says
 abbrev pub PlaysSo : Machine → List Plan → WavHead → Schedule → Played → Type 0
 PlaysSo machine plans head schedule played =
-    PlayEnds (commands_for head.format machine plans) (line_count schedule) (block_bytes head.format) head.frames
+    ServedPlayEnds (commands_for head.format machine plans) (line_count schedule) (block_bytes head.format) head.frames
     played.runs played.silences played.fault
 
 -- how many bytes it has
-abbrev pub sound_bytes : WavHead → ℕ
-sound_bytes head = head.frames * block_bytes head.format
+abbrev pub sound_size : WavHead → ℕ
+sound_size head = head.frames * block_bytes head.format
 
 -- where it is fed through a ring it is played whole
 abbrev pub PlaysWhole : Machine → List Plan → WavHead → Geometry → Schedule → Played → Type 0
 PlaysWhole machine plans head geometry schedule played =
-    IsFedWhole (commands_for head.format machine plans) (measures geometry).ring (sound_bytes head)
+    IsFedWhole (commands_for head.format machine plans) (measures geometry).ring (sound_size head)
     (all_rounds schedule)
     (told_by machine played).start (journal_of played)
-    → PlaysAll (sound_bytes head) played.silences played.fault
+    → PlaysAll (sound_size head) played.silences played.fault

@@ -5,6 +5,7 @@
 mod answer;
 mod codec;
 mod files;
+mod made_ends;
 mod make;
 mod message;
 mod plans;

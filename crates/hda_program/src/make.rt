@@ -4,8 +4,8 @@ ghost use Rattle.hda_program.specs.Made.{MakeAnswers};
 ghost use Rattle.hda_program.specs.Meanings.{answer_meant};
 
 use crate::answer::Answer;
+use crate::made_ends::made_runs_end_so;
 use crate::plans::plans_of;
-use made_ends::made_runs_end_so;
 use made_inputs::{made_format, made_machine};
 use made_runs::play_made;
 use std::alloc::{AllocError, Global};

@@ -2,7 +2,7 @@
 use Rattle.std.proofs.Common.{◌≡◌, ℕ, zero, suc, ◌+◌, ◌*◌, ◌%◌, List, [], ◌∷◌, ◌++◌, length, replicate, refl, sym, ap, subst, ◌∙◌, add-one, append_assoc, append-nil, length-append, arith}
 use Rattle.std.specs.List.{flat_map, range_with_len}
 use Rattle.std.proofs.lemmas.Grind.{flat_map-append}
-use Rattle.made_inputs.specs.MadeSound.{frame_bytes, frames_for, first_frames, made_pcm, made_wav, wav_head}
+use Rattle.made_inputs.specs.MadeSound.{made_frame, frames_for, first_frames, made_pcm, made_wav, wav_head}
 
 range_more : (a n : ℕ) → range_with_len a (n + 1) ≡ range_with_len a n ++ (a + n) ∷ []
 range_more a zero = ap (λ (k : ℕ). k ∷ []) (omega arith)
@@ -11,17 +11,17 @@ range_more a (suc n) =
     ∙ ap (λ (more : List ℕ). a ∷ more) (ap (range_with_len (a + 1)) (sym (add-one n)) ∙ range_more (a + 1) n)
     ∙ ap (λ (k : ℕ). a ∷ (range_with_len (a + 1) n ++ k ∷ [])) (omega arith)
 
-pub frames_more : (number count : ℕ) → first_frames number (count + 1) ≡ first_frames number count ++ frame_bytes number count
+pub frames_more : (number count : ℕ) → first_frames number (count + 1) ≡ first_frames number count ++ made_frame number count
 frames_more number count =
-    ap (flat_map (frame_bytes number)) (range_more 0 count ∙ ap (λ (k : ℕ). range_with_len 0 count ++ k ∷ []) (omega arith))
-    ∙ flat_map-append (frame_bytes number) (range_with_len 0 count) (count ∷ [])
+    ap (flat_map (made_frame number)) (range_more 0 count ∙ ap (λ (k : ℕ). range_with_len 0 count ++ k ∷ []) (omega arith))
+    ∙ flat_map-append (made_frame number) (range_with_len 0 count) (count ∷ [])
 
 pub one_more : (number count : ℕ) (first before after : List ℕ) → before ≡ first ++ first_frames number count
-    → after ≡ before ++ frame_bytes number count → after ≡ first ++ first_frames number (count + 1)
+    → after ≡ before ++ made_frame number count → after ≡ first ++ first_frames number (count + 1)
 one_more number count first before after was is =
     is
-    ∙ ap (λ (front : List ℕ). front ++ frame_bytes number count) was
-    ∙ append_assoc first (first_frames number count) (frame_bytes number count)
+    ∙ ap (λ (front : List ℕ). front ++ made_frame number count) was
+    ∙ append_assoc first (first_frames number count) (made_frame number count)
     ∙ ap (λ (back : List ℕ). first ++ back) (sym (frames_more number count))
 
 -- ---- the file
@@ -30,7 +30,7 @@ length_frames : (number count : ℕ) → length (first_frames number count) ≡ 
 length_frames number zero = refl
 length_frames number (suc count) =
     let one = length_frames number count in
-    let more = ap length (frames_more number count) ∙ length-append (first_frames number count) (frame_bytes number count) in
+    let more = ap length (frames_more number count) ∙ length-append (first_frames number count) (made_frame number count) in
     subst (λ (n : ℕ). length (first_frames number n) ≡ 4 * n) (add-one count) (omega (arith, one, more))
 
 pub length_pcm : (number : ℕ) → length (made_pcm number) ≡ 4 * frames_for number

@@ -7,7 +7,7 @@ use Rattle.hda_schedule.specs.declared.schedule.Schedule.{Schedule}
 use Rattle.hda_schedule.specs.Counts.{item_steps, item_frames, steps_of, frames_of}
 use Rattle.hda_schedule.specs.Schedules.{IsLimited}
 use Rattle.made_inputs.specs.MadeSound.{frames_for}
-use Rattle.made_inputs.specs.MadeSchedule.{turn_frames, turns, turn_items, run, sound_items, schedule_with, AreTurns, IsMadeSchedule}
+use Rattle.made_inputs.specs.MadeSchedule.{turn_frames, turns, turn_items, call_with, sound_items, schedule_with, AreTurns, IsMadeSchedule}
 use Rattle.made_inputs.proofs.Turns.{sum_more}
 use Rattle.made_inputs.proofs.Written.{bring_up_items, items_are, length_turns}
 
@@ -68,20 +68,20 @@ turn_links (one ∷ lengths) =
 
 sound_steps : (number count : ℕ) → sum_by item_steps (sound_items number count) ≡ 3 * count + 2
 sound_steps number count =
-    let front = sum_by-append item_steps (run 0 ∷ []) (flat_map turn_items (turns number count)) in
-    let all = sum_by-append item_steps (run 0 ∷ [] ++ flat_map turn_items (turns number count)) (run 100000 ∷ []) in
-    let first : sum_by item_steps (run 0 ∷ []) ≡ 1 = refl in
-    let last : sum_by item_steps (run 100000 ∷ []) ≡ 1 = refl in
+    let front = sum_by-append item_steps (call_with 0 ∷ []) (flat_map turn_items (turns number count)) in
+    let all = sum_by-append item_steps (call_with 0 ∷ [] ++ flat_map turn_items (turns number count)) (call_with 100000 ∷ []) in
+    let first : sum_by item_steps (call_with 0 ∷ []) ≡ 1 = refl in
+    let last : sum_by item_steps (call_with 100000 ∷ []) ≡ 1 = refl in
     let middle = turn_steps (turns number count) in
     let many = length_turns number count in
     omega (arith, front, all, first, last, middle, many)
 
 sound_links : (number count : ℕ) → sum_by item_frames (sound_items number count) ≡ sum (turns number count)
 sound_links number count =
-    let front = sum_by-append item_frames (run 0 ∷ []) (flat_map turn_items (turns number count)) in
-    let all = sum_by-append item_frames (run 0 ∷ [] ++ flat_map turn_items (turns number count)) (run 100000 ∷ []) in
-    let first : sum_by item_frames (run 0 ∷ []) ≡ 0 = refl in
-    let last : sum_by item_frames (run 100000 ∷ []) ≡ 0 = refl in
+    let front = sum_by-append item_frames (call_with 0 ∷ []) (flat_map turn_items (turns number count)) in
+    let all = sum_by-append item_frames (call_with 0 ∷ [] ++ flat_map turn_items (turns number count)) (call_with 100000 ∷ []) in
+    let first : sum_by item_frames (call_with 0 ∷ []) ≡ 0 = refl in
+    let last : sum_by item_frames (call_with 100000 ∷ []) ≡ 0 = refl in
     let middle = turn_links (turns number count) in
     omega (arith, front, all, first, last, middle)
 

@@ -28,24 +28,24 @@ pub record AreTurns (number count : ℕ) : Type 0 where
   pub fewest : (fewer : ℕ) → fewer < count → sum (turns number fewer) < frames_for number
 
 -- a call of the driver that may write so many bytes
-abbrev pub run : (budget : ℕ) → Item
-run budget = Drive (record { irq = false; budget = budget; groups = [] })
+abbrev pub call_with : (budget : ℕ) → Item
+call_with budget = Drive (record { irq = false; budget = budget; groups = [] })
 
 -- the reset, until codecs have said that they are there
 abbrev pub reset_items : List Item
-reset_items = run 0 ∷ Device (Link 25) ∷ run 0 ∷ []
+reset_items = call_with 0 ∷ Device (Link 25) ∷ call_with 0 ∷ []
 
 -- a command, and its answer
 abbrev pub command_items : List Item
-command_items = run 0 ∷ Device Corb ∷ Device (Answer 0) ∷ Device Rirb ∷ []
+command_items = call_with 0 ∷ Device Corb ∷ Device (Answer 0) ∷ Device Rirb ∷ []
 
 -- a turn: a call, a FIFO full of sound, and so many link frames
 abbrev pub turn_items : (frames : ℕ) → List Item
-turn_items frames = run 100000 ∷ Device (Fetch 1 192) ∷ Device (Link frames) ∷ []
+turn_items frames = call_with 100000 ∷ Device (Fetch 1 192) ∷ Device (Link frames) ∷ []
 
 -- the last answer is read, so many turns play, and one more call follows
 abbrev pub sound_items : (number count : ℕ) → List Item
-sound_items number count = run 0 ∷ [] ++ flat_map turn_items (turns number count) ++ run 100000 ∷ []
+sound_items number count = call_with 0 ∷ [] ++ flat_map turn_items (turns number count) ++ call_with 100000 ∷ []
 
 -- the schedule with so many turns
 abbrev pub schedule_with : (number count : ℕ) → Schedule

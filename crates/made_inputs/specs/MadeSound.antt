@@ -25,14 +25,14 @@ abbrev pub right_sample : (number frame : ℕ) → ℕ
 right_sample number frame = (13 * frame + number) % 65536
 
 -- the block of a frame: left, and then right, each with its lower byte first
-abbrev pub frame_bytes : (number frame : ℕ) → List ℕ
-frame_bytes number frame =
+abbrev pub made_frame : (number frame : ℕ) → List ℕ
+made_frame number frame =
     left_sample number frame % 256 ∷ left_sample number frame / 256
     ∷ right_sample number frame % 256 ∷ right_sample number frame / 256 ∷ []
 
 -- the blocks of the first so many frames
 abbrev pub first_frames : (number count : ℕ) → List ℕ
-first_frames number count = flat_map (frame_bytes number) (range_with_len 0 count)
+first_frames number count = flat_map (made_frame number) (range_with_len 0 count)
 
 -- all of them
 abbrev pub made_pcm : ℕ → List ℕ

@@ -19,7 +19,7 @@ fn next_draw(draw: u32) -> u32
 
 /// A call of the driver that may write so many bytes.
 fn run(alloc: Global, budget: u32) -> Item
-    ensures { result ≡ spec.run budget }
+    ensures { result ≡ spec.call_with budget }
 {
     Item::Drive(DriverLine {
         irq: false,

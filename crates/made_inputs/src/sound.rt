@@ -25,9 +25,9 @@ pub(crate) fn frames_for(number: u16) -> u32
 }
 
 /// The block of a frame, counted from 0: left and right, each with its lower byte first.
-fn frame_bytes(number: u16, frame: u32) -> [u8; 4]
+fn made_frame(number: u16, frame: u32) -> [u8; 4]
     requires { frame < 51000 }
-    ensures { result ≡ spec.frame_bytes number frame }
+    ensures { result ≡ spec.made_frame number frame }
 {
     let left = (7 * frame + u32::from(number)) % 65536;
     let right = (13 * frame + u32::from(number)) % 65536;
@@ -45,7 +45,7 @@ fn push_frames(pcm: &mut Vec<u8>, number: u16, count: u32) -> Result<(), AllocEr
     ensures { OnOk result (pcm.new.items ≡ pcm.old.items ++ spec.first_frames number count) }
 {
     for frame in 0..count {
-        pcm.extend_from_slice(&frame_bytes(number, frame))?;
+        pcm.extend_from_slice(&made_frame(number, frame))?;
     }
     Ok(())
 }

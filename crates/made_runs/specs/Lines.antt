@@ -24,13 +24,14 @@ abbrev pub holes_of : List PinHeard → ℕ
 holes_of heard = sum_by holes_in heard
 
 -- a number of the line with its name
-abbrev pub counted : (name : List ℕ) (count : ℕ) → List ℕ
-counted name count = codes " " ++ name ++ codes " " ++ decimal count
+abbrev pub number_word : (name : List ℕ) (count : ℕ) → List ℕ
+number_word name count = codes " " ++ name ++ codes " " ++ decimal count
 
 -- the line, for a run that ends with this status
 abbrev pub made_line : (number status : ℕ) → Played → List ℕ
 made_line number status played =
-    codes "make " ++ decimal number ++ counted (codes "frames") played.total ++ counted (codes "runs")
-    (length played.runs)
-    ++ counted (codes "silence") (silence_bytes played.silences) ++ counted (codes "holes") (holes_of played.heard)
-    ++ counted (codes "status") status ++ codes "\n"
+    codes "make " ++ decimal number ++ number_word (codes "frames") played.total
+    ++ number_word (codes "runs") (length played.runs)
+    ++ number_word (codes "silence") (silence_bytes played.silences)
+    ++ number_word (codes "holes") (holes_of played.heard)
+    ++ number_word (codes "status") status ++ codes "\n"

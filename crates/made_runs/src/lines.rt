@@ -52,7 +52,7 @@ fn holes_of(alloc: Global, heard: &HeardPins) -> Result<u128, AllocError>
 
 /// Appends a number of the line with its name.
 fn push_count(line: &mut String, name: &str, count: u128) -> Result<(), AllocError>
-    ensures { OnOk result (string_bytes line.new ≡ string_bytes line.old ++ spec.counted name.now count) }
+    ensures { OnOk result (string_bytes line.new ≡ string_bytes line.old ++ spec.number_word name.now count) }
 {
     write!(line, " {name} {count}")
 }

@@ -10,7 +10,7 @@ use Rattle.sound_report.specs.declared.played.PlayFault.TheVariants.{CommandsLef
 use Rattle.scheduled_runs.specs.Walks.{IsWalkFault}
 use Rattle.scheduled_runs.specs.Plays.{IsPlayFault}
 use Rattle.served_progress.specs.Coming.{sent_by, has_commands_left, HasComeTo}
-use Rattle.served_runs.specs.Served.{WalkEnds, IsPlaying, PlayEnds}
+use Rattle.served_runs.specs.Served.{ServedWalkEnds, IsStillPlaying, ServedPlayEnds}
 
 walk_left : (phase : Phase) (sent of : ℕ) (fault : Option PlayFault) → has_commands_left phase ≡ true → IsWalkFault phase sent of fault → fault ≡ Some (CommandsLeft sent of)
 walk_left Reset sent of fault left is = is
@@ -41,14 +41,14 @@ play_left (Late from to limit) sent of block total runs silences fault left is =
 play_left (Malformed codec cause) sent of block total runs silences fault left is = cc
 play_left Failed sent of block total runs silences fault left is = cc
 
-pub walk_ends : (commands lines of : ℕ) (state : State) (fault : Option PlayFault) → HasComeTo commands lines false state → of ≡ commands → IsWalkFault state.phase state.sent of fault → WalkEnds commands lines fault
+pub walk_ends : (commands lines of : ℕ) (state : State) (fault : Option PlayFault) → HasComeTo commands lines false state → of ≡ commands → IsWalkFault state.phase state.sent of fault → ServedWalkEnds commands lines fault
 walk_ends commands lines of state fault come of_is ended = record {
   done = λ enough. subst (λ (phase : Phase). IsWalkFault phase state.sent of fault) (come.silent enough refl) ended;
   left = λ few. walk_left state.phase state.sent of fault (come.left few) ended ∙ ap (λ (sent : ℕ). Some (CommandsLeft sent of)) come.sent ∙ ap (λ (of : ℕ). Some (CommandsLeft (sent_by commands lines) of)) of_is;
 }
 
 pub play_ends : (commands lines of block total : ℕ) (state : State) (runs : List Run) (silences : List Span) (fault : Option PlayFault) → HasComeTo commands lines true state → of ≡ commands
-    → IsPlayFault state.phase state.sent of block total runs silences fault → PlayEnds commands lines block total runs silences fault
+    → IsPlayFault state.phase state.sent of block total runs silences fault → ServedPlayEnds commands lines block total runs silences fault
 play_ends commands lines of block total state runs silences fault come of_is ended = record {
   left = λ few. early (lt_cases lines (2 + commands)) few ∙ ap (λ (sent : ℕ). Some (CommandsLeft sent of)) come.sent ∙ ap (λ (of : ℕ). Some (CommandsLeft (sent_by commands lines) of)) of_is;
   plays = λ enough. sounding (come.sounds enough refl);
@@ -61,6 +61,6 @@ play_ends commands lines of block total state runs silences fault come of_is end
     early (inl few) less = play_left state.phase state.sent of block total runs silences fault (come.left few) ended
     early (inr more) less = subst (λ (phase : Phase). IsPlayFault phase state.sent of block total runs silences fault) (come.ready more less) ended
 
-    sounding : (state.phase ≡ Playing) ⊎ (state.phase ≡ Drained) → (fault ≡ None) ⊎ IsPlaying block total runs silences fault
+    sounding : (state.phase ≡ Playing) ⊎ (state.phase ≡ Drained) → (fault ≡ None) ⊎ IsStillPlaying block total runs silences fault
     sounding (inl playing) = inr (subst (λ (phase : Phase). IsPlayFault phase state.sent of block total runs silences fault) playing ended)
     sounding (inr drained) = inl (subst (λ (phase : Phase). IsPlayFault phase state.sent of block total runs silences fault) drained ended)

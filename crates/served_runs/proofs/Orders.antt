@@ -19,7 +19,7 @@ use Rattle.codec_agenda.specs.Planned.{verbs_for}
 use Rattle.driver_progress.specs.Tasks.{order_of, walks_over}
 use Rattle.machine_tasks.specs.Tasks.{HavePlans, verbs_by, commands_of, stream_tag}
 use Rattle.served_progress.specs.Runs.{IsOrderTo}
-use Rattle.served_runs.specs.Served.{address_in}
+use Rattle.served_runs.specs.Served.{codec_address}
 
 -- ---- one command
 
@@ -47,12 +47,12 @@ IsAmong codecs graph = Contains codecs graph.address
 abbrev pub IsLow : RawCodec → Type 0
 IsLow graph = graph.address ≤ 14
 
-all_among : (codecs : List ℕ) (files : List CodecFile) → ((address : ℕ) → Contains (map address_in files) address → Contains codecs address) → All (IsAmong codecs) (graphs_in files)
+all_among : (codecs : List ℕ) (files : List CodecFile) → ((address : ℕ) → Contains (map codec_address files) address → Contains codecs address) → All (IsAmong codecs) (graphs_in files)
 all_among codecs [] within = All-nil (IsAmong codecs)
 all_among codecs (file ∷ files) within =
-    let first : Contains (map address_in (file ∷ files)) file.graph.address = Contains-append_left (file.graph.address ∷ []) (map address_in files) file.graph.address (Contains-push [] file.graph.address) in
+    let first : Contains (map codec_address (file ∷ files)) file.graph.address = Contains-append_left (file.graph.address ∷ []) (map codec_address files) file.graph.address (Contains-push [] file.graph.address) in
     All-cons (IsAmong codecs) file.graph (graphs_in files) (within file.graph.address first)
-    (all_among codecs files (λ address there. within address (Contains-append_right (file.graph.address ∷ []) (map address_in files) address there)))
+    (all_among codecs files (λ address there. within address (Contains-append_right (file.graph.address ∷ []) (map codec_address files) address there)))
 
 pub all_low : (files : List CodecFile) → All IsSoundCodec files → All IsLow (graphs_in files)
 all_low [] sound = All-nil IsLow
@@ -85,9 +85,9 @@ verbs_go codecs format (file ∷ files) (plan ∷ plans) have well low among =
     (verbs_go codecs format files plans have.1 (All-tail IsWellFormed graph (graphs_in files) well) (All-tail IsLow graph (graphs_in files) low) (All-tail (IsAmong codecs) graph (graphs_in files) among))
 
 pub orders_go : (format : Format) (files : List CodecFile) (plans : List Plan) → HavePlans format files plans → All IsWellFormed (graphs_in files) → All IsSoundCodec files
-    → All (IsOrderTo (map address_in files)) (map order_of (commands_of format files plans))
+    → All (IsOrderTo (map codec_address files)) (map order_of (commands_of format files plans))
 orders_go format files plans have well sound =
-    let codecs = map address_in files in
+    let codecs = map codec_address files in
     let low = all_low files sound in
     let among = all_among codecs files (λ address there. there) in
     All-map (IsOrderTo codecs) order_of (commands_of format files plans)

@@ -34,7 +34,7 @@ use Rattle.served_progress.specs.Serving.{IsCalmRound, ServesCommands, ServesSou
 use Rattle.served_progress.specs.Coming.{HasComeTo}
 use Rattle.served_progress.specs.Runs.{IsTaskTo, IsStartFor, IsRunOf, calls_of}
 use Rattle.served_sound.specs.Feeding.{HasSentBefore, IsUnbroken}
-use Rattle.served_runs.specs.Served.{addresses_in, all_rounds, line_count, ServesPlay, PlayEnds, IsFedWhole, PlaysAll}
+use Rattle.served_runs.specs.Served.{machine_addresses, all_rounds, line_count, ServesPlay, ServedPlayEnds, IsFedWhole, PlaysAll}
 use Rattle.served_runs.proofs.Orders.{orders_go}
 use Rattle.served_runs.proofs.Blocks.{lie_well}
 use Rattle.served_runs.proofs.Starts.{starts, run_of, calls_are}
@@ -80,19 +80,19 @@ module _ (machine : Machine) (plans : List Plan) (wav : Wav) (geometry : Geometr
   pub counted : length task.orders ≡ commands
   counted = length-map (commands_of wav.format machine.codecs plans) order_of
 
-  pub to : IsTaskTo (addresses_in machine) task
+  pub to : IsTaskTo (machine_addresses machine) task
   to =
       let well = lie_well geometry is.blocks is.first_fits in
       record { orders = orders_go wav.format machine.codecs plans have well_formed sound.each; corb_block = well.corb; rirb_block = well.rirb }
 
-  pub start : IsStartFor (addresses_in machine) task telling.start
+  pub start : IsStartFor (machine_addresses machine) task telling.start
   start = starts machine task sound (lie_well geometry is.blocks is.first_fits)
 
   pub run : IsRunOf task items telling
   run = run_of machine schedule task (journal_of played) limited is.history is.progress.progress is.progress.finds
 
-  pub commands_served : ServesCommands (addresses_in machine) (length task.orders) (all_rounds schedule)
-  commands_served = subst (λ (commands : ℕ). ServesCommands (addresses_in machine) commands (all_rounds schedule)) (sym counted) serves.commands
+  pub commands_served : ServesCommands (machine_addresses machine) (length task.orders) (all_rounds schedule)
+  commands_served = subst (λ (commands : ℕ). ServesCommands (machine_addresses machine) commands (all_rounds schedule)) (sym counted) serves.commands
 
   pub sound_served : ServesSound (length task.orders) (measures geometry).limit (measures geometry).slack (all_rounds schedule).rounds
   sound_served = subst (λ (commands : ℕ). ServesSound commands (measures geometry).limit (measures geometry).slack (all_rounds schedule).rounds) (sym counted) serves.sound
@@ -105,7 +105,7 @@ module _ (machine : Machine) (plans : List Plan) (wav : Wav) (geometry : Geometr
   comes come = subst (λ (commands : ℕ). HasComeTo commands (line_count schedule) true is.state) counted (subst (HasComeTo (length task.orders) (line_count schedule) true) state_is come)
 
   -- so it ends
-  ends : HasComeTo commands (line_count schedule) true is.state → PlayEnds commands (line_count schedule) (block_bytes wav.format) played.total played.runs played.silences played.fault
+  ends : HasComeTo commands (line_count schedule) true is.state → ServedPlayEnds commands (line_count schedule) (block_bytes wav.format) played.total played.runs played.silences played.fault
   ends come =
       let ended = subst (λ (runs : List Run). IsPlayFault is.state.phase is.state.sent played.commands (block_bytes wav.format) played.total runs played.silences played.fault) (sym is.runs.runs)
       (subst (λ (silences : List Span). IsPlayFault is.state.phase is.state.sent played.commands (block_bytes wav.format) played.total is.state.tally.runs silences played.fault) (sym is.runs.silences) is.ended) in
@@ -132,9 +132,9 @@ module _ (machine : Machine) (plans : List Plan) (wav : Wav) (geometry : Geometr
 
   -- by the laws
   pub comes_by : PlayLaw → HasComeTo commands (line_count schedule) true is.state
-  comes_by law = comes (law task (addresses_in machine) items telling refl to start run commands_served sound_served)
+  comes_by law = comes (law task (machine_addresses machine) items telling refl to start run commands_served sound_served)
 
-  pub plays_end : PlayLaw → PlayEnds commands (line_count schedule) (block_bytes wav.format) played.total played.runs played.silences played.fault
+  pub plays_end : PlayLaw → ServedPlayEnds commands (line_count schedule) (block_bytes wav.format) played.total played.runs played.silences played.fault
   plays_end law = ends (comes_by law)
 
   pub plays_whole : PlayLaw → FedLaw → LinesLaw → (frames : ℕ) → length wav.pcm ≡ frames * block_bytes geometry.format
@@ -142,5 +142,5 @@ module _ (machine : Machine) (plans : List Plan) (wav : Wav) (geometry : Geometr
   plays_whole law fed_law lines_law frames long fed =
       let enough = lines_law task items telling (4 + commands) (length wav.pcm) run serves.commands.rounds fed.sent in
       let stays = stopped enough (comes_by law) in
-      let all = fed_law task (addresses_in machine) items telling frames refl to start run commands_served sound_served (may_fill fed) stays long (fed_sent fed) in
+      let all = fed_law task (machine_addresses machine) items telling frames refl to start run commands_served sound_served (may_fill fed) stays long (fed_sent fed) in
       all_played all.0 all.1

@@ -30,7 +30,7 @@ use Rattle.told_bring_up.specs.Stretches.{HasFound}
 use Rattle.scheduled_runs.specs.Lines.{line_of, lines_in, lines_of}
 use Rattle.scheduled_runs.specs.Histories.{IsHistory}
 use Rattle.served_progress.specs.Runs.{calls_of, IsStartFor, IsRunOf}
-use Rattle.served_runs.specs.Served.{address_in, addresses_in}
+use Rattle.served_runs.specs.Served.{codec_address, machine_addresses}
 use Rattle.served_runs.proofs.Blocks.{LieWell}
 
 -- ---- codecs by address
@@ -40,13 +40,13 @@ increasing_tail address addresses increasing k within =
     let next : suc k + 1 ≡ suc (k + 1) = omega arith in
     rw next at (increasing (suc k) (omega (arith, within)))
 
-stand_by_address : (low : ℕ) (files : List CodecFile) → IsStrictlyIncreasing (map address_in files) → All IsSoundCodec files → (0 < length files → low ≤ get_or (map address_in files) 0 0) → AscendFrom low (graphs_of files)
+stand_by_address : (low : ℕ) (files : List CodecFile) → IsStrictlyIncreasing (map codec_address files) → All IsSoundCodec files → (0 < length files → low ≤ get_or (map codec_address files) 0 0) → AscendFrom low (graphs_of files)
 stand_by_address low [] increasing sound above = tt
 stand_by_address low (file ∷ files) increasing sound above = (
   above (omega arith),
   (All-head IsSoundCodec file files sound).address,
-  stand_by_address (file.graph.address + 1) files (increasing_tail file.graph.address (map address_in files) increasing) (All-tail IsSoundCodec file files sound)
-      (λ some. (let same = length-map files address_in in let step = increasing 0 (omega (arith, some, same)) in omega (arith, step))),
+  stand_by_address (file.graph.address + 1) files (increasing_tail file.graph.address (map codec_address files) increasing) (All-tail IsSoundCodec file files sound)
+      (λ some. (let same = length-map files codec_address in let step = increasing 0 (omega (arith, some, same)) in omega (arith, step))),
 )
 
 graphs_there : (files : List CodecFile) → graphs_in (codecs_in files) ≡ graphs_of files
@@ -72,11 +72,11 @@ found_more codec codecs address found = by (codec.graph.address == address)
     by true = refl
     by false = found
 
-all_found : (files : List CodecFile) → All (IsFound (codecs_in files)) (map address_in files)
+all_found : (files : List CodecFile) → All (IsFound (codecs_in files)) (map codec_address files)
 all_found [] = All-nil (IsFound [])
 all_found (file ∷ files) =
-    All-cons (IsFound (codecs_in (file ∷ files))) file.graph.address (map address_in files) (found_first (codec_in file) (codecs_in files))
-    (All-weaker (IsFound (codecs_in files)) (IsFound (codecs_in (file ∷ files))) (found_more (codec_in file) (codecs_in files)) (map address_in files) (all_found files))
+    All-cons (IsFound (codecs_in (file ∷ files))) file.graph.address (map codec_address files) (found_first (codec_in file) (codecs_in files))
+    (All-weaker (IsFound (codecs_in files)) (IsFound (codecs_in (file ∷ files))) (found_more (codec_in file) (codecs_in files)) (map codec_address files) (all_found files))
 
 -- ---- the start
 
@@ -84,7 +84,7 @@ zeros_length : (size : ℕ) → length (zeros size) ≡ size
 unfolding zeros
 zeros_length size = length-replicate size 0
 
-pub starts : (machine : Machine) (task : Task) → IsSound machine → LieWell task.blocks → IsStartFor (addresses_in machine) task (start_of REGION_BYTES machine)
+pub starts : (machine : Machine) (task : Task) → IsSound machine → LieWell task.blocks → IsStartFor (machine_addresses machine) task (start_of REGION_BYTES machine)
 starts machine task sound well = record {
   blocks = subst (HasBlocks task.blocks.corb task.blocks.rirb) (sym (zeros_length REGION_BYTES)) well.blocks_are;
   ascend = subst (λ (graphs : List RawCodec). AscendFrom 0 graphs) (sym (graphs_there machine.codecs)) (stand_by_address 0 machine.codecs sound.ascending sound.each (λ some. omega arith));

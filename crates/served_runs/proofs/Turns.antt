@@ -35,7 +35,7 @@ use Rattle.served_progress.specs.Rounds.{Round, rounds_of}
 use Rattle.served_progress.specs.Serving.{ServesCommands, ServesSound}
 use Rattle.served_progress.specs.Runs.{IsTaskTo, IsStartFor, IsRunOf, calls_of}
 use Rattle.turn_sound.specs.Turns.{PlaysInTurns, EndsInTheLast, CarriedBytes, HasPlayedInTurns, IsNoHole}
-use Rattle.served_runs.specs.Served.{addresses_in, all_rounds, line_count, ServesPlay, PlaysTurns, HasNoHole, PlaysByTurns}
+use Rattle.served_runs.specs.Served.{machine_addresses, all_rounds, line_count, ServesPlay, PlaysTurns, HasNoHole, PlaysByTurns}
 use Rattle.served_runs.proofs.Plays as plays
 use Rattle.served_runs.proofs.Plays.{PlayLaw}
 
@@ -111,5 +111,5 @@ module _ (machine : Machine) (plans : List Plan) (wav : Wav) (geometry : Geometr
       let stays = plays.stopped machine plans wav geometry schedule played sound well_formed have limited serves is enough come in
       let turns' : PlaysInTurns (length task.orders) m.ring m.block machine.fifo lengths (all_rounds schedule).rounds =
       subst (λ (commands : ℕ). PlaysInTurns commands m.ring m.block machine.fifo lengths (all_rounds schedule).rounds) (sym counted) turns in
-      let has = law task (addresses_in machine) items telling frames lengths refl to start run commands_served sound_served turns' stays rate long ends in
+      let has = law task (machine_addresses machine) items telling frames lengths refl to start run commands_served sound_served turns' stays rate long ends in
       kept frames lengths hole_law (subst (λ (state : State). HasPlayedInTurns m.ring m.block frames lengths state (world_of telling)) state_is has)

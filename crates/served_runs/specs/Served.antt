@@ -27,12 +27,12 @@ use Rattle.scheduled_runs.specs.Histories.{commands_for}
 
 -- ---- schedules that serve
 
-abbrev pub address_in : CodecFile → ℕ
-address_in file = file.graph.address
+abbrev pub codec_address : CodecFile → ℕ
+codec_address file = file.graph.address
 
 -- the addresses of a machine's codecs
-abbrev pub addresses_in : Machine → List ℕ
-addresses_in machine = map address_in machine.codecs
+abbrev pub machine_addresses : Machine → List ℕ
+machine_addresses machine = map codec_address machine.codecs
 
 -- a schedule with its repeats written out, by its driver lines
 abbrev pub all_rounds : Schedule → Rounds
@@ -45,7 +45,7 @@ line_count schedule = length (all_rounds schedule).rounds
 -- it serves the bring-up of a machine whose codecs have these plans for this format
 abbrev pub ServesBringUp : Format → Machine → List Plan → Schedule → Type 0
 ServesBringUp format machine plans schedule =
-    ServesCommands (addresses_in machine) (commands_for format machine plans) (all_rounds schedule)
+    ServesCommands (machine_addresses machine) (commands_for format machine plans) (all_rounds schedule)
 
 -- and a sound of this format through a ring
 pub record ServesPlay (format : Format) (machine : Machine) (plans : List Plan) (geometry : Geometry)
@@ -57,22 +57,23 @@ pub record ServesPlay (format : Format) (machine : Machine) (plans : List Plan) 
 -- ---- how a walk ends
 
 -- by so many driver lines: they set the codecs up, or end before, and then so many commands were sent of how many
-pub record WalkEnds (commands lines : ℕ) (fault : Option PlayFault) : Type 0 where
+pub record ServedWalkEnds (commands lines : ℕ) (fault : Option PlayFault) : Type 0 where
   pub done : 2 + commands ≤ lines → fault ≡ None
   pub left : lines < 2 + commands → fault ≡ Some (CommandsLeft (sent_by commands lines) commands)
 
 -- ---- how a sound ends
 
 -- it is not done, with so many frames written and heard of how many
-abbrev pub IsPlaying : (block total : ℕ) → List Run → List Span → Option PlayFault → Type 0
-IsPlaying block total runs silences fault =
+abbrev pub IsStillPlaying : (block total : ℕ) → List Run → List Span → Option PlayFault → Type 0
+IsStillPlaying block total runs silences fault =
     fault ≡ Some (FramesLeft (frames_written block runs) (frames_below block silences (last_at runs)) total)
 
 -- by so many driver lines: they end before a call plays, or all is played by then, or some is left
-pub record PlayEnds (commands lines block total : ℕ) (runs : List Run) (silences : List Span) (fault : Option PlayFault)
+pub record ServedPlayEnds (commands lines block total : ℕ) (runs : List Run) (silences : List Span)
+    (fault : Option PlayFault)
     : Type 0 where
   pub left : lines < 4 + commands → fault ≡ Some (CommandsLeft (sent_by commands lines) commands)
-  pub plays : 4 + commands ≤ lines → (fault ≡ None) ⊎ IsPlaying block total runs silences fault
+  pub plays : 4 + commands ≤ lines → (fault ≡ None) ⊎ IsStillPlaying block total runs silences fault
 
 -- ---- when all is played
 

@@ -17,7 +17,8 @@ ghost use Rattle.sound_report.specs.declared.played.Played.{Played};
 ghost use Rattle.scheduled_runs.specs.Histories.{commands_for, journal_of, told_by};
 ghost use Rattle.scheduled_runs.specs.Walks.{walk_format, IsWalked};
 ghost use Rattle.scheduled_runs.specs.Plays.{IsPlayed};
-ghost use Rattle.served_runs.specs.Served.{all_rounds, line_count, ServesBringUp, ServesPlay, WalkEnds, PlayEnds};
+ghost use Rattle.served_runs.specs.Served.{all_rounds, line_count, ServesBringUp, ServesPlay};
+ghost use Rattle.served_runs.specs.Served.{ServedWalkEnds, ServedPlayEnds};
 ghost use Rattle.served_runs.specs.Served.{IsFedWhole, PlaysAll, PlaysTurns, PlaysByTurns};
 ghost use Rattle.turn_sound.specs.Turns.{EndsInTheLast};
 
@@ -32,7 +33,7 @@ pub fn walks_end_so()
     ensures { (machine : Machine) (plans : List Plan) (schedule : Schedule) (played : Played)
         → IsSound machine → IsWhole machine → HavePlans walk_format machine.codecs plans → IsLimited schedule
         → ServesBringUp walk_format machine plans schedule → IsWalked machine plans schedule played
-        → WalkEnds (commands_for walk_format machine plans) (line_count schedule) played.fault }
+        → ServedWalkEnds (commands_for walk_format machine plans) (line_count schedule) played.fault }
 {
     served_drivers_come_up();
 }
@@ -45,7 +46,8 @@ pub fn plays_end_so()
         (played : Played)
         → IsSound machine → IsWhole machine → HavePlans wav.format machine.codecs plans → IsLimited schedule
         → ServesPlay wav.format machine plans geometry schedule → IsPlayed machine plans wav geometry schedule played
-        → PlayEnds (commands_for wav.format machine plans) (line_count schedule) (block_bytes wav.format) played.total
+        → ServedPlayEnds (commands_for wav.format machine plans) (line_count schedule) (block_bytes wav.format)
+        played.total
         played.runs played.silences played.fault }
 {
     served_drivers_play();

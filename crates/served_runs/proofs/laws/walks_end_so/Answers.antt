@@ -9,7 +9,7 @@ use Rattle.scheduled_runs.specs.Walks.{walk_format}
 use Rattle.served_progress.specs.Serving.{ServesCommands}
 use Rattle.served_progress.specs.Coming.{HasComeTo}
 use Rattle.served_progress.specs.Runs.{IsTaskTo, calls_of}
-use Rattle.served_runs.specs.Served.{addresses_in, all_rounds, line_count}
+use Rattle.served_runs.specs.Served.{machine_addresses, all_rounds, line_count}
 use Rattle.served_runs.proofs.Orders.{orders_go}
 use Rattle.served_runs.proofs.Blocks.{lie_well}
 use Rattle.served_runs.proofs.Starts.{starts, run_of, calls_are}
@@ -19,7 +19,7 @@ use Rattle.served_runs.proofs.laws.walks_end_so.Goals as goal
 pub returns : goal.returns
 returns c = λ machine plans schedule played sound whole have limited serves walked.
     let task : Task = task_of walk_format machine plans walked.geometry false [] walked.blocks in
-    let codecs = addresses_in machine in
+    let codecs = machine_addresses machine in
     let items = items_of schedule in
     let telling = told_by machine played in
     let well = lie_well walked.geometry walked.blocks walked.first_fits in

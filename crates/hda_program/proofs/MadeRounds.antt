@@ -16,7 +16,7 @@ use Rattle.served_progress.specs.Rounds.{Round, Rounds, rounds_of, frames_of_ste
 use Rattle.served_progress.specs.Serving.{HasStreamsAlone, IsCalmCall, IsCalmRound, Announces, AnswersEach, ServesCommands}
 use Rattle.turn_sound.specs.Turns.{AreInTurns, PlaysInTurns, EndsInTheLast}
 use Rattle.made_inputs.specs.MadeSound.{frames_for}
-use Rattle.made_inputs.specs.MadeSchedule.{draw, turn_frames, turns, run, turn_items, sound_items, schedule_with, AreTurns}
+use Rattle.made_inputs.specs.MadeSchedule.{draw, turn_frames, turns, call_with, turn_items, sound_items, schedule_with, AreTurns}
 use Rattle.made_inputs.proofs.Callers.{bring_up_items, items_are, length_turns}
 
 -- ---- rounds
@@ -56,7 +56,7 @@ joined (Drive line ∷ items) later none =
     ap (λ (all : Rounds). record { before = []; rounds = record { line = line; steps = all.before } ∷ all.rounds }) (joined items later none)
 
 abbrev played : List ℕ → List Item
-played lengths = flat_map turn_items lengths ++ run 100000 ∷ []
+played lengths = flat_map turn_items lengths ++ call_with 100000 ∷ []
 
 turns_are : (lengths : List ℕ) → rounds_of (played lengths) ≡ record { before = []; rounds = turn_rounds lengths }
 turns_are [] = refl

@@ -32,10 +32,10 @@ use Rattle.made_inputs.proofs.Callers.{length_pcm, length_turns, made_is_limited
 use Rattle.made_runs.specs.MadeRuns.{IsMadeRun}
 use Rattle.made_runs.proofs.Callers.{whole}
 use Rattle.made_runs.specs.Lines.{silence_bytes}
-use Rattle.made_ends.specs.MadeEnds.{MadeRunEnds}
-use Rattle.made_ends.proofs.MadePlan.{commands_are}
-use Rattle.made_ends.proofs.MadeRounds.{IsShort, all_short, serves, plays_in_turns, ends_in_the_last}
-use Rattle.made_ends.proofs.Holes.{none_counted}
+use Rattle.hda_program.specs.MadeEnds.{MadeRunEnds}
+use Rattle.hda_program.proofs.MadePlan.{commands_are}
+use Rattle.hda_program.proofs.MadeRounds.{IsShort, all_short, serves, plays_in_turns, ends_in_the_last}
+use Rattle.hda_program.proofs.MadeHoles.{none_counted}
 
 -- what laws say
 abbrev pub ByTurnsLaw : Type 0
@@ -64,8 +64,8 @@ limit_is geometry shape =
 within : (limit : ℕ) → limit ≡ 3024 → (lengths : List ℕ) → All IsShort lengths → All (λ (frames : ℕ). frames ≤ limit) lengths
 within limit is lengths short = λ k d lt. let few = short k d lt in omega (arith, few, is)
 
-counted : (linked frames : ℕ) → silence_bytes (record { start = frames * 4; end = linked * 4 + 12288 } ∷ []) ≡ 4 * linked + 12288 - 4 * frames
-counted linked frames = omega arith
+silence_counted : (linked frames : ℕ) → silence_bytes (record { start = 4 * frames; end = 4 * linked + 12288 } ∷ []) ≡ 4 * linked + 12288 - 4 * frames
+silence_counted linked frames = omega arith
 
 -- ---- the run
 
@@ -103,15 +103,21 @@ module _ (number : ℕ) (played : Played) (is : IsMadeRun number played) where
       let turned : 4 * frames_for number ≡ frames_for number * 4 = omega arith in
       bytes ∙ turned ∙ ap (λ (n : ℕ). frames_for number * n) (sym block)
 
-  silence_is : (silences : List Span) → silences ≡ record { start = frames_for number * (measures is.geometry).block; end = sum lengths * (measures is.geometry).block + (measures is.geometry).ring } ∷ []
-      → silence_bytes silences ≡ 4 * sum lengths + 12288 - 4 * frames_for number
-  silence_is silences one =
-      let span : (ring block : ℕ) → Span = λ ring block. record { start = frames_for number * block; end = sum lengths * block + ring } in
-      let by_block : silence_bytes silences ≡ silence_bytes (span (measures is.geometry).ring 4 ∷ []) =
-      ap silence_bytes one ∙ ap (λ (block : ℕ). silence_bytes (span (measures is.geometry).ring block ∷ [])) (block_is is.geometry is.ring) in
-      let by_ring : silence_bytes (span (measures is.geometry).ring 4 ∷ []) ≡ silence_bytes (span 12288 4 ∷ []) =
-      ap (λ (ring : ℕ). silence_bytes (span ring 4 ∷ [])) (ring_is is.geometry is.ring) in
-      by_block ∙ by_ring ∙ counted (sum lengths) (frames_for number)
+  abbrev span : ℕ → ℕ → Span
+  span ring block = record { start = frames_for number * block; end = sum lengths * block + ring }
+
+  abbrev whole_span : Span
+  whole_span = record { start = 4 * frames_for number; end = 4 * sum lengths + 12288 }
+
+  silences_are : span (measures is.geometry).ring (measures is.geometry).block ∷ [] ≡ whole_span ∷ []
+  silences_are =
+      let by_block = ap (λ (block : ℕ). span (measures is.geometry).ring block ∷ []) (block_is is.geometry is.ring) in
+      let by_ring = ap (λ (ring : ℕ). span ring 4 ∷ []) (ring_is is.geometry is.ring) in
+      let start : frames_for number * 4 ≡ 4 * frames_for number = omega arith in
+      let end : sum lengths * 4 + 12288 ≡ 4 * sum lengths + 12288 = omega arith in
+      let turned : span 12288 4 ∷ [] ≡ whole_span ∷ [] =
+      ap (λ (n : ℕ). record { start = n; end = sum lengths * 4 + 12288 } ∷ []) start ∙ ap (λ (n : ℕ). record { start = 4 * frames_for number; end = n } ∷ []) end in
+      by_block ∙ by_ring ∙ turned
 
   pub ends : IsWellFormed made_codec → ByTurnsLaw → InTimeLaw → MadeRunEnds number played
   ends well law in_time =
@@ -121,9 +127,11 @@ module _ (number : ℕ) (played : Played) (is : IsMadeRun number played) where
       record {
         count = count;
         turns_are = is.made.turns;
+        commands = is.run.commands ∙ commands_are is.plans is.planned;
         done = all.done;
         total = is.run.input.frames_are;
         runs = all.runs ∙ ap (λ (n : ℕ). n + 1) (length_turns number count);
-        silence = silence_is played.silences all.silences;
+        silences = all.silences ∙ silences_are;
+        silence = ap silence_bytes (all.silences ∙ silences_are) ∙ silence_counted (sum lengths) (frames_for number);
         holes = none_counted played.heard all.heard;
       }

@@ -2,7 +2,7 @@
 ghost use Rattle.std.specs.Prelude.{ℕ};
 ghost use Rattle.sound_report.specs.declared.played.Played.{Played};
 ghost use Rattle.made_runs.specs.MadeRuns.{IsMadeRun};
-ghost use Rattle.made_ends.specs.MadeEnds.{MadeRunEnds};
+ghost use Rattle.hda_program.specs.MadeEnds.{MadeRunEnds};
 
 use made_inputs::made_codec_is_well_formed;
 use route_planner::one_order;
@@ -11,7 +11,7 @@ use turn_sound::turns_serve;
 
 /// A made run plays all of its sound: by one run for each turn of its schedule and one more, without a hole, and behind
 /// the sound the line is silent for the link frames of the turns that it does not reach, and for a ring.
-pub fn made_runs_end_so()
+pub(crate) fn made_runs_end_so()
     ensures { (number : ℕ) (played : Played) → IsMadeRun number played → MadeRunEnds number played }
 {
     made_codec_is_well_formed();

@@ -1,4 +1,0 @@
-pub mod MadePlan
-pub mod MadeRounds
-pub mod Holes
-pub mod Whole
