@@ -1,6 +1,6 @@
 //! The bring-up.
-ghost use Rattle.std.specs.Prelude.{◌≡◌, ◌≤◌, ◌*◌, [], true, false};
-ghost use Rattle.driver_progress.specs.Phases.{is_asking, goes_on, is_early};
+ghost use Rattle.std.specs.Prelude.{◌≡◌, ◌≤◌, ◌*◌, [], true, false, None};
+ghost use Rattle.driver_progress.specs.Phases.{is_asking, is_ready, goes_on, is_early};
 ghost use Rattle.driver_commands.specs.Standing.{phase_of};
 
 mod calling;
@@ -34,6 +34,8 @@ pub struct BringUp {
     pub ghost formats: { agenda.format ≡ format },
     pub ghost led: { goes_on phase ≡ true → phase ≡ phase_of agenda },
     pub ghost started: { is_asking phase ≡ true → engine.rings.started ≡ true },
+    pub ghost runs: { is_ready phase ≡ true → engine.rings.started ≡ true },
+    pub ghost idle: { is_ready phase ≡ true → engine.rings.outstanding ≡ None },
     pub ghost quiet: { engine.events.items ≡ [] },
     pub ghost early: { is_early phase ≡ true },
     pub ghost sent_within: { sent ≤ looks },

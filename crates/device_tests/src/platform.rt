@@ -53,7 +53,7 @@ fn registers_are_read_and_written(rt: HostRuntime) -> Result<(), Fail> {
     set_rings(&mut platform, 0x1000, 0x2000);
     assert_eq!(rt; platform.read(0x50, Width::Four), 0x2000);
     let journal = platform.into_journal();
-    let entries = journal.entries.as_slice();
+    let entries = journal.entries();
     assert_eq!(rt; entries.len(), 12);
     assert_eq!(rt; entries[0], Entry::Step(Step::Link(1)));
     assert_eq!(rt;
@@ -92,8 +92,8 @@ fn memory_is_read_and_written(rt: HostRuntime) -> Result<(), Fail> {
     assert!(rt; read == [0, 0, 1, 2]);
     pool.give(lent.back());
     let journal = platform.into_journal();
-    assert_eq!(rt; journal.entries.len(), 2);
-    assert!(rt; journal.bytes.as_slice() == [1, 2, 3, 4, 0, 0, 1, 2].as_slice());
+    assert_eq!(rt; journal.len(), 2);
+    assert!(rt; journal.bytes() == [1, 2, 3, 4, 0, 0, 1, 2].as_slice());
     Ok(())
 }
 

@@ -20,3 +20,5 @@ pub use Rattle.driver_commands.proofs.Entries.{told_same}
 pub use Rattle.driver_commands.proofs.Asked.{none_read, pointer_by}
 -- where the engine stands after a poll
 pub use Rattle.driver_commands.proofs.Commands.{rings_same}
+-- what is shown holds where a call failed
+pub use Rattle.driver_commands.proofs.Failing.{on_err}

@@ -4,3 +4,4 @@ mod Asked
 pub mod Commands
 mod Events
 pub mod Entries
+mod Failing

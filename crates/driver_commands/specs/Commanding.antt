@@ -2,6 +2,7 @@
 use Rattle.std.specs.Prelude.{◌≡◌, ℕ, ◌+◌, Bool, true, false, List, [], Option, Some, None, ◌++◌, ◌∷◌}
 use Rattle.verb_codes.specs.declared.verbs.Command.{Command}
 use Rattle.std.specs.List.{flat_map}
+use Rattle.std.specs.Option.{is_some}
 use Rattle.codec_graph.specs.declared.raw.RawCodec.{RawCodec}
 use Rattle.route_planner.specs.declared.routes.Plan.{Plan}
 use Rattle.hda_world.specs.Events.{Event, Stepped, Begin, End, Read, Write, DmaRead, DmaWrite}
@@ -76,6 +77,13 @@ leaves_free (polls.Answered word) phase' = goes_on phase'
 leaves_free polls.Waiting phase' = false
 leaves_free (polls.Unanswered issued noticed) phase' = false
 
+-- whether it found an answer
+abbrev pub is_answer : Poll → Bool
+is_answer polls.Idle = false
+is_answer (polls.Answered word) = true
+is_answer polls.Waiting = false
+is_answer (polls.Unanswered issued noticed) = false
+
 -- and where an answer led the agenda
 abbrev pub Taken : (IsPlanBy : RawCodec → Plan → Type 0) (verbs_by : RawCodec → Plan → List Command) → Poll → (old : Agenda) → (phase' : Phase) → (new : Agenda) → Type 0
 Taken IsPlanBy verbs_by polls.Idle old phase' new = Unit {0}
@@ -98,6 +106,21 @@ pub record Looks (IsPlanBy : RawCodec → Plan → Type 0) (verbs_by : RawCodec 
   pub counted : (events : List told.Event) → IsCount events jacks → IsCount (with_told events reads.entries) jacks'
   pub taken : Taken IsPlanBy verbs_by (poll_by rings reads answer.clock) old answer.phase new
   pub free : answer.is_free ≡ leaves_free (poll_by rings reads answer.clock) answer.phase
+
+-- a look that found an answer which memory was wanting to take: RIRB was read and what was told unasked counted, and nothing else was done
+pub record FindsAnswer (rirb : ℕ) (rings : RingPlaces) (jacks : Jacks) (rings' : RingPlaces) (jacks' : Jacks) (made : List Event) : Type 0 where
+  pub clock : ℕ
+  pub reads : PollReads
+  pub made_is : made ≡ ask_accesses rirb clock rings reads
+  pub new_ones : AreNew rings reads
+  pub found : is_some (found_by rings reads) ≡ true
+  pub rings_are : rings' ≡ rings_polled rings reads
+  pub counted : (events : List told.Event) → IsCount events jacks → IsCount (with_told events reads.entries) jacks'
+
+pub record FindsAlone (rirb : ℕ) (rings : RingPlaces) (jacks : Jacks) (rings' : RingPlaces) (jacks' : Jacks) (before after : Option Telling) : Type 0 where
+  pub made : List Event
+  pub by : Between (Makes made) before after
+  pub is : FindsAnswer rirb rings jacks rings' jacks' made
 
 -- ---- and the next command
 

@@ -44,6 +44,7 @@ EndsBy IsPlanBy answer old new (Unanswered codec command issued noticed) = ⊥
 EndsBy IsPlanBy answer old new (Late from to limit) = ⊥
 EndsBy IsPlanBy answer old new (Malformed codec fault) =
     (codec ≡ slice_index old.addresses.items (length old.graphs.items)) × TellsFault old.walk answer fault
+    × (new.graphs ≡ old.graphs) × (new.plans ≡ old.plans)
 EndsBy IsPlanBy answer old new Failed = ⊥
 
 -- how many commands were answered, where so many were sent

@@ -1,5 +1,5 @@
 //! A look for the answer to the outstanding command, and where it leads.
-ghost use Rattle.std.specs.Prelude.{◌≡◌, ◌≤◌, ◌+◌, [], true, None, IfOk, IsSome};
+ghost use Rattle.std.specs.Prelude.{◌≡◌, ◌≤◌, ◌+◌, [], true, None, IfOk, OnErr, IsSome};
 ghost use Rattle.driver_progress.specs.Phases as phases;
 ghost use Rattle.driver_commands.specs.Standing as standing;
 ghost use Rattle.driver_commands.specs.Commanding as spec;
@@ -29,7 +29,7 @@ pub struct Answer {
 /// agenda. An answer leads the agenda on. What codecs told unasked is counted.
 ///
 /// # Errors
-/// Want of memory.
+/// Want of memory, where an answer was found. The look was made then, and what was told unasked is counted.
 pub fn look_for_answer<P: Platform, T: Setter>(
     platform: &mut P,
     engine: &mut Engine,
@@ -47,6 +47,8 @@ pub fn look_for_answer<P: Platform, T: Setter>(
         (λ graph plan. T.verbs_by setter.now graph plan agenda.old.format TAG) engine.old.corb.address
         engine.old.rirb.address engine.old.rings phase agenda.old jacks.old answer engine.new.rings agenda.new jacks.new
         (P.told platform.old) (P.told platform.new)) }
+    ensures wanting { OnErr result (spec.FindsAlone engine.old.rirb.address engine.old.rings jacks.old engine.new.rings
+        jacks.new (P.told platform.old) (P.told platform.new)) }
     ensures idle { IfOk result (λ answer. answer.is_free ≡ true → engine.new.rings.outstanding ≡ None) }
     ensures started { engine.new.rings.started ≡ engine.old.rings.started }
     ensures events { engine.new.events.items ≡ [] }
@@ -81,6 +83,7 @@ fn phase_after<T: Setter>(
     poll: Poll,
 ) -> Result<Phase, AllocError>
     requires asks { IsSome (standing.next_on agenda.old) }
+    ensures wanting { OnErr result (spec.is_answer poll ≡ true) }
     ensures led { IfOk result (λ after. spec.LedTo poll outstanding phase agenda.old after agenda.new) }
     ensures taken { IfOk result (λ after. spec.Taken (λ graph. T.IsPlanBy setter.now graph agenda.old.format)
         (λ graph plan. T.verbs_by setter.now graph plan agenda.old.format TAG) poll agenda.old after agenda.new) }

@@ -1,5 +1,6 @@
 -- A controller as contracts see it: a device, and the signals that are kept for its codecs. This project's own.
-use Rattle.std.specs.Prelude.{ℕ, Bool, false, List, map, Option, Some, None, slice_get, slice_set, slice_index, if◌then◌else◌}
+use Rattle.std.specs.Prelude.{ℕ, ◌==◌, Bool, false, List, map, Option, Some, None, slice_get, slice_set, slice_index, if◌then◌else◌}
+use Rattle.std.specs.List.{list_any}
 use Rattle.codec_graph.specs.Candidates.{is_candidate}
 use Rattle.codec_graph.specs.CodecStates.{CodecState}
 use Rattle.stream_format.specs.Layouts.{layout_of}
@@ -26,6 +27,10 @@ StandsFor memory controller world = IsWorld memory controller.device world
 abbrev pub IsController : ControllerState → Type 0
 IsController controller =
     AreKeptFor controller.device.registers.output.tag controller.device.registers.output.format controller.device.codecs controller.kept
+
+-- whether one of the codecs has this address
+abbrev pub has_codec : ℕ → List CodecState → Bool
+has_codec address codecs = list_any (λ codec. codec.graph.address == address) codecs
 
 -- ---- how often signals were renewed
 

@@ -1,6 +1,7 @@
 //! The controller.
 ghost use Rattle.std.specs.Prelude.{◌≡◌, ◌+◌, ℕ, List, All, IfOk, Contains, Some, true, map};
 ghost use Rattle.hda_registers.specs.Access.{value_at};
+ghost use Rattle.hda_registers.specs.Status.{line_of};
 ghost use Rattle.hda_world.specs.Worlds.{World, output_of};
 ghost use Rattle.std.specs.Option.{option_map};
 ghost use Rattle.stream_format.specs.Layouts.{layout, layout_of};
@@ -12,15 +13,15 @@ ghost use Rattle.hda_world.specs.Events.{after_write};
 ghost use Rattle.hda_device.specs.Codecs.{addresses_of, place_of, handed_now};
 ghost use Rattle.hda_files.specs.Machines.{IsSound};
 ghost use Rattle.heard_lists.specs.Listings.{Listing, HasRoom, AreListsOf, graphs_in};
-ghost use Rattle.hda_controller.specs.Controllers.{StandsFor, renewals_of, renewals_written, renewals_handed};
-ghost use Rattle.hda_controller.specs.Controllers.{renewals_at, is_candidate_of, signal_now};
+ghost use Rattle.hda_controller.specs.Controllers.{StandsFor, has_codec, renewals_of, renewals_written};
+ghost use Rattle.hda_controller.specs.Controllers.{renewals_handed, renewals_at, is_candidate_of, signal_now};
 ghost use Rattle.hda_controller.specs.Hearing.{most_items, AreHeard, Grew, renewals_stepped};
 ghost use Rattle.hda_controller.specs.Openings.{opening_world};
 
 mod hearing;
 
 use crate::opening::{all_signals_of, codecs_of, shape_of};
-use crate::places::place_of;
+use crate::places::{is_there, place_of};
 use crate::renewing::{renew_handed, renew_if};
 use codec_sound::{Kept, Signal};
 use device_steps::Step;
@@ -74,6 +75,28 @@ impl Controller {
         let shape = shape_of(machine, codecs.as_slice());
         let device = Device::new(alloc, shape, codecs)?;
         Ok(Controller { device, kept })
+    }
+
+    /// A law: with any memory a controller is some world, so the moves that its calls promise are never promised of
+    /// nothing. Does nothing.
+    pub fn is_some_world(&self)
+        ensures { (memory : List ℕ) → (world : World) × StandsFor memory self.now world }
+    {
+        self.device.is_some_world();
+    }
+
+    /// Whether one of its codecs has this address.
+    pub fn has_codec(&self, address: u8) -> bool
+        ensures { result ≡ has_codec address self.now.device.codecs }
+    {
+        is_there(self.device.codecs(), address)
+    }
+
+    /// Whether its interrupt line is high (HDA 1.0a, 3.3.14 and 3.3.15).
+    pub fn line(&self) -> bool
+        ensures { result ≡ line_of self.now.device.registers }
+    {
+        self.device.registers().line()
     }
 
     /// How often the signals of the codec with this address were worked out anew. At 2^64 - 1 the count stays.

@@ -1,6 +1,7 @@
 //! Places of codecs by their addresses.
 ghost use Rattle.std.specs.Prelude.{◌≡◌, ◌<◌, Contains, Some, length};
 ghost use Rattle.hda_device.specs.Codecs as spec;
+ghost use Rattle.hda_controller.specs.Controllers.{has_codec};
 
 use codec_nodes::Codec;
 
@@ -16,6 +17,13 @@ pub(crate) fn place_of(codecs: &[Codec], wanted: u8) -> usize
         }
     }
     unreachable!()
+}
+
+/// Whether one of the codecs has this address.
+pub(crate) fn is_there(codecs: &[Codec], wanted: u8) -> bool
+    ensures { result ≡ has_codec wanted codecs.now }
+{
+    codecs.iter().any(|codec| address(codec) == wanted)
 }
 
 /// The address of a codec.

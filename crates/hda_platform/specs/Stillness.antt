@@ -3,10 +3,9 @@
 use Rattle.std.specs.Prelude.{ℕ, List, [], replicate}
 use Rattle.hda_registers.specs.declared.shapes.Shape.{Shape}
 use Rattle.hda_registers.specs.Fields.{Fields, opening}
-use Rattle.hda_world.specs.declared.entry.Entry.{Entry}
 use Rattle.stream_moves.specs.Streams.{begun}
 use Rattle.hda_world.specs.Worlds.{World}
-use Rattle.hda_world.specs.Journals.{events_in}
+use Rattle.hda_world.specs.Events.{Event}
 use Rattle.hda_world.specs.Tellings.{Telling}
 
 -- a world without codecs, in which nothing waits and nothing streams
@@ -28,9 +27,9 @@ still_world memory registers = record {
 unfoldable pub zeros : ℕ → List ℕ
 zeros size = replicate size 0
 
--- what is told of a region of so many bytes and a journal
-abbrev pub still_telling : Shape → ℕ → List Entry → List ℕ → Telling
-still_telling shape size entries bytes = record {
+-- what is told of a region of so many bytes and these events
+abbrev pub still_telling : Shape → ℕ → List Event → Telling
+still_telling shape size events = record {
   start = still_world (zeros size) (opening shape);
-  journal = events_in bytes entries;
+  journal = events;
 }

@@ -3,7 +3,6 @@
 
 mod device;
 mod memory_platform;
-mod notes;
 mod pieces;
 mod platform;
 

@@ -1,10 +1,10 @@
 //! A platform in memory without codecs, for tests of drivers and of streams: before each access it makes a step of its
 //! schedule.
-ghost use Rattle.std.specs.Prelude.{◌≡◌, ◌≤◌, ◌<◌, ◌+◌, ◌*◌, All, IfOk, length, vec_len, vec_capacity};
+ghost use Rattle.std.specs.Prelude.{◌≡◌, ◌≤◌, ◌<◌, ◌+◌, ◌*◌, All, IfOk, length};
 ghost use Rattle.std.proofs.Props.{props};
 ghost use Rattle.hda_world.specs.declared.world.TheConstants.{REGION_BYTES};
 ghost use Rattle.hda_world.specs.Tellings.{world_of};
-ghost use Rattle.hda_world.specs.Journals.{piece_end};
+ghost use Rattle.hda_world.specs.JournalEvents.{events_of};
 ghost use Rattle.hda_platform.specs.Stillness.{still_telling, zeros};
 ghost use Rattle.hda_platform.specs.Devices.{IsWorld, IsStreamStep};
 
@@ -13,7 +13,7 @@ mod accesses;
 use crate::device::Device;
 use crate::platform::Platform;
 use hda_registers::Shape;
-use hda_world::{Entry, Journal, REGION_BYTES, Step};
+use hda_world::{Journal, REGION_BYTES, Step};
 use std::alloc::{AllocError, Global};
 
 /// A controller without codecs and its memory. Before each access its device makes the next step of a schedule, while
@@ -26,17 +26,15 @@ pub struct MemoryPlatform {
     steps: Vec<Step>,
     /// How many of the steps were made.
     made: usize,
-    entries: Vec<Entry>,
-    bytes: Vec<u8>,
-    /// How many entries and bytes there is room to note.
+    journal: Journal,
+    /// How many more entries and bytes it may note.
     entries_left: usize,
     bytes_left: usize,
     pub ghost whole: { length memory.items ≡ REGION_BYTES },
-    pub ghost room_for_entries: { vec_len entries + entries_left ≤ vec_capacity entries },
-    pub ghost room_for_bytes: { vec_len bytes + bytes_left ≤ vec_capacity bytes },
-    pub ghost placed: { All (λ entry. piece_end entry ≤ length bytes.items) entries.items } by { Prim.hlevel props },
+    pub ghost room_for_entries: { entries_left ≤ journal.spare_entries },
+    pub ghost room_for_bytes: { bytes_left ≤ journal.spare_bytes },
     pub ghost scheduled: { All IsStreamStep steps.items } by { Prim.hlevel props },
-    pub ghost stands: { IsWorld memory.items device (world_of (still_telling shape REGION_BYTES entries.items bytes.items)) } by { Prim.hlevel props },
+    pub ghost stands: { IsWorld memory.items device (world_of (still_telling shape REGION_BYTES (events_of journal))) } by { Prim.hlevel props },
 }
 
 impl MemoryPlatform {
@@ -60,19 +58,20 @@ impl MemoryPlatform {
         bytes: usize,
     ) -> Result<MemoryPlatform, AllocError>
         requires { All IsStreamStep steps.items }
-        ensures told { IfOk result (λ platform. told_by platform ≡ Some (still_telling shape REGION_BYTES [] [])) }
+        ensures told { IfOk result (λ platform. told_by platform ≡ Some (still_telling shape REGION_BYTES [])) }
         ensures accesses { IfOk result (λ platform. ⟦<MemoryPlatform as Platform>⟧.spare_accesses platform ≡ accesses) }
         ensures bytes { IfOk result (λ platform. ⟦<MemoryPlatform as Platform>⟧.spare_bytes platform ≡ bytes) }
     {
         let entries_left = 2 * accesses as usize;
+        let mut journal = Journal::new(alloc);
+        journal.reserve(entries_left, bytes)?;
         Ok(MemoryPlatform {
             shape,
             memory: zeroed(alloc, REGION_BYTES)?,
             device: Device::new(alloc, shape)?,
             steps,
             made: 0,
-            entries: Vec::with_capacity(alloc, entries_left)?,
-            bytes: Vec::with_capacity(alloc, bytes)?,
+            journal,
             entries_left,
             bytes_left: bytes,
         })
@@ -88,12 +87,11 @@ impl MemoryPlatform {
             device: _,
             steps: _,
             made: _,
-            entries,
-            bytes,
+            journal,
             entries_left: _,
             bytes_left: _,
         } = self;
-        Journal { entries, bytes }
+        journal
     }
 }
 

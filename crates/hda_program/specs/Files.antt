@@ -23,7 +23,8 @@ use Rattle.sound_report.specs.declared.status.Status.TheVariants.{ScheduleRefuse
 use Rattle.hda_program.specs.declared.message.Message.{Message}
 use Rattle.hda_program.specs.Meanings.{Meant, telling, message_meant}
 use Rattle.sound_report.specs.Texts.{unreadable_line}
-use Rattle.hda_program.specs.Text.{fault_text, wav_fault_text, schedule_fault_text, codec_refused_line}
+use Rattle.file_faults.specs.FaultText.{fault_text}
+use Rattle.hda_program.specs.Text.{wav_fault_text, schedule_fault_text, codec_refused_line}
 use Rattle.hda_program.specs.Text.{wav_refused_line, schedule_refused_line}
 
 -- how long a codec file and a schedule may be

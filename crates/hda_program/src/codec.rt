@@ -3,7 +3,7 @@ ghost use Rattle.std.specs.Prelude.{◌≡◌, ◌≢◌, ◌≤◌, ℕ, List, 
 ghost use Rattle.hda_program.specs.Files.{AreCodecBytesRead, FailedUnder, GivenAtMost, IsCodecRead};
 
 use crate::message::{Message, codec_refused, unreadable};
-use crate::text::push_fault;
+use file_faults::push_fault;
 use hda_files::{FileFault, Machine, read_machine};
 use hda_outside::{ReadAll, Shelf, read_all};
 use std::alloc::{AllocError, Global};

@@ -1,3 +1,4 @@
+mod Noting
 pub mod Callers
 pub mod Stepping
 pub mod Singly

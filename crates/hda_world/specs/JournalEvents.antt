@@ -1,8 +1,7 @@
 -- The events of a journal.
-use Rattle.std.specs.Prelude.{List}
-use Rattle.hda_world.specs.declared.journal.Journal.{Journal}
+use Rattle.std.specs.Prelude.{List, map}
 use Rattle.hda_world.specs.Events.{Event}
-use Rattle.hda_world.specs.Journals.{events_in}
+use Rattle.hda_world.specs.Journals.{JournalState, event_of}
 
-abbrev pub events_of : Journal → List Event
-events_of journal = events_in journal.bytes.items journal.entries.items
+abbrev pub events_of : JournalState → List Event
+events_of journal = map (event_of journal.pieces journal.bytes) journal.entries

@@ -30,22 +30,19 @@ pub enum Entry {
         /// The value that was written.
         value: u32,
     },
-    /// The driver read a piece of memory.
-    DmaRead {
-        /// The address of its first byte.
-        at: u32,
-        /// The place of its bytes in the journal's bytes.
-        from: u64,
-        /// How many bytes it has.
-        len: u32,
-    },
-    /// The driver wrote a piece of memory.
-    DmaWrite {
-        /// The address of its first byte.
-        at: u32,
-        /// The place of its bytes in the journal's bytes.
-        from: u64,
-        /// How many bytes it has.
-        len: u32,
-    },
+    /// The driver read a piece of memory: its number among the journal's pieces, counted from 0.
+    DmaRead(u32),
+    /// The driver wrote a piece of memory: its number among the journal's pieces, counted from 0.
+    DmaWrite(u32),
+}
+
+/// A piece of memory that the driver read or wrote. This project's own.
+#[derive(Clone, Copy, Debug, PartialEq, Eq)]
+pub struct MemoryPiece {
+    /// The address of its first byte.
+    pub at: u32,
+    /// How many bytes it has.
+    pub len: u32,
+    /// The place of its bytes in the journal's bytes.
+    pub from: u64,
 }

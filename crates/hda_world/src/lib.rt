@@ -9,7 +9,7 @@ mod step;
 mod stream_laws;
 mod world;
 
-pub use entry::Entry;
+pub use entry::{Entry, MemoryPiece};
 pub use journal::Journal;
 pub use laws::{
     accesses_compose, codecs_are_apart, discovery_comes_in_the_25th_frame, events_compose,

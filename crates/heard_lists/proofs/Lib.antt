@@ -8,3 +8,6 @@ mod Stretched
 mod Raw
 mod Rooms
 mod Reserved
+mod Reading
+mod Starts
+mod Cleared

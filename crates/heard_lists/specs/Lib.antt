@@ -1,3 +1,4 @@
 pub mod Listings
 pub mod Pieces
+pub mod Readers
 pub mod Stretches

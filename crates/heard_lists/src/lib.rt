@@ -8,6 +8,7 @@ mod laws;
 mod lists;
 mod pieces;
 mod pin_list;
+mod reader;
 mod sounds;
 mod stretches;
 
@@ -15,5 +16,6 @@ pub use heard_pins::HeardPins;
 pub use laws::{frames_grow_lists, lists_grow_on};
 pub use lists::HeardLists;
 pub use pin_list::PinHeard;
+pub use reader::HeardReader;
 pub use sounds::Sounds;
 pub use stretches::{Kind, Stretch};

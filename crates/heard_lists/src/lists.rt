@@ -7,16 +7,17 @@ ghost use Rattle.codec_sound.specs.declared.signals.Signal.TheVariants.{Silence}
 ghost use Rattle.stream_format.specs.Cadence.{block_bytes};
 ghost use Rattle.stream_format.specs.Layouts.{layout};
 ghost use Rattle.codec_sound.specs.Signals.{IsAmong};
-ghost use Rattle.heard_lists.specs.Listings.{Listing, with_blocks, HasRoom, AreListsOf, AreEmpty, graphs_in, pins_of};
-ghost use Rattle.heard_lists.specs.Listings.{empty_lists, handed_out, list_of, with_items};
+ghost use Rattle.heard_lists.specs.Listings.{Listing, forgotten, with_blocks, HasRoom, AreListsOf, AreEmpty};
+ghost use Rattle.heard_lists.specs.Listings.{graphs_in, pins_of, empty_lists, handed_out, list_of, with_items};
 ghost use Rattle.heard_lists.specs.declared.pieces.Piece.{Piece};
 ghost use Rattle.heard_lists.specs.Pieces.{signalled, pieces_items, pieces_size, empty_pins, without_room, HaveRoom};
-ghost use Rattle.heard_lists.specs.Pieces.{AreAsIn, GoesOn, TookIn};
+ghost use Rattle.heard_lists.specs.Pieces.{without_signals, AreAsIn, GoesOn, TookIn};
 ghost use Rattle.heard_lists.specs.Stretches.{sound_bytes, stretches_of};
 
 use crate::blocks::{push_blocks, push_holes};
 use crate::pieces::Piece;
 use crate::pin_list::PinList;
+use crate::reader::HeardReader;
 use crate::sounds::Sounds;
 use crate::stretches::{Stretch, put_pieces};
 use codec_sound::{Heard, Signal};
@@ -42,14 +43,16 @@ pub struct HeardLists {
     bytes: Vec<u8>,
     /// How many link frames missed their blocks since the last piece.
     holes: usize,
+    /// How many items each list has.
+    count: usize,
     /// For how many more items there is room.
     room: usize,
 }
 
 impl Model for HeardLists {
-    ghost use Rattle.std.specs.Prelude.{◌≤◌, ◌<◌, ◌+◌, ◌*◌, ◌^◌, List, map, vec_len, vec_capacity};
+    ghost use Rattle.std.specs.Prelude.{◌≡◌, ◌≤◌, ◌<◌, ◌+◌, ◌*◌, ◌^◌, List, map, vec_len, vec_capacity};
     ghost use Rattle.heard_lists.specs.Listings.{Listing};
-    ghost use Rattle.heard_lists.specs.Pieces.{listing_of, AreKept};
+    ghost use Rattle.heard_lists.specs.Pieces.{listing_of, pieces_count, AreKept};
 
     ghost Value = { List Listing };
 
@@ -57,7 +60,8 @@ impl Model for HeardLists {
 
     ghost invariant = { λ h. AreKept h.lists.items h.pieces.items h.bytes.items h.room
         × (vec_len h.bytes + 32 * h.room ≤ vec_capacity h.bytes)
-        × (vec_len h.pieces + h.room ≤ vec_capacity h.pieces) × (h.holes + h.room < 2 ^ 64) };
+        × (vec_len h.pieces + h.room ≤ vec_capacity h.pieces)
+        × (pieces_count h.pieces.items + h.holes ≡ h.count) × (h.count + h.room < 2 ^ 64) };
 }
 
 impl HeardLists {
@@ -80,6 +84,7 @@ impl HeardLists {
             pieces: Vec::new(alloc),
             bytes: Vec::new(alloc),
             holes: 0,
+            count: 0,
             room: 0,
         })
     }
@@ -112,7 +117,7 @@ impl HeardLists {
         let Some(bytes) = items.checked_mul(MOST_BLOCK_BYTES) else {
             return Err(AllocError);
         };
-        if self.holes.checked_add(items).is_none() {
+        if self.count.checked_add(items).is_none() {
             return Err(AllocError);
         }
         self.bytes.reserve(bytes)?;
@@ -131,6 +136,7 @@ impl HeardLists {
             pieces: Vec::new(alloc),
             bytes: Vec::new(alloc),
             holes: 0,
+            count: 0,
             room: 0,
         }
     }
@@ -150,6 +156,38 @@ impl HeardLists {
     {
         let list = &self.lists[place];
         (list.codec(), list.pin())
+    }
+
+    /// How many items each list has.
+    pub fn count(&self) -> usize
+        ensures { All (λ listing. length listing.list ≡ result) self.now }
+    {
+        self.count
+    }
+
+    /// The list at a place, counted from 0, to be read item by item from the item with a number on, counted from 0.
+    pub fn reader(&self, place: usize, from: usize) -> HeardReader<'_>
+        requires { place < length self.now }
+        ensures { (listing : Listing) → result ≡ drop from (get_or self.now place listing).list }
+    {
+        HeardReader::new(
+            self.pieces.as_slice(),
+            self.lists[place].signals(),
+            self.bytes.as_slice(),
+            self.holes,
+            from,
+        )
+    }
+
+    /// Forgets the items of all lists. Their room stays.
+    pub fn clear(&mut self)
+        ensures { self.new ≡ map forgotten self.old }
+    {
+        clear_all(self.lists.as_mut_slice());
+        self.pieces.clear();
+        self.bytes.clear();
+        self.holes = 0;
+        self.count = 0;
     }
 
     /// Puts the items of the list at a place, counted from 0, behind others, oldest first.
@@ -256,6 +294,7 @@ impl HeardLists {
             blocks,
         );
         self.holes = 0;
+        self.count += blocks;
         append(&mut self.bytes, &bytes[..blocks * size]);
         self.room -= blocks;
     }
@@ -270,6 +309,7 @@ impl HeardLists {
             return;
         }
         self.holes += 1;
+        self.count += 1;
         self.room -= 1;
     }
 }
@@ -283,6 +323,15 @@ fn add_lists(lists: &mut Vec<PinList>, codec: u8, pins: &[u8]) -> Result<(), All
         lists.push(PinList::new(alloc, codec, *pin))?;
     }
     Ok(())
+}
+
+/// Forgets the signals of each pin.
+fn clear_all(lists: &mut [PinList])
+    ensures { lists.new ≡ map without_signals lists.old }
+{
+    for list in lists.iter_mut() {
+        list.clear();
+    }
 }
 
 /// Makes room for so many more signals of each pin.

@@ -13,3 +13,14 @@ pub(crate) struct Piece {
     /// How many blocks came.
     pub(crate) blocks: usize,
 }
+
+/// Where a piece begins, or all pieces end.
+#[derive(Clone, Copy)]
+pub(crate) struct PieceStart {
+    /// How many pieces stand before it.
+    pub(crate) piece: usize,
+    /// How many items they have.
+    pub(crate) item: usize,
+    /// How many bytes their blocks have.
+    pub(crate) byte: usize,
+}

@@ -1,7 +1,7 @@
 //! The signals of one pin.
 ghost use Rattle.std.specs.Prelude.{◌≡◌, ◌≤◌, ◌<◌, ◌++◌, [], OnOk, OnErr, max, length, get_or};
 ghost use Rattle.codec_sound.specs.declared.signals.Signal.TheVariants.{Silence};
-ghost use Rattle.heard_lists.specs.Pieces.{PinSignals, with_signal};
+ghost use Rattle.heard_lists.specs.Pieces.{PinSignals, with_signal, without_signals};
 
 use codec_sound::{Heard, Signal};
 use hda_items::Items;
@@ -78,6 +78,13 @@ impl PinList {
             unreachable!();
         }
         self.room -= 1;
+    }
+
+    /// Forgets its signals. Its room stays.
+    pub(crate) fn clear(&mut self)
+        ensures { self.new ≡ without_signals self.old }
+    {
+        self.signals.clear();
     }
 
     /// The signal in the piece with this number, counted from 0.

@@ -56,10 +56,7 @@ pub(crate) fn set_up(alloc: Global) -> Option<Played> {
         silences: Items::new(alloc),
         heard: HeardPins::none(alloc),
         jacks: Items::new(alloc),
-        journal: Journal {
-            entries: Vec::new(alloc),
-            bytes: Vec::new(alloc),
-        },
+        journal: Journal::new(alloc),
         walk: true,
         fault: None,
         cut: None,

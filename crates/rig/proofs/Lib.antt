@@ -1,7 +1,6 @@
 pub mod Replayed
 pub mod Candidates
 pub mod Callers
-pub mod Noting
 pub mod Weaving
 pub mod Where
 pub mod Rooming

@@ -1,11 +1,9 @@
 -- What an open run keeps over its accesses.
 use Rattle.std.proofs.Common.{◌≡◌, ◌≤◌, ◌+◌, ◌-◌, ℕ, Bool, true, false, List, [], ◌∷◌, ◌++◌, length, map, drop, refl, sym, ap, subst, ◌∙◌, arith, flat_map}
-use Rattle.std.proofs.lemmas.List.{map-append, length-map}
+use Rattle.std.proofs.lemmas.List.{map-append}
 use Rattle.device_steps.specs.declared.Step.{Step}
 use Rattle.hda_schedule.specs.declared.schedule.Group.{Group}
-use Rattle.hda_world.specs.declared.journal.Journal.{Journal}
-use Rattle.hda_world.specs.declared.entry.Entry.{Entry}
-use Rattle.hda_world.specs.Journals.{event_of, events_in}
+use Rattle.hda_world.specs.Journals.{JournalState}
 use Rattle.hda_world.specs.Events.{Event, Stepped, End}
 use Rattle.hda_world.specs.Tellings.{Telling, Went, Accessed}
 use Rattle.hda_world.proofs.Callers.{went_both}
@@ -56,12 +54,9 @@ pub ended_by : (old middle new : Telling) (groups : List Group) (event : Event) 
 ended_by old middle new groups event before after =
     accessed_by old middle new (flat_map (λ (group : Group). group.steps) groups) event (subst (Went old middle) (all_steps groups) before) after
 
-pub event_count : (bytes : List ℕ) (entries : List Entry) → length (events_in bytes entries) ≡ length entries
-event_count bytes entries = length-map entries (event_of bytes)
-
 -- ---- room
 
-module _ (made spare bytes : ℕ) (groups : List Group) (journal : Journal) (lists : List Listing) where
+module _ (made spare bytes : ℕ) (groups : List Group) (journal : JournalState) (lists : List Listing) where
   -- for the accesses, the bytes, the steps and the last mark that are left
   abbrev pub Left : Type 0
   Left = HasRoomFor (spare + 1 + step_count (drop made groups)) bytes (item_count (drop made groups)) journal lists
@@ -83,11 +78,11 @@ module _ (made spare bytes : ℕ) (groups : List Group) (journal : Journal) (lis
       less_room _ _ _ (length (steps_before made groups) + (1 + (spare - 1 + 1 + step_count (drop (made + 1) groups)))) (taken + (bytes - taken))
       (items_for (steps_before made groups) + item_count (drop (made + 1) groups)) journal lists (omega (arith, e, some)) (omega (arith, fits)) (omega (arith, i)) left
 
-pub one_entry : (entries taken bytes items : ℕ) (journal : Journal) (lists : List Listing) → HasRoomFor (1 + entries) (taken + bytes) items journal lists → HasRoomFor 1 taken 0 journal lists
+pub one_entry : (entries taken bytes items : ℕ) (journal : JournalState) (lists : List Listing) → HasRoomFor (1 + entries) (taken + bytes) items journal lists → HasRoomFor 1 taken 0 journal lists
 one_entry entries taken bytes items journal lists room = less_room (1 + entries) (taken + bytes) items 1 taken 0 journal lists (omega arith) (omega arith) (omega arith) room
 
 -- after the steps before an access there is room for it and for all that comes after it
-pub passed_room : (made spare bytes taken : ℕ) (groups slice : List Group) (old new : Journal) (before behind : List Listing) → slice ≡ groups → 1 ≤ spare → taken ≤ bytes
+pub passed_room : (made spare bytes taken : ℕ) (groups slice : List Group) (old new : JournalState) (before behind : List Listing) → slice ≡ groups → 1 ≤ spare → taken ≤ bytes
     → HasRoomFor (spare + 1 + step_count (drop made groups)) bytes (item_count (drop made groups)) old before
     → ((entries bytes items : ℕ) → HasRoomFor (length (steps_before made slice) + entries) bytes (items_for (steps_before made slice) + items) old before
     → HasRoomFor entries bytes items new behind)
@@ -100,6 +95,6 @@ pub passed_told : (made : ℕ) (groups slice : List Group) (old new : Telling) �
     → Went old new (map Stepped (steps_before made groups))
 passed_told made groups slice old new same went = subst (λ (all : List Group). Went old new (map Stepped (steps_before made all))) same went
 
-pub fewer_bytes : (entries bytes fewer items : ℕ) (journal : Journal) (lists : List Listing) → fewer ≤ bytes → HasRoomFor entries bytes items journal lists
+pub fewer_bytes : (entries bytes fewer items : ℕ) (journal : JournalState) (lists : List Listing) → fewer ≤ bytes → HasRoomFor entries bytes items journal lists
     → HasRoomFor entries fewer items journal lists
 fewer_bytes entries bytes fewer items journal lists less room = less_room entries bytes items entries fewer items journal lists (omega arith) less (omega arith) room

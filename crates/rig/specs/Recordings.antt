@@ -1,9 +1,9 @@
 -- A machine in motion whose journal is kept, and what is told of it. This project's own.
-use Rattle.std.specs.Prelude.{◌≤◌, ◌+◌, ℕ, List, vec_len, vec_capacity, sum_by}
+use Rattle.std.specs.Prelude.{◌≤◌, ℕ, List, sum_by}
 use Rattle.device_steps.specs.declared.Step.{Step}
 use Rattle.hda_world.specs.Worlds.{World}
 use Rattle.hda_world.specs.Events.{Event, after}
-use Rattle.hda_world.specs.declared.journal.Journal.{Journal}
+use Rattle.hda_world.specs.Journals.{JournalState}
 use Rattle.heard_lists.specs.Listings.{Listing, HasRoom}
 use Rattle.hda_controller.specs.Controllers.{ControllerState, StandsFor}
 use Rattle.hda_controller.specs.Hearing.{AreHeard, most_items}
@@ -16,9 +16,9 @@ pub record IsWhere (start : World) (events : List Event) (memory : List ℕ) (co
   pub heard : AreHeardIn (after events start) lists
 
 -- a journal has room for so many more entries and bytes of pieces of memory, and each heard list for so many more items
-pub record HasRoomFor (entries bytes items : ℕ) (journal : Journal) (lists : List Listing) : Type 0 where
-  pub entries_fit : vec_len journal.entries + entries ≤ vec_capacity journal.entries
-  pub bytes_fit : vec_len journal.bytes + bytes ≤ vec_capacity journal.bytes
+pub record HasRoomFor (entries bytes items : ℕ) (journal : JournalState) (lists : List Listing) : Type 0 where
+  pub entries_fit : entries ≤ journal.spare_entries
+  pub bytes_fit : bytes ≤ journal.spare_bytes
   pub items_fit : HasRoom items lists
 
 -- for how many items in each list steps ask room

@@ -4,7 +4,6 @@
 
 mod groups;
 mod laws;
-mod notes;
 mod recording;
 mod rig;
 mod rooms;

@@ -13,10 +13,9 @@ ghost use Rattle.rig.specs.Honesty.{AreHonest-prop};
 
 mod accesses;
 
-use crate::notes::note;
 use hda_controller::Controller;
 use hda_files::Machine;
-use hda_world::{Entry, Journal, REGION_BYTES, Step};
+use hda_world::{Journal, REGION_BYTES, Step};
 use heard_lists::HeardLists;
 use std::alloc::{AllocError, Global};
 
@@ -60,10 +59,7 @@ impl Recording {
             memory: zeroed(alloc, REGION_BYTES)?,
             controller,
             heard,
-            journal: Journal {
-                entries: Vec::new(alloc),
-                bytes: Vec::new(alloc),
-            },
+            journal: Journal::new(alloc),
         })
     }
 
@@ -81,8 +77,7 @@ impl Recording {
         ensures told { told_of self.new ≡ told_of self.old }
         ensures machine { self.new.machine ≡ self.old.machine }
     {
-        self.journal.entries.reserve(entries)?;
-        self.journal.bytes.reserve(bytes)?;
+        self.journal.reserve(entries, bytes)?;
         self.heard.reserve(items)
     }
 
@@ -90,7 +85,7 @@ impl Recording {
     pub(crate) fn entry_count(&self) -> usize
         ensures { result ≡ length (events_of self.now.journal) }
     {
-        self.journal.entries.len()
+        self.journal.len()
     }
 
     /// Makes a step and notes it.
@@ -103,7 +98,7 @@ impl Recording {
     {
         self.controller
             .step(self.memory.as_mut_slice(), step, &mut self.heard);
-        note(&mut self.journal, Entry::Step(*step));
+        self.journal.note_step(*step);
     }
 
     /// Makes some steps in turn and notes them.
@@ -127,7 +122,7 @@ impl Recording {
         ensures room { (entries bytes items : ℕ) → HasRoomFor (1 + entries) bytes items self.old.journal self.old.heard
             → HasRoomFor entries bytes items self.new.journal self.new.heard }
     {
-        note(&mut self.journal, Entry::Begin);
+        self.journal.note_begin();
     }
 
     /// Notes that it ends.
@@ -138,7 +133,7 @@ impl Recording {
         ensures room { (entries bytes items : ℕ) → HasRoomFor (1 + entries) bytes items self.old.journal self.old.heard
             → HasRoomFor entries bytes items self.new.journal self.new.heard }
     {
-        note(&mut self.journal, Entry::End);
+        self.journal.note_end();
     }
 
     /// The machine, what its pins heard, and the journal.

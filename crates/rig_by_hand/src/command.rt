@@ -149,6 +149,6 @@ pub(crate) fn ask_vendor(alloc: Global) -> Option<Way> {
         rirb: addresses.1,
         codecs,
         seen,
-        entries: rig.journal().entries.len(),
+        entries: rig.journal().len(),
     })
 }

@@ -166,5 +166,5 @@ pub(crate) fn read_all(alloc: Global) -> Option<(u32, usize)> {
     rig.begin(&[], 384, 0).ok()?;
     let odd = read_everywhere(&mut rig);
     rig.end();
-    Some((odd, rig.journal().entries.len()))
+    Some((odd, rig.journal().len()))
 }

@@ -30,15 +30,18 @@ fn way_text(alloc: Global, way: &Way) -> Result<String, AllocError> {
     )
 }
 
-/// The entries of the runs' journal, a line each, and what the rig had at the end.
+/// The entries of the runs' journal and its pieces, a line each, and what the rig had at the end.
 fn groups_text(alloc: Global, ended: &Ended) -> Result<String, AllocError> {
     let mut text = String::new(alloc);
-    for entry in ended.journal.entries.as_slice() {
+    for entry in ended.journal.entries() {
         text.push_str(&format!(in alloc; "{entry:?}\n")?)?;
+    }
+    for piece in ended.journal.pieces() {
+        text.push_str(&format!(in alloc; "{piece:?}\n")?)?;
     }
     text.push_str(&format!(in alloc;
         "{} bytes of pieces, {} codec, {} heard list of {} items",
-        ended.journal.bytes.len(),
+        ended.journal.bytes().len(),
         ended.codecs,
         ended.lists,
         ended.heard

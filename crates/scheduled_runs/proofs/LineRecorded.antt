@@ -22,7 +22,7 @@ pub record RunLaws : Type 0 where
       → IsWritten pcm (tally_if true m tally facts)
 
 -- a ring has bytes
-ring_some : (geometry : Geometry) → 1 ≤ (measures geometry).ring
+pub ring_some : (geometry : Geometry) → 1 ≤ (measures geometry).ring
 ring_some geometry =
     let some = geometry.some_periods in
     let some' = geometry.some in

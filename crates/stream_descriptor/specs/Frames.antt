@@ -1,5 +1,8 @@
 -- What the code answers of a link frame.
-use Rattle.std.specs.Prelude.{◌≡◌, ◌⊎◌, ℕ, List, ◌++◌, take, drop, Some}
+use Rattle.std.specs.Prelude.{◌≡◌, ◌⊎◌, ◌==◌, ◌&&◌, nat_le, if◌then◌else◌, length, ℕ, List, ◌++◌, take, drop, Some}
+use Rattle.hda_registers.specs.Fields.{Fields, is_out_of_reset, is_running, stream_of}
+use Rattle.stream_moves.specs.Streams.{due_by, is_usable}
+use Rattle.stream_descriptor.specs.Running.{Playing}
 use Rattle.stream_format.specs.Layouts.{Layout, layout_of}
 use Rattle.stream_format.specs.Cadence.{blocks_of}
 use Rattle.stream_moves.specs.Streams.{Stream, held_bytes, due}
@@ -19,3 +22,24 @@ IsAnswer stream found old new Gap = (found ≡ output.Gap) × (new ≡ old)
 IsAnswer stream found old new (Blocks blocks) =
     (found ≡ output.Blocks) × AreDue stream blocks × (new ≡ take (due stream) (held_bytes stream.state) ++ drop (due stream) old)
 IsAnswer stream found old new Hole = (found ≡ output.Hole) × (new ≡ old)
+
+-- what a frame finds where so many bytes are due and so many are held
+abbrev pub found_due : (due held : ℕ) → output.Frame
+found_due due held = if due == 0 then output.Gap else (if nat_le due held then output.Blocks else output.Hole)
+
+-- what it finds of a stream over any registers
+abbrev pub found_by : Fields → Playing → output.Frame
+found_by fields playing =
+    if is_out_of_reset fields.global && is_running (stream_of fields playing.index)
+    then (
+    if is_usable (stream_of fields playing.index)
+    then found_due (due_by (layout_of (stream_of fields playing.index).format) playing.frame) (length playing.fetch.bytes)
+    else output.Broken
+    )
+    else output.Stopped
+
+abbrev pub IsKind : output.Frame → Frame → Type 0
+IsKind found Idle = (found ≡ output.Stopped) ⊎ (found ≡ output.Broken)
+IsKind found Gap = found ≡ output.Gap
+IsKind found (Blocks blocks) = found ≡ output.Blocks
+IsKind found Hole = found ≡ output.Hole

@@ -1,2 +1,3 @@
 pub mod Running
 pub mod Frames
+pub mod Fetches

@@ -12,7 +12,8 @@ ghost use Rattle.hda_registers.specs.Status.{worth};
 ghost use Rattle.stream_format.specs.Cadence.{most_bytes};
 ghost use Rattle.stream_descriptor.specs.Running.{StandsFor, StoodFor, LeadsTo, CanPlay, stream_at, with_descriptor};
 ghost use Rattle.stream_descriptor.specs.Running.{fetched_at, found_at};
-ghost use Rattle.stream_descriptor.specs.Frames.{IsAnswer};
+ghost use Rattle.stream_descriptor.specs.Frames.{IsAnswer, IsKind, found_by, found_due};
+ghost use Rattle.stream_descriptor.specs.Fetches.{WasFetched, WasFilled};
 ghost use Rattle.stream_fetch.specs.Fetching as fetching;
 
 use crate::frame::{Frame, MOST_FRAME_BYTES};
@@ -54,6 +55,8 @@ impl Stream {
         ensures index { IfOk result (λ stream. stream.index ≡ index) }
         ensures capacity { IfOk result (λ stream. stream.fetch.capacity ≡ fifo) }
         ensures empty { IfOk result (λ stream. stream.fetch.bytes ≡ []) }
+        ensures anew { IfOk result (λ stream. fetching.StandsFor stream.fetch begun) }
+        ensures frame { IfOk result (λ stream. stream.frame ≡ 0) }
     {
         Ok(Stream {
             index,
@@ -72,6 +75,9 @@ impl Stream {
         ensures stands { is_running (stream_of regs.old self.old.index) ≡ true
             → self.old.fetch.capacity ≡ regs.old.shape.fifo
             → StandsFor self.new regs.new begun }
+        ensures anew { fetching.StandsFor self.new.fetch begun }
+        ensures frame { self.new.frame ≡ 0 }
+        ensures capacity { self.new.fetch.capacity ≡ self.old.fetch.capacity }
     {
         self.fetch.start();
         self.frame = 0;
@@ -105,6 +111,8 @@ impl Stream {
             else regs.old) }
         ensures stands { (state : StreamState) → is_running (stream_of regs.old self.old.index) ≡ false
             → self.old.fetch.capacity ≡ regs.old.shape.fifo → StandsFor self.new regs.new state }
+        ensures empty { self.new.fetch.bytes ≡ [] }
+        ensures capacity { self.new.fetch.capacity ≡ self.old.fetch.capacity }
     {
         self.fetch.start();
         if regs.is_out_of_reset() {
@@ -118,6 +126,7 @@ impl Stream {
         ensures index { self.new.index ≡ self.old.index }
         ensures leads { (state : StreamState) → StandsFor self.old regs.old state
             → LeadsTo self.new regs.old regs.new (fetched_at self.old.index most memory.now regs.old state) }
+        ensures cause { WasFetched most memory.now self.old regs.old self.new regs.new }
     {
         if most == 0 {
             return;
@@ -141,6 +150,7 @@ impl Stream {
         ensures answer { (state : StreamState) → StandsFor self.old regs.old state
             → IsAnswer (stream_at self.old.index regs.old state) (found_at self.old.index regs.old state) into.old
             into.new result }
+        ensures cause { IsKind (found_by regs.old self.old) result }
     {
         if !self.is_playing(regs) {
             return Frame::Idle;
@@ -179,6 +189,7 @@ impl Stream {
         ensures leads { (state : StreamState) → StandsFor self.old regs.old state
             → LeadsTo self.new regs.old regs.new (output.fetch most regs.old.shape.fifo memory.now
             (stream_at self.old.index regs.old state)) }
+        ensures cause { WasFilled most memory.now self.old regs.old self.new regs.new }
     {
         let list = ListAt {
             address: regs.list_address(self.index),
@@ -206,6 +217,8 @@ impl Stream {
         ensures answer { (state : StreamState) → StandsFor self.old regs.old state
             → IsAnswer (stream_at self.old.index regs.old state)
             (output.frame_of (stream_at self.old.index regs.old state)) into.old into.new result }
+        ensures cause { IsKind (found_due (frame_bytes (layout format) self.old.frame)
+            (length self.old.fetch.bytes)) result }
     {
         let blocks = format.blocks(u64::from(self.frame));
         let due = bytes_due(format, self.frame);

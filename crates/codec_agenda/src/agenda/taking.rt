@@ -126,6 +126,8 @@ impl Agenda {
         ensures malformed { (codec : ℕ) (fault : WalkFault) → result ≡ Err (AgendaFault.Malformed codec fault)
             → (codec ≡ slice_index self.old.addresses.items (length self.old.graphs.items))
             × spec.TellsFault self.old.walk answer fault }
+        ensures kept { (codec : ℕ) (fault : WalkFault) → result ≡ Err (AgendaFault.Malformed codec fault)
+            → (self.new.graphs ≡ self.old.graphs) × (self.new.plans ≡ self.old.plans) }
         ensures nothing { result ≡ Err AgendaFault.NothingRouted
             → spec.TellsNoRoute (λ graph. T.IsPlanBy setter.now graph self.old.format) self.old.walk answer
             self.old.addresses.items self.old.graphs.items self.new }
@@ -160,6 +162,8 @@ impl Agenda {
         ensures malformed { (codec : ℕ) (fault : WalkFault) → result ≡ Err (AgendaFault.Malformed codec fault)
             → (codec ≡ slice_index self.old.addresses.items (length self.old.graphs.items))
             × spec.GivesFault (answered (remaining walk) answer) fault }
+        ensures kept { (codec : ℕ) (fault : WalkFault) → result ≡ Err (AgendaFault.Malformed codec fault)
+            → (self.new.graphs ≡ self.old.graphs) × (self.new.plans ≡ self.old.plans) }
         ensures nothing { result ≡ Err AgendaFault.NothingRouted
             → spec.EndsLast (λ graph. T.IsPlanBy setter.now graph self.old.format) (answered (remaining walk) answer)
             self.old.addresses.items self.old.graphs.items self.new }
@@ -191,6 +195,8 @@ impl Agenda {
         ensures malformed { (codec : ℕ) (fault : WalkFault) → result ≡ Err (AgendaFault.Malformed codec fault)
             → (codec ≡ slice_index self.old.addresses.items (length self.old.graphs.items))
             × spec.GivesFault (remaining walk) fault }
+        ensures kept { (codec : ℕ) (fault : WalkFault) → result ≡ Err (AgendaFault.Malformed codec fault)
+            → (self.new.graphs ≡ self.old.graphs) × (self.new.plans ≡ self.old.plans) }
         ensures nothing { result ≡ Err AgendaFault.NothingRouted
             → spec.EndsLast (λ graph. T.IsPlanBy setter.now graph self.old.format) (remaining walk)
             self.old.addresses.items self.old.graphs.items self.new }

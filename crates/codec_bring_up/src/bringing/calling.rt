@@ -4,6 +4,7 @@ ghost use Rattle.driver_progress.specs.declared.phase.Phase.TheVariants as phase
 ghost use Rattle.driver_progress.specs.Phases.{is_asking};
 ghost use Rattle.codec_bring_up.specs.Calls as spec;
 ghost use Rattle.codec_bring_up.specs.Told.{IsShut};
+ghost use Rattle.codec_bring_up.specs.Failing.{Fails, FailsLast};
 
 use super::BringUp;
 use codec_agenda::Agenda;
@@ -41,6 +42,7 @@ impl BringUp {
         ensures leads { OnOk result (spec.LeadsUnread self.old self.new (P.told platform.old) (P.told platform.new)) }
         ensures kept { spec.IsKept self.old self.new }
         ensures failed { OnErr result (self.new.phase ≡ phases.Failed) }
+        ensures wanting { OnErr result (Fails false self.old self.new (P.told platform.old) (P.told platform.new)) }
         ensures fixed { P.fixed platform.new ≡ P.fixed platform.old }
         ensures accesses { P.spare_accesses platform.old ≤ P.spare_accesses platform.new + 17 }
         ensures bytes { P.spare_bytes platform.new ≡ P.spare_bytes platform.old }
@@ -76,6 +78,7 @@ impl BringUp {
             (P.told platform.old) (P.told platform.new)) }
         ensures kept { spec.IsKept self.old self.new }
         ensures failed { OnErr result (self.new.phase ≡ phases.Failed) }
+        ensures wanting { OnErr result (Fails false self.old self.new (P.told platform.old) (P.told platform.new)) }
         ensures fixed { P.fixed platform.new ≡ P.fixed platform.old }
         ensures accesses { P.spare_accesses platform.old ≤ P.spare_accesses platform.new + 261 }
         ensures bytes { P.spare_bytes platform.old ≤ P.spare_bytes platform.new + 2044 }
@@ -121,6 +124,7 @@ impl BringUp {
             (P.told platform.old) (P.told platform.new)) }
         ensures kept { spec.IsKept self.old self.new }
         ensures failed { OnErr result (self.new.phase ≡ phases.Failed) }
+        ensures wanting { OnErr result (FailsLast self.old self.new (P.told platform.old) (P.told platform.new)) }
         ensures shut { OnErr result (IsShut (P.told platform.new)) }
         ensures fixed { P.fixed platform.new ≡ P.fixed platform.old }
         ensures accesses { P.spare_accesses platform.old ≤ P.spare_accesses platform.new + 262 }

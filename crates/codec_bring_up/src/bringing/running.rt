@@ -4,6 +4,7 @@ ghost use Rattle.driver_progress.specs.declared.phase.Phase.TheVariants as phase
 ghost use Rattle.driver_progress.specs.Phases as progress;
 ghost use Rattle.codec_bring_up.specs.Calls as spec;
 ghost use Rattle.codec_bring_up.specs.Told.{IsShut};
+ghost use Rattle.codec_bring_up.specs.Failing.{Fails, FailsLast};
 
 use super::BringUp;
 use super::phases::{is_active, is_asking, is_reset};
@@ -21,7 +22,8 @@ impl BringUp {
     /// before that, nothing is done. The setter is the same at each call.
     ///
     /// # Errors
-    /// Want of memory, in the phases where codecs are found and answers come. Then it is over, in the phase `Failed`.
+    /// Want of memory, in the phases where codecs are found and answers come. Then it is over, in the phase `Failed`:
+    /// the look that found codecs or an answer was made, and no command was submitted after it.
     pub fn run<P: Platform, T: Setter>(
         &mut self,
         platform: &mut P,
@@ -35,6 +37,7 @@ impl BringUp {
             (P.told platform.old) (P.told platform.new)) }
         ensures kept { spec.IsKept self.old self.new }
         ensures failed { OnErr result (self.new.phase ≡ phases.Failed) }
+        ensures wanting { OnErr result (Fails false self.old self.new (P.told platform.old) (P.told platform.new)) }
         ensures cause { OnErr result (spec.takes_memory self.old.phase ≡ true) }
         ensures fixed { P.fixed platform.new ≡ P.fixed platform.old }
         ensures accesses { P.spare_accesses platform.old ≤ P.spare_accesses platform.new + 261 }
@@ -57,7 +60,8 @@ impl BringUp {
     /// Once it is over, interrupts are not looked for.
     ///
     /// # Errors
-    /// Want of memory, in the phases where codecs are found and answers come. Then it is over, in the phase `Failed`.
+    /// Want of memory, in the phases where codecs are found and answers come. Then it is over, in the phase `Failed`:
+    /// the look that found codecs or an answer was made, and no command was submitted after it.
     pub fn irq<P: Platform, T: Setter>(
         &mut self,
         platform: &mut P,
@@ -71,6 +75,7 @@ impl BringUp {
             (P.told platform.old) (P.told platform.new)) }
         ensures kept { spec.IsKept self.old self.new }
         ensures failed { OnErr result (self.new.phase ≡ phases.Failed) }
+        ensures wanting { OnErr result (Fails true self.old self.new (P.told platform.old) (P.told platform.new)) }
         ensures cause { OnErr result (spec.takes_memory self.old.phase ≡ true) }
         ensures fixed { P.fixed platform.new ≡ P.fixed platform.old }
         ensures accesses { P.spare_accesses platform.old ≤ P.spare_accesses platform.new + 264 }
@@ -123,6 +128,7 @@ impl BringUp {
             (P.told platform.old) (P.told platform.new)) }
         ensures kept { spec.IsKept self.old self.new }
         ensures failed { OnErr result (self.new.phase ≡ phases.Failed) }
+        ensures wanting { OnErr result (FailsLast self.old self.new (P.told platform.old) (P.told platform.new)) }
         ensures cause { OnErr result (progress.is_asking self.old.phase ≡ true) }
         ensures shut { OnErr result (IsShut (P.told platform.new)) }
         ensures fixed { P.fixed platform.new ≡ P.fixed platform.old }

@@ -34,6 +34,63 @@ impl Controller {
         ensures room { (more : ℕ) → HasRoom (4 * frames + more) heard.old → HasRoom more heard.new }
         ensures kept { self.new.kept ≡ self.old.kept }
     {
+        if frames == 1 {
+            self.link_alone(heard);
+        } else {
+            self.link_together(frames, heard);
+        }
+    }
+
+    /// Lets a link frame pass, which is heard at once.
+    fn link_alone(&mut self, heard: &mut HeardLists)
+        requires room { HasRoom 4 heard.old }
+        requires lists { AreHeard self.old.device.codecs heard.old }
+        ensures stands { (memory : List ℕ) (world : World) → StandsFor memory self.old world
+            → StandsFor memory self.new (steps.frame_step world) }
+        ensures heard { (memory : List ℕ) (world : World) → StandsFor memory self.old world
+            → Grew world (steps.frame_step world) heard.old heard.new }
+        ensures room { (more : ℕ) → HasRoom (4 + more) heard.old → HasRoom more heard.new }
+        ensures kept { self.new.kept ≡ self.old.kept }
+    {
+        // The controller stands for some world, by which a frame has at most four blocks.
+        self.device.is_some_world();
+        let mut bytes = [0; MOST_FRAME_BYTES];
+        match self.frame(&mut bytes) {
+            Frame::Idle => {}
+            Frame::Gap => {}
+            Frame::Blocks(blocks) => self.hear_frame(blocks, &bytes, heard),
+            Frame::Hole => heard.miss(),
+        }
+    }
+
+    /// Lets the lists hear so many blocks, which were due and stand at the front of `bytes`.
+    fn hear_frame(&self, blocks: u32, bytes: &[u8; MOST_FRAME_BYTES], heard: &mut HeardLists)
+        requires due { AreDue self.now.device.registers.output.format blocks }
+        requires room { HasRoom 4 heard.old }
+        requires lists { AreHeard self.now.device.codecs heard.old }
+        ensures heard { (layout : Layout) → layout_of self.now.device.registers.output.format ≡ Some layout
+            → heard.new ≡ map (with_blocks (signal_now self.now.device) layout
+            (take (blocks * bytes_of_block layout.channels layout.bits) bytes.now)) heard.old }
+        ensures room { (more : ℕ) → HasRoom (4 + more) heard.old → HasRoom more heard.new }
+    {
+        let Some(format) = self.format() else {
+            unreachable!()
+        };
+        let size = (blocks * format.block_bytes()) as usize;
+        heard.hear(self, format, &bytes[..size]);
+    }
+
+    /// Lets so many link frames pass, whose blocks are heard together.
+    fn link_together(&mut self, frames: u32, heard: &mut HeardLists)
+        requires room { HasRoom (4 * frames) heard.old }
+        requires lists { AreHeard self.old.device.codecs heard.old }
+        ensures stands { (memory : List ℕ) (world : World) → StandsFor memory self.old world
+            → StandsFor memory self.new (steps.times frames steps.frame_step world) }
+        ensures heard { (memory : List ℕ) (world : World) → StandsFor memory self.old world
+            → Grew world (steps.times frames steps.frame_step world) heard.old heard.new }
+        ensures room { (more : ℕ) → HasRoom (4 * frames + more) heard.old → HasRoom more heard.new }
+        ensures kept { self.new.kept ≡ self.old.kept }
+    {
         let mut bytes = [0; MOST_FRAME_BYTES];
         let mut unheard = Unheard::new();
         for _passed in 0..frames {

@@ -6,12 +6,11 @@ ghost use Rattle.hda_platform.specs.Devices.{IsStreamStep};
 ghost use Rattle.hda_platform.specs.Passing.{MadeStep, Passed};
 
 use crate::memory_platform::MemoryPlatform;
-use crate::notes::{note, note_bytes};
 use crate::pieces::{read_piece, write_piece};
 use crate::platform::Platform;
 use dma_pool::{Lent, Window};
 use hda_registers::{Shape, Width};
-use hda_world::{Entry, Step};
+use hda_world::Step;
 
 impl MemoryPlatform {
     /// Makes the next step of the schedule, if one is left.
@@ -41,7 +40,7 @@ impl MemoryPlatform {
         ensures bytes { self.new.bytes_left ≡ self.old.bytes_left }
     {
         self.device.make_step(&self.memory, step);
-        note(&mut self.entries, Entry::Step(step));
+        self.journal.note_step(step);
         self.entries_left -= 1;
     }
 }
@@ -60,7 +59,7 @@ impl Platform for MemoryPlatform {
     fn read(&mut self, at: u16, width: Width) -> u32 {
         self.pass();
         let value = self.device.read(at, width);
-        note(&mut self.entries, Entry::Read { at, width, value });
+        self.journal.note_read(at, width, value);
         self.entries_left -= 1;
         value
     }
@@ -68,7 +67,7 @@ impl Platform for MemoryPlatform {
     fn write(&mut self, at: u16, width: Width, value: u32) {
         self.pass();
         self.device.write(at, width, value);
-        note(&mut self.entries, Entry::Write { at, width, value });
+        self.journal.note_write(at, width, value);
         self.entries_left -= 1;
     }
 
@@ -78,15 +77,7 @@ impl Platform for MemoryPlatform {
         let first = address as usize;
         let len = into.len();
         read_piece(&self.memory, first, into);
-        let place = note_bytes(&mut self.bytes, into);
-        note(
-            &mut self.entries,
-            Entry::DmaRead {
-                at: address,
-                from: place as u64,
-                len: len as u32,
-            },
-        );
+        self.journal.note_dma_read(address, into);
         self.entries_left -= 1;
         self.bytes_left -= len;
     }
@@ -97,15 +88,7 @@ impl Platform for MemoryPlatform {
         let first = address as usize;
         let len = bytes.len();
         write_piece(&mut self.memory, first, bytes);
-        let place = note_bytes(&mut self.bytes, bytes);
-        note(
-            &mut self.entries,
-            Entry::DmaWrite {
-                at: address,
-                from: place as u64,
-                len: len as u32,
-            },
-        );
+        self.journal.note_dma_write(address, bytes);
         self.entries_left -= 1;
         self.bytes_left -= len;
     }

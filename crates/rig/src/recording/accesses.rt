@@ -7,10 +7,8 @@ ghost use Rattle.ring_entries.specs.Memory.{stored};
 ghost use Rattle.rig.specs.Recordings.{HasRoomFor};
 ghost use Rattle.rig.specs.Rigs.{told_of};
 
-use crate::notes::{note, note_bytes};
 use crate::recording::Recording;
 use hda_registers::Width;
-use hda_world::Entry;
 
 impl Recording {
     /// Reads a register.
@@ -22,7 +20,7 @@ impl Recording {
             → HasRoomFor entries bytes items self.new.journal self.new.heard }
     {
         let value = self.controller.read(at, width);
-        note(&mut self.journal, Entry::Read { at, width, value });
+        self.journal.note_read(at, width, value);
         value
     }
 
@@ -35,7 +33,7 @@ impl Recording {
             → HasRoomFor entries bytes items self.new.journal self.new.heard }
     {
         self.controller.write(at, width, value);
-        note(&mut self.journal, Entry::Write { at, width, value });
+        self.journal.note_write(at, width, value);
     }
 
     /// Reads the piece of memory from an address on.
@@ -48,16 +46,7 @@ impl Recording {
             → HasRoomFor entries bytes items self.new.journal self.new.heard }
     {
         copy_piece(&self.memory, address as usize, into);
-        let from = note_bytes(&mut self.journal, into);
-        let len = into.len() as u32;
-        note(
-            &mut self.journal,
-            Entry::DmaRead {
-                at: address,
-                from,
-                len,
-            },
-        );
+        self.journal.note_dma_read(address, into);
     }
 
     /// Writes a piece of memory from an address on.
@@ -70,16 +59,7 @@ impl Recording {
             → HasRoomFor entries bytes items self.new.journal self.new.heard }
     {
         store_piece(&mut self.memory, address as usize, piece);
-        let from = note_bytes(&mut self.journal, piece);
-        let len = piece.len() as u32;
-        note(
-            &mut self.journal,
-            Entry::DmaWrite {
-                at: address,
-                from,
-                len,
-            },
-        );
+        self.journal.note_dma_write(address, piece);
     }
 }
 

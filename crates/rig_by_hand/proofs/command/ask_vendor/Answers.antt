@@ -1,9 +1,20 @@
-use Rattle.std.proofs.Common.{◌≡◌, ℕ, ap, sym, subst, ◌∙◌}
-use Rattle.std.specs.Prelude.{Contains}
+use Rattle.std.proofs.Common.{◌≡◌, ℕ, false, ap, sym, subst, ◌∙◌}
+use Rattle.std.specs.Prelude.{Contains, IfOk, Result, Ok, Err, Option, Some}
+use Rattle.std.specs.Option.{unwrap_or}
+use Rattle.std.specs.Result.{result_ok}
 use Rattle.dma_pool.specs.declared.blocks.Lent.{Lent}
 use Rattle.dma_pool.specs.declared.runs.Run.{Run}
 use Rattle.dma_pool.specs.Blocks.{run_at}
+use Rattle.rig.specs.declared.rig.Rig.{Rig}
 use Rattle.rig_by_hand.proofs.command.ask_vendor.Goals as goal
+
+-- what is said of the rig where there is one
+closed : {E : Type 0} (made : Result Rig E) (rig : Rig) → IfOk made (λ some. some.in_run ≡ false) → Some rig ≡ result_ok made → rig.in_run ≡ false
+closed (Ok some) rig is same = ap (λ (found : Option Rig). (unwrap_or found rig).in_run) same ∙ is
+closed (Err fault) rig is same = cc
+
+pub run-outcome-requires-clause-closed : goal.run-outcome-requires-clause-closed
+run-outcome-requires-clause-closed c = closed _ _ c.new.ensures.in_run c.in_ok-rig.ensures.value
 
 -- the run of the first block is still taken, since that of the second is another
 pub give-requires-3 : goal.give-requires-3

@@ -27,7 +27,7 @@ use Rattle.scheduled_runs.proofs.Counting.{few_lines}
 use Rattle.scheduled_runs.proofs.Feeds.{first_supply, block_four}
 use Rattle.scheduled_runs.proofs.Gone.{opened_can_go}
 use Rattle.scheduled_runs.proofs.Listed.{lists_are}
-use Rattle.scheduled_runs.proofs.LineRecorded.{RunLaws}
+use Rattle.scheduled_runs.proofs.LineRecorded.{RunLaws, ring_some}
 use Rattle.scheduled_runs.proofs.Played.{driven}
 use Rattle.scheduled_runs.proofs.PlayedFrom.{source_for, fed_at_open, beside_first, sound_is_read, cut_is_under, none_empty, frames_given, given_most, not_memory}
 use Rattle.scheduled_runs.proofs.PlayedOver.{CanPlayFrom, sound, streams, some_block, over, used, end_is, few}
@@ -39,6 +39,9 @@ pub open_driver-requires : goal.open_driver-requires
 open_driver-requires g c =
     let lines = few_lines c.args.schedule.now in
     omega (arith, c.line_count.ensures, lines, c.requires.limits.steps)
+
+pub stream-requires-clause-some : goal.stream-requires-clause-some
+stream-requires-clause-some g c = subst (λ (ring : ℕ). 1 ≤ ring) (sym c.ring.ensures) (ring_some c.args.geometry)
 
 pub drive-requires-clause-fed : goal.drive-requires-clause-fed
 drive-requires-clause-fed g c =

@@ -3,6 +3,7 @@ use Rattle.hda_world.proofs.Callers.{row_both, told_both, told_map, told_pair}
 use Rattle.driver_stretches.specs.Commands.{ask_accesses}
 use Rattle.driver_stretches.specs.Shutting.{shut_accesses}
 use Rattle.driver_commands.specs.Commanding.{poll_by}
+use Rattle.driver_commands.proofs.Callers.{on_err}
 use Rattle.codec_bring_up.specs.Calls.{state_of}
 use Rattle.codec_bring_up.proofs.Asks.{asking_goes_on, led_stays, led_early, end_with, end_last, ended_there}
 use Rattle.codec_bring_up.proofs.Leading.{not_true, found_in, same_found, reads_look}
@@ -44,3 +45,13 @@ returns-clause-ends g c =
       looks = λ asking. told_map (λ before after both. end_looks old _ answer.clock looks.reads looked.rings _ before both.0 after looks.new_ones looks.rings_are refl refl both.1.0 both.1.1 both.2)
           (told_both (told_pair looks.made looks.tells) c.shut.ensures.made);
     }
+
+pub returns-in_err-self-clause-wanting : goal.returns-in_err-self-clause-wanting
+returns-in_err-self-clause-wanting g c =
+    let alone = c.in_err-self.ensures.wanting in
+    on_err c.from_residual.result (record {
+      made = alone.made;
+      by = row_both alone.by c.shut.ensures.made;
+      is = record { asking = c.requires.phase; finds = alone.is };
+      sent = refl;
+    })

@@ -1,13 +1,15 @@
 use Rattle.std.proofs.Common.{◌≡◌, ◌++◌, ℕ, List, [], Bool, Some, refl, subst, sym, ◌∙◌, true, false}
 use Rattle.std.specs.Prelude.{slice_index}
 use Rattle.std.specs.Option.{is_some}
-use Rattle.std.proofs.lemmas.Result.{on_ok_weaker}
+use Rattle.std.proofs.lemmas.Result.{on_ok_weaker, on_err_weaker}
 use Rattle.command_engine.proofs.Callers.{made_none}
 use Rattle.hda_world.proofs.Callers.{row_both, told_both, told_map}
 use Rattle.driver_stretches.specs.Interrupts.{interrupt_accesses}
 use Rattle.driver_stretches.proofs.Callers.{unread_both, interrupt_unread, looked_untaken}
 use Rattle.driver_commands.specs.Commanding.{IsStretch, answer_in}
 use Rattle.driver_progress.specs.Phases.{is_asking}
+use Rattle.hda_world.specs.Tellings.{Between, Makes}
+use Rattle.hda_world.specs.Events.{Event}
 use Rattle.codec_bring_up.specs.Calls.{state_of, Begins}
 use Rattle.codec_bring_up.proofs.Still.{irq_of, inactive_stretch, none_stretch_of, interrupted_stretch, interrupted_last, asking_active}
 use Rattle.codec_bring_up.proofs.Leading.{not_true, none_found, reads_none, reads_after, found_after, same_answer, interrupt_entries, interrupt_values, no_entries_looked}
@@ -78,3 +80,16 @@ returns-else-has_interrupt-clause-leads g c =
       settles = λ was. told_map (λ before after makes. settles_looked old looks.interrupts looks.stream before after was off makes) looks.made;
       stays = λ asking. told_map (λ before after makes. interrupts_stay old looks.interrupts looks.stream before after makes) looks.made;
     }
+
+pub returns-then-has_interrupt-clause-wanting : goal.returns-then-has_interrupt-clause-wanting
+returns-then-has_interrupt-clause-wanting g c =
+    let looks = c.has_interrupt.ensures.looks in
+    let on = sym looks.answer_is ∙ c.if-has_interrupt.true in
+    on_err_weaker c.run.result (λ fails. record {
+      first = interrupt_accesses looks.interrupts looks.stream;
+      is_before = record { interrupts = looks.interrupts; stream = looks.stream; on = on; is = refl };
+      made = fails.made;
+      by = row_both looks.made (subst (λ (first : List Event). Between (Makes (first ++ fails.made)) (g.P.Platform.told c.has_interrupt.new.platform) (g.P.Platform.told c.run.new.platform)) fails.is_before fails.by);
+      is = fails.is;
+      sent = fails.sent;
+    }) c.run.ensures.wanting

@@ -106,6 +106,25 @@ append-requires g c =
     let held = c.self.invariant.1 in
     omega (arith, held, long, most, fits)
 
+pub overflow_add-self : goal.overflow_add-self
+overflow_add-self g c =
+    let h = c.self.inside in
+    let size : ℕ = c.block_bytes-size.result in
+    let given : List ℕ = c.args.bytes.now in
+    let blocks : ℕ = length given / size in
+    let is = c.block_bytes-size.ensures in
+    let count : blocks ≡ length given / block_bytes c.args.format = ap (λ (n : ℕ). length given / n) is in
+    let lists_ok = sym h.lists.ok.0 in
+    let no_list = c.if-is_empty.false in
+    let empty_is = c.is_empty.ensures in
+    let room : length given / block_bytes c.args.format ≤ h.room =
+    room-of h.pieces.items h.bytes.items h.holes h.room (length given / block_bytes c.args.format) h.lists.items
+    (some_from (vec_len h.lists) h.lists.items c.is_empty.result empty_is no_list lists_ok)
+    (subst (HasRoom (length given / block_bytes c.args.format)) (sym c.self.view_is) c.requires.room) in
+    let fits : blocks ≤ h.room = subst (λ (n : ℕ). n ≤ h.room) (sym count) room in
+    let few = c.self.invariant.4 in
+    omega (arith, few, fits)
+
 pub overflow_sub-self : goal.overflow_sub-self
 overflow_sub-self g c =
     let h = c.self.inside in
@@ -158,7 +177,9 @@ invariant_of-self g c =
     with_items_is h.lists c.take_in.new.lists (many ∙ (ap length value ∙ lists_ok)) in
     let bytes_held = c.self.invariant.1 in
     let pieces_held = c.self.invariant.2 in
-    let few = c.self.invariant.3 in
+    let counted = c.self.invariant.3 in
+    let few = c.self.invariant.4 in
+    let count_took = took.count in
     let bytes_len = c.append.ensures.length in
     let bytes_cap = c.append.ensures.capacity in
     let pieces_len = c.take_in.ensures.length in
@@ -168,6 +189,7 @@ invariant_of-self g c =
           (took.kept h.bytes.items whole h.room are some fits long)),
       omega (arith, bytes_held, bytes_len, bytes_cap, long, most, fits),
       omega (arith, pieces_held, pieces_len, pieces_cap, some, fits),
+      omega (arith, counted, count_took),
       omega (arith, few, fits),
     )
 

@@ -1,10 +1,10 @@
-use Rattle.std.proofs.Common.{◌≡◌, ℕ, List, map, sym, ap, subst, ◌∙◌, arith, rules}
+use Rattle.std.proofs.Common.{◌≡◌, ◌+◌, ℕ, List, map, sym, ap, subst, ◌∙◌, arith, rules}
 use Rattle.std.specs.Vec as vec
 use Rattle.std.proofs.lemmas.List.{with_items_is}
 use Rattle.std.proofs.lemmas.Bool.Decides.{nat_tests}
 use Rattle.heard_lists.specs.declared.pieces.Piece.{Piece}
 use Rattle.heard_lists.specs.Listings.{HasRoom, handed_out}
-use Rattle.heard_lists.specs.Pieces.{PinSignals, AreKept, HaveRoom, listing_of, without_room}
+use Rattle.heard_lists.specs.Pieces.{PinSignals, AreKept, HaveRoom, listing_of, pieces_count, without_room}
 use Rattle.heard_lists.proofs.Pieced.{has-room}
 use Rattle.heard_lists.proofs.Reserved.{handed-same, as-long, fits-of, signalled-same, room-same}
 use Rattle.heard_lists.proofs.lists.HeardLists.make_room.Goals as goal
@@ -36,12 +36,13 @@ invariant_of-self-in_err-reserve_all c =
     (subst (λ (b : List ℕ). AreKept new h.pieces.items b h.room) (sym bytes_same) whole_new)) in
     let a = c.self.invariant.1 in
     let b = c.self.invariant.2 in
-    let e = c.self.invariant.3 in
+    let counted = c.self.invariant.3 in
+    let e = c.self.invariant.4 in
     let bl = c.in_ok-reserve.ensures.len in
     let bc = c.in_ok-reserve.ensures.capacity in
     let pl = c.in_ok-reserve-2.ensures.len in
     let pc = c.in_ok-reserve-2.ensures.capacity in
-    (there, omega (arith, a, bl, bc), omega (arith, b, pl, pc), e)
+    (there, omega (arith, a, bl, bc), omega (arith, b, pl, pc), subst (λ (p : List Piece). pieces_count p + h.holes ≡ h.count) (sym pieces_same) counted, e)
 
 pub returns-in_err-reserve_all-clause-kept : goal.returns-in_err-reserve_all-clause-kept
 returns-in_err-reserve_all-clause-kept c items has =
@@ -94,7 +95,8 @@ invariant_of-self-2 c =
     (subst (λ (b : List ℕ). AreKept new h.pieces.items b c.args.blocks) (sym bytes_same) whole_new)) in
     let a = c.self.invariant.1 in
     let b = c.self.invariant.2 in
-    let e = c.self.invariant.3 in
+    let counted = c.self.invariant.3 in
+    let e = c.self.invariant.4 in
     let bl = c.in_ok-reserve.ensures.len in
     let bo = c.in_ok-reserve.ensures.ok in
     let bc = c.in_ok-reserve.ensures.capacity in
@@ -105,7 +107,7 @@ invariant_of-self-2 c =
     let sum = c.checked_add.ensures in
     let none = c.if-is_none.false in
     let is = c.is_none.ensures in
-    (there, grind (arith, bl, bo, times), omega (arith, pl, po), search (rules))
+    (there, grind (arith, bl, bo, times), omega (arith, pl, po), subst (λ (p : List Piece). pieces_count p + h.holes ≡ h.count) (sym pieces_same) counted, search (rules))
 
 pub returns-clause-kept : goal.returns-clause-kept
 returns-clause-kept c items has =

@@ -2,13 +2,12 @@ use Rattle.std.proofs.Common.{ℕ, List, [], refl, sym, subst}
 use Rattle.std.proofs.lemmas.Grind.{merely}
 use Rattle.hda_controller.specs.Controllers.{StandsFor}
 use Rattle.rig.specs.Replays.{start_of}
-use Rattle.rig.proofs.Noting.{same_entries}
 use Rattle.rig.proofs.Where.{honest_same, where_same, where_started}
 use Rattle.rig.proofs.recording.Recording.new.Goals as goal
 
-pub invariant_of-result-2 : goal.invariant_of-result-2
-invariant_of-result-2 c =
-    let none = same_entries [] _ [] _ c.new-4.ensures.items c.new-3.ensures.items in
+pub invariant_of-result : goal.invariant_of-result
+invariant_of-result c =
+    let none = c.new-3.ensures in
     let stands : StandsFor c.in_ok-zeroed.field-0.items c.in_ok-controller.controller (start_of 4194304 c.args.machine) =
     subst (λ (bytes : List ℕ). StandsFor bytes c.in_ok-controller.controller (start_of 4194304 c.args.machine)) (sym c.in_ok-zeroed.ensures.items) (c.in_ok-controller.ensures.stands _) in
     record {

@@ -21,9 +21,9 @@ invariant_of-self c =
     λ world stood. c.step.ensures.heard world (subst (λ (bytes : List ℕ). StandsFor bytes c.args.self.now.controller world) (sym c.as_mut_slice.ensures.value) stood) in
     record {
       whole = ap length memory ∙ (c.step.auto.memory ∙ (ap length c.as_mut_slice.ensures.value ∙ c.args.self.now.whole));
-      honest = honest_more _ _ _ _ c.args.self.now.honest c.note.ensures.events tt;
+      honest = honest_more _ _ _ _ c.args.self.now.honest c.note_step.ensures.events tt;
       stands = ∥∥₁_map c.args.self.now.stands (λ was.
-          where_stepped _ _ _ _ _ _ c.args.step.now _ c.step.new.self c.step.new.heard was c.note.ensures.events
+          where_stepped _ _ _ _ _ _ c.args.step.now _ c.step.new.self c.step.new.heard was c.note_step.ensures.events
           (λ world stood. subst (λ (bytes : List ℕ). StandsFor bytes c.step.new.self (after_step c.args.step.now world)) (sym memory) (stands world stood)) grew c.step.ensures.lists);
       pins = ∥∥₁_map₂ c.args.self.now.stands c.args.self.now.pins (λ was are. listed_stepped _ _ _ _ _ (grew _ was.stands) are);
     }

@@ -5,8 +5,8 @@ use Rattle.rig.proofs.recording.Recording.write.Goals as goal
 pub invariant_of-self : goal.invariant_of-self
 invariant_of-self c = record {
   whole = c.args.self.now.whole;
-  honest = honest_more _ _ _ _ c.args.self.now.honest c.note.ensures.events tt;
+  honest = honest_more _ _ _ _ c.args.self.now.honest c.note_write.ensures.events tt;
   stands = ∥∥₁_map c.args.self.now.stands (λ was.
-      where_written _ _ _ _ _ _ c.args.at c.args.width c.args.value c.write.new.self was c.note.ensures.events c.write.ensures.stands c.write.ensures.lists);
+      where_written _ _ _ _ _ _ c.args.at c.args.width c.args.value c.write.new.self was c.note_write.ensures.events c.write.ensures.stands c.write.ensures.lists);
   pins = c.args.self.now.pins;
 }

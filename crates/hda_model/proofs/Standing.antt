@@ -1,0 +1,200 @@
+-- For which world a model stands, move by move.
+use Rattle.std.proofs.Common.{◌≡◌, ◌≤◌, ◌<◌, ◌+◌, ℕ, List, ◌++◌, length, map, drop, get_or, refl, sym, ap, subst, ◌∙◌, arith, length-append}
+use Rattle.std.specs.Prelude.{All, OnErr, Result, Ok, Err}
+use Rattle.std.proofs.lemmas.List.{length-map, get_or-map, drop-append-le}
+use Rattle.std.proofs.Math.Seq.{drop-length}
+use Rattle.std.proofs.lemmas.List.Elements.{All-map}
+use Rattle.std.proofs.lemmas.Simd.{map-map}
+use Rattle.device_steps.specs.declared.Step.{Step}
+use Rattle.hda_registers.specs.declared.shapes.Width.{Width}
+use Rattle.hda_files.specs.declared.machine.Machine.{Machine}
+use Rattle.codec_sound.specs.declared.heard.Heard.{Heard}
+use Rattle.codec_sound.specs.HeardLists.{heard}
+use Rattle.codec_sound.proofs.Callers.{heard-append}
+use Rattle.hda_world.specs.Worlds.{World, CarriedFrame}
+use Rattle.hda_world.specs.Events.{after_write}
+use Rattle.hda_world.specs.Steps.{after_step}
+use Rattle.hda_world.proofs.Callers.{access_leaves}
+use Rattle.heard_lists.specs.declared.pin_list.PinHeard.{PinHeard}
+use Rattle.heard_lists.specs.Listings.{Listing, AreListsOf, AreEmpty, grown, graphs_in, handed_out, with_items, forgotten, pins_of}
+use Rattle.hda_controller.specs.Controllers.{ControllerState, StandsFor}
+use Rattle.hda_controller.specs.Hearing.{Grew}
+use Rattle.hda_controller.specs.Openings.{opening_world}
+use Rattle.hda_model.specs.Models.{ModelState, StandsSince, AreHeardSince, SomeWorld, IsOpened, IsWritten, IsStepped, IsForgotten, with_memory, names_of, emptied}
+use Rattle.hda_model.specs.Keeping.{seen}
+
+-- ---- memory
+
+pub other_memory : (old new : List ℕ) (model : ModelState) (before : ℕ) (world : World) → StandsSince old model before world → StandsSince new model before (with_memory new world)
+other_memory old new model before world is = record {
+  stands = record {
+    memory_is = refl;
+    registers_are = is.stands.registers_are;
+    codecs_are = is.stands.codecs_are;
+    waiting_is = is.stands.waiting_is;
+    frames_are = is.stands.frames_are;
+    input_stands = is.stands.input_stands;
+    output_stands = is.stands.output_stands;
+  };
+  within = is.within;
+  heard = is.heard;
+}
+
+pub some_other : (old new : List ℕ) (model : ModelState) → SomeWorld old model → SomeWorld new model
+some_other old new model some = (some.0, with_memory new some.1, other_memory old new model some.0 some.1 some.2)
+
+-- ---- a write
+
+-- with as much carried, and the same heard
+pub carried_on : (memory : List ℕ) (before after : ModelState) (from : ℕ) (world new : World) → new.carried ≡ world.carried → after.pins ≡ before.pins
+    → StandsFor memory after.controller new → StandsSince memory before from world → StandsSince memory after from new
+carried_on memory before after from world new carried pins stands is = record {
+  stands = stands;
+  within = subst (λ (frames : List CarriedFrame). from ≤ length frames) (sym carried) is.within;
+  heard =
+      subst (λ (heard_pins : List PinHeard). AreHeardSince from new heard_pins) (sym pins)
+      (subst (λ (frames : List CarriedFrame). All (λ pin. pin.list ≡ heard pin.codec pin.pin (drop from frames)) before.pins) (sym carried) is.heard);
+}
+
+pub write_carries : (at : ℕ) (width : Width) (value : ℕ) (world : World) → (after_write at width value world).carried ≡ world.carried
+write_carries at width value world = (access_leaves world at value width).carried
+
+pub written : (at : ℕ) (width : Width) (value : ℕ) (old new : ControllerState) (lists : List Listing)
+    → ((memory : List ℕ) (world : World) → StandsFor memory old world → StandsFor memory new (after_write at width value world))
+    → IsWritten at width value (seen old lists) (seen new lists)
+written at width value old new lists stands = record {
+  stands = λ memory from world is.
+      carried_on memory (seen old lists) (seen new lists) from world (after_write at width value world) (write_carries at width value world) refl
+      (stands memory world is.stands) is;
+  pins = refl;
+}
+
+pub some_written : (at : ℕ) (width : Width) (value : ℕ) (before after : ModelState) → IsWritten at width value before after
+    → ((memory : List ℕ) → SomeWorld memory before) → (memory : List ℕ) → SomeWorld memory after
+some_written at width value before after is some memory =
+    let here = some memory in (here.0, after_write at width value here.1, is.stands memory here.0 here.1 here.2)
+
+-- ---- a step
+
+-- a fact about each list as it is handed out, at one of them
+handed_at : (P : PinHeard → Type 0) (lists : List Listing) → All P (map handed_out lists) → (k : ℕ) (d : Listing) → k < length lists → P (handed_out (get_or lists k d))
+handed_at P lists all k d within =
+    subst P (get_or-map handed_out lists k d (handed_out d) within)
+    (all k (handed_out d) (subst (λ (n : ℕ). k < n) (sym (length-map lists handed_out)) within))
+
+heard_more : (codec nid from : ℕ) (carried added : List CarriedFrame) (list : List Heard) → from ≤ length carried → list ≡ heard codec nid (drop from carried)
+    → list ++ heard codec nid added ≡ heard codec nid (drop from (carried ++ added))
+heard_more codec nid from carried added list within is =
+    ap (λ (items : List Heard). items ++ heard codec nid added) is
+    ∙ (sym (heard-append codec nid (drop from carried) added) ∙ ap (heard codec nid) (sym (drop-append-le from carried added within)))
+
+abbrev with_frames : List CarriedFrame → Listing → PinHeard
+with_frames added listing = handed_out (with_items (heard listing.codec listing.pin added) listing)
+
+handed_grown : (added : List CarriedFrame) (lists : List Listing) → map handed_out (grown added lists) ≡ map (with_frames added) lists
+handed_grown added lists = map-map handed_out (λ (listing : Listing). with_items (heard listing.codec listing.pin added) listing) lists
+
+heard_since : (from : ℕ) (world after : World) (lists new : List Listing) → from ≤ length world.carried → AreHeardSince from world (map handed_out lists)
+    → Grew world after lists new → AreHeardSince from after (map handed_out new)
+heard_since from world after lists new within are grew =
+    subst (λ (pins : List PinHeard). AreHeardSince from after pins) (sym (ap (map handed_out) grew.lists ∙ handed_grown grew.added lists))
+    (subst (λ (frames : List CarriedFrame). All (λ pin. pin.list ≡ heard pin.codec pin.pin (drop from frames)) (map (with_frames grew.added) lists)) (sym grew.carried)
+    (All-map (λ (pin : PinHeard). pin.list ≡ heard pin.codec pin.pin (drop from (world.carried ++ grew.added))) (with_frames grew.added) lists
+    (λ k d inside. heard_more (get_or lists k d).codec (get_or lists k d).pin from world.carried grew.added (get_or lists k d).list within
+    (handed_at (λ (pin : PinHeard). pin.list ≡ heard pin.codec pin.pin (drop from world.carried)) lists are k d inside))))
+
+pub stepped_since : (old new : List ℕ) (controller : ControllerState) (before reserved after : List Listing) (model : ControllerState) (from : ℕ) (world next : World)
+    → map handed_out reserved ≡ map handed_out before → StandsFor new model next → Grew world next reserved after
+    → StandsSince old (seen controller before) from world → StandsSince new (seen model after) from next
+stepped_since old new controller before reserved after model from world next same stands grew is = record {
+  stands = stands;
+  within = (
+      let more : length next.carried ≡ length world.carried + length grew.added = ap length grew.carried ∙ length-append world.carried grew.added in
+      omega (arith, is.within, more));
+  heard = heard_since from world next reserved after is.within (subst (λ (pins : List PinHeard). AreHeardSince from world pins) (sym same) is.heard) grew;
+}
+
+-- ---- names
+
+pub names_handed : (lists : List Listing) → names_of (map handed_out lists) ≡ pins_of lists
+names_handed lists = map-map (λ (pin : PinHeard). (pin.codec, pin.pin)) handed_out lists
+
+names_grown : (added : List CarriedFrame) (lists : List Listing) → pins_of (grown added lists) ≡ pins_of lists
+names_grown added lists = map-map (λ (listing : Listing). (listing.codec, listing.pin)) (λ (listing : Listing). with_items (heard listing.codec listing.pin added) listing) lists
+
+pub names_since : (world next : World) (before reserved after : List Listing) → map handed_out reserved ≡ map handed_out before → Grew world next reserved after
+    → names_of (map handed_out after) ≡ names_of (map handed_out before)
+names_since world next before reserved after same grew =
+    names_handed after ∙ (ap pins_of grew.lists ∙ (names_grown grew.added reserved ∙ (sym (names_handed reserved) ∙ ap names_of same)))
+
+pub stepped : (step : Step) (old new : List ℕ) (controller next : ControllerState) (before reserved after : List Listing) → map handed_out reserved ≡ map handed_out before
+    → ((world : World) → StandsFor old controller world → StandsFor new next (after_step step world))
+    → ((world : World) → StandsFor old controller world → Grew world (after_step step world) reserved after)
+    → SomeWorld old (seen controller before) → IsStepped step old new (seen controller before) (seen next after)
+stepped step old new controller next before reserved after same stands grew some = record {
+  stands = λ from world is.
+      stepped_since old new controller before reserved after next from world (after_step step world) same (stands world is.stands) (grew world is.stands) is;
+  names = names_since some.1 (after_step step some.1) before reserved after same (grew some.1 some.2.stands);
+}
+
+pub some_stepped : (step : Step) (old new : List ℕ) (before after : ModelState) → IsStepped step old new before after
+    → ((memory : List ℕ) → SomeWorld memory before) → (memory : List ℕ) → SomeWorld memory after
+some_stepped step old new before after is some memory =
+    let here = some old in some_other new memory after (here.0, after_step step here.1, is.stands here.0 here.1 here.2)
+
+-- ---- forgetting
+
+pub forgotten_pins : (lists : List Listing) → map handed_out (map forgotten lists) ≡ map emptied (map handed_out lists)
+forgotten_pins lists = map-map handed_out forgotten lists ∙ sym (map-map emptied handed_out lists)
+
+pub forgotten_since : (memory : List ℕ) (before after : ModelState) (from : ℕ) (world : World) → after.controller ≡ before.controller → after.pins ≡ map emptied before.pins
+    → StandsSince memory before from world → StandsSince memory after (length world.carried) world
+forgotten_since memory before after from world controller pins is = record {
+  stands = subst (λ (state : ControllerState). StandsFor memory state world) (sym controller) is.stands;
+  within = omega arith;
+  heard =
+      subst (λ (heard_pins : List PinHeard). AreHeardSince (length world.carried) world heard_pins) (sym pins)
+      (All-map (λ (pin : PinHeard). pin.list ≡ heard pin.codec pin.pin (drop (length world.carried) world.carried)) emptied before.pins
+      (λ k d inside. ap (heard (get_or before.pins k d).codec (get_or before.pins k d).pin) (sym (drop-length world.carried))));
+}
+
+pub forgot : (before after : ModelState) → after.controller ≡ before.controller → after.pins ≡ map emptied before.pins → IsForgotten before after
+forgot before after controller pins = record {
+  stands = λ memory from world is. forgotten_since memory before after from world controller pins is;
+  controller = controller;
+  pins = pins;
+}
+
+pub some_forgotten : (before after : ModelState) → IsForgotten before after → ((memory : List ℕ) → SomeWorld memory before) → (memory : List ℕ) → SomeWorld memory after
+some_forgotten before after is some memory =
+    let here = some memory in (length here.1.carried, here.1, is.stands memory here.0 here.1 here.2)
+
+-- ---- the start
+
+pub opened : (machine : Machine) (controller : ControllerState) (lists : List Listing) → ((memory : List ℕ) → StandsFor memory controller (opening_world memory machine))
+    → AreListsOf (graphs_in machine.codecs) lists → AreEmpty lists → IsOpened machine (seen controller lists)
+opened machine controller lists stands listed empty = record {
+  stands = λ memory. record {
+    stands = stands memory;
+    within = omega arith;
+    heard = All-map (λ (pin : PinHeard). pin.list ≡ heard pin.codec pin.pin (drop 0 (opening_world memory machine).carried)) handed_out lists (λ k d inside. empty k d inside);
+  };
+  pins = record { orders = listed.orders; ordered = listed.ordered; names = names_handed lists ∙ listed.pins };
+}
+
+pub some_opened : (machine : Machine) (model : ModelState) → IsOpened machine model → (memory : List ℕ) → SomeWorld memory model
+some_opened machine model is memory = (0, opening_world memory machine, is.stands memory)
+
+-- ---- other room
+
+abbrev model_of : ControllerState → List PinHeard → ModelState
+model_of controller pins = record { controller = controller; pins = pins }
+
+-- the same lists with other room are the same model
+pub other_room : (controller : ControllerState) (old new : List Listing) → map handed_out new ≡ map handed_out old → seen controller new ≡ seen controller old
+other_room controller old new same = ap (λ (pins : List PinHeard). model_of controller pins) same
+
+-- a fact that holds whatever came is so where it is an error
+pub on_err : {T E P : Type 0} (result : Result T E) → P → OnErr result P
+on_err (Ok done) p = tt
+on_err (Err fault) p = p
