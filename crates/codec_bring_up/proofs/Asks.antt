@@ -1,5 +1,5 @@
 -- A call while commands are sent leads where progress says.
-use Rattle.std.proofs.Common.{◌≡◌, ℕ, List, [], ◌++◌, Bool, true, false, Option, Some, None, refl, sym, ap, subst, ◌∙◌, arith}
+use Rattle.std.proofs.Common.{◌≡◌, ◌≢◌, ℕ, List, [], ◌++◌, Bool, true, false, Option, Some, None, refl, sym, ap, subst, ◌∙◌, arith}
 use Rattle.std.specs.Prelude.{◌&&◌, not}
 use Rattle.std.specs.Option.{is_some}
 use Rattle.command_engine.specs.declared.ring_places.RingPlaces.{RingPlaces}
@@ -115,6 +115,20 @@ led_early polls.Idle outstanding phase phase' old new asking led = ap is_early l
 led_early (polls.Answered word) outstanding phase phase' old new asking led = follows_early phase' led.0
 led_early polls.Waiting outstanding phase phase' old new asking led = ap is_early led.0 ∙ asking_early phase asking
 led_early (polls.Unanswered issued noticed) outstanding phase phase' old new asking led = ap is_early led.0 ∙ given_up outstanding issued noticed phase (asking_early phase asking)
+
+not_failed : (phase : Phase) → is_asking phase ≡ true → phase ≢ Failed
+not_failed phase asking failed = not_true (sym (ap is_asking failed) ∙ asking)
+
+given_up_unfailed : (outstanding : Option Outstanding) (issued noticed : ℕ) (phase : Phase) → is_asking phase ≡ true → unanswered_if outstanding issued noticed phase ≢ Failed
+given_up_unfailed None issued noticed phase asking failed = not_failed phase asking failed
+given_up_unfailed (Some command) issued noticed phase asking failed = cc
+
+-- the phase after a look is none of want of memory
+pub led_unfailed : (poll : Poll) (outstanding : Option Outstanding) (phase phase' : Phase) (old new : Agenda) → is_asking phase ≡ true → LedTo poll outstanding phase old phase' new → phase' ≢ Failed
+led_unfailed polls.Idle outstanding phase phase' old new asking led failed = not_failed phase asking (sym led.0 ∙ failed)
+led_unfailed (polls.Answered word) outstanding phase phase' old new asking led failed = not_true (sym (ap can_follow failed) ∙ led.0)
+led_unfailed polls.Waiting outstanding phase phase' old new asking led failed = not_failed phase asking (sym led.0 ∙ failed)
+led_unfailed (polls.Unanswered issued noticed) outstanding phase phase' old new asking led failed = given_up_unfailed outstanding issued noticed phase asking (sym led.0 ∙ failed)
 
 free_goes_on : (poll : Poll) (outstanding : Option Outstanding) (phase phase' : Phase) (old new : Agenda) → is_asking phase ≡ true → LedTo poll outstanding phase old phase' new → leaves_free poll phase' ≡ true → goes_on phase' ≡ true
 free_goes_on polls.Idle outstanding phase phase' old new asking led free = ap goes_on led.0 ∙ asking_goes_on phase asking

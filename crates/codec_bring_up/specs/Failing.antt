@@ -42,3 +42,7 @@ pub record FailsLast (old new : BringUp) (before after : Option Telling) : Type 
   pub by : Between (Makes (made ++ shut_accesses)) before after
   pub is : FailsToTake old new made
   pub sent : new.sent ≡ old.sent
+
+-- so the last call of a bring-up that is not there any more
+abbrev pub FailsWith : (old : BringUp) (before after : Option Telling) → Type 0
+FailsWith old before after = (new : BringUp) × FailsLast old new before after

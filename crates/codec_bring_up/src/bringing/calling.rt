@@ -1,5 +1,5 @@
 //! Calls.
-ghost use Rattle.std.specs.Prelude.{◌≡◌, ◌≤◌, ◌<◌, ◌+◌, ◌*◌, true, false, OnOk, OnErr};
+ghost use Rattle.std.specs.Prelude.{◌≡◌, ◌≢◌, ◌≤◌, ◌<◌, ◌+◌, ◌*◌, true, false, OnOk, OnErr};
 ghost use Rattle.driver_progress.specs.declared.phase.Phase.TheVariants as phases;
 ghost use Rattle.driver_progress.specs.Phases.{is_asking};
 ghost use Rattle.codec_bring_up.specs.Calls as spec;
@@ -20,6 +20,7 @@ impl BringUp {
     pub(crate) fn reset<P: Platform>(&mut self, platform: &mut P)
         requires phase { self.old.phase ≡ phases.Reset }
         requires room { 5 ≤ P.spare_accesses platform.old }
+        ensures unfailed { self.new.phase ≢ phases.Failed }
         ensures leads { spec.LeadsUnread self.old self.new (P.told platform.old) (P.told platform.new) }
         ensures kept { spec.IsKept self.old self.new }
         ensures fixed { P.fixed platform.new ≡ P.fixed platform.old }
@@ -42,6 +43,7 @@ impl BringUp {
         ensures leads { OnOk result (spec.LeadsUnread self.old self.new (P.told platform.old) (P.told platform.new)) }
         ensures kept { spec.IsKept self.old self.new }
         ensures failed { OnErr result (self.new.phase ≡ phases.Failed) }
+        ensures unfailed { OnOk result (self.old.phase ≢ phases.Failed → self.new.phase ≢ phases.Failed) }
         ensures wanting { OnErr result (Fails false self.old self.new (P.told platform.old) (P.told platform.new)) }
         ensures fixed { P.fixed platform.new ≡ P.fixed platform.old }
         ensures accesses { P.spare_accesses platform.old ≤ P.spare_accesses platform.new + 17 }
@@ -78,6 +80,7 @@ impl BringUp {
             (P.told platform.old) (P.told platform.new)) }
         ensures kept { spec.IsKept self.old self.new }
         ensures failed { OnErr result (self.new.phase ≡ phases.Failed) }
+        ensures unfailed { OnOk result (self.old.phase ≢ phases.Failed → self.new.phase ≢ phases.Failed) }
         ensures wanting { OnErr result (Fails false self.old self.new (P.told platform.old) (P.told platform.new)) }
         ensures fixed { P.fixed platform.new ≡ P.fixed platform.old }
         ensures accesses { P.spare_accesses platform.old ≤ P.spare_accesses platform.new + 261 }
@@ -124,6 +127,7 @@ impl BringUp {
             (P.told platform.old) (P.told platform.new)) }
         ensures kept { spec.IsKept self.old self.new }
         ensures failed { OnErr result (self.new.phase ≡ phases.Failed) }
+        ensures unfailed { OnOk result (self.old.phase ≢ phases.Failed → self.new.phase ≢ phases.Failed) }
         ensures wanting { OnErr result (FailsLast self.old self.new (P.told platform.old) (P.told platform.new)) }
         ensures shut { OnErr result (IsShut (P.told platform.new)) }
         ensures fixed { P.fixed platform.new ≡ P.fixed platform.old }

@@ -1,5 +1,5 @@
 //! A call, a call for an interrupt, and the last one.
-ghost use Rattle.std.specs.Prelude.{◌≡◌, ◌≤◌, ◌<◌, ◌+◌, true, false, OnOk, OnErr};
+ghost use Rattle.std.specs.Prelude.{◌≡◌, ◌≢◌, ◌≤◌, ◌<◌, ◌+◌, true, false, OnOk, OnErr};
 ghost use Rattle.driver_progress.specs.declared.phase.Phase.TheVariants as phases;
 ghost use Rattle.driver_progress.specs.Phases as progress;
 ghost use Rattle.codec_bring_up.specs.Calls as spec;
@@ -37,6 +37,7 @@ impl BringUp {
             (P.told platform.old) (P.told platform.new)) }
         ensures kept { spec.IsKept self.old self.new }
         ensures failed { OnErr result (self.new.phase ≡ phases.Failed) }
+        ensures unfailed { OnOk result (self.old.phase ≢ phases.Failed → self.new.phase ≢ phases.Failed) }
         ensures wanting { OnErr result (Fails false self.old self.new (P.told platform.old) (P.told platform.new)) }
         ensures cause { OnErr result (spec.takes_memory self.old.phase ≡ true) }
         ensures fixed { P.fixed platform.new ≡ P.fixed platform.old }
@@ -75,6 +76,7 @@ impl BringUp {
             (P.told platform.old) (P.told platform.new)) }
         ensures kept { spec.IsKept self.old self.new }
         ensures failed { OnErr result (self.new.phase ≡ phases.Failed) }
+        ensures unfailed { OnOk result (self.old.phase ≢ phases.Failed → self.new.phase ≢ phases.Failed) }
         ensures wanting { OnErr result (Fails true self.old self.new (P.told platform.old) (P.told platform.new)) }
         ensures cause { OnErr result (spec.takes_memory self.old.phase ≡ true) }
         ensures fixed { P.fixed platform.new ≡ P.fixed platform.old }
@@ -128,6 +130,7 @@ impl BringUp {
             (P.told platform.old) (P.told platform.new)) }
         ensures kept { spec.IsKept self.old self.new }
         ensures failed { OnErr result (self.new.phase ≡ phases.Failed) }
+        ensures unfailed { OnOk result (self.old.phase ≢ phases.Failed → self.new.phase ≢ phases.Failed) }
         ensures wanting { OnErr result (FailsLast self.old self.new (P.told platform.old) (P.told platform.new)) }
         ensures cause { OnErr result (progress.is_asking self.old.phase ≡ true) }
         ensures shut { OnErr result (IsShut (P.told platform.new)) }

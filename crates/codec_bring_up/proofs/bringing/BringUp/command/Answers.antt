@@ -9,7 +9,7 @@ use Rattle.driver_progress.specs.Phases.{is_asking}
 use Rattle.driver_commands.specs.Standing.{next_on}
 use Rattle.driver_commands.specs.Commanding.{order_if, submit_made, poll_by, rings_with}
 use Rattle.codec_bring_up.specs.Calls.{state_of, sent_if}
-use Rattle.codec_bring_up.proofs.Asks.{asking_goes_on, led_stays, led_early, started_with, command_with, command_last, ended_there, sent_same}
+use Rattle.codec_bring_up.proofs.Asks.{asking_goes_on, led_stays, led_early, led_unfailed, started_with, command_with, command_last, ended_there, sent_same}
 use Rattle.codec_bring_up.proofs.Leading.{submits_none, found_in, same_found, reads_look, waits_by}
 use Rattle.codec_bring_up.proofs.Staying.{command_stays, at_blocks, made_there}
 use Rattle.codec_bring_up.proofs.bringing.BringUp.command.Goals as goal
@@ -78,3 +78,9 @@ returns-clause-leads g c =
           command_stays old _ answer.clock looks.reads answer.is_free order looked.rings _ before both.0 after looks.new_ones looks.rings_are rings (waits_by old.engine.rings.outstanding (found_by old.engine.rings looks.reads) answer.clock old.phase answer.phase old.agenda agenda looks.led) idle refl sent both.1.0 both.1.1 both.2.0 both.2.1)
           (told_both (told_pair looks.made looks.tells) (told_pair submits (at_blocks corb rirb looks.rings_are submitted.tells)));
     }
+
+pub returns-clause-unfailed : goal.returns-clause-unfailed
+returns-clause-unfailed g c = λ was.
+    let old = c.args.self.now in
+    let looks = c.in_ok-answer.ensures.looks in
+    led_unfailed (poll_by old.engine.rings looks.reads c.in_ok-answer.answer.clock) old.engine.rings.outstanding old.phase c.in_ok-answer.answer.phase old.agenda c.look_for_answer.new.agenda c.requires.phase looks.led

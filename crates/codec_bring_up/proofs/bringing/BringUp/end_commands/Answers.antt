@@ -5,7 +5,7 @@ use Rattle.driver_stretches.specs.Shutting.{shut_accesses}
 use Rattle.driver_commands.specs.Commanding.{poll_by}
 use Rattle.driver_commands.proofs.Callers.{on_err}
 use Rattle.codec_bring_up.specs.Calls.{state_of}
-use Rattle.codec_bring_up.proofs.Asks.{asking_goes_on, led_stays, led_early, end_with, end_last, ended_there}
+use Rattle.codec_bring_up.proofs.Asks.{asking_goes_on, led_stays, led_early, led_unfailed, end_with, end_last, ended_there}
 use Rattle.codec_bring_up.proofs.Leading.{not_true, found_in, same_found, reads_look}
 use Rattle.codec_bring_up.proofs.Staying.{end_looks}
 use Rattle.codec_bring_up.proofs.bringing.BringUp.end_commands.Goals as goal
@@ -55,3 +55,9 @@ returns-in_err-self-clause-wanting g c =
       is = record { asking = c.requires.phase; finds = alone.is };
       sent = refl;
     })
+
+pub returns-clause-unfailed : goal.returns-clause-unfailed
+returns-clause-unfailed g c = λ was.
+    let old = c.args.self.now in
+    let looks = c.in_ok-self.ensures.looks in
+    led_unfailed (poll_by old.engine.rings looks.reads c.in_ok-self.field-0.clock) old.engine.rings.outstanding old.phase c.in_ok-self.field-0.phase old.agenda c.look_for_answer-answer.new.agenda c.requires.phase looks.led
