@@ -20,15 +20,6 @@ pub const RIRB_BYTES: u32 = 2_048;
 /// How many events wait at most.
 pub const MOST_EVENTS: usize = 256;
 
-/// Why there is no engine.
-#[derive(Clone, Copy, Debug, PartialEq, Eq)]
-pub enum OpenFault {
-    /// The pool has no run for CORB, or after that none for RIRB.
-    NoRun,
-    /// Want of memory.
-    OutOfMemory,
-}
-
 /// The driver's side of both rings (HDA 1.0a, 4.4). It owns their blocks, which it gives back when it is closed, and
 /// keeps nothing of a platform between its calls.
 pub struct Engine {

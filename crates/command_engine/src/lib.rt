@@ -10,7 +10,8 @@ mod memory;
 mod ring_places;
 
 pub use answers::{ANSWER_LIMIT, Event, Outstanding, Poll};
-pub use engine::{CORB_BYTES, Engine, MOST_EVENTS, OpenFault, RIRB_BYTES};
+pub use engine::{CORB_BYTES, Engine, MOST_EVENTS, RIRB_BYTES};
+pub use hda_platform::OpenFault;
 pub use laws::{
     a_reset_leads_to_a_start, a_start_stays_possible, events_beside_keep_standing,
     few_responses_are_unread, settled_codecs_answer_whole, steps_keep_standing,

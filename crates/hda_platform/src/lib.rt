@@ -13,4 +13,5 @@ pub use hda_world::{
     steps_leave_other_codecs, steps_write_rirb_alone, write_beside_rings_leaves,
 };
 pub use memory_platform::MemoryPlatform;
+pub use open_fault::OpenFault;
 pub use platform::Platform;

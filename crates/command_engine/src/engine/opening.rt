@@ -4,10 +4,11 @@ ghost use Rattle.dma_pool.specs.Blocks.{run_at};
 ghost use Rattle.command_engine.specs.Blocks.{corb_bytes, rirb_bytes};
 ghost use Rattle.command_engine.specs.Opening as spec;
 
-use super::{CORB_BYTES, Engine, MOST_EVENTS, OpenFault, RIRB_BYTES};
+use super::{CORB_BYTES, Engine, MOST_EVENTS, RIRB_BYTES};
 use crate::ring_places::RingPlaces;
 use circular_buffer::HeapCircularBuffer;
 use dma_pool::Pool;
+use hda_platform::OpenFault;
 use hda_registers::RingSize;
 use std::alloc::Global;
 

@@ -1,15 +1,16 @@
 //! How a writer is opened and closed.
-ghost use Rattle.std.specs.Prelude.{◌≡◌, ◌≤◌, [], None, IfOk, OnErr, length, replicate, max, vec_capacity};
+ghost use Rattle.std.specs.Prelude.{◌≡◌, ◌≤◌, [], None, IfOk, OnOk, OnErr, length, replicate, max, vec_capacity};
 ghost use Rattle.period_writer.specs.Rings.{period_bytes};
 ghost use Rattle.period_writer.specs.Runs.{course_opened};
 ghost use Rattle.period_writer.specs.Writers.{OwnsBlocks, periods_of};
 ghost use Rattle.period_writer.specs.Opening as spec;
 
-use super::{OpenFault, Records, Writer};
-use crate::blocks::{empty_places, end_places, give_all, take_periods};
+use super::{Records, Writer};
+use crate::blocks::{empty_places, end_places, give_all, meet_runs, take_periods};
 use crate::course::{Course, Ran, Run, Span};
 use crate::geometry::Geometry;
-use dma_pool::{Block, Lent, Pool};
+use dma_pool::{Block, Lent, NoRun, Pool};
+use hda_platform::OpenFault;
 use std::alloc::{AllocError, Global};
 use stream_moves::BUFFER_ENTRY_BYTES;
 
@@ -71,8 +72,50 @@ impl Writer {
     /// makes room to record so many runs, and one where that is 0.
     ///
     /// # Errors
-    /// `NoRun` exactly where one of these takes, in this order, meets no run. After each error the pool is as it was.
+    /// `NoRun` exactly where one of these takes, in this order, meets no run; `OutOfMemory` where each of them meets one.
+    /// After each error the pool is as it was.
     pub fn open(
+        alloc: Global,
+        pool: &mut Pool,
+        geometry: Geometry,
+        runs: u32,
+    ) -> Result<Writer, OpenFault>
+        ensures opens { IfOk result (λ writer.
+            spec.Opens geometry pool.old writer.list.address (periods_of writer) pool.new) }
+        ensures owns { IfOk result (λ writer. OwnsBlocks pool.new.taken writer) }
+        ensures geometry { IfOk result (λ writer. writer.geometry ≡ geometry) }
+        ensures records { IfOk result (λ writer. writer.records ≡ max runs 1) }
+        ensures runs { IfOk result (λ writer. writer.runs ≡ []) }
+        ensures silences { IfOk result (λ writer. writer.silences ≡ []) }
+        ensures course { IfOk result (λ writer. writer.course ≡ course_opened) }
+        ensures no_run { result ≡ Err OpenFault.NoRun → spec.HasNoRuns geometry pool.old }
+        ensures no_memory { result ≡ Err OpenFault.OutOfMemory → spec.HasRuns geometry pool.old }
+        ensures unchanged { OnErr result (pool.new ≡ pool.old) }
+    {
+        if Writer::meets_runs(pool, &geometry).is_err() {
+            return Err(OpenFault::NoRun);
+        }
+        Writer::open_blocks(alloc, pool, geometry, runs)
+    }
+
+    /// Whether the takes of [`Writer::open`] for a ring of this geometry meet a run each, in its order. Nothing is
+    /// taken.
+    ///
+    /// # Errors
+    /// `NoRun` exactly where one of them meets none.
+    pub fn meets_runs(pool: &mut Pool, geometry: &Geometry) -> Result<(), NoRun>
+        ensures runs { OnOk result (spec.HasRuns geometry.now pool.old) }
+        ensures none { OnErr result (spec.HasNoRuns geometry.now pool.old) }
+        ensures unchanged { pool.new ≡ pool.old }
+    {
+        let list = pool.take(BUFFER_ENTRY_BYTES * u32::from(geometry.periods()))?;
+        let met = meet_runs(pool, geometry.period_bytes(), geometry.periods());
+        pool.give(list);
+        met
+    }
+
+    /// Takes the blocks, and makes room.
+    fn open_blocks(
         alloc: Global,
         pool: &mut Pool,
         geometry: Geometry,
