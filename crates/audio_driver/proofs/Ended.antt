@@ -92,5 +92,6 @@ ends_playing old new writer tally' supply answer before listened stopped after c
         run_made = both.2.1.0;
         tells = λ pcm left. both.2.1.1 (record { pcm = pcm; is = left });
         shut = both.2.2;
+        rings = listens.rings;
       })) (told_both listens.made (told_both (told_pair finishes.made (told_each finishes.made run_told)) shut));
     }

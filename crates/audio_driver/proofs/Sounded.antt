@@ -98,7 +98,7 @@ over_sounds old writer supply budget told started over = record {
   sound = λ pcm left. left;
   counted = λ events counts. counts;
   stays = record { corb = refl; rirb = refl; phase = refl; kept = refl; sent = refl; agenda = refl; geometry = refl; list = refl; periods = refl; records = refl };
-  tells = told_map (λ before after makes. inl (record { cause = inr over; looks = inl refl; bring_up = refl; writer_is = refl })) (made_none told);
+  tells = told_map (λ before after makes. inl (record { cause = inr over; looks = inl refl; over = λ closed. refl; bring_up = refl; writer_is = refl })) (made_none told);
 }
 
 -- a call for an interrupt does not look for one then
@@ -112,7 +112,7 @@ over_sounds_irq old writer supply budget told started over = record {
   sound = λ pcm left. left;
   counted = λ events counts. counts;
   stays = record { corb = refl; rirb = refl; phase = refl; kept = refl; sent = refl; agenda = refl; geometry = refl; list = refl; periods = refl; records = refl };
-  tells = told_map (λ before after makes. inl (record { cause = inr over; looks = inl refl; bring_up = refl; writer_is = refl })) (made_none told);
+  tells = told_map (λ before after makes. inl (record { cause = inr over; looks = inl refl; over = λ closed. refl; bring_up = refl; writer_is = refl })) (made_none told);
 }
 
 -- ---- the first run
@@ -223,6 +223,9 @@ active_phase old writer ready more =
     ap (λ (phase : Phase). is_active (phase_if writer.course.started phase writer.course.ran)) ready
     ∙ open_active writer.course.started writer.course.ran more
 
+never : false ≡ true → ⊥
+never is = cc
+
 -- there is none
 pub quiet_sounds : (old : BringUp) (writer : WriterState) (supply : List ℕ) (budget interrupts stream : ℕ) (before after : Option Telling) → old.phase ≡ Ready → is_open writer.course.ran ≡ true → has_bit interrupts 31 ≡ false
     → Between (Makes (interrupt_accesses interrupts stream)) before after → Sounds true budget old old writer writer supply supply before after
@@ -237,12 +240,10 @@ quiet_sounds old writer supply budget interrupts stream before after ready more 
       sound = λ pcm left. left;
       counted = counts_same made [] old old none (λ events counts. counts);
       stays = record { corb = refl; rirb = refl; phase = refl; kept = refl; sent = refl; agenda = refl; geometry = refl; list = refl; periods = refl; records = refl };
-      tells = told_map (λ before after makes. inl (record { cause = inl (ap not off); looks = inr (record { interrupts = interrupts; stream = stream; is = refl }); bring_up = refl; writer_is = refl })) looked;
+      tells = told_map (λ before after makes. inl (record { cause = inl (ap not off); looks = inr (record { interrupts = interrupts; stream = stream; is = refl }); over = λ closed. absurd (never (sym closed ∙ more)); bring_up = refl; writer_is = refl })) looked;
     }
 
 -- there is one
-never : false ≡ true → ⊥
-never is = cc
 
 alone : (first made : List Event) → first ≡ [] → first ++ made ≡ made
 alone first made none = ap (λ (first : List Event). first ++ made) none

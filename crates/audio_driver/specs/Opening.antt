@@ -28,6 +28,11 @@ pub record HasNoRing (geometry : Geometry) (pool : PoolState) : Type 0 where
 abbrev pub HasNoRuns : Geometry → PoolState → Type 0
 HasNoRuns geometry pool = of_engine.HasNoRuns pool ⊎ HasNoRing geometry pool
 
+-- all of them meet one
+abbrev pub HasRuns : Geometry → PoolState → Type 0
+HasRuns geometry pool =
+    (corb : ℕ) × (rirb : ℕ) × (list : ℕ) × (periods : List ℕ) × (pool' : PoolState) × Opens geometry pool corb rirb list periods pool'
+
 -- where a driver begins: nothing was done yet, and nothing was played
 pub record IsOpened (geometry : Geometry) (most : ℕ) (bring_up : BringUp) (writer : WriterState) : Type 0 where
   pub phase : bring_up.phase ≡ Reset

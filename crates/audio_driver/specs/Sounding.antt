@@ -31,6 +31,7 @@ pub record IsLook (made : List Event) : Type 0 where
 pub record IsStill (irq : Bool) (old new : BringUp) (writer writer' : WriterState) (made : List Event) : Type 0 where
   pub cause : (found_none irq made ≡ true) ⊎ (is_open writer.course.ran ≡ false)
   pub looks : (made ≡ []) ⊎ IsLook made
+  pub over : is_open writer.course.ran ≡ false → made ≡ []
   pub bring_up : new ≡ old
   pub writer_is : writer' ≡ writer
 
@@ -116,6 +117,7 @@ pub record StopsSound (old ended : BringUp) (writer : WriterState) (tally' : Tal
   pub run_made : Makes run begins ends
   pub tells : (pcm : List ℕ) → supply ≡ drop writer.course.used pcm → FinishTellsOf (ring_of writer) pcm (tally_of writer) tally'.course.ran tally' begins ends
   pub shut : Makes shut_accesses ends after
+  pub rings : ended.engine.rings ≡ rings_polled old.engine.rings reads
 
 abbrev pub EndTells : (old ended : BringUp) (writer : WriterState) (tally' : Tally) (supply : List ℕ) (made : List Event) → Telling → Telling → Type 0
 EndTells old ended writer tally' supply made before after =

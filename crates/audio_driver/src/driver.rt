@@ -10,7 +10,6 @@ mod sounding;
 pub use closing::Closed;
 use codec_bring_up::BringUp;
 use dma_pool::Pool;
-pub use opening::OpenFault;
 use period_writer::Writer;
 use route_setup::Setter;
 use std::marker::Model;

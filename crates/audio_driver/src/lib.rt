@@ -4,4 +4,6 @@
 
 mod driver;
 
-pub use driver::{Closed, Driver, OpenFault};
+pub use driver::{Closed, Driver};
+pub use driver_progress::{Jack, Phase};
+pub use hda_platform::OpenFault;

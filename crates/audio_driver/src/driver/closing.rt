@@ -7,6 +7,7 @@ ghost use Rattle.command_engine.specs.Blocks.{corb_bytes, rirb_bytes};
 ghost use Rattle.period_writer.specs.Writers.{OwnsBlocks, periods_of, ring_size};
 ghost use Rattle.driver_progress.specs.Phases.{is_asking};
 ghost use Rattle.codec_bring_up.specs.Told.{IsShut};
+ghost use Rattle.codec_bring_up.specs.Failing.{FailsWith};
 ghost use Rattle.audio_driver.specs.States as states;
 ghost use Rattle.audio_driver.specs.Closing as spec;
 ghost use Rattle.audio_driver.specs.Drivers.{TakesBlocks, GivesBlocks};
@@ -80,6 +81,7 @@ impl<T: Setter + Drop> Driver<T> {
             → TakesBlocks self.writer.geometry before self → closed.pool ≡ before) }
         ensures cause { OnErr result (is_asking (states.phase_of self.bring_up self.writer) ≡ true) }
         ensures shut { OnErr result (IsShut (P.told platform.new)) }
+        ensures wanting { OnErr result (FailsWith self.bring_up (P.told platform.old) (P.told platform.new)) }
         ensures fixed { P.fixed platform.new ≡ P.fixed platform.old }
         ensures accesses { P.spare_accesses platform.old ≤ P.spare_accesses platform.new + 299 }
         ensures bytes { P.spare_bytes platform.old ≤ P.spare_bytes platform.new + (ring_size self.writer + 2040) }
@@ -126,7 +128,10 @@ impl<T: Setter + Drop> Driver<T> {
         }
     }
 
-    /// Lets a driver go without a call more: the controller stays as it is, and all blocks go back to the pool.
+    /// Lets a driver go without a call more, and all blocks go back to the pool. The controller stays as it is: where it
+    /// was reset by this driver and not since, it may go on to read and write these blocks, so the pool is of use again
+    /// only once the controller was reset or its engines were stopped by other means (HDA 1.0a, 3.3.7). It is for where
+    /// no call can be made any more.
     pub fn abandon(self) -> Pool
         ensures gives { GivesBlocks self result }
         ensures pool { (before : PoolState) → TakesBlocks self.writer.geometry before self → result ≡ before }

@@ -1,10 +1,11 @@
 //! Calls of a driver.
-ghost use Rattle.std.specs.Prelude.{◌≡◌, ◌≤◌, ◌<◌, ◌+◌, true, false, nat_lt, IfOk, OnOk, OnErr};
+ghost use Rattle.std.specs.Prelude.{◌≡◌, ◌≢◌, ◌≤◌, ◌<◌, ◌+◌, true, false, nat_lt, IfOk, OnOk, OnErr};
 ghost use Rattle.driver_progress.specs.declared.phase.Phase.TheVariants as phases;
 ghost use Rattle.wav_reader.specs.Supplies.{IsTaken};
 ghost use Rattle.period_writer.specs.Accounts.{Accounts};
 ghost use Rattle.period_writer.specs.Writers.{measures_of, ring_size};
 ghost use Rattle.codec_bring_up.specs.Calls as calls;
+ghost use Rattle.codec_bring_up.specs.Failing.{Fails};
 ghost use Rattle.audio_driver.specs.States as states;
 ghost use Rattle.audio_driver.specs.Drivers.{IsDriver, KeepsTerms};
 ghost use Rattle.audio_driver.specs.Calls.{SufficesIfOpen, SoundsAny, LeadsBy};
@@ -43,6 +44,10 @@ impl<T: Setter> Driver<T> {
         ensures phase { IfOk result (λ phase. phase ≡ states.phase_of self.new.bring_up self.new.writer) }
         ensures kept { calls.IsKept self.old.bring_up self.new.bring_up }
         ensures failed { OnErr result (self.new.bring_up.phase ≡ phases.Failed) }
+        ensures unfailed { OnOk result (self.old.bring_up.phase ≢ phases.Failed
+            → self.new.bring_up.phase ≢ phases.Failed) }
+        ensures wanting { OnErr result (Fails false self.old.bring_up self.new.bring_up (P.told platform.old)
+            (P.told platform.new)) }
         ensures cause { OnErr result (calls.takes_memory (states.phase_of self.old.bring_up self.old.writer) ≡ true) }
         ensures writer { states.plays_now self.old.play self.old.bring_up ≡ false
             → self.new.writer ≡ self.old.writer }
@@ -93,6 +98,10 @@ impl<T: Setter> Driver<T> {
         ensures phase { IfOk result (λ phase. phase ≡ states.phase_of self.new.bring_up self.new.writer) }
         ensures kept { calls.IsKept self.old.bring_up self.new.bring_up }
         ensures failed { OnErr result (self.new.bring_up.phase ≡ phases.Failed) }
+        ensures unfailed { OnOk result (self.old.bring_up.phase ≢ phases.Failed
+            → self.new.bring_up.phase ≢ phases.Failed) }
+        ensures wanting { OnErr result (Fails true self.old.bring_up self.new.bring_up (P.told platform.old)
+            (P.told platform.new)) }
         ensures cause { OnErr result (calls.takes_memory (states.phase_of self.old.bring_up self.old.writer) ≡ true) }
         ensures writer { states.plays_now self.old.play self.old.bring_up ≡ false
             → self.new.writer ≡ self.old.writer }

@@ -64,3 +64,6 @@ returns-in-Ok-clause-closes g c = rw (← c.self.view_is) (λ sound may last.
 
 pub returns-clause-cause : goal.returns-clause-cause
 returns-clause-cause g c = rw (← c.self.view_is) (asking_in c.self.inside.play c.self.inside.bring_up c.self.inside.writer c.self.invariant.begun c.in-Err.ensures.cause)
+
+pub returns-clause-wanting : goal.returns-clause-wanting
+returns-clause-wanting g c = rw (← c.self.view_is) (c.end_call-ended.new.bring_up, c.in-Err.ensures.wanting)
