@@ -28,6 +28,7 @@ use Rattle.driver_progress.specs.Progress.{course_of, course_opened}
 use Rattle.jack_counts.specs.Counted.{IsCount}
 use Rattle.jack_counts.specs.Jacks.{Counts}
 use Rattle.codec_bring_up.specs.declared.bringing.BringUp.{BringUp}
+use Rattle.driver_commands.specs.Standing.{answers_of}
 use Rattle.told_bring_up.specs.Standing.{IsTaskOfCodecs, AreWalked, WalkedIn}
 use Rattle.stream_rest.specs.Resting.{Rests, AreApartFrom}
 use Rattle.audio_driver.specs.States.{phase_if, played_as, IsTaskOf, state_with}
@@ -224,10 +225,10 @@ module _ (machine : Machine) (format : Format) (play : Bool) (task : Task) (sche
 
   -- ---- which graphs were walked
 
-  pub graphs_walked : AreWalked (graphs_in machine.codecs) closed.graphs.items task.walks closed.sent
+  pub graphs_walked : AreWalked (graphs_in machine.codecs) closed.graphs.items task.walks gone.ended.sent (answers_of gone.ended.sent gone.ended.engine.rings.outstanding)
   graphs_walked =
-      subst (λ (walked : List RawCodec). AreWalked (graphs_in machine.codecs) walked task.walks closed.sent) (sym (ap (λ graphs. graphs.items) gone.leaves.graphs))
-      (subst (λ (sent : ℕ). AreWalked (graphs_in machine.codecs) gone.ended.agenda.graphs.items task.walks sent) (sym gone.leaves.sent) gone.has.ended_is.walked)
+      subst (λ (walked : List RawCodec). AreWalked (graphs_in machine.codecs) walked task.walks gone.ended.sent (answers_of gone.ended.sent gone.ended.engine.rings.outstanding)) (sym (ap (λ graphs. graphs.items) gone.leaves.graphs))
+      gone.has.ended_is.walked
 
   -- by the phase of the bring-up, all of them
   pub graphs_by_phase : WalkedIn gone.ended.phase (closed.graphs.items ≡ graphs_in machine.codecs)

@@ -28,6 +28,7 @@ use Rattle.driver_progress.specs.declared.phase.Phase.{Phase}
 use Rattle.driver_progress.specs.declared.phase.Phase.TheVariants.{Reset, Settling, Walking, SettingUp, Ready, Playing, Drained, NothingRouted, Unanswered, Late, Malformed, Failed}
 use Rattle.driver_progress.specs.Tasks.{Task, Blocks}
 use Rattle.heard_runs.specs.Ending.{HearTheLine}
+use Rattle.driver_commands.specs.Standing.{answers_of}
 use Rattle.told_bring_up.specs.Standing.{AreWalked, WalkedIn}
 use Rattle.told_playing.specs.Sounding.{Parts}
 use Rattle.told_playing.specs.Keeping.{WasHeard, WasNeverHeard}
@@ -160,7 +161,7 @@ module _ (machine : Machine) (plans : List Plan) (wav : Wav) (geometry : Geometr
           progress = gone.has.progress;
           finds = gone.has.finds;
           state_is = gone.has.state_is;
-          walked = subst (λ (walked : List RawCodec). AreWalked (graphs_in machine.codecs) walked task.walks gone.ended.sent) (sym walked) gone.has.ended_is.walked;
+          walked = subst (λ (walked : List RawCodec). AreWalked (graphs_in machine.codecs) walked task.walks gone.ended.sent (answers_of gone.ended.sent gone.ended.engine.rings.outstanding)) (sym walked) gone.has.ended_is.walked;
           all_walked = all_walked_if gone.tally.course.started gone.ended.phase gone.tally.course.ran (played.graphs ≡ graphs_in machine.codecs) gone.has.ready
               (subst (λ (walked : List RawCodec). WalkedIn gone.ended.phase (walked ≡ graphs_in machine.codecs)) (sym walked) gone.has.ended_is.by_phase);
         };

@@ -11,6 +11,7 @@ use Rattle.driver_progress.specs.declared.phase.Phase.{Phase}
 use Rattle.driver_progress.specs.Tasks.{Task}
 use Rattle.driver_progress.specs.States.{State}
 use Rattle.hda_world.specs.Tellings.{Telling}
+use Rattle.driver_commands.specs.Standing.{answers_of}
 use Rattle.told_bring_up.specs.Standing.{AreWalked, WalkedIn}
 use Rattle.told_playing.specs.Sounding.{Parts, tally_in}
 use Rattle.audio_driver.specs.States.{phase_if, state_with}
@@ -59,8 +60,8 @@ module _ (machine : Machine) (play : Bool) (task : Task) (schedule : Schedule) (
           progress = gone.has.progress;
           finds = gone.has.finds;
           state_is = gone.has.state_is;
-          walked = subst (λ (walked : List RawCodec). AreWalked (graphs_in machine.codecs) walked task.walks gone.ended.sent) (sym graphs)
-              (subst (λ (sent : ℕ). AreWalked (graphs_in machine.codecs) closed.graphs.items task.walks sent) gone.leaves.sent (graphs_walked machine walk_format play task schedule old closed journal gone));
+          walked = subst (λ (walked : List RawCodec). AreWalked (graphs_in machine.codecs) walked task.walks gone.ended.sent (answers_of gone.ended.sent gone.ended.engine.rings.outstanding)) (sym graphs)
+              (graphs_walked machine walk_format play task schedule old closed journal gone);
           all_walked = λ all. walked_in (state_with gone.ended gone.tally).phase (played.graphs ≡ graphs_in machine.codecs) all
               (subst (λ (phase : Phase). WalkedIn phase (played.graphs ≡ graphs_in machine.codecs)) left_is
               (subst (λ (walked : List RawCodec). WalkedIn gone.ended.phase (walked ≡ graphs_in machine.codecs)) (sym graphs) (graphs_by_phase machine walk_format play task schedule old closed journal gone)));

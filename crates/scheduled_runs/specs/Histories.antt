@@ -20,6 +20,7 @@ use Rattle.driver_progress.specs.declared.phase.Phase.TheVariants.{Failed}
 use Rattle.driver_progress.specs.Tasks.{Task}
 use Rattle.driver_progress.specs.States.{State}
 use Rattle.driver_progress.specs.Progress.{state_of, IsProgress}
+use Rattle.driver_commands.specs.Standing.{answers_of}
 use Rattle.told_bring_up.specs.Stretches.{HasFound}
 use Rattle.told_bring_up.specs.Standing.{AreWalked}
 use Rattle.told_bring_up.specs.SettingUp.{StaysSetUp}
@@ -70,13 +71,15 @@ walked_all (Malformed codec fault) = false
 walked_all Failed = false
 
 -- progress: in each call the driver made the accesses that are to be made, and no others, and they lead to this state
--- of its task. The graphs that it was told are the first of the machine's, and all of them from the set-up on
+-- of its task. The graphs that it was told are the first of the machine's, as many as the answers that came told, and
+-- all of them from the set-up on
 pub record MakesProgress (machine : Machine) (schedule : Schedule) (task : Task) (state : State) (telling : Telling)
     (graphs : List RawCodec) : Type 0 where
   pub progress : IsProgress task (lines_of schedule) telling
   pub finds : HasFound task (lines_of schedule) telling
   pub state_is : state_of task (lines_of schedule) telling ≡ state
   pub walked : AreWalked (graphs_in machine.codecs) graphs task.walks state.sent
+      (answers_of state.sent state.rings.outstanding)
   pub all_walked : walked_all state.phase ≡ true → graphs ≡ graphs_in machine.codecs
 
 -- open: from the answer to the last command on, at every moment all codecs are set up by their plans for the format

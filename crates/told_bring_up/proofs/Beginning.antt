@@ -87,6 +87,15 @@ pub over_sent : (task : Task) (state : State) (line : DriverLine) (seen : Seen) 
 over_sent task state line seen is =
     none_sent (finds_none line seen) state (led task state seen (tally_next task state (Some line) seen) state.phase) (ap (λ (state : State). state.sent) is)
 
+same_outstanding : (none : Bool) (state state' : State) → state'.rings.outstanding ≡ state.rings.outstanding → (if none then state else state').rings.outstanding ≡ state.rings.outstanding
+same_outstanding true state state' is = refl
+same_outstanding false state state' is = is
+
+pub over_outstanding : (task : Task) (state : State) (line : DriverLine) (seen : Seen) → led task state seen (tally_next task state (Some line) seen) state.phase ≡ state
+    → (next task state (Some line) seen).rings.outstanding ≡ state.rings.outstanding
+over_outstanding task state line seen is =
+    same_outstanding (finds_none line seen) state (led task state seen (tally_next task state (Some line) seen) state.phase) (ap (λ (state : State). state.rings.outstanding) is)
+
 -- ---- settings, while no command is taken
 
 pub defaults_same : (old new : List CodecState) → map (λ (codec : CodecState). codec.graph) new ≡ map (λ (codec : CodecState). codec.graph) old

@@ -26,7 +26,7 @@ pub use Rattle.told_bring_up.proofs.Ready.{SetterLaws}
 -- once all commands are answered
 pub use Rattle.told_bring_up.proofs.Ready.{all_taken, ready_for_good, all_answered, at_most}
 -- which graphs are walked then
-pub use Rattle.told_bring_up.proofs.Walked.{walked_in}
+pub use Rattle.told_bring_up.proofs.Walked.{walked_by, walked_in}
 -- where commands stand, over accesses
 pub use Rattle.told_bring_up.proofs.Grows.{row_on}
 pub use Rattle.told_bring_up.proofs.Following.{Later, row_remembers, stage_on}

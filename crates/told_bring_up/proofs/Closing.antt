@@ -213,6 +213,7 @@ module _ (IsPlanBy : RawCodec → Plan → Type 0) (verbs_by : RawCodec → Plan
     phase_is : new.phase ≡ old.phase
     sent_is : new.sent ≡ old.sent
     agenda_is : new.agenda ≡ old.agenda
+    outstanding_is : new.engine.rings.outstanding ≡ old.engine.rings.outstanding
 
   quiet_ends : (lines left : List DriverLine) (old new : BringUp) (before after : Telling) → IsOpen task lines left None (state_of old) before → IsTaskOf old task → Ends IsPlanBy verbs_by old new (Some before) (Some after) → is_asking old.phase ≡ false
       → Stayed lines left old new after
@@ -228,6 +229,7 @@ module _ (IsPlanBy : RawCodec → Plan → Type 0) (verbs_by : RawCodec → Plan
         done = unread_done task lines left None (state_of old) (state_of new) ends.made before after opened ends.by.is unread stretch (tt {0});
         phase_is = phase;
         sent_is = ap (λ (state : State). state.sent) leads ∙ ap (λ (state : State). state.sent) still;
+        outstanding_is = ap (λ (state : State). state.rings.outstanding) leads ∙ ap (λ (state : State). state.rings.outstanding) still;
         agenda_is = ends.reads.left (λ asking. none) (λ settling walking. no_walking (sym (phase ∙ settling) ∙ walking));
       }
 
@@ -235,7 +237,7 @@ module _ (IsPlanBy : RawCodec → Plan → Type 0) (verbs_by : RawCodec → Plan
   ended_on lines left old new after stayed walked by_phase = record {
     done = stayed.done;
     ended = record {
-      walked = walked_on graphs task old new stayed.agenda_is stayed.sent_is walked;
+      walked = walked_on graphs task old new stayed.agenda_is stayed.sent_is stayed.outstanding_is walked;
       by_phase = subst (λ (phase : Phase). WalkedIn phase (new.agenda.graphs.items ≡ graphs)) (sym stayed.phase_is) (subst (λ (agenda : Agenda). WalkedIn old.phase (agenda.graphs.items ≡ graphs)) (sym stayed.agenda_is) by_phase);
     };
   }
@@ -291,10 +293,10 @@ module _ (IsPlanBy : RawCodec → Plan → Type 0) (verbs_by : RawCodec → Plan
   pub end_told : (lines left : List DriverLine) (old new : BringUp) (before after : Telling) (phase : Phase) → old.phase ≡ phase → IsOpen task lines left None (state_of old) before → IsTaskOf old task → Ends IsPlanBy verbs_by old new (Some before) (Some after)
       → graphs_in (world_of before).codecs ≡ graphs → StandsIn phase IsPlanBy verbs graphs task (course_of task lines before).written old (world_of before) → Shut lines left new after
   end_told lines left old new before after Reset was opened blocks ends graphs_are stage =
-      ended_on lines left old new after (quiet_ends lines left old new before after opened blocks ends (ap is_asking was)) (none_walked graphs old.agenda.graphs.items task.walks old.sent stage.none_walked stage.none_sent)
+      ended_on lines left old new after (quiet_ends lines left old new before after opened blocks ends (ap is_asking was)) (none_walked graphs old.agenda.graphs.items task.walks old.sent old.engine.rings.outstanding stage.none_walked stage.none_sent)
       (subst (λ (phase : Phase). WalkedIn phase (old.agenda.graphs.items ≡ graphs)) (sym was) (tt {0}))
   end_told lines left old new before after Settling was opened blocks ends graphs_are stage =
-      ended_on lines left old new after (quiet_ends lines left old new before after opened blocks ends (ap is_asking was)) (none_walked graphs old.agenda.graphs.items task.walks old.sent stage.none_walked stage.none_sent)
+      ended_on lines left old new after (quiet_ends lines left old new before after opened blocks ends (ap is_asking was)) (none_walked graphs old.agenda.graphs.items task.walks old.sent old.engine.rings.outstanding stage.none_walked stage.none_sent)
       (subst (λ (phase : Phase). WalkedIn phase (old.agenda.graphs.items ≡ graphs)) (sym was) (tt {0}))
   end_told lines left old new before after Walking was opened blocks ends graphs_are stage = last_look lines left old new before after opened blocks ends (ap is_asking was) graphs_are stage
   end_told lines left old new before after SettingUp was opened blocks ends graphs_are stage = last_look lines left old new before after opened blocks ends (ap is_asking was) graphs_are stage

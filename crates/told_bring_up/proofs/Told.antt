@@ -51,7 +51,7 @@ use Rattle.told_bring_up.proofs.Noting.{Laws}
 use Rattle.told_bring_up.proofs.Following.{AgendaLaws, Later, row_remembers, stage_on}
 use Rattle.told_bring_up.proofs.Calling.{not_over, stands_in, Kept, looks_on, at_blocks}
 use Rattle.told_bring_up.proofs.Codecs.{IsAbove, above, codecs_found}
-use Rattle.told_bring_up.proofs.Beginning.{IsSettledOn, settles_on, resets_on, over_on, over_sent, unchanged}
+use Rattle.told_bring_up.proofs.Beginning.{IsSettledOn, settles_on, resets_on, over_on, over_sent, over_outstanding, unchanged}
 use Rattle.told_bring_up.proofs.Walked.{walked_on}
 
 not_true : false ≡ true → ⊥
@@ -284,7 +284,7 @@ module _ (IsPlanBy : RawCodec → Plan → Type 0) (verbs_by : RawCodec → Plan
 
   over_told : (lines left : List DriverLine) (budget : ℕ) (irq : Bool) (old new : BringUp) (before after : Telling) (phase : Phase) → Called lines left budget irq old new before after → old.phase ≡ phase → is_asking phase ≡ false
       → ((seen : Seen) (tally : Tally) → led task (state_of old) seen tally phase ≡ state_of old) → (phase ≡ Settling → ⊥) → ((seen : Seen) → FindsIn phase (state_of old) seen)
-      → (new.agenda ≡ old.agenda → new.sent ≡ old.sent → StandsIn phase IsPlanBy verbs graphs task (course_of task lines after).written new (world_of after)) → Ends lines left new after
+      → (new.agenda ≡ old.agenda → new.sent ≡ old.sent → new.engine.rings.outstanding ≡ old.engine.rings.outstanding → StandsIn phase IsPlanBy verbs graphs task (course_of task lines after).written new (world_of after)) → Ends lines left new after
   over_told lines left budget irq old new before after phase call was not still unsettled finds stage =
       let leads = call.leads in
       let line : DriverLine = record { irq = irq; budget = budget } in
@@ -295,11 +295,12 @@ module _ (IsPlanBy : RawCodec → Plan → Type 0) (verbs_by : RawCodec → Plan
       let tally = tally_next task (state_of old) (Some line) seen in
       let stays = ap (λ (phase : Phase). led task (state_of old) seen tally phase) was ∙ still seen tally in
       let same = ap (λ (state : State). state.phase) stretch.leads ∙ over_on task (state_of old) line seen stays ∙ was in
-      let sent = ap (λ (state : State). state.sent) stretch.leads ∙ over_sent task (state_of old) line seen stays in record {
+      let sent = ap (λ (state : State). state.sent) stretch.leads ∙ over_sent task (state_of old) line seen stays in
+      let outstanding = ap (λ (state : State). state.rings.outstanding) stretch.leads ∙ over_outstanding task (state_of old) line seen stays in record {
         done = unread_done task lines left (Some line) (state_of old) (state_of new) leads.made before after call.opened leads.by.is unread stretch
             (λ some. subst (λ (phase : Phase). FindsIn phase (state_of old) seen) (sym was) (finds seen));
         graphs_are = graphs_on lines left budget irq old new before after call;
-        stage = subst (λ (phase : Phase). StandsIn phase IsPlanBy verbs graphs task (course_of task lines after).written new (world_of after)) (sym same) (stage (same_agenda call unread (λ settling walking. unsettled (sym was ∙ settling))) sent);
+        stage = subst (λ (phase : Phase). StandsIn phase IsPlanBy verbs graphs task (course_of task lines after).written new (world_of after)) (sym same) (stage (same_agenda call unread (λ settling walking. unsettled (sym was ∙ settling))) sent outstanding);
       }
 
   -- ---- by phase
@@ -315,7 +316,7 @@ module _ (IsPlanBy : RawCodec → Plan → Type 0) (verbs_by : RawCodec → Plan
   call_told lines left budget irq old new before after Drained was call stage = absurd stage
   call_told lines left budget irq old new before after NothingRouted was call stage = absurd stage
   call_told lines left budget irq old new before after (Unanswered codec command issued noticed) was call stage =
-      over_told lines left budget irq old new before after (Unanswered codec command issued noticed) call was refl (λ seen tally. refl) (λ is. no_unanswered codec command issued noticed is) (λ seen. tt {0}) (λ same sent. walked_on graphs task old new same sent stage)
+      over_told lines left budget irq old new before after (Unanswered codec command issued noticed) call was refl (λ seen tally. refl) (λ is. no_unanswered codec command issued noticed is) (λ seen. tt {0}) (λ same sent outstanding. walked_on graphs task old new same sent outstanding stage)
   call_told lines left budget irq old new before after (Late from to limit) was call stage = absurd stage
   call_told lines left budget irq old new before after (Malformed codec fault) was call stage = absurd stage
-  call_told lines left budget irq old new before after Failed was call stage = over_told lines left budget irq old new before after Failed call was refl (λ seen tally. refl) (λ is. no_failed is) (λ seen. tt {0}) (λ same sent. walked_on graphs task old new same sent stage)
+  call_told lines left budget irq old new before after Failed was call stage = over_told lines left budget irq old new before after Failed call was refl (λ seen tally. refl) (λ is. no_failed is) (λ seen. tt {0}) (λ same sent outstanding. walked_on graphs task old new same sent outstanding stage)

@@ -1,5 +1,5 @@
 -- How a bring-up stands to the world that is told. This project's own.
-use Rattle.std.specs.Prelude.{◌≡◌, ◌≢◌, ◌≤◌, ◌<◌, ℕ, ◌+◌, List, [], ◌++◌, length, map, take, drop, slice_get, All, Option, Some, None}
+use Rattle.std.specs.Prelude.{◌≡◌, ◌≢◌, ◌≤◌, ◌<◌, ℕ, ◌+◌, List, [], ◌∷◌, ◌++◌, length, map, take, drop, slice_get, All, Option, Some, None}
 use Rattle.verb_codes.specs.declared.verbs.Command.{Command}
 use Rattle.codec_graph.specs.declared.raw.RawCodec.{RawCodec}
 use Rattle.route_planner.specs.declared.routes.Plan.{Plan}
@@ -13,7 +13,8 @@ use Rattle.codec_histories.specs.Histories.{Remembers, words_of}
 use Rattle.codec_histories.specs.Readings.{KeepsDefaults}
 use Rattle.driver_progress.specs.declared.phase.Phase.{Phase}
 use Rattle.driver_progress.specs.declared.phase.Phase.TheVariants.{Reset, Settling, Walking, SettingUp, Ready, Playing, Drained, NothingRouted, Unanswered, Late, Malformed, Failed}
-use Rattle.driver_progress.specs.Tasks.{Task, Order, IsTaskFor}
+use Rattle.codec_walk.specs.Commands.{walk_commands}
+use Rattle.driver_progress.specs.Tasks.{Task, Order, IsTaskFor, walks_over}
 use Rattle.driver_stretches.specs.Answers.{AnswersAgree}
 use Rattle.driver_stretches.specs.Beginning.{CanReset, IsSettling}
 use Rattle.driver_commands.specs.Addresses.{most_codecs}
@@ -77,14 +78,19 @@ pub record Announce (bring_up : BringUp) (world : World) : Type 0 where
 
 -- ---- what was walked
 
--- the graphs that were walked are the first of those on the link, and all of them once more commands were sent than those of the walks
-pub record AreWalked (graphs walked : List RawCodec) (walks sent : ℕ) : Type 0 where
+-- the graphs that were walked are the first of those on the link, as many as so many answers told: all commands of the walks over them were
+-- answered, and not all of the walk over the next one. So they are all once more commands were sent than those of the walks
+pub record AreWalked (graphs walked : List RawCodec) (walks sent answers : ℕ) : Type 0 where
   pub rest : List RawCodec
   pub first : graphs ≡ walked ++ rest
+  pub told : length (walks_over walked) ≤ answers
+  pub untold : (next : RawCodec) (later : List RawCodec) → rest ≡ next ∷ later
+      → answers < length (walks_over walked) + length (walk_commands next)
   pub all : walks < sent → walked ≡ graphs
 
 abbrev pub HasWalked : (graphs : List RawCodec) (task : Task) → BringUp → Type 0
-HasWalked graphs task bring_up = AreWalked graphs bring_up.agenda.graphs.items task.walks bring_up.sent
+HasWalked graphs task bring_up =
+    AreWalked graphs bring_up.agenda.graphs.items task.walks bring_up.sent (answers_of bring_up.sent bring_up.engine.rings.outstanding)
 
 -- ---- by phase
 

@@ -1,5 +1,5 @@
 -- The last call of a driver that may play.
-use Rattle.std.proofs.Common.{◌≡◌, ◌⊎◌, inl, inr, ◌&&◌, ℕ, true, false, List, [], ◌∷◌, ◌++◌, map, None, Some, sym, ap, subst, ◌∙◌}
+use Rattle.std.proofs.Common.{◌≡◌, ◌≤◌, ◌⊎◌, inl, inr, ◌&&◌, ℕ, length, true, false, List, [], ◌∷◌, ◌++◌, map, None, Some, sym, ap, subst, ◌∙◌}
 use Rattle.std.specs.Prelude.{All}
 use Rattle.verb_codes.specs.declared.verbs.Command.{Command}
 use Rattle.codec_graph.specs.declared.raw.RawCodec.{RawCodec}
@@ -15,7 +15,7 @@ use Rattle.period_writer.specs.Runs.{Tally, tally_opened}
 use Rattle.period_writer.specs.Outcomes.{HasNotWrapped}
 use Rattle.driver_progress.specs.declared.phase.Phase.TheVariants.{Ready}
 use Rattle.driver_progress.specs.States.{State}
-use Rattle.driver_progress.specs.Tasks.{Task, DriverLine}
+use Rattle.driver_progress.specs.Tasks.{Task, DriverLine, walks_over}
 use Rattle.driver_progress.specs.Progress.{course_of}
 use Rattle.codec_agenda.specs.declared.agenda.Agenda.{Agenda}
 use Rattle.codec_bring_up.specs.declared.bringing.BringUp.{BringUp}
@@ -40,7 +40,7 @@ use Rattle.told_playing.proofs.Bringing.{made_rest, ends_accesses}
 use Rattle.told_playing.proofs.Ready.{IsReady, ready_stands, ended_ready}
 use Rattle.told_playing.proofs.Good.{StayGood, begin_good, end_good}
 use Rattle.told_playing.proofs.Playing.{Played, plays}
-use Rattle.told_playing.proofs.Heard.{heard_set_up, heard_good}
+use Rattle.told_playing.proofs.Heard.{heard_set_up, heard_good, none_ended}
 
 along_back : (Holds : World → Type 0) (front back : List Event) (world : World) → Along Holds (front ++ back) world → Along Holds back (after front world)
 along_back Holds [] back world along = along
@@ -139,7 +139,8 @@ module _ (IsPlanBy : RawCodec → Plan → Type 0) (verbs_by : RawCodec → Plan
           let still = made_rest laws.stretches task lines [] None (bringing.state_of old.bring_up) call.made begun made called.opened call.by.is call.are (end_silent task old.bring_up) was_played.done.fits in
           let rests = end_rest laws.events fifo made after ends (row_rest laws.events fifo call.made begun made call.by.is still (begin_rest laws.events fifo before begun begins is.silent.rests)) in
           gone_by was_played
-          (ended_ready graphs task ended (call.phase ∙ was_ready) (ap (λ (agenda : Agenda). agenda.graphs.items) call.agenda ∙ ready.walked))
+          (ended_ready graphs task ended (call.phase ∙ was_ready) (ap (λ (agenda : Agenda). agenda.graphs.items) call.agenda ∙ ready.walked)
+          (none_ended old.bring_up ended old.writer tally old.supply call.made begun made call.tells.is ready.answered) (subst (λ (sent : ℕ). length (walks_over graphs) ≤ sent) (sym call.sent) ready.enough))
           (call.phase ∙ was_ready)
           (inl (recorded call.tells.is, never_heard fifo after rests))
 
@@ -182,7 +183,8 @@ module _ (IsPlanBy : RawCodec → Plan → Type 0) (verbs_by : RawCodec → Plan
           let stops = laws.heard.last was.codecs task.pcm old.bring_up ended old.writer tally old.supply call.made calling.events begun made call.tells.is call.by.is calling.went small_then task_is.sound began in
           let over = laws.heard.over made after ends stops.1 in
           gone_by ended_played
-          (ended_ready graphs task ended (call.phase ∙ was.ready) (ap (λ (agenda : Agenda). agenda.graphs.items) call.agenda ∙ was.walked))
+          (ended_ready graphs task ended (call.phase ∙ was.ready) (ap (λ (agenda : Agenda). agenda.graphs.items) call.agenda ∙ was.walked)
+          (none_ended old.bring_up ended old.writer tally old.supply call.made begun made call.tells.is was.answered) (subst (λ (sent : ℕ). length (walks_over graphs) ≤ sent) (sym call.sent) was.enough))
           (call.phase ∙ was.ready)
           (inr (record {
             started = stops.0;

@@ -1,5 +1,5 @@
 -- The first calls that play: each finds no interrupt, or sets the stream going.
-use Rattle.std.proofs.Common.{◌≡◌, inl, inr, ℕ, true, List, ◌∷◌, drop, Some, refl, sym, ap, subst, ◌∙◌}
+use Rattle.std.proofs.Common.{◌≡◌, ◌≤◌, inl, inr, ℕ, true, List, ◌∷◌, length, drop, Some, refl, sym, ap, subst, ◌∙◌}
 use Rattle.std.specs.Option.{is_some}
 use Rattle.verb_codes.specs.declared.verbs.Command.{Command}
 use Rattle.codec_graph.specs.declared.raw.RawCodec.{RawCodec}
@@ -14,7 +14,7 @@ use Rattle.period_writer.specs.Writers.{tally_of, ring_of}
 use Rattle.period_writer.specs.Outcomes.{HasNotWrapped}
 use Rattle.driver_progress.specs.declared.phase.Phase.TheVariants.{Ready}
 use Rattle.driver_progress.specs.States.{State}
-use Rattle.driver_progress.specs.Tasks.{Task, DriverLine}
+use Rattle.driver_progress.specs.Tasks.{Task, DriverLine, walks_over}
 use Rattle.driver_progress.specs.Progress.{course_of}
 use Rattle.driver_commands.specs.Commanding.{IsStretch, answer_in}
 use Rattle.codec_agenda.specs.declared.agenda.Agenda.{Agenda}
@@ -133,6 +133,7 @@ module _ (IsPlanBy : RawCodec → Plan → Type 0) (verbs_by : RawCodec → Plan
           ready = call.stays.phase ∙ was_ready;
           walked = ap (λ (agenda : Agenda). agenda.graphs.items) call.stays.agenda ∙ ready.walked;
           answered = ap (λ (bring_up : BringUp). bring_up.engine.rings.outstanding) first.bring_up ∙ ready.answered;
+          enough = subst (λ (sent : ℕ). length (walks_over graphs) ≤ sent) (sym call.stays.sent) ready.enough;
           codecs = (world_of begun).codecs;
           set_up = ready.good.set_up;
           by = laws.heard.end (world_of begun).codecs (ring_in new) task.pcm (tally_in new) made after ends by;

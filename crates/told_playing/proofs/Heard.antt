@@ -1,5 +1,5 @@
 -- A driver that plays or has played: steps of the device, and calls.
-use Rattle.std.proofs.Common.{◌≡◌, inl, inr, ◌||◌, ◌&&◌, ◌==◌, ℕ, Bool, true, List, ◌∷◌, map, length, None, Some, ap, ◌∙◌}
+use Rattle.std.proofs.Common.{◌≡◌, ◌≤◌, inl, inr, ◌||◌, ◌&&◌, ◌==◌, ℕ, Bool, true, List, ◌∷◌, map, length, None, Some, sym, ap, subst, ◌∙◌}
 use Rattle.verb_codes.specs.declared.verbs.Command.{Command}
 use Rattle.codec_graph.specs.declared.raw.RawCodec.{RawCodec}
 use Rattle.codec_graph.specs.Settings.{Entries}
@@ -10,10 +10,11 @@ use Rattle.hda_world.specs.Tellings.{Telling, world_of, Went, Accessed}
 use Rattle.command_engine.specs.declared.ring_places.RingPlaces.{RingPlaces}
 use Rattle.command_engine.specs.Polling.{found_by}
 use Rattle.period_writer.specs.Outcomes.{HasNotWrapped}
+use Rattle.period_writer.specs.Runs.{Tally}
 use Rattle.period_writer.specs.Writers.{WriterState}
 use Rattle.driver_progress.specs.Phases.{is_asking}
 use Rattle.driver_progress.specs.States.{State}
-use Rattle.driver_progress.specs.Tasks.{Task, DriverLine}
+use Rattle.driver_progress.specs.Tasks.{Task, DriverLine, walks_over}
 use Rattle.driver_progress.specs.Progress.{course_of}
 use Rattle.codec_agenda.specs.declared.agenda.Agenda.{Agenda}
 use Rattle.codec_bring_up.specs.declared.bringing.BringUp.{BringUp}
@@ -34,6 +35,13 @@ none_after irq budget old new writer writer' supply made before after (inl still
 none_after irq budget old new writer writer' supply made before after (inr (inl begins)) none = ap (λ (bring_up : BringUp). bring_up.engine.rings.outstanding) begins.bring_up ∙ none
 none_after irq budget old new writer writer' supply made before after (inr (inr goes)) none =
     ap (λ (rings : RingPlaces). rings.outstanding) goes.rings ∙ none_still old.engine.rings.outstanding (found_by old.engine.rings goes.reads) none
+
+-- nor after the last one
+pub none_ended : (old ended : BringUp) (writer : WriterState) (tally' : Tally) (supply : List ℕ) (made : List Event) (before after : Telling) → sounding.EndTells old ended writer tally' supply made before after
+    → old.engine.rings.outstanding ≡ None → ended.engine.rings.outstanding ≡ None
+none_ended old ended writer tally' supply made before after (inl shuts) none = ap (λ (bring_up : BringUp). bring_up.engine.rings.outstanding) shuts.bring_up ∙ none
+none_ended old ended writer tally' supply made before after (inr stops) none =
+    ap (λ (rings : RingPlaces). rings.outstanding) stops.rings ∙ none_still old.engine.rings.outstanding (found_by old.engine.rings stops.reads) none
 
 module _ (IsPlanBy : RawCodec → Plan → Type 0) (verbs_by : RawCodec → Plan → List Command) (verbs : RawCodec → List Command) (IsOpenBy : RawCodec → Entries → Plan → Type 0) (graphs : List RawCodec) (task : Task)
     (laws : Given IsPlanBy verbs_by verbs IsOpenBy graphs task) (lines : List DriverLine) where
@@ -60,6 +68,7 @@ module _ (IsPlanBy : RawCodec → Plan → Type 0) (verbs_by : RawCodec → Plan
           ready = sounds.ready;
           walked = sounds.walked;
           answered = sounds.answered;
+          enough = sounds.enough;
           codecs = sounds.codecs;
           set_up = sounds.set_up;
           by = laws.heard.steps sounds.codecs (ring_in parts) task.pcm (tally_in parts) steps old new went sounds.by;
@@ -85,6 +94,7 @@ module _ (IsPlanBy : RawCodec → Plan → Type 0) (verbs_by : RawCodec → Plan
           ready = stays.phase ∙ was.ready;
           walked = ap (λ (agenda : Agenda). agenda.graphs.items) stays.agenda ∙ was.walked;
           answered = none_after line.irq line.budget old.bring_up new.bring_up old.writer new.writer old.supply call.made begun made call.tells.is was.answered;
+          enough = subst (λ (sent : ℕ). length (walks_over graphs) ≤ sent) (sym stays.sent) was.enough;
           codecs = was.codecs;
           set_up = was.set_up;
           by = laws.heard.end was.codecs (ring_in new) task.pcm (tally_in new) made after ends by;

@@ -1,5 +1,5 @@
 -- How a driver that plays stands to the world that is told. This project's own.
-use Rattle.std.specs.Prelude.{◌≡◌, true, ℕ, List, Contains, None}
+use Rattle.std.specs.Prelude.{◌≡◌, ◌≤◌, true, ℕ, List, length, Contains, None}
 use Rattle.codec_graph.specs.declared.raw.RawCodec.{RawCodec}
 use Rattle.codec_graph.specs.CodecStates.{CodecState}
 use Rattle.codec_graph.specs.Settings.{Entries}
@@ -9,7 +9,7 @@ use Rattle.period_writer.specs.Runs.{Tally, tally_opened}
 use Rattle.period_writer.specs.Standing.{Ring}
 use Rattle.period_writer.specs.Writers.{WriterState, tally_of, ring_of}
 use Rattle.driver_progress.specs.declared.phase.Phase.TheVariants.{Ready}
-use Rattle.driver_progress.specs.Tasks.{Task}
+use Rattle.driver_progress.specs.Tasks.{Task, walks_over}
 use Rattle.driver_progress.specs.States.{State}
 use Rattle.codec_bring_up.specs.declared.bringing.BringUp.{BringUp}
 use Rattle.told_bring_up.specs.SettingUp.{IsThere}
@@ -54,6 +54,7 @@ pub record Sounds (IsPlanBy : RawCodec → Plan → Type 0) (IsOpenBy : RawCodec
   pub ready : parts.bring_up.phase ≡ Ready
   pub walked : parts.bring_up.agenda.graphs.items ≡ graphs
   pub answered : parts.bring_up.engine.rings.outstanding ≡ None
+  pub enough : length (walks_over graphs) ≤ parts.bring_up.sent
   pub codecs : List CodecState
   pub set_up : AreSetUpIn IsPlanBy IsOpenBy graphs codecs
   pub by : heard.Sounds codecs (ring_in parts) task.pcm (tally_in parts) telling
