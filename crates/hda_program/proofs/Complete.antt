@@ -1,6 +1,6 @@
 -- Where nothing is refused, `play` and `walk` come to their runs.
 use Rattle.std.proofs.Common.{◌≡◌, ◌≢◌, ◌∙◌, ◌+◌, ℕ, List, length, true, false, inl, inr, Option, Some, None, refl, sym, ap, subst}
-use Rattle.std.specs.Prelude.{◌⊎◌, if◌then◌else◌, Bool}
+use Rattle.std.specs.Prelude.{◌⊎◌, if◌then◌else◌, Bool, IsSome}
 use Rattle.stream_format.specs.declared.format.Rate.{Rate}
 use Rattle.stream_format.specs.declared.format.Bits.{Bits}
 use Rattle.stream_format.specs.Layouts.{layout}
@@ -297,3 +297,30 @@ module _ (before after : Option (List ℕ)) (sink_failed : Type 0) (given : Opti
         → HasEnded told failed emptied unasked gave words before after sink_failed given status → HasWalkedOn status
     walk_complete words codec name walks can ended =
         ended_run (IsMeant told failed emptied unasked gave words) IsOfWalk (λ meant is. walk_meant told failed unasked codec name can meant (walk_of_words told failed emptied unasked gave words codec name meant walks is)) ended
+
+-- ---- and its run is given
+
+module _ (before after : Option (List ℕ)) (sink_failed : Type 0) (given : Option Played) (status : ℕ) (enough : status ≢ number_of OutOfMemory) where
+  given_run : (CanMean : Meant → Type 0) (IsOf : ℕ → Type 0) → ((meant : Meant) → CanMean meant → IsRunOf IsOf meant) → HasEndedWith CanMean before after sink_failed given status → IsSome given
+  given_run CanMean IsOf run (inl answered) =
+      let one = run answered.meant answered.is in
+      let play : given ≡ Some one.0 = answered.given ∙ ap (λ (m : Meant). m.play) one.2 in
+      subst (λ (found : Option Played). IsSome found) (sym play) refl
+  given_run CanMean IsOf run (inr memory) = absurd (enough memory.0)
+
+  module _ (told : Option Files) (failed emptied unasked : List ℕ → Type 0) (gave : ℕ → Type 0) where
+    pub files_given : (codec wav name : List ℕ) (periods period : ℕ) → CanPlay told failed codec wav name periods period
+        → HasEndedPlay told failed emptied unasked gave codec wav name periods period before after sink_failed given status → IsSome given
+    files_given codec wav name periods period can ended =
+        given_run (PlayAnswers told failed emptied unasked gave codec wav name periods period) IsOfPlay (λ meant is. play_meant told failed emptied codec wav name periods period can meant unasked gave is) ended
+
+    pub play_given : (words : List (List ℕ)) (codec wav name : List ℕ) (periods period : ℕ) → IsPlayOf words codec wav name periods period
+        → CanPlay told failed codec wav name periods period → HasEnded told failed emptied unasked gave words before after sink_failed given status → IsSome given
+    play_given words codec wav name periods period plays can ended =
+        given_run (IsMeant told failed emptied unasked gave words) IsOfPlay
+        (λ meant is. play_meant told failed emptied codec wav name periods period can meant unasked gave (play_of_words told failed emptied unasked gave words codec wav name periods period meant plays is)) ended
+
+    pub walk_given : (words : List (List ℕ)) (codec name : List ℕ) → IsWalkOf words codec name → CanWalk told failed codec name
+        → HasEnded told failed emptied unasked gave words before after sink_failed given status → IsSome given
+    walk_given words codec name walks can ended =
+        given_run (IsMeant told failed emptied unasked gave words) IsOfWalk (λ meant is. walk_meant told failed unasked codec name can meant (walk_of_words told failed emptied unasked gave words codec name meant walks is)) ended

@@ -78,6 +78,11 @@ pub fn play_files<S: Shelf, K: Sink>(
         wav.now schedule.now periods period
         → (Rose (K.faults out.old) (K.faults out.new) → ⊥) → HasPlayedOn result.status }
 
+    // A run is given then, also where its report was not written.
+    ensures given { CanPlay (S.told shelf.old) (FailedUnder (S.faults shelf.old) (S.faults shelf.new)) codec.now
+        wav.now schedule.now periods period
+        → result.status ≢ number_of Status.OutOfMemory → IsSome result.play }
+
     // What comes of a schedule that serves: the sound ends so by how many driver lines it has, and all of it is played
     // where it is fed.
     ensures served { (geometry : Geometry)

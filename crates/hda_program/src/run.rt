@@ -128,6 +128,16 @@ pub fn hda_main<S: Shelf, K: Sink>(
         period
         → (Rose (K.faults out.old) (K.faults out.new) → ⊥) → HasPlayedOn result.status }
 
+    // A run is given then, also where its report was not written.
+    ensures walk_given { (codec schedule : List ℕ) → IsWalkOf (map string_bytes words.now) codec schedule
+        → CanWalk (S.told shelf.old) (FailedUnder (S.faults shelf.old) (S.faults shelf.new)) codec schedule
+        → result.status ≢ number_of Status.OutOfMemory → IsSome result.play }
+    ensures play_given { (codec wav schedule : List ℕ) (periods period : ℕ)
+        → IsPlayOf (map string_bytes words.now) codec wav schedule periods period
+        → CanPlay (S.told shelf.old) (FailedUnder (S.faults shelf.old) (S.faults shelf.new)) codec wav schedule periods
+        period
+        → result.status ≢ number_of Status.OutOfMemory → IsSome result.play }
+
     // What is made of a number is played to its end.
     ensures make_ends { (number : ℕ) → IsMakeOf (map string_bytes words.now) number
         → IsOfMade (Rose (K.faults out.old) (K.faults out.new)) result.status }

@@ -1,7 +1,7 @@
 use Rattle.std.proofs.Common.{◌≡◌, ◌+◌, ◌≤◌, inl, inr}
 use Rattle.hda_outside.specs.Counts.{Rose}
 use Rattle.hda_program.specs.Meanings.{answer_meant}
-use Rattle.hda_program.proofs.Complete.{files_complete}
+use Rattle.hda_program.proofs.Complete.{files_complete, files_given}
 use Rattle.hda_program.proofs.PlayEndings.{files_never_shrink, files_promised, files_runless, files_runs, files_shrunk, files_stopped, files_unread}
 use Rattle.hda_program.proofs.Served.{files_serve, files_serve_whole}
 use Rattle.hda_program.proofs.files.play_files.Goals as goal
@@ -64,6 +64,14 @@ returns-in-Ok-clause-completes g c = λ can sink. files_complete (g.K.Sink.taken
     c.args.codec.now c.args.wav.now c.args.schedule.now c.args.periods c.args.period can
     (inl (record { meant = answer_meant c.in-Ok.answer; is = c.in-Ok.ensures.answers; given = c.write_answer.ensures.play; written = c.write_answer.ensures.written }))
 
+pub returns-in-Ok-clause-given : goal.returns-in-Ok-clause-given
+returns-in-Ok-clause-given g c = λ can enough. files_given (g.K.Sink.taken c.args.out.now) (g.K.Sink.taken c.write_answer.new.out)
+    (Rose (g.K.Sink.faults c.args.out.now) (g.K.Sink.faults c.write_answer.new.out)) c.write_answer.result.play c.write_answer.result.status enough
+    (g.S.Shelf.told c.args.shelf.now) (λ name. Rose (g.S.Shelf.faults c.args.shelf.now name) (g.S.Shelf.faults c.answer_play.new.shelf name))
+    (λ name. Rose (g.S.Shelf.empties c.args.shelf.now name) (g.S.Shelf.empties c.answer_play.new.shelf name)) (λ name. g.S.Shelf.asked c.answer_play.new.shelf name ≡ g.S.Shelf.asked c.args.shelf.now name) (λ n. g.S.Shelf.given c.answer_play.new.shelf ≤ g.S.Shelf.given c.args.shelf.now + n)
+    c.args.codec.now c.args.wav.now c.args.schedule.now c.args.periods c.args.period can
+    (inl (record { meant = answer_meant c.in-Ok.answer; is = c.in-Ok.ensures.answers; given = c.write_answer.ensures.play; written = c.write_answer.ensures.written }))
+
 pub returns-in-Ok-clause-served : goal.returns-in-Ok-clause-served
 returns-in-Ok-clause-served g c = λ geometry can sink shape serves. files_serve (g.K.Sink.taken c.args.out.now) (g.K.Sink.taken c.write_answer.new.out)
     (Rose (g.K.Sink.faults c.args.out.now) (g.K.Sink.faults c.write_answer.new.out)) c.write_answer.result.play c.write_answer.result.status sink
@@ -87,3 +95,6 @@ returns-in-Err-clause-served g c = λ geometry can sink shape serves. record { r
 
 pub returns-in-Err-clause-served_whole : goal.returns-in-Err-clause-served_whole
 returns-in-Err-clause-served_whole g c = λ geometry can sink shape serves. record { run = tt; status_is = inr c.number.ensures }
+
+pub returns-in-Err-clause-given : goal.returns-in-Err-clause-given
+returns-in-Err-clause-given g c = λ can enough. absurd (enough c.number.ensures)

@@ -1,7 +1,7 @@
 use Rattle.std.proofs.Common.{◌≡◌, ◌+◌, ◌≤◌, map, string_bytes, inl, inr}
 use Rattle.hda_outside.specs.Counts.{Rose}
 use Rattle.hda_program.specs.Meanings.{answer_meant}
-use Rattle.hda_program.proofs.Complete.{play_complete, route_complete, walk_complete}
+use Rattle.hda_program.proofs.Complete.{play_complete, route_complete, walk_complete, play_given, walk_given}
 use Rattle.hda_program.proofs.Endings.{never_shrinks, refused_words, shrunk_run, sink_faulted, stopped_unread, run_promised, runless, unread_run, route_runless, walk_runs, play_runs, shelf_failed, refused_codec, refused_wav, refused_schedule, refused_geometry, was_routed, was_unrouted}
 use Rattle.hda_program.proofs.MadeLemmas.{make_complete, make_runs}
 use Rattle.hda_program.proofs.Served.{play_serves, play_serves_whole, walk_serves}
@@ -158,6 +158,22 @@ returns-in-Ok-clause-play_completes g c = λ codec wav name periods period plays
     (map string_bytes c.args.words.now) codec wav name periods period plays can
     (inl (record { meant = answer_meant c.in-Ok.answer; is = c.in-Ok.ensures.meant; given = c.write_answer.ensures.play; written = c.write_answer.ensures.written }))
 
+pub returns-in-Ok-clause-walk_given : goal.returns-in-Ok-clause-walk_given
+returns-in-Ok-clause-walk_given g c = λ codec name walks can enough. walk_given (g.K.Sink.taken c.args.out.now) (g.K.Sink.taken c.write_answer.new.out)
+    (Rose (g.K.Sink.faults c.args.out.now) (g.K.Sink.faults c.write_answer.new.out)) c.write_answer.result.play c.write_answer.result.status enough
+    (g.S.Shelf.told c.args.shelf.now) (λ name. Rose (g.S.Shelf.faults c.args.shelf.now name) (g.S.Shelf.faults c.answer_words.new.shelf name))
+    (λ name. Rose (g.S.Shelf.empties c.args.shelf.now name) (g.S.Shelf.empties c.answer_words.new.shelf name)) (λ name. g.S.Shelf.asked c.answer_words.new.shelf name ≡ g.S.Shelf.asked c.args.shelf.now name) (λ n. g.S.Shelf.given c.answer_words.new.shelf ≤ g.S.Shelf.given c.args.shelf.now + n)
+    (map string_bytes c.args.words.now) codec name walks can
+    (inl (record { meant = answer_meant c.in-Ok.answer; is = c.in-Ok.ensures.meant; given = c.write_answer.ensures.play; written = c.write_answer.ensures.written }))
+
+pub returns-in-Ok-clause-play_given : goal.returns-in-Ok-clause-play_given
+returns-in-Ok-clause-play_given g c = λ codec wav name periods period plays can enough. play_given (g.K.Sink.taken c.args.out.now) (g.K.Sink.taken c.write_answer.new.out)
+    (Rose (g.K.Sink.faults c.args.out.now) (g.K.Sink.faults c.write_answer.new.out)) c.write_answer.result.play c.write_answer.result.status enough
+    (g.S.Shelf.told c.args.shelf.now) (λ name. Rose (g.S.Shelf.faults c.args.shelf.now name) (g.S.Shelf.faults c.answer_words.new.shelf name))
+    (λ name. Rose (g.S.Shelf.empties c.args.shelf.now name) (g.S.Shelf.empties c.answer_words.new.shelf name)) (λ name. g.S.Shelf.asked c.answer_words.new.shelf name ≡ g.S.Shelf.asked c.args.shelf.now name) (λ n. g.S.Shelf.given c.answer_words.new.shelf ≤ g.S.Shelf.given c.args.shelf.now + n)
+    (map string_bytes c.args.words.now) codec wav name periods period plays can
+    (inl (record { meant = answer_meant c.in-Ok.answer; is = c.in-Ok.ensures.meant; given = c.write_answer.ensures.play; written = c.write_answer.ensures.written }))
+
 pub returns-in-Ok-clause-walk_served : goal.returns-in-Ok-clause-walk_served
 returns-in-Ok-clause-walk_served g c = λ codec name walks can sink serves. walk_serves (g.K.Sink.taken c.args.out.now) (g.K.Sink.taken c.write_answer.new.out)
     (Rose (g.K.Sink.faults c.args.out.now) (g.K.Sink.faults c.write_answer.new.out)) c.write_answer.result.play c.write_answer.result.status sink
@@ -214,3 +230,9 @@ returns-in-Err-clause-make_runs g c = λ number makes enough. absurd (enough c.n
 
 pub returns-in-Err-clause-make_ends : goal.returns-in-Err-clause-make_ends
 returns-in-Err-clause-make_ends g c = λ number makes. inr (inr c.number.ensures)
+
+pub returns-in-Err-clause-walk_given : goal.returns-in-Err-clause-walk_given
+returns-in-Err-clause-walk_given g c = λ codec name walks can enough. absurd (enough c.number.ensures)
+
+pub returns-in-Err-clause-play_given : goal.returns-in-Err-clause-play_given
+returns-in-Err-clause-play_given g c = λ codec wav name periods period plays can enough. absurd (enough c.number.ensures)
