@@ -2,6 +2,7 @@
 //! first word says what is called.
 #![tactic(auto)]
 
+mod drivers;
 mod engine;
 mod formats;
 mod scripted;
@@ -55,6 +56,7 @@ impl Cases for Calls {
             "stream" => streams::tell(alloc, rest),
             "start" => engine::tell_start(alloc, rest),
             "open" => engine::tell_open(alloc, rest),
+            "driver" => drivers::tell(alloc, rest),
             "poll" => engine::tell_poll(alloc, rest),
             "standing" => engine::tell_standing(alloc, rest),
             _ => format!(in alloc; "no call"),

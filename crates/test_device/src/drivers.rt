@@ -1,0 +1,49 @@
+//! Drivers over pools of few blocks.
+
+use audio_driver::{Driver, OpenFault};
+use dma_pool::Pool;
+use hda_items::Items;
+use period_writer::Geometry;
+use std::alloc::{AllocError, Global};
+use stream_format::{Bits, Format, Rate};
+use test_cases::number_of;
+use wav_reader::{Supply, Wav};
+
+/// The format of the sound: 48 kHz, 16 bits, 2 channels.
+fn format() -> Format {
+    Format {
+        rate: Rate::R48,
+        bits: Bits::B16,
+        channels: 2,
+    }
+}
+
+/// A supply without sound.
+fn no_sound(alloc: Global) -> Supply {
+    Supply::whole(Wav {
+        format: format(),
+        mono: false,
+        frames: 0,
+        pcm: Items::new(alloc),
+    })
+}
+
+/// Whether a driver with a ring of two periods of one unit is opened over a pool of so many blocks, and how many are
+/// free once it was let go.
+pub fn tell(alloc: Global, words: &[Vec<u8>]) -> Result<String, AllocError> {
+    let [blocks] = words else {
+        return format!(in alloc; "no pool");
+    };
+    let Ok(geometry) = Geometry::new(2, 1, 192, format()) else {
+        return format!(in alloc; "no ring");
+    };
+    let pool = Pool::new(alloc, number_of(blocks).clamp(1, 64))?;
+    match Driver::open(alloc, pool, geometry, no_sound(alloc), 1, false) {
+        Ok(driver) => {
+            let pool = driver.abandon();
+            format!(in alloc; "opened, {} free", pool.free())
+        }
+        Err(OpenFault::NoRun) => format!(in alloc; "NoRun"),
+        Err(OpenFault::OutOfMemory) => Err(AllocError),
+    }
+}
