@@ -19,9 +19,9 @@ use Rattle.period_writer.specs.Runs.{RunFacts, measures, run_reach, run_start, r
 use Rattle.period_writer.specs.Starting.{entry_write, entry_writes, run_accesses, start_accesses}
 use Rattle.period_writer.specs.Lines.{sound_and_silence}
 use Rattle.period_writer.specs.Playing.{writes_by, run_writes, stop_accesses, play_accesses, finish_accesses}
-use Rattle.driver_stretches.specs.Interrupts.{clear_accesses, interrupt_accesses}
-use Rattle.driver_stretches.specs.Shutting.{shut_accesses}
-use Rattle.driver_stretches.specs.Unread.{IsAccess, AreAccesses}
+use Rattle.driver_progress.specs.Interrupts.{clear_accesses, interrupt_accesses}
+use Rattle.driver_progress.specs.Shutting.{shut_accesses}
+use Rattle.driver_progress.specs.Unread.{IsAccess, AreAccesses}
 
 pub are_both : (front back : List Event) → AreAccesses front → AreAccesses back → AreAccesses (front ++ back)
 are_both [] back first second = second

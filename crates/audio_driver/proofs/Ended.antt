@@ -17,11 +17,11 @@ use Rattle.period_writer.specs.Runs.{Tally, facts_of}
 use Rattle.period_writer.specs.Writers.{WriterState, tally_of, measures_of, periods_of, ring_of, ring_size}
 use Rattle.driver_progress.specs.declared.phase.Phase.{Phase}
 use Rattle.driver_progress.specs.declared.phase.Phase.TheVariants.{Ready}
-use Rattle.driver_stretches.specs.Shutting.{shut_accesses}
-use Rattle.driver_commands.specs.Commanding.{entries_in, answer_in}
-use Rattle.codec_bring_up.specs.declared.bringing.BringUp.{BringUp}
-use Rattle.codec_bring_up.specs.Calls.{Listens}
-use Rattle.codec_bring_up.proofs.Callers.{answer_none, same_found}
+use Rattle.driver_progress.specs.Shutting.{shut_accesses}
+use Rattle.driver_bring_up.specs.Commanding.{entries_in, answer_in}
+use Rattle.driver_bring_up.specs.declared.bringing.BringUp.{BringUp}
+use Rattle.driver_bring_up.specs.Calls.{Listens}
+use Rattle.driver_bring_up.proofs.Callers.{answer_none, same_found}
 use Rattle.audio_driver.specs.States.{phase_if, state_of, is_open, is_playing}
 use Rattle.audio_driver.specs.Sounding.{EndsSound}
 use Rattle.audio_driver.proofs.Accesses.{are_both, poll_are, finish_are, shut_are}

@@ -16,8 +16,8 @@ use Rattle.period_writer.specs.Writers.{WriterState, KeepsRing, tally_of}
 use Rattle.driver_progress.specs.declared.phase.Phase.{Phase}
 use Rattle.driver_progress.specs.declared.phase.Phase.TheVariants.{Reset, Settling, Walking, SettingUp, Ready, Playing, Drained, NothingRouted, Unanswered, Late, Malformed, Failed}
 use Rattle.driver_progress.specs.Phases.{is_asking, is_ready}
-use Rattle.codec_bring_up.specs.declared.bringing.BringUp.{BringUp}
-use Rattle.codec_bring_up.specs.Calls.{IsKept}
+use Rattle.driver_bring_up.specs.declared.bringing.BringUp.{BringUp}
+use Rattle.driver_bring_up.specs.Calls.{IsKept}
 use Rattle.audio_driver.specs.Drivers.{IsDriver}
 use Rattle.audio_driver.specs.States.{is_open, phase_if, phase_of, plays_now}
 

@@ -13,8 +13,8 @@ use Rattle.command_engine.specs.declared.ring_places.RingPlaces.{RingPlaces}
 use Rattle.command_engine.specs.Polling.{PollReads, AreNew, entry_reads, batch_accesses, poll_accesses}
 use Rattle.period_writer.specs.declared.registers.TheConstants.{POSITION}
 use Rattle.driver_progress.specs.Seen.{seen_by, values_of, value_in}
-use Rattle.driver_commands.specs.Commanding.{entry_in, entries_in}
-use Rattle.driver_commands.proofs.Callers.{asked_entries, none_read, pointer_by}
+use Rattle.driver_bring_up.specs.Commanding.{entry_in, entries_in}
+use Rattle.driver_bring_up.proofs.CommandCallers.{asked_entries, none_read, pointer_by}
 
 -- ---- what writes leave
 

@@ -28,14 +28,14 @@ use Rattle.period_writer.specs.Writers.{WriterState, KeepsRing, tally_of, measur
 use Rattle.driver_progress.specs.declared.phase.Phase.{Phase}
 use Rattle.driver_progress.specs.declared.phase.Phase.TheVariants.{Ready}
 use Rattle.driver_progress.specs.Phases.{is_active}
-use Rattle.driver_stretches.specs.Interrupts.{interrupt_accesses}
-use Rattle.driver_stretches.proofs.Callers.{interrupt_unread}
-use Rattle.driver_commands.specs.Commanding.{entries_in, answer_in, with_told}
-use Rattle.jack_counts.specs.Counted.{IsCount}
-use Rattle.codec_bring_up.specs.declared.bringing.BringUp.{BringUp}
-use Rattle.codec_bring_up.specs.Calls.{IsKept, Listens}
-use Rattle.codec_bring_up.specs.Told.{found_none}
-use Rattle.codec_bring_up.proofs.Callers.{unread_none, answer_none, same_answer, same_found, interrupt_entries, inactive_stretch, none_stretch_of, interrupted_stretch}
+use Rattle.driver_progress.specs.Interrupts.{interrupt_accesses}
+use Rattle.driver_progress.proofs.StretchCallers.{interrupt_unread}
+use Rattle.driver_bring_up.specs.Commanding.{entries_in, answer_in, with_told}
+use Rattle.driver_bring_up.specs.Counted.{IsCount}
+use Rattle.driver_bring_up.specs.declared.bringing.BringUp.{BringUp}
+use Rattle.driver_bring_up.specs.Calls.{IsKept, Listens}
+use Rattle.driver_bring_up.specs.Told.{found_none}
+use Rattle.driver_bring_up.proofs.Callers.{unread_none, answer_none, same_answer, same_found, interrupt_entries, inactive_stretch, none_stretch_of, interrupted_stretch}
 use Rattle.audio_driver.specs.States.{phase_if, played_as, state_of, is_open, was_late, IsLeft}
 use Rattle.audio_driver.specs.Sounding.{SoundTells, Sounds}
 use Rattle.audio_driver.proofs.Accesses.{are_both, interrupt_are, poll_are, start_are, play_are}

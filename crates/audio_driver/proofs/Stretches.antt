@@ -28,9 +28,9 @@ use Rattle.driver_progress.specs.Seen.{Seen, seen_by, values_of}
 use Rattle.driver_progress.specs.States.{State}
 use Rattle.driver_progress.specs.Expected.{starts, plays_on, stops, runs, closes, shuts}
 use Rattle.driver_progress.specs.Next.{phase_played, after_run, led, closed, tally_next}
-use Rattle.driver_stretches.specs.Shutting.{shut_accesses}
-use Rattle.driver_commands.specs.Commanding.{IsStretch, run_of}
-use Rattle.codec_bring_up.proofs.Callers.{none_read}
+use Rattle.driver_progress.specs.Shutting.{shut_accesses}
+use Rattle.driver_bring_up.specs.Commanding.{IsStretch, run_of}
+use Rattle.driver_bring_up.proofs.Callers.{none_read}
 use Rattle.audio_driver.specs.States.{played_as, phase_if, is_open}
 use Rattle.audio_driver.proofs.Seeing.{writes_seen}
 use Rattle.audio_driver.proofs.PlayedOn.{facts_in, pcm_in, tally_in, writes_in, made_in, seen_in, tally_by, appends_by, played_on}

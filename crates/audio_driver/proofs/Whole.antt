@@ -23,9 +23,9 @@ use Rattle.driver_progress.specs.declared.phase.Phase.TheVariants.{Ready, Playin
 use Rattle.driver_progress.specs.Tasks.{Task, DriverLine}
 use Rattle.driver_progress.specs.States.{State}
 use Rattle.driver_progress.specs.Next.{phase_played, budget_of}
-use Rattle.driver_stretches.specs.Shutting.{shut_accesses}
-use Rattle.driver_commands.specs.Commanding.{IsStretch, run_of}
-use Rattle.codec_bring_up.specs.declared.bringing.BringUp.{BringUp}
+use Rattle.driver_progress.specs.Shutting.{shut_accesses}
+use Rattle.driver_bring_up.specs.Commanding.{IsStretch, run_of}
+use Rattle.driver_bring_up.specs.declared.bringing.BringUp.{BringUp}
 use Rattle.audio_driver.specs.States.{played_as, phase_if, phase_with, state_with, state_of, is_open, was_late, IsTaskOf}
 use Rattle.audio_driver.proofs.PlayedOn.{facts_in, tally_in}
 use Rattle.audio_driver.proofs.Stretches.{plays_stretch, closes_stretch, starts_stretch, stopped_last}

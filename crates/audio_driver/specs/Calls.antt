@@ -8,9 +8,9 @@ use Rattle.hda_world.specs.Tellings.{Telling}
 use Rattle.wav_reader.specs.Supplies.{Supplied, Suffices, MayGive, EndsWith, sound_before}
 use Rattle.period_writer.specs.Runs.{Tally}
 use Rattle.period_writer.specs.Writers.{WriterState, ring_size}
-use Rattle.driver_commands.specs.declared.answers.TheConstants.{TAG}
-use Rattle.codec_bring_up.specs.declared.bringing.BringUp.{BringUp}
-use Rattle.codec_bring_up.specs.Calls.{Leads, Ends}
+use Rattle.driver_bring_up.specs.declared.answers.TheConstants.{TAG}
+use Rattle.driver_bring_up.specs.declared.bringing.BringUp.{BringUp}
+use Rattle.driver_bring_up.specs.Calls.{Leads, Ends}
 use Rattle.audio_driver.specs.declared.driver.closing.Closed.{Closed}
 use Rattle.audio_driver.specs.States.{is_open, EndsWhilePlaying}
 use Rattle.audio_driver.specs.Sounding.{Sounds, EndsSound}

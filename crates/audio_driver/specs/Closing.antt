@@ -9,10 +9,10 @@ use Rattle.command_engine.specs.declared.answers.Event as told
 use Rattle.command_engine.specs.Opening as of_engine
 use Rattle.period_writer.specs.declared.geometry.Geometry.{Geometry}
 use Rattle.period_writer.specs.Opening as of_writer
-use Rattle.jack_counts.specs.Counted.{IsCount}
-use Rattle.jack_counts.specs.Jacks.{IsOfPin, Counts}
-use Rattle.codec_bring_up.specs.declared.bringing.BringUp.{BringUp}
-use Rattle.codec_bring_up.specs.Calls.{Ends}
+use Rattle.driver_bring_up.specs.Counted.{IsCount}
+use Rattle.driver_bring_up.specs.Jacks.{IsOfPin, Counts}
+use Rattle.driver_bring_up.specs.declared.bringing.BringUp.{BringUp}
+use Rattle.driver_bring_up.specs.Calls.{Ends}
 use Rattle.period_writer.specs.Runs.{Tally}
 use Rattle.period_writer.specs.Writers.{WriterState, tally_of}
 use Rattle.audio_driver.specs.States.{plays_now, phase_with}

@@ -7,7 +7,7 @@ use Rattle.command_engine.specs.Blocks.{corb_bytes, rirb_bytes}
 use Rattle.period_writer.specs.declared.geometry.Geometry.{Geometry}
 use Rattle.period_writer.specs.Runs.{tally_opened}
 use Rattle.period_writer.specs.Writers.{WriterState, OwnsBlocks, tally_of, periods_of}
-use Rattle.codec_bring_up.specs.declared.bringing.BringUp.{BringUp}
+use Rattle.driver_bring_up.specs.declared.bringing.BringUp.{BringUp}
 use Rattle.audio_driver.specs.States.{plays_now}
 use Rattle.audio_driver.specs.Opening as opening
 use Rattle.audio_driver.specs.Closing as closing

@@ -7,8 +7,8 @@ use Rattle.period_writer.specs.Writers.{WriterState}
 use Rattle.period_writer.specs.Opening as of_writer
 use Rattle.period_writer.specs.Runs.{course_opened}
 use Rattle.driver_progress.specs.declared.phase.Phase.TheVariants.{Reset}
-use Rattle.jack_counts.specs.Counted.{IsCount}
-use Rattle.codec_bring_up.specs.declared.bringing.BringUp.{BringUp}
+use Rattle.driver_bring_up.specs.Counted.{IsCount}
+use Rattle.driver_bring_up.specs.declared.bringing.BringUp.{BringUp}
 
 -- CORB and RIRB were taken, and then the list of buffers and the periods
 pub record Opens (geometry : Geometry) (pool : PoolState) (corb rirb list : ℕ) (periods : List ℕ) (pool' : PoolState) : Type 0 where

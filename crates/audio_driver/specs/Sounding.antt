@@ -10,13 +10,13 @@ use Rattle.period_writer.specs.Runs.{Tally}
 use Rattle.period_writer.specs.Writers.{WriterState, tally_of, ring_of, ring_size}
 use Rattle.period_writer.specs.Outcomes.{StartTellsOf, RunTellsOf, FinishTellsOf}
 use Rattle.driver_progress.specs.Tasks.{Task}
-use Rattle.driver_stretches.specs.Interrupts.{interrupt_accesses}
-use Rattle.driver_stretches.specs.Shutting.{shut_accesses}
-use Rattle.driver_stretches.specs.Unread.{AreAccesses}
-use Rattle.driver_commands.specs.Commanding.{IsStretch, answer_in, entries_in, with_told}
-use Rattle.jack_counts.specs.Counted.{IsCount}
-use Rattle.codec_bring_up.specs.declared.bringing.BringUp.{BringUp}
-use Rattle.codec_bring_up.specs.Told.{IsBefore, found_none}
+use Rattle.driver_progress.specs.Interrupts.{interrupt_accesses}
+use Rattle.driver_progress.specs.Shutting.{shut_accesses}
+use Rattle.driver_progress.specs.Unread.{AreAccesses}
+use Rattle.driver_bring_up.specs.Commanding.{IsStretch, answer_in, entries_in, with_told}
+use Rattle.driver_bring_up.specs.Counted.{IsCount}
+use Rattle.driver_bring_up.specs.declared.bringing.BringUp.{BringUp}
+use Rattle.driver_bring_up.specs.Told.{IsBefore, found_none}
 use Rattle.audio_driver.specs.States.{state_of, state_with, is_open, is_playing, IsLeft, IsTaskOf}
 
 -- ---- as it is told

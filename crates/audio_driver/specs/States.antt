@@ -10,9 +10,9 @@ use Rattle.driver_progress.specs.declared.phase.Phase.TheVariants.{Playing, Drai
 use Rattle.driver_progress.specs.Phases.{is_ready}
 use Rattle.driver_progress.specs.Tasks.{Task}
 use Rattle.driver_progress.specs.States.{State}
-use Rattle.codec_bring_up.specs.declared.bringing.BringUp.{BringUp}
+use Rattle.driver_bring_up.specs.declared.bringing.BringUp.{BringUp}
 use Rattle.wav_reader.specs.Supplies.{Supplied, EndsWith}
-use Rattle.codec_bring_up.specs.Calls as bringing
+use Rattle.driver_bring_up.specs.Calls as bringing
 
 -- the phase: that of the bring-up until the first run, and from then on by how the last run ended
 abbrev pub played_as : Ran → Phase

@@ -8,8 +8,8 @@ mod running;
 mod sounding;
 
 pub use closing::Closed;
-use codec_bring_up::BringUp;
 use dma_pool::Pool;
+use driver_bring_up::BringUp;
 use period_writer::Writer;
 use route_setup::Setter;
 use std::marker::Model;

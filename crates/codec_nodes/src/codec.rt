@@ -173,7 +173,8 @@ impl Codec {
 /// Whether a pin with this control of unsolicited responses tells that its presence became another.
 fn is_told(node: &RawNode, was: bool, present: bool, control: u32) -> bool
     ensures { result
-        ≡ (detects_presence node.now && codecs.changes was present && sends_unsolicited node.now && codecs.is_enabled control) }
+        ≡ (detects_presence node.now && codecs.changes was present
+        && sends_unsolicited node.now && codecs.is_enabled control) }
 {
     node.detects_presence()
         && was != present

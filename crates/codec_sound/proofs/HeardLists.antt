@@ -10,7 +10,7 @@ use Rattle.codec_graph.specs.CodecStates.{CodecState}
 use Rattle.stream_format.specs.declared.format.Format.{Format}
 use Rattle.stream_format.specs.Layouts.{Layout, layout, layout_of}
 use Rattle.stream_format.specs.Words.{format_word, HasNoFormat}
-use Rattle.stream_moves.specs.Output.{Sent, Missed}
+use Rattle.world_streams.specs.Output.{Sent, Missed}
 use Rattle.hda_world.specs.Worlds.{CarriedFrame}
 use Rattle.codec_sound.specs.declared.signals.Signal.{Signal}
 use Rattle.codec_sound.specs.declared.heard.Heard.{Heard}

@@ -6,7 +6,7 @@ use Rattle.codec_graph.specs.CodecStates.{CodecState}
 use Rattle.stream_format.specs.Cadence.{container_bytes, bytes_of_block}
 use Rattle.stream_format.specs.Layouts.{Layout, layout_of}
 use Rattle.stream_format.specs.Samples.{container_number}
-use Rattle.stream_moves.specs.Output.{Carriage, Sent, Missed}
+use Rattle.world_streams.specs.Output.{Carriage, Sent, Missed}
 use Rattle.hda_world.specs.Worlds.{CarriedFrame, codec_at}
 use Rattle.codec_sound.specs.declared.signals.Signal.{Signal}
 use Rattle.codec_sound.specs.declared.signals.Signal.TheVariants as variant

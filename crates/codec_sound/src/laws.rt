@@ -9,7 +9,7 @@ ghost use Rattle.stream_format.specs.declared.format.Format.{Format};
 ghost use Rattle.stream_format.specs.Layouts.{Layout, layout, layout_of};
 ghost use Rattle.stream_format.specs.Samples.{sample_of};
 ghost use Rattle.stream_format.specs.Words.{format_word, HasNoFormat};
-ghost use Rattle.stream_moves.specs.Output.{Sent, Missed};
+ghost use Rattle.world_streams.specs.Output.{Sent, Missed};
 ghost use Rattle.hda_world.specs.Worlds.{CarriedFrame};
 ghost use Rattle.codec_sound.specs.declared.signals.Signal.{Signal};
 ghost use Rattle.codec_sound.specs.declared.streams.LinkStream.{LinkStream};

@@ -114,7 +114,8 @@ fn passed_on(
     node: &RawNode,
 ) -> Signal
     ensures { result
-        ≡ spec.passed_on codec.now settings.now (in_table table.now) nid node.now (spec.selected settings.now nid node.now) }
+        ≡ spec.passed_on codec.now settings.now (in_table table.now) nid node.now
+        (spec.selected settings.now nid node.now) }
 {
     match selected(settings, nid, node) {
         Some(from) => {

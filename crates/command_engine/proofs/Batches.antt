@@ -6,12 +6,12 @@ use Rattle.std.proofs.lemmas.List.{length-take, take-append-drop}
 use Rattle.hda_registers.specs.declared.shapes.RingSize.{RingSize}
 use Rattle.hda_registers.specs.declared.shapes.RingSize.TheVariants.{Two, Sixteen, Full}
 use Rattle.hda_registers.specs.Fields.{Fields, entries_of, responses_of, rirb_address}
-use Rattle.ring_entries.specs.declared.response.Response.{Response}
-use Rattle.ring_entries.specs.Memory.{word_at, IsOutside}
-use Rattle.ring_entries.specs.Entries.{response_bytes, response_place, response_stored, responses_stored, after_response, after_responses}
-use Rattle.ring_entries.specs.Engines.{can_respond, batch_of, batch}
-use Rattle.ring_entries.specs.Standing.{StandsAt, IsRirbInside}
-use Rattle.ring_entries.proofs.Callers.{stored_outside}
+use Rattle.world_rings.specs.declared.response.Response.{Response}
+use Rattle.world_rings.specs.Memory.{word_at, IsOutside}
+use Rattle.world_rings.specs.Entries.{response_bytes, response_place, response_stored, responses_stored, after_response, after_responses}
+use Rattle.world_rings.specs.Engines.{can_respond, batch_of, batch}
+use Rattle.world_rings.specs.Standing.{StandsAt, IsRirbInside}
+use Rattle.world_rings.proofs.Callers.{stored_outside}
 use Rattle.command_engine.specs.Blocks.{are_apart}
 use Rattle.command_engine.specs.Sizes.{half_of}
 use Rattle.command_engine.specs.Courses.{part_of, AreStanding}

@@ -9,8 +9,8 @@ use Rattle.hda_registers.specs.Fields.{Fields, entries_of, is_out_of_reset}
 use Rattle.hda_registers.specs.Access.{written}
 use Rattle.hda_registers.specs.Laws.{IsBesideRings, IsHeldInReset}
 use Rattle.hda_registers.proofs.Callers.{leaves-rings, keeps-shape, stays-held}
-use Rattle.ring_entries.specs.Memory.{word_at, stored, IsOutside}
-use Rattle.ring_entries.proofs.Callers.{stored_outside}
+use Rattle.world_rings.specs.Memory.{word_at, stored, IsOutside}
+use Rattle.world_rings.proofs.Callers.{stored_outside}
 use Rattle.hda_world.specs.Worlds.{World}
 use Rattle.hda_world.specs.Events.{Event, Stepped, Begin, End, Read, Write, DmaRead, DmaWrite, after_write, happens, after}
 use Rattle.hda_world.proofs.Callers.{beside_write}

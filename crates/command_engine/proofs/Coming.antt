@@ -12,7 +12,7 @@ use Rattle.codec_graph.specs.Widget.{node_at, is_pin}
 use Rattle.codec_graph.specs.Settings.{setting_of}
 use Rattle.codec_graph.proofs.Callers.{answers-push, answers-cons}
 use Rattle.hda_registers.specs.Fields.{Fields}
-use Rattle.ring_entries.specs.declared.response.Response.{Response}
+use Rattle.world_rings.specs.declared.response.Response.{Response}
 use Rattle.hda_world.specs.Worlds.{TakenCommand, codec_at, with_codec}
 use Rattle.hda_world.specs.Steps.{address_of, responses_of, items_of}
 use Rattle.command_engine.specs.Courses.{AscendFrom, AscendByAddress, IsAnswerTo, ResponseCanCome, ItemCanCome, CodecCanSend, solicited, IsOnItsWay}

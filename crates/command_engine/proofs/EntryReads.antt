@@ -6,9 +6,9 @@ use Rattle.std.proofs.lemmas.List.{places}
 use Rattle.byteorder.specs.Endian.{little_bytes}
 use Rattle.byteorder.specs.Numbers.{little_from-bytes}
 use Rattle.verb_codes.specs.Words.{bits_of, has_bit}
-use Rattle.ring_entries.specs.declared.response.Response.{Response}
-use Rattle.ring_entries.specs.Memory.{word_at}
-use Rattle.ring_entries.specs.Entries.{response_source, response_bytes}
+use Rattle.world_rings.specs.declared.response.Response.{Response}
+use Rattle.world_rings.specs.Memory.{word_at}
+use Rattle.world_rings.specs.Entries.{response_source, response_bytes}
 use Rattle.hda_world.specs.Events.{IsPiece}
 use Rattle.command_engine.specs.Entries.{response_in}
 use Rattle.command_engine.specs.Belonging.{as_held}

@@ -1,7 +1,7 @@
 -- What the device's moves keep beside how the engine stands: a fact of RINTFL, the memory and the responses that were written.
 use Rattle.std.proofs.Common.{◌≡◌, ℕ, List, ◌∷◌, sym, ap, subst, true}
-use Rattle.ring_entries.specs.declared.response.Response.{Response}
-use Rattle.ring_entries.specs.Engines.{can_respond, batch}
+use Rattle.world_rings.specs.declared.response.Response.{Response}
+use Rattle.world_rings.specs.Engines.{can_respond, batch}
 use Rattle.hda_world.specs.Worlds.{World}
 use Rattle.hda_world.specs.Steps.{responded, passed}
 use Rattle.hda_world.specs.Kept.{Kept}

@@ -12,11 +12,11 @@ use Rattle.hda_registers.specs.declared.shapes.RingSize.{RingSize}
 use Rattle.hda_registers.specs.declared.shapes.Raise.TheVariants as event
 use Rattle.hda_registers.specs.Fields.{Fields, entries_of, rirb_address, is_running}
 use Rattle.hda_registers.specs.Moves.{framed, raised}
-use Rattle.ring_entries.specs.declared.response.Response.{Response}
-use Rattle.ring_entries.specs.Memory.{word_at}
-use Rattle.ring_entries.specs.Entries.{next_place, next_command, after_responses, responses_stored}
-use Rattle.ring_entries.specs.Engines.{can_fetch, can_respond, batch}
-use Rattle.device_steps.specs.declared.Step.{Step}
+use Rattle.world_rings.specs.declared.response.Response.{Response}
+use Rattle.world_rings.specs.Memory.{word_at}
+use Rattle.world_rings.specs.Entries.{next_place, next_command, after_responses, responses_stored}
+use Rattle.world_rings.specs.Engines.{can_fetch, can_respond, batch}
+use Rattle.world_steps.specs.declared.Step.{Step}
 use Rattle.hda_world.specs.declared.step.TheConstants.{FRAMES_TO_DISCOVERY}
 use Rattle.hda_world.specs.Worlds.{World, TakenCommand, codec_at, with_codec}
 use Rattle.hda_world.specs.Steps.{address_of, taking, items_of, handed, responses_of, responded, discovered, passed, after_steps}

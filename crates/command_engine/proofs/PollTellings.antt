@@ -9,10 +9,10 @@ use Rattle.hda_registers.specs.declared.shapes.Width.TheVariants.{One}
 use Rattle.hda_registers.specs.Fields.{Fields, entries_of}
 use Rattle.hda_registers.specs.Access.{written}
 use Rattle.hda_registers.proofs.Callers.{read-response_flag, read-rirb_write_pointer, keeps-reset, keeps-left}
-use Rattle.ring_entries.specs.declared.response.Response.{Response}
-use Rattle.ring_entries.specs.declared.entries.TheConstants.{RESPONSE_BYTES}
-use Rattle.ring_entries.specs.Entries.{response_bytes}
-use Rattle.stream_moves.specs.Streams.{StreamState, settled_state}
+use Rattle.world_rings.specs.declared.response.Response.{Response}
+use Rattle.world_rings.specs.declared.entries.TheConstants.{RESPONSE_BYTES}
+use Rattle.world_rings.specs.Entries.{response_bytes}
+use Rattle.world_streams.specs.Streams.{StreamState, settled_state}
 use Rattle.hda_world.specs.Worlds.{World}
 use Rattle.hda_world.specs.Events as happens
 use Rattle.hda_world.specs.Tellings.{Telling, world_of, MakesBy, Makes}

@@ -12,8 +12,8 @@ use Rattle.hda_registers.specs.Fields.{Fields, Global, reset_fields, is_out_of_r
 use Rattle.hda_registers.specs.Access.{access_of, is_taken, with_global, written, placed, global_written, stream_written, effects_of}
 use Rattle.hda_registers.specs.Laws.{IsBesideRings}
 use Rattle.hda_registers.proofs.Callers.{leaves-rings}
-use Rattle.ring_entries.proofs.Callers.{stored_outside}
-use Rattle.device_steps.specs.declared.Step.{Step}
+use Rattle.world_rings.proofs.Callers.{stored_outside}
+use Rattle.world_steps.specs.declared.Step.{Step}
 use Rattle.hda_world.specs.Worlds.{World}
 use Rattle.hda_world.specs.Steps.{after_steps}
 use Rattle.hda_world.specs.Events.{Event, Stepped, Begin, End, Read, Write, DmaRead, DmaWrite, registers_written, after_write, happens, after}

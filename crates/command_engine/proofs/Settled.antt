@@ -14,7 +14,7 @@ use Rattle.codec_graph.proofs.Callers.{answer_of-narrow}
 use Rattle.hda_registers.specs.declared.shapes.Width.{Width}
 use Rattle.hda_registers.specs.Access.{written, effects_of}
 use Rattle.hda_registers.specs.Fields.{is_running}
-use Rattle.ring_entries.specs.Entries.{next_command}
+use Rattle.world_rings.specs.Entries.{next_command}
 use Rattle.hda_world.specs.Worlds.{World, TakenCommand, codec_at, with_codec}
 use Rattle.hda_world.specs.Steps.{address_of, taking}
 use Rattle.hda_world.specs.Events.{Event, Stepped, Begin, End, Read, Write, DmaRead, DmaWrite, reset_if, counted_anew_if, registers_written, after_write, happens, after}

@@ -15,8 +15,8 @@ use Rattle.hda_registers.specs.Table.{size_code}
 use Rattle.hda_registers.specs.Access.{written}
 use Rattle.hda_registers.specs.Laws.{IsBesideRings}
 use Rattle.hda_registers.proofs.Callers.{keeps-reset, keeps-left, read-corb_size, read-rirb_size, write-corb_write_pointer}
-use Rattle.ring_entries.specs.declared.response.Response.{Response}
-use Rattle.ring_entries.specs.Engines.{can_fetch, can_respond}
+use Rattle.world_rings.specs.declared.response.Response.{Response}
+use Rattle.world_rings.specs.Engines.{can_fetch, can_respond}
 use Rattle.hda_world.specs.declared.step.TheConstants.{FRAMES_TO_DISCOVERY}
 use Rattle.hda_world.specs.Worlds.{World, TakenCommand, with_codec}
 use Rattle.hda_world.specs.Steps.{responses_of, discovered, passed}

@@ -7,10 +7,10 @@ use Rattle.hda_registers.specs.declared.shapes.Width.TheVariants.{Two}
 use Rattle.hda_registers.specs.Fields.{entries_of, rirb_address}
 use Rattle.hda_registers.specs.Access.{written}
 use Rattle.hda_registers.proofs.Callers.{keeps-reset, keeps-left, write-corb_write_pointer}
-use Rattle.ring_entries.specs.declared.response.Response.{Response}
-use Rattle.ring_entries.specs.Memory.{word_at, stored, IsOutside}
-use Rattle.ring_entries.specs.Entries.{next_place}
-use Rattle.ring_entries.proofs.Callers.{stored_outside, piece_is_stored}
+use Rattle.world_rings.specs.declared.response.Response.{Response}
+use Rattle.world_rings.specs.Memory.{word_at, stored, IsOutside}
+use Rattle.world_rings.specs.Entries.{next_place}
+use Rattle.world_rings.proofs.Callers.{stored_outside, piece_is_stored}
 use Rattle.hda_world.specs.Worlds.{World, TakenCommand}
 use Rattle.hda_world.specs.Events as happens
 use Rattle.hda_world.specs.Tellings.{Telling, world_of, Makes}

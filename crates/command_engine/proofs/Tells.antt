@@ -1,6 +1,6 @@
 -- What is told of the accesses of a start, a submission and a poll.
 use Rattle.std.proofs.Common.{◌≡◌, ◌≢◌, ◌<◌, ◌^◌, ℕ, List, length, Option, None, Some, refl, sym, ap, subst, ◌∙◌}
-use Rattle.ring_entries.proofs.Callers.{each_stands}
+use Rattle.world_rings.proofs.Callers.{each_stands}
 use Rattle.hda_world.specs.Tellings.{Telling, world_of, Between, Makes}
 use Rattle.hda_world.proofs.Callers.{told_map}
 use Rattle.command_engine.specs.declared.ring_places.RingPlaces.{RingPlaces}

@@ -8,10 +8,10 @@ use Rattle.codec_graph.specs.declared.waiting.Waiting.TheVariants.{Answer, Unsol
 use Rattle.codec_graph.specs.CodecStates.{CodecState, answers, answer_to}
 use Rattle.hda_registers.specs.declared.shapes.RingSize.{RingSize}
 use Rattle.hda_registers.specs.Fields.{Fields, entries_of}
-use Rattle.ring_entries.specs.declared.response.Response.{Response}
-use Rattle.ring_entries.specs.declared.entries.TheConstants.{COMMAND_BYTES, RESPONSE_BYTES}
-use Rattle.ring_entries.specs.Memory.{word_at}
-use Rattle.ring_entries.specs.Entries.{next_place, response_bytes}
+use Rattle.world_rings.specs.declared.response.Response.{Response}
+use Rattle.world_rings.specs.declared.entries.TheConstants.{COMMAND_BYTES, RESPONSE_BYTES}
+use Rattle.world_rings.specs.Memory.{word_at}
+use Rattle.world_rings.specs.Entries.{next_place, response_bytes}
 use Rattle.hda_world.specs.Worlds.{World, TakenCommand}
 use Rattle.hda_world.specs.Steps.{address_of}
 use Rattle.hda_world.specs.Unread.{IsReadTo}

@@ -3,8 +3,8 @@ use Rattle.std.specs.Prelude.{ℕ, Bool, false, not, ◌==◌, ◌&&◌, List, m
 use Rattle.std.specs.List.{find}
 use Rattle.std.specs.Option.{option_map}
 use Rattle.verb_codes.specs.Words.{bits_of, has_bit}
-use Rattle.ring_entries.specs.Memory.{word_at}
-use Rattle.ring_entries.specs.declared.response.Response.{Response}
+use Rattle.world_rings.specs.Memory.{word_at}
+use Rattle.world_rings.specs.declared.response.Response.{Response}
 use Rattle.command_engine.specs.declared.answers.Event.{Event}
 
 -- the response that an entry of 8 bytes holds: the answer, and then the codec in bits 3:0 and the mark of an unsolicited one in bit 4

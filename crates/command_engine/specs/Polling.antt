@@ -4,7 +4,7 @@ use Rattle.verb_codes.specs.Words.{has_bit}
 use Rattle.hda_registers.specs.declared.shapes.Width.TheVariants.{One, Two}
 use Rattle.hda_registers.specs.declared.places.TheConstants.{RIRBWP, RIRBSTS}
 use Rattle.hda_registers.specs.Fields.{entries_of}
-use Rattle.ring_entries.specs.declared.entries.TheConstants.{RESPONSE_BYTES}
+use Rattle.world_rings.specs.declared.entries.TheConstants.{RESPONSE_BYTES}
 use Rattle.hda_world.specs.Events as happens
 use Rattle.hda_world.specs.Tellings.{Telling, Between, Makes}
 use Rattle.command_engine.specs.declared.ring_places.RingPlaces.{RingPlaces}

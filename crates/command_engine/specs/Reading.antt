@@ -2,8 +2,8 @@
 use Rattle.std.specs.Prelude.{◌≡◌, ℕ, ◌%◌, List, [], ◌∷◌, ◌++◌, length, All, Option, Some, None, if◌then◌else◌}
 use Rattle.verb_codes.specs.Words.{has_bit}
 use Rattle.hda_registers.specs.Fields.{entries_of}
-use Rattle.ring_entries.specs.declared.response.Response.{Response}
-use Rattle.ring_entries.specs.declared.entries.TheConstants.{RESPONSE_BYTES}
+use Rattle.world_rings.specs.declared.response.Response.{Response}
+use Rattle.world_rings.specs.declared.entries.TheConstants.{RESPONSE_BYTES}
 use Rattle.hda_world.specs.Tellings.{Telling, Between, Makes}
 use Rattle.command_engine.specs.declared.answers.Event.{Event}
 use Rattle.command_engine.specs.Entries.{responses_in, event_of, events_of, answers_it, answer_among}

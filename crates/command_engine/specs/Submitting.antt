@@ -4,8 +4,8 @@ use Rattle.byteorder.specs.Endian.{little_bytes}
 use Rattle.hda_registers.specs.declared.shapes.Width.TheVariants.{Two}
 use Rattle.hda_registers.specs.declared.places.TheConstants.{CORBWP}
 use Rattle.hda_registers.specs.Fields.{entries_of}
-use Rattle.ring_entries.specs.declared.entries.TheConstants.{COMMAND_BYTES}
-use Rattle.ring_entries.specs.Entries.{next_place}
+use Rattle.world_rings.specs.declared.entries.TheConstants.{COMMAND_BYTES}
+use Rattle.world_rings.specs.Entries.{next_place}
 use Rattle.hda_world.specs.Events.{Event, Write, DmaWrite}
 use Rattle.command_engine.specs.declared.ring_places.RingPlaces.{RingPlaces}
 use Rattle.command_engine.specs.declared.answers.Outstanding.{Outstanding}

@@ -5,8 +5,8 @@ ghost use Rattle.command_engine.specs.Polling as polling;
 ghost use Rattle.command_engine.specs.Reading as reading;
 
 use circular_buffer::HeapCircularBuffer;
-use ring_entries::{Response, word_from};
 use verb_codes::{bits_of, has_bit};
+use world_rings::{Response, word_from};
 
 /// After how many ticks of the wall clock a command counts as not answered: 1,000 link frames of 500. This project's
 /// own.

@@ -1,7 +1,7 @@
 //! Laws of the engine, each the contract of a function that does nothing.
 ghost use Rattle.std.specs.Prelude.{◌≡◌, ◌≤◌, ◌%◌, ℕ, List, All, length, drop};
 ghost use Rattle.codec_graph.specs.CodecStates.{CodecState, answer_to};
-ghost use Rattle.device_steps.specs.declared.Step.{Step};
+ghost use Rattle.world_steps.specs.declared.Step.{Step};
 ghost use Rattle.hda_registers.specs.declared.places.TheConstants.{GCTL};
 ghost use Rattle.hda_registers.specs.declared.shapes.RingSize.{RingSize};
 ghost use Rattle.hda_registers.specs.declared.shapes.Width.TheVariants.{Four};

@@ -1,14 +1,14 @@
 //! Accesses to the rings' blocks.
 ghost use Rattle.std.specs.Prelude.{◌≡◌, ◌≤◌, ◌<◌, ◌+◌, ◌*◌, length};
 ghost use Rattle.byteorder.specs.Endian.{little_bytes};
-ghost use Rattle.ring_entries.specs.declared.entries.TheConstants.{COMMAND_BYTES, RESPONSE_BYTES};
+ghost use Rattle.world_rings.specs.declared.entries.TheConstants.{COMMAND_BYTES, RESPONSE_BYTES};
 ghost use Rattle.hda_world.specs.Tellings.{Accessed, Between};
 ghost use Rattle.hda_world.specs.Events.{DmaRead, DmaWrite};
 
 use byteorder::{ByteOrder, LittleEndian};
 use dma_pool::Lent;
 use hda_platform::Platform;
-use ring_entries::{COMMAND_BYTES, RESPONSE_BYTES};
+use world_rings::{COMMAND_BYTES, RESPONSE_BYTES};
 
 /// Writes a command to an entry of CORB.
 pub(crate) fn write_command<P: Platform>(platform: &mut P, corb: &mut Lent, place: u8, word: u32)

@@ -8,8 +8,8 @@ ghost use Rattle.command_engine.specs.Polling as polling;
 
 use crate::answers::Outstanding;
 use hda_registers::RingSize;
-use ring_entries::next_place;
 use verb_codes::has_bit;
+use world_rings::next_place;
 
 /// Where the engine stands in both rings (HDA 1.0a, 4.4.1 and 4.4.2).
 #[derive(Clone, Copy, Debug, PartialEq, Eq)]

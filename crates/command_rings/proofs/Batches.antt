@@ -1,9 +1,9 @@
 -- Responses written one by one, and how many of those that wait.
 use Rattle.std.proofs.Common.{◌≡◌, ◌<◌, ◌≤◌, ◌+◌, ℕ, zero, suc, true, List, [], ◌∷◌, ◌++◌, length, take, drop, slice_get, Some, None, add-one, refl, sym, ap, ◌∙◌, arith, rules, tests}
-use Rattle.ring_entries.specs.declared.response.Response.{Response}
+use Rattle.world_rings.specs.declared.response.Response.{Response}
 use Rattle.hda_registers.specs.Fields.{Fields, is_out_of_reset}
-use Rattle.ring_entries.specs.Entries.{after_response, after_responses, response_stored, responses_stored}
-use Rattle.ring_entries.specs.Engines.{can_respond}
+use Rattle.world_rings.specs.Entries.{after_response, after_responses, response_stored, responses_stored}
+use Rattle.world_rings.specs.Engines.{can_respond}
 
 pub after_responses-push : (responses : List Response) (response : Response) (fields : Fields) → after_responses fields (responses ++ response ∷ []) ≡ after_response (after_responses fields responses)
 after_responses-push [] response fields = refl

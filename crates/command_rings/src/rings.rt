@@ -1,16 +1,16 @@
 //! The engines of both rings, and the responses that wait for RIRB.
 ghost use Rattle.std.specs.Prelude.{◌≡◌, ◌==◌, ◌≤◌, ◌<◌, ◌+◌, ◌*◌, ◌^◌, ◌++◌, [], ◌∷◌, IfOk, IsTrue, length, take};
 ghost use Rattle.std.specs.Prelude.{drop};
-ghost use Rattle.ring_entries.specs.Entries as entries;
-ghost use Rattle.ring_entries.specs.Engines as engines;
+ghost use Rattle.world_rings.specs.Entries as entries;
+ghost use Rattle.world_rings.specs.Engines as engines;
 
 use circular_buffer::HeapCircularBuffer;
 use hda_registers::{Raise, Registers};
-use ring_entries::{
-    MOST_WAITING, Response, batch_of, can_respond, fetch, next_word, write_response,
-};
 use std::alloc::{AllocError, Global};
 use std::marker::Model;
+use world_rings::{
+    MOST_WAITING, Response, batch_of, can_respond, fetch, next_word, write_response,
+};
 
 /// The controller's side of both rings: the responses that wait for RIRB, oldest first. The queue and its limit are
 /// this project's own.
@@ -21,8 +21,8 @@ pub struct Rings {
 
 impl Model for Rings {
     ghost use Rattle.std.specs.Prelude.{◌≡◌, ◌≤◌, List, length};
-    ghost use Rattle.ring_entries.specs.declared.response.Response.{Response};
-    ghost use Rattle.ring_entries.specs.declared.response.TheConstants.{MOST_WAITING};
+    ghost use Rattle.world_rings.specs.declared.response.Response.{Response};
+    ghost use Rattle.world_rings.specs.declared.response.TheConstants.{MOST_WAITING};
 
     ghost Value = { List Response };
 

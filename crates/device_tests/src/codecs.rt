@@ -1,9 +1,9 @@
 //! A codec on the link that is driven as a controller would drive it.
-use codec_examples::read_codec;
 use codec_graph::Control;
 use codec_nodes::Codec;
 use std::alloc::Global;
 use std::test::Fail;
+use test_codecs::read_codec;
 
 /// The pin 14 alone, which can detect presence and whose unsolicited responses are enabled with the tag 1.
 const ONE_PIN: &str = "

@@ -1,11 +1,9 @@
 //! A controller with its codec, its output stream and what its pin hears, by direct calls.
 ghost use Rattle.std.specs.Prelude.{◌≡◌, ◌≤◌, ◌+◌, map, Contains, IfOk, IfSome, OnOk};
 ghost use Rattle.hda_controller.specs.Hearing.{AreHeard};
-ghost use Rattle.hda_device.specs.Codecs.{addresses_of};
+ghost use Rattle.device_core.specs.Codecs.{addresses_of};
 
-use codec_examples::LEAST;
 use codec_sound::Heard;
-use device_steps::Step;
 use hda_controller::{Controller, most_items};
 use hda_files::{Machine, read_machine};
 use hda_registers::Width;
@@ -16,9 +14,11 @@ use hda_registers::places::{
 use heard_lists::HeardLists;
 use std::alloc::Global;
 use std::test::Fail;
+use test_codecs::LEAST;
+use world_steps::Step;
 
-/// The words that open the way from the converter 02 through input 0 of the mixer 0C to the pin 14, and last the one that disables
-/// the pin's output.
+/// The words that open the way from the converter 02 through input 0 of the mixer 0C to the pin 14, and last the one
+/// that disables the pin's output.
 const WORDS: [u32; 8] = [
     0x0017_0500,
     0x0022_0011,

@@ -1,13 +1,13 @@
 //! Heard lists.
 ghost use Rattle.codec_sound.specs.declared.signals.Signal.TheVariants.{Pair};
 
-use codec_examples::{LARGE, LEAST};
 use codec_sound::{Heard, Signal};
 use hda_files::read_machine;
 use heard_lists::{HeardLists, Sounds};
 use route_planner::{Bits, Format, Rate};
 use std::alloc::Global;
 use std::test::Fail;
+use test_codecs::{LARGE, LEAST};
 
 /// Each pin hears the first pair of channels.
 struct FirstPair;

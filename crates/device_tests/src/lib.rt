@@ -1,6 +1,6 @@
-//! Tests of the public calls of the device's crates and of the driver's, a module a subject. They stand here, above all of these,
-//! since a crate with tests is proved once with them and once without. Each calls what no clause can promise to succeed, or compares
-//! with values that come from the standard or from a codec file worked out by hand.
+//! Tests of the public calls of the device's crates and of the pool of memory, a module a subject. They stand here, above
+//! all of these, since a crate with tests is proved once with them and once without. Each calls what no clause can promise
+//! to succeed, or compares with values that come from the standard or from a codec file worked out by hand.
 #![tactic(auto)]
 
 #[cfg(test)]
@@ -9,8 +9,6 @@ mod codecs;
 mod controller;
 #[cfg(test)]
 mod heard;
-#[cfg(test)]
-mod platform;
 #[cfg(test)]
 mod pool;
 #[cfg(test)]

@@ -2,11 +2,11 @@
 use command_rings::Rings;
 use hda_registers::places::{CORBCTL, CORBWP, RINTCNT, RIRBCTL, RIRBLBASE, RIRBSTS, RIRBWP};
 use hda_registers::{Registers, RingSize, Shape, Width};
-use ring_entries::MOST_WAITING;
 use std::test::Fail;
+use world_rings::MOST_WAITING;
 
-/// A controller out of reset that accepts unsolicited responses, with both engines running: CORB of 2 entries at 0, RIRB of 16 at
-/// 128, one response at once.
+/// A controller out of reset that accepts unsolicited responses, with both engines running: CORB of 2 entries at 0,
+/// RIRB of 16 at 128, one response at once.
 fn running() -> Registers {
     let mut regs = Registers::new(Shape {
         fifo: 192,

@@ -1,6 +1,6 @@
 -- How the course goes on over events.
 use Rattle.std.proofs.Common.{◌≡◌, List, [], ◌∷◌, ◌++◌, map, refl}
-use Rattle.device_steps.specs.declared.Step.{Step}
+use Rattle.world_steps.specs.declared.Step.{Step}
 use Rattle.hda_world.specs.Worlds.{World}
 use Rattle.hda_world.specs.Events.{Event, Stepped, happens, after}
 use Rattle.driver_progress.specs.Tasks.{Task}

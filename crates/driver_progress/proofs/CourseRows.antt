@@ -1,7 +1,7 @@
 -- How the course goes on over rows of accesses, as they are told.
 use Rattle.std.proofs.Common.{◌≡◌, ◌==◌, ℕ, List, [], ◌∷◌, ◌++◌, map, Bool, false, refl, sym, ap, subst, ◌∙◌, append_assoc, append-nil, length, if◌then◌else◌}
 use Rattle.hda_registers.specs.declared.places.TheConstants.{CORBWP, RIRBSTS}
-use Rattle.device_steps.specs.declared.Step.{Step}
+use Rattle.world_steps.specs.declared.Step.{Step}
 use Rattle.hda_world.specs.Worlds.{World}
 use Rattle.hda_world.specs.Events.{Event, Stepped, Begin, End, Read, Write, DmaRead, DmaWrite, happens, after}
 use Rattle.hda_world.specs.Tellings.{Telling, world_of, Went, Makes, MakesBy}

@@ -1,3 +1,15 @@
 pub mod CourseLaws
 pub mod CourseRows
 pub mod Callers
+pub mod StretchCallers
+pub mod Fitting
+pub mod Time
+pub mod ResetWorlds
+pub mod InterruptWorlds
+pub mod SettleWorlds
+pub mod Polled
+pub mod Agreeing
+pub mod Unasked
+pub mod UnreadRows
+pub mod UntakenSteps
+pub mod UntakenRows

@@ -6,7 +6,7 @@ use Rattle.verb_codes.specs.Words.{has_bit, bits_of}
 use Rattle.hda_registers.specs.declared.shapes.Width.TheVariants.{One, Two, Four}
 use Rattle.hda_registers.specs.declared.places.TheConstants.{GCTL, STATESTS, INTSTS, WALCLK, CORBLBASE, CORBWP, CORBRP, CORBCTL, CORBSIZE, RIRBWP, RIRBCTL, RIRBSTS, RIRBSIZE}
 use Rattle.hda_registers.specs.Fields.{entries_of}
-use Rattle.ring_entries.specs.declared.entries.TheConstants.{COMMAND_BYTES, RESPONSE_BYTES}
+use Rattle.world_rings.specs.declared.entries.TheConstants.{COMMAND_BYTES, RESPONSE_BYTES}
 use Rattle.command_engine.specs.declared.ring_places.RingPlaces.{RingPlaces}
 use Rattle.command_engine.specs.declared.answers.Outstanding.{Outstanding}
 use Rattle.command_engine.specs.Starting.{rings_found, rirb_accesses}

@@ -8,3 +8,12 @@ pub mod Next
 pub mod Progress
 pub mod Noting
 pub mod Worked
+pub mod Resetting
+pub mod Settling
+pub mod Commands
+pub mod Interrupts
+pub mod Shutting
+pub mod Beginning
+pub mod Announcing
+pub mod Answers
+pub mod Unread

@@ -4,7 +4,7 @@ use Rattle.std.specs.Prelude.{◌≡◌, ℕ, Bool, true, false, List, [], ◌�
 use Rattle.std.proofs.Common.{lit≤}
 use Rattle.hda_registers.specs.declared.shapes.RingSize.TheVariants.{Full}
 use Rattle.hda_registers.specs.declared.shapes.Width.TheVariants.{One, Two, Four}
-use Rattle.ring_entries.specs.declared.response.Response.{Response}
+use Rattle.world_rings.specs.declared.response.Response.{Response}
 use Rattle.stream_format.specs.declared.format.Format.{Format}
 use Rattle.stream_format.specs.declared.format.Rate.TheVariants.{R48}
 use Rattle.stream_format.specs.declared.format.Bits.TheVariants.{B16}

@@ -1,7 +1,7 @@
 //! Laws of progress, each the contract of a function that does nothing. Each worked stretch holds in every world in
 //! which just the responses of the list were written to RIRB.
 ghost use Rattle.std.specs.Prelude.{◌≡◌, ℕ, List, ◌++◌, ◌∷◌, [], map, true, false, None};
-ghost use Rattle.device_steps.specs.declared.Step.{Step};
+ghost use Rattle.world_steps.specs.declared.Step.{Step};
 ghost use Rattle.hda_registers.specs.declared.shapes.Width.TheVariants.{One, Two, Four};
 ghost use Rattle.hda_world.specs.Worlds.{World};
 ghost use Rattle.hda_world.specs.Events.{Event, Stepped, Read, Write, DmaWrite, after};

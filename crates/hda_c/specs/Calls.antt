@@ -1,6 +1,6 @@
 -- What an export makes of the model at a place. This project's own.
 use Rattle.std.specs.Prelude.{◌≡◌, ◌<◌, ◌⊎◌, ℕ, Bool, nat_lt, if◌then◌else◌, List, length, Option, Some, None}
-use Rattle.device_steps.specs.declared.Step.{Step}
+use Rattle.world_steps.specs.declared.Step.{Step}
 use Rattle.hda_registers.specs.declared.shapes.Width.{Width}
 use Rattle.hda_registers.specs.Access.{value_at}
 use Rattle.hda_registers.specs.Status.{line_of}

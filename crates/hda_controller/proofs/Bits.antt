@@ -4,7 +4,7 @@ use Rattle.std.proofs.lemmas.Grind.{one_shifted}
 use Rattle.std.proofs.lemmas.List.{take_more}
 use Rattle.std.proofs.lemmas.List.Sums.{fold-append}
 use Rattle.codec_graph.specs.CodecStates.{CodecState}
-use Rattle.hda_device.specs.Codecs.{codec_bits}
+use Rattle.device_core.specs.Codecs.{codec_bits}
 
 bit_of : (address : ℕ) → address ≤ 14 → 1 * 2 ^ address % 65536 ≡ 2 ^ address
 bit_of address few = (one_shifted address 65535 refl (let low : address < 16 = omega (arith, few) in low)).0

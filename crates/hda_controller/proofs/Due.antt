@@ -10,7 +10,7 @@ use Rattle.stream_format.specs.declared.format.Format.{Format}
 use Rattle.stream_format.specs.Cadence.{blocks_of, most_blocks, block_bytes}
 use Rattle.stream_format.specs.Layouts.{Layout, layout, layout_of}
 use Rattle.stream_format.proofs.Callers.{bounded}
-use Rattle.stream_moves.proofs.Callers.{few_bytes, some_block}
+use Rattle.world_streams.proofs.Callers.{few_bytes, some_block}
 use Rattle.codec_sound.specs.Signals.{IsAmong}
 use Rattle.codec_sound.specs.HeardLists.{signal_with}
 use Rattle.codec_sound.proofs.Callers.{among-signal_of}

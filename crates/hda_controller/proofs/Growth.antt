@@ -5,13 +5,13 @@ use Rattle.std.proofs.lemmas.Bool.Decides.{nat_tests}
 use Rattle.codec_graph.specs.declared.waiting.Waiting.{Waiting}
 use Rattle.codec_graph.specs.CodecStates.{CodecState}
 use Rattle.hda_registers.specs.Fields.{Fields, is_out_of_reset, is_running}
-use Rattle.ring_entries.specs.Engines.{next_word}
-use Rattle.ring_entries.specs.declared.response.TheConstants.{MOST_WAITING}
+use Rattle.world_rings.specs.Engines.{next_word}
+use Rattle.world_rings.specs.declared.response.TheConstants.{MOST_WAITING}
 use Rattle.stream_format.specs.Layouts.{Layout, layout_of}
 use Rattle.stream_format.specs.Cadence.{blocks_of, bytes_of_block}
-use Rattle.stream_moves.specs.Streams.{Stream, due, due_by, held, held_bytes, is_usable}
-use Rattle.stream_moves.specs.Output.{Carriage, Sent, Missed, carried_by, frame_of}
-use Rattle.stream_moves.specs.Output as output
+use Rattle.world_streams.specs.Streams.{Stream, due, due_by, held, held_bytes, is_usable}
+use Rattle.world_streams.specs.Output.{Carriage, Sent, Missed, carried_by, frame_of}
+use Rattle.world_streams.specs.Output as output
 use Rattle.stream_descriptor.specs.Running.{found_at, stream_at}
 use Rattle.stream_descriptor.specs.Frames.{AreDue as AreDueOf}
 use Rattle.codec_sound.specs.declared.signals.Signal.{Signal}
@@ -19,7 +19,7 @@ use Rattle.codec_sound.specs.HeardLists.{signal_with}
 use Rattle.hda_world.specs.Worlds.{World, CarriedFrame, output_of, codec_at}
 use Rattle.hda_world.specs.Steps as steps
 use Rattle.hda_world.specs.Steps.{frame_carried, frame_step, output_framed, passed, times, items_of, is_busy, address_of}
-use Rattle.hda_device.specs.Devices.{DeviceState, KeepsSound}
+use Rattle.device_core.specs.Devices.{DeviceState, KeepsSound}
 use Rattle.heard_lists.specs.Listings.{Listing, grown, with_blocks}
 use Rattle.heard_lists.proofs.Callers.{grown-append, grown-none, blocks-grow}
 use Rattle.hda_controller.specs.Controllers.{signal_now}

@@ -10,8 +10,8 @@ use Rattle.codec_sound.specs.declared.signals.Signal.{Signal}
 use Rattle.codec_sound.specs.HeardLists.{signal_with}
 use Rattle.codec_sound.specs.Keeping.{KeptSignals, AreKept, kept_pins}
 use Rattle.hda_world.specs.Worlds.{codec_at}
-use Rattle.hda_device.specs.Codecs.{place_of}
-use Rattle.hda_device.proofs.Callers.{codec_is}
+use Rattle.device_core.specs.Codecs.{place_of}
+use Rattle.device_core.proofs.Callers.{codec_is}
 use Rattle.hda_controller.specs.Keeping.{signal_set, IsKeptFor, AreKeptFor}
 use Rattle.hda_controller.specs.Controllers.{is_candidate_in, is_candidate_of}
 use Rattle.hda_controller.proofs.Renewed.{set-with}

@@ -8,8 +8,8 @@ use Rattle.codec_graph.specs.Settings.{Entries}
 use Rattle.codec_graph.specs.CodecStates.{CodecState}
 use Rattle.codec_sound.specs.Keeping.{KeptSignals}
 use Rattle.hda_registers.specs.Fields.{Fields}
-use Rattle.hda_device.specs.Codecs.{KeepCodecs, graphs_of_all, settings_of_all}
-use Rattle.hda_device.specs.Devices.{DeviceState, KeepsSound}
+use Rattle.device_core.specs.Codecs.{KeepCodecs, graphs_of_all, settings_of_all}
+use Rattle.device_core.specs.Devices.{DeviceState, KeepsSound}
 use Rattle.hda_controller.specs.Keeping.{IsKeptFor, AreKeptFor}
 
 -- lists of codecs with the same parts have the same part at each place

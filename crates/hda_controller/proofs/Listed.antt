@@ -11,7 +11,7 @@ use Rattle.codec_graph.specs.declared.raw.RawCodec.{RawCodec}
 use Rattle.codec_graph.specs.Candidates.{is_candidate}
 use Rattle.codec_graph.specs.CodecStates.{CodecState}
 use Rattle.route_planner.specs.Order.{IsOrder}
-use Rattle.device_steps.specs.declared.Step.{Step}
+use Rattle.world_steps.specs.declared.Step.{Step}
 use Rattle.hda_files.specs.declared.machine.CodecFile.{CodecFile}
 use Rattle.hda_files.specs.declared.machine.Machine.{Machine}
 use Rattle.hda_files.specs.Machines.{IsSound}
@@ -21,8 +21,8 @@ use Rattle.codec_sound.specs.HeardLists.{heard}
 use Rattle.hda_world.specs.Worlds.{World, CarriedFrame, codec_at}
 use Rattle.hda_world.specs.Steps.{after_step}
 use Rattle.hda_world.proofs.Callers.{steps_leave}
-use Rattle.hda_device.specs.Codecs.{addresses_of, graphs_of_all}
-use Rattle.hda_device.specs.Devices.{DeviceState, IsWorld}
+use Rattle.device_core.specs.Codecs.{addresses_of, graphs_of_all}
+use Rattle.device_core.specs.Devices.{DeviceState, IsWorld}
 use Rattle.hda_controller.specs.Controllers.{ControllerState, StandsFor, is_candidate_in, is_candidate_of}
 use Rattle.hda_controller.specs.Openings.{codecs_in}
 use Rattle.hda_controller.specs.Hearing.{AreHeard, Grew}

@@ -10,7 +10,7 @@ use Rattle.codec_graph.specs.CodecStates.{CodecState}
 use Rattle.hda_files.specs.declared.machine.CodecFile.{CodecFile}
 use Rattle.hda_files.specs.declared.machine.Machine.{Machine}
 use Rattle.hda_files.specs.Machines.{IsSound}
-use Rattle.hda_device.specs.Codecs.{AreAddresses, AreIdle, addresses_of, place_of}
+use Rattle.device_core.specs.Codecs.{AreAddresses, AreIdle, addresses_of, place_of}
 use Rattle.hda_world.specs.Worlds.{codec_at}
 use Rattle.std.proofs.lemmas.Bool.{eqb-true}
 use Rattle.hda_controller.specs.Controllers.{is_candidate_in, is_candidate_of}

@@ -13,10 +13,10 @@ use Rattle.verb_codes.specs.Verbs.{reading_of}
 use Rattle.codec_sound.specs.Keeping.{KeptSignals, counted_on}
 use Rattle.hda_world.specs.Worlds.{with_codec}
 use Rattle.hda_world.specs.Steps.{address_of}
-use Rattle.hda_device.specs.declared.codecs.Handed.{Handed}
-use Rattle.hda_device.specs.Codecs.{AreAddresses, addresses_of, KeepCodecs, graphs_of_all, with_handed, handed_by}
-use Rattle.hda_device.specs.Devices.{DeviceState, KeepsSound}
-use Rattle.hda_device.proofs.Callers.{changed_here, keeps-with_codec, parts-with_codec, IsThere, handed_there}
+use Rattle.device_core.specs.declared.codecs.Handed.{Handed}
+use Rattle.device_core.specs.Codecs.{AreAddresses, addresses_of, KeepCodecs, graphs_of_all, with_handed, handed_by}
+use Rattle.device_core.specs.Devices.{DeviceState, KeepsSound}
+use Rattle.device_core.proofs.Callers.{changed_here, keeps-with_codec, parts-with_codec, IsThere, handed_there}
 use Rattle.hda_controller.specs.Commands.{is_set_verb, is_set_reading, is_set_command}
 use Rattle.hda_controller.specs.Keeping.{IsKeptFor, AreKeptFor}
 use Rattle.hda_controller.specs.Renewing.{one_renewed, renewed_after}

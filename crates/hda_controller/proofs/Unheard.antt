@@ -4,10 +4,10 @@ use Rattle.std.proofs.Math.Nat.{zero-div, add-mul}
 use Rattle.std.proofs.lemmas.List.Elements.{All-map}
 use Rattle.codec_graph.specs.CodecStates.{CodecState}
 use Rattle.stream_format.specs.Layouts.{Layout, layout_of}
-use Rattle.stream_moves.proofs.Callers.{some_block}
+use Rattle.world_streams.proofs.Callers.{some_block}
 use Rattle.codec_sound.specs.declared.signals.Signal.{Signal}
 use Rattle.codec_sound.specs.HeardLists.{block_size}
-use Rattle.hda_device.specs.Devices.{DeviceState, KeepsSound}
+use Rattle.device_core.specs.Devices.{DeviceState, KeepsSound}
 use Rattle.codec_sound.specs.declared.heard.Heard.TheVariants.{Hole}
 use Rattle.heard_lists.specs.Listings.{Listing, HasRoom, with_blocks, with_items}
 use Rattle.heard_lists.proofs.Callers.{both_count, blocks-on, no-blocks}

@@ -5,8 +5,8 @@ use Rattle.std.specs.Vec.{with_items}
 use Rattle.std.proofs.lemmas.List.{with_items_is}
 use Rattle.codec_graph.specs.CodecStates.{CodecState}
 use Rattle.codec_sound.specs.Keeping.{KeptSignals, counted_on}
-use Rattle.hda_device.specs.Codecs.{KeepCodecs}
-use Rattle.hda_device.specs.Devices.{DeviceState, KeepsSound}
+use Rattle.device_core.specs.Codecs.{KeepCodecs}
+use Rattle.device_core.specs.Devices.{DeviceState, KeepsSound}
 use Rattle.hda_controller.specs.Keeping.{IsKeptFor, AreKeptFor}
 use Rattle.hda_controller.specs.Renewing.{all_renewed, renewed_if}
 use Rattle.hda_controller.proofs.Keeping.{part_there, same_count, device_stays}

@@ -7,10 +7,10 @@ use Rattle.stream_format.specs.Layouts.{layout_of}
 use Rattle.codec_sound.specs.declared.signals.Signal.{Signal}
 use Rattle.codec_sound.specs.HeardLists.{signal_with}
 use Rattle.codec_sound.specs.Keeping.{KeptSignals, counted_on}
-use Rattle.hda_device.specs.declared.codecs.Handed.{Handed}
-use Rattle.hda_device.specs.Devices.{DeviceState, IsWorld}
+use Rattle.device_core.specs.declared.codecs.Handed.{Handed}
+use Rattle.device_core.specs.Devices.{DeviceState, IsWorld}
 use Rattle.hda_registers.specs.declared.shapes.Width.{Width}
-use Rattle.hda_device.specs.Sound.{touches_sound}
+use Rattle.device_core.specs.Sound.{touches_sound}
 use Rattle.hda_world.specs.Worlds.{World, codec_at}
 use Rattle.hda_controller.specs.Commands.{is_set_command}
 use Rattle.hda_controller.specs.Keeping.{AreKeptFor}

@@ -1,11 +1,11 @@
 -- What a step of the device adds to heard lists, and whose signals it renews. This project's own.
 use Rattle.std.specs.Prelude.{◌≡◌, ◌*◌, ◌++◌, ℕ, List, All, true, Some}
 use Rattle.codec_graph.specs.CodecStates.{CodecState}
-use Rattle.device_steps.specs.declared.Step.{Step}
-use Rattle.device_steps.specs.declared.Step.TheVariants as step
+use Rattle.world_steps.specs.declared.Step.{Step}
+use Rattle.world_steps.specs.declared.Step.TheVariants as step
 use Rattle.stream_format.specs.Cadence.{blocks_of}
 use Rattle.stream_format.specs.Layouts.{Layout, layout_of}
-use Rattle.hda_device.specs.Codecs.{handed_now}
+use Rattle.device_core.specs.Codecs.{handed_now}
 use Rattle.hda_world.specs.Worlds.{World, CarriedFrame}
 use Rattle.heard_lists.specs.Listings.{Listing, grown}
 use Rattle.hda_controller.specs.Controllers.{ControllerState, is_candidate_of, renewals_of, renewals_handed}

@@ -10,8 +10,8 @@ use Rattle.hda_files.specs.declared.top.RingSize.TheVariants as file_size
 use Rattle.hda_registers.specs.declared.shapes.RingSize as registers
 use Rattle.hda_registers.specs.declared.shapes.RingSize.TheVariants as size
 use Rattle.hda_registers.specs.declared.shapes.Shape.{Shape}
-use Rattle.hda_device.specs.Codecs.{codec_bits}
-use Rattle.hda_device.specs.Devices.{new_world}
+use Rattle.device_core.specs.Codecs.{codec_bits}
+use Rattle.device_core.specs.Devices.{new_world}
 use Rattle.hda_world.specs.Worlds.{World}
 use Rattle.hda_controller.specs.Keeping.{IsKeptFor, AreKeptFor}
 

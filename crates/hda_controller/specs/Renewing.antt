@@ -2,8 +2,8 @@
 use Rattle.std.specs.Prelude.{ℕ, zero, suc, Bool, List, [], ◌∷◌, Option, Some, None, if◌then◌else◌}
 use Rattle.codec_graph.specs.CodecStates.{CodecState}
 use Rattle.codec_sound.specs.Keeping.{KeptSignals, renewed, counted_on}
-use Rattle.hda_device.specs.declared.codecs.Handed.{Handed}
-use Rattle.hda_device.specs.Devices.{DeviceState}
+use Rattle.device_core.specs.declared.codecs.Handed.{Handed}
+use Rattle.device_core.specs.Devices.{DeviceState}
 use Rattle.hda_controller.specs.Commands.{is_set_command}
 use Rattle.hda_controller.specs.Keeping.{signal_set}
 

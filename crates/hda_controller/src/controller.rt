@@ -7,10 +7,10 @@ ghost use Rattle.std.specs.Option.{option_map};
 ghost use Rattle.stream_format.specs.Layouts.{layout, layout_of};
 ghost use Rattle.stream_descriptor.specs.Running.{found_at};
 ghost use Rattle.stream_descriptor.specs.Frames.{IsAnswer};
-ghost use Rattle.hda_device.specs.Devices.{KeepsSound};
+ghost use Rattle.device_core.specs.Devices.{KeepsSound};
 ghost use Rattle.hda_world.specs.Steps as steps;
 ghost use Rattle.hda_world.specs.Events.{after_write};
-ghost use Rattle.hda_device.specs.Codecs.{addresses_of, place_of, handed_now};
+ghost use Rattle.device_core.specs.Codecs.{addresses_of, place_of, handed_now};
 ghost use Rattle.hda_files.specs.Machines.{IsSound};
 ghost use Rattle.heard_lists.specs.Listings.{Listing, HasRoom, AreListsOf, graphs_in};
 ghost use Rattle.hda_controller.specs.Controllers.{StandsFor, has_codec, renewals_of, renewals_written};
@@ -24,8 +24,7 @@ use crate::opening::{all_signals_of, codecs_of, shape_of};
 use crate::places::{is_there, place_of};
 use crate::renewing::{renew_handed, renew_if};
 use codec_sound::{Kept, Signal};
-use device_steps::Step;
-use hda_device::{Device, touches_sound};
+use device_core::{Device, touches_sound};
 use hda_files::Machine;
 use hda_registers::Width;
 use heard_lists::{HeardLists, Sounds};
@@ -33,6 +32,7 @@ use std::alloc::{AllocError, Global};
 use std::marker::Model;
 use stream_descriptor::{Frame, MOST_FRAME_BYTES};
 use stream_format::Format;
+use world_steps::Step;
 
 /// A device, with the signals of its codecs' candidate pins as they are at each moment. Contracts see a
 /// `ControllerState`, and of each call the move of the world (this project's own) that it makes.
@@ -155,7 +155,8 @@ impl Controller {
         ensures stands { (world : World) → StandsFor memory.now self.old world
             → StandsFor memory.now self.new (steps.corb_step world) }
         ensures renewals { renewals_of self.new
-            ≡ renewals_handed (handed_now self.old.device.registers memory.now self.old.device.codecs) (renewals_of self.old) }
+            ≡ renewals_handed (handed_now self.old.device.registers memory.now self.old.device.codecs)
+            (renewals_of self.old) }
     {
         // The addresses of its codecs ascend, so that no other codec takes the command.
         let _ = self.device.codecs();

@@ -1,7 +1,7 @@
 //! The codecs of a machine at its start.
 ghost use Rattle.std.specs.Prelude.{◌≡◌, ◌≤◌, All, IfOk};
 ghost use Rattle.codec_graph.specs.Settings.{IsSettingsOf};
-ghost use Rattle.hda_device.specs.Codecs.{addresses_of, codec_bits};
+ghost use Rattle.device_core.specs.Codecs.{addresses_of, codec_bits};
 ghost use Rattle.hda_files.specs.Machines.{IsSoundCodec};
 ghost use Rattle.hda_controller.specs.Openings as spec;
 

@@ -1,6 +1,6 @@
 //! Places of codecs by their addresses.
 ghost use Rattle.std.specs.Prelude.{◌≡◌, ◌<◌, Contains, Some, length};
-ghost use Rattle.hda_device.specs.Codecs as spec;
+ghost use Rattle.device_core.specs.Codecs as spec;
 ghost use Rattle.hda_controller.specs.Controllers.{has_codec};
 
 use codec_nodes::Codec;

@@ -5,7 +5,7 @@ ghost use Rattle.hda_controller.specs.Renewing as spec;
 use crate::commands::is_set_command;
 use codec_nodes::Codec;
 use codec_sound::Kept;
-use hda_device::{Device, Handed};
+use device_core::{Device, Handed};
 use stream_format::Format;
 
 /// Works the signals of a codec's pins out, while the stream with this tag and format word plays.

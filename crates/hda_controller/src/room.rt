@@ -2,7 +2,7 @@
 ghost use Rattle.std.specs.Prelude.{◌≡◌};
 ghost use Rattle.hda_controller.specs.Hearing as spec;
 
-use device_steps::Step;
+use world_steps::Step;
 
 /// For how many items in each heard list a step asks room: a link frame has at most four blocks, and one that misses
 /// them adds one hole. This project's own.

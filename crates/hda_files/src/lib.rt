@@ -1,4 +1,4 @@
-//! Reads the files of a run. A schedule is read by `hda_schedule`, whose names this crate hands on; a codec file, a
+//! Reads the files of a run. A schedule is read by `schedule_reader`, whose names this crate hands on; a codec file, a
 //! TOML text that describes the codecs of a machine, is read here. The format is this project's own; the words are
 //! those of High Definition Audio 1.0a, 7.3.4.
 //!
@@ -51,9 +51,9 @@ mod top;
 mod values;
 
 pub use fault::{FileFault, Key, Place};
-pub use hda_schedule::{
-    DriverLine, Group, Item, MOST_SCHEDULE_BYTES, Part, SchedFault, Schedule, read_schedule,
-};
 pub use laws::{keeps_each_codec, one_reading};
 pub use machine::{CodecFile, Machine, read_machine};
+pub use schedule_reader::{
+    DriverLine, Group, Item, MOST_SCHEDULE_BYTES, Part, SchedFault, Schedule, read_schedule,
+};
 pub use top::RingSize;

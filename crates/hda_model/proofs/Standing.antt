@@ -5,7 +5,7 @@ use Rattle.std.proofs.lemmas.List.{length-map, get_or-map, drop-append-le}
 use Rattle.std.proofs.Math.Seq.{drop-length}
 use Rattle.std.proofs.lemmas.List.Elements.{All-map}
 use Rattle.std.proofs.lemmas.Simd.{map-map}
-use Rattle.device_steps.specs.declared.Step.{Step}
+use Rattle.world_steps.specs.declared.Step.{Step}
 use Rattle.hda_registers.specs.declared.shapes.Width.{Width}
 use Rattle.hda_files.specs.declared.machine.Machine.{Machine}
 use Rattle.codec_sound.specs.declared.heard.Heard.{Heard}

@@ -2,8 +2,8 @@
 use Rattle.std.specs.Prelude.{◌≡◌, ◌≢◌, ◌<◌, ◌≤◌, ◌⊎◌, ℕ, Bool, not, nat_lt, if◌then◌else◌, List, length, codes}
 use Rattle.std.specs.Prelude.{Err, Option, Some, None}
 use Rattle.codec_graph.specs.CodecStates.{CodecState}
-use Rattle.device_steps.specs.declared.Step.{Step}
-use Rattle.device_steps.specs.declared.Step.TheVariants as step
+use Rattle.world_steps.specs.declared.Step.{Step}
+use Rattle.world_steps.specs.declared.Step.TheVariants as step
 use Rattle.file_faults.specs.FaultText.{fault_text}
 use Rattle.hda_files.specs.Machines.{Reads}
 use Rattle.hda_files.specs.declared.fault.FileFault.TheVariants as files

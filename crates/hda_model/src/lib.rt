@@ -10,7 +10,6 @@ mod places;
 mod room;
 
 pub use codec_sound::Heard;
-pub use device_steps::Step;
 pub use faults::{MOST_TEXT_BYTES, OpenFault, StepFault, push_open_fault};
 pub use hda_files::FileFault;
 pub use hda_registers::Width;
@@ -18,3 +17,4 @@ pub use heard_items::{HeardItem, copy_bytes};
 pub use laws::{lent_memory_may_change, stands_for_one};
 pub use model::DeviceModel;
 pub use places::PinName;
+pub use world_steps::Step;

@@ -16,13 +16,13 @@ use crate::faults::{MOST_TEXT_BYTES, OpenFault, StepFault};
 use crate::heard_items::{HeardItem, copy_heard};
 use crate::places::{PinName, pin_at};
 use crate::room::make_room;
-use device_steps::Step;
 use hda_controller::{Controller, most_items};
 use hda_files::{Machine, read_machine};
 use hda_registers::Width;
 use heard_lists::HeardLists;
 use std::alloc::{AllocError, Global};
 use std::marker::Model;
+use world_steps::Step;
 
 /// A High Definition Audio controller (specification 1.0a) with its codecs, and what their candidate pins heard and was
 /// not forgotten. The memory that the controller reaches is lent at each call and begins at bus address 0. Contracts

@@ -1,9 +1,7 @@
-//! The platform that a driver drives: what it tells of the world, and one in memory for tests of drivers.
+//! The platform that a driver drives, and what it tells of the world.
 #![tactic(auto)]
 
-mod device;
-mod memory_platform;
-mod pieces;
+mod open_fault;
 mod platform;
 
 pub use hda_world::{
@@ -12,6 +10,5 @@ pub use hda_world::{
     register_write_leaves, steps_compose, steps_keep_discovery, steps_keep_reading,
     steps_leave_other_codecs, steps_write_rirb_alone, write_beside_rings_leaves,
 };
-pub use memory_platform::MemoryPlatform;
 pub use open_fault::OpenFault;
 pub use platform::Platform;

@@ -6,8 +6,8 @@ use Rattle.stream_format.specs.declared.format.Format.{Format}
 use Rattle.route_planner.specs.declared.routes.Plan.{Plan}
 use Rattle.hda_outside.specs.Shelf.{Files}
 use Rattle.hda_files.specs.declared.machine.Machine.{Machine}
-use Rattle.hda_schedule.specs.declared.schedule.Schedule.{Schedule}
-use Rattle.hda_words.specs.Asked.{Asked, bits_of, hertz, play, request_of, route, walk}
+use Rattle.schedule_reader.specs.declared.schedule.Schedule.{Schedule}
+use Rattle.program_words.specs.Asked.{Asked, bits_of, hertz, play, request_of, route, walk}
 use Rattle.period_writer.specs.declared.geometry.Geometry.{Geometry}
 use Rattle.wav_reader.specs.declared.opened.WavHead.{WavHead}
 use Rattle.sound_report.specs.declared.played.Played.{Played}
@@ -16,15 +16,15 @@ use Rattle.sound_report.specs.declared.status.Status.TheVariants.{Done, WordsRef
 use Rattle.sound_report.specs.PlanLines.{plans_lines}
 use Rattle.hda_program.specs.Answers.{IsMeant, RouteAnswers, WalkAnswers, MachineWalks, PlansWalk, PlayAnswers, MachinePlays, SoundPlays, SchedulePlays, PlansPlay}
 use Rattle.hda_program.specs.Asks.{IsNoCommand, IsRouteOf, IsWalkOf, IsPlayOf, Names, NamesCodecFile, codec_of, files_asked, files_of}
-use Rattle.scheduled_runs.specs.Walks.{walk_format}
+use Rattle.program_runs.specs.Walks.{walk_format}
 use Rattle.hda_program.specs.Causes.{HasBadCodecFile, HasBadRing, HasBadSchedule, HasBadWav, HasPlanned, HasStoppedUnread, HasUnreadFile, WantsRun, WantsSound}
 use Rattle.hda_program.specs.Promises.{HasRun}
 use Rattle.hda_program.specs.Files.{CodecStops, IsHeadOf, IsMachineOf, IsScheduleOf, ScheduleStops, bytes_before}
 use Rattle.hda_program.specs.Meanings.{Meant, run_meant, telling, unrouted}
 use Rattle.hda_program.specs.Rings.{IsRingOf}
 use Rattle.hda_program.proofs.WalkLemmas.{other_first, other_one, other_second}
-use Rattle.machine_tasks.specs.Tasks.{HavePlans}
-use Rattle.codec_agenda.specs.Planned.{have_route}
+use Rattle.laws_start.specs.Tasks.{HavePlans}
+use Rattle.driver_agenda.specs.Planned.{have_route}
 
 -- a route was asked for, and there is one
 abbrev pub IsRouted : Option Files → List (List ℕ) → Type 0

@@ -9,9 +9,9 @@ use Rattle.stream_format.specs.declared.format.Format.{Format}
 use Rattle.route_planner.specs.declared.routes.Plan.{Plan}
 use Rattle.hda_outside.specs.Shelf.{Files}
 use Rattle.hda_files.specs.declared.machine.Machine.{Machine}
-use Rattle.hda_schedule.specs.declared.schedule.Schedule.{Schedule}
-use Rattle.hda_words.specs.Asked.{Asked, bits_of, hertz, play, route, walk, make}
-use Rattle.hda_words.proofs.Callers.{bits_of-same, hertz-same}
+use Rattle.schedule_reader.specs.declared.schedule.Schedule.{Schedule}
+use Rattle.program_words.specs.Asked.{Asked, bits_of, hertz, play, route, walk, make}
+use Rattle.program_words.proofs.Callers.{bits_of-same, hertz-same}
 use Rattle.period_writer.specs.declared.geometry.Geometry.{Geometry}
 use Rattle.period_writer.specs.declared.geometry.GeometryFault.{GeometryFault}
 use Rattle.period_writer.specs.Rings.{fault_of}
@@ -25,16 +25,16 @@ use Rattle.sound_report.specs.declared.played.CutLine.{CutLine}
 use Rattle.sound_report.specs.declared.played.CutLine.TheVariants as cuts
 use Rattle.sound_report.specs.declared.status.Status.TheVariants.{Done, OutOfMemory}
 use Rattle.sound_report.specs.Statuses.{number_of}
-use Rattle.scheduled_runs.specs.Plays.{IsCutUnder}
-use Rattle.scheduled_runs.specs.Walks.{IsWalkFault, IsWalked, walk_format}
-use Rattle.machine_tasks.specs.Tasks.{HavePlans}
+use Rattle.program_runs.specs.Plays.{IsCutUnder}
+use Rattle.program_runs.specs.Walks.{IsWalkFault, IsWalked, walk_format}
+use Rattle.laws_start.specs.Tasks.{HavePlans}
 use Rattle.hda_program.specs.Answers.{HasEnded, HasEndedPlay, HasEndedWith, HasWritten, IsMeant, MachinePlays, MachineWalks, PlansPlay, PlansWalk, PlayAnswers, RouteAnswers, SchedulePlays, SoundPlays, WalkAnswers}
 use Rattle.hda_program.specs.Asks.{IsPlayOf, IsRouteOf, IsWalkOf}
 use Rattle.hda_program.specs.Causes.{IsOfPlay, IsOfWalk, IsShortCut}
 use Rattle.hda_program.specs.Files.{IsHeadIn, bytes_before}
 use Rattle.hda_program.specs.Complete.{CanPlay, CanRoute, CanWalk, HasPlayedOn, HasRoutes, HasWalkedOn}
 use Rattle.hda_program.specs.Meanings.{Meant, end_status, fault_status, of_run, status_of, telling, unrouted}
-use Rattle.codec_agenda.specs.Planned.{have_route}
+use Rattle.driver_agenda.specs.Planned.{have_route}
 use Rattle.hda_program.proofs.Endings.{never_short, not_route_and_play, not_route_and_walk, same_asked}
 use Rattle.hda_program.proofs.OneReading.{codec_unrefused, one_format, one_machine, one_plans, one_wav_format, schedule_unrefused, wav_unrefused}
 

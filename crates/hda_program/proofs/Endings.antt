@@ -4,12 +4,12 @@ use Rattle.std.specs.Prelude.{◌⊎◌, ◌==◌, ◌||◌, if◌then◌else◌
 use Rattle.std.specs.List.{Contains}
 use Rattle.route_planner.specs.declared.routes.Plan.{Plan}
 use Rattle.hda_files.specs.declared.machine.Machine.{Machine}
-use Rattle.hda_schedule.specs.declared.schedule.Schedule.{Schedule}
+use Rattle.schedule_reader.specs.declared.schedule.Schedule.{Schedule}
 use Rattle.period_writer.specs.declared.geometry.Geometry.{Geometry}
 use Rattle.wav_reader.specs.declared.opened.WavHead.{WavHead}
 use Rattle.stream_format.specs.declared.format.Format.{Format}
 use Rattle.hda_outside.specs.Shelf.{Files}
-use Rattle.hda_words.specs.Asked.{Asked, bits_of, hertz, make, play, request_of, route, walk}
+use Rattle.program_words.specs.Asked.{Asked, bits_of, hertz, make, play, request_of, route, walk}
 use Rattle.sound_report.specs.declared.played.Played.{Played}
 use Rattle.sound_report.specs.declared.played.PlayFault.{PlayFault}
 use Rattle.sound_report.specs.declared.played.PlayFault.TheVariants as fault
@@ -19,7 +19,7 @@ use Rattle.sound_report.specs.declared.status.Status.{Status}
 use Rattle.sound_report.specs.declared.status.Status.TheVariants.{Done, WordsRefused, ShelfFailed, SinkFailed, CodecRefused, WavRefused, ScheduleRefused, NothingRouted, Unanswered, Late, ScheduleEnded, OutOfMemory, GeometryRefused, WavShrank}
 use Rattle.sound_report.specs.Statuses.{number_of}
 use Rattle.hda_program.specs.Answers.{HasEnded, HasEndedWith, HasWritten, IsMeant}
-use Rattle.scheduled_runs.specs.Plays.{IsCutUnder, IsPlayedFrom}
+use Rattle.program_runs.specs.Plays.{IsCutUnder, IsPlayedFrom}
 use Rattle.hda_program.specs.Asks.{IsNoCommand, IsPlayOf, IsRouteOf, IsWalkOf, Names, files_asked, files_of}
 use Rattle.hda_program.specs.Files.{IsHeadIn}
 use Rattle.hda_program.specs.Causes.{HasBadCodecFile, HasBadRing, HasBadSchedule, HasBadWav, HasPlanned, HasStoppedUnread, HasUnreadFile, IsFailedCut, IsOfSound, IsOfWalk, IsRunless, IsShortCut, OfItsWav, WasShortened, WasUnread}

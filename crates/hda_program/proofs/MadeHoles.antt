@@ -4,10 +4,10 @@ use Rattle.std.specs.Prelude.{All, count_by, fold}
 use Rattle.std.proofs.lemmas.List.Elements.{All-head, All-tail, All-weaker}
 use Rattle.codec_sound.specs.declared.heard.Heard.{Heard}
 use Rattle.heard_lists.specs.declared.pin_list.PinHeard.{PinHeard}
-use Rattle.line_heard.specs.Plays.{is_hole}
-use Rattle.turn_sound.specs.Turns.{IsNoHole}
-use Rattle.served_runs.specs.Served.{HasNoHole}
-use Rattle.made_runs.specs.Lines.{made_pin, holes_in, holes_of}
+use Rattle.laws_hearing.specs.Plays.{is_hole}
+use Rattle.laws_serving.specs.Turns.{IsNoHole}
+use Rattle.program_runs.specs.Served.{HasNoHole}
+use Rattle.program_runs.specs.MadeLines.{made_pin, holes_in, holes_of}
 
 -- a sum of which each part is 0
 none_summed : {X : Type 0} (part : X → ℕ) (xs : List X) (n : ℕ) → All (λ (x : X). part x ≡ 0) xs → fold (λ (sum : ℕ) (x : X). sum + part x) n xs ≡ n

@@ -2,7 +2,7 @@
 use Rattle.std.proofs.Common.{◌≡◌, ◌∙◌, ℕ, List, Bool, true, false, inl, inr, Option, Some, None, refl, sym, ap, subst}
 use Rattle.std.specs.Prelude.{IsSome}
 use Rattle.hda_outside.specs.Shelf.{Files}
-use Rattle.hda_words.specs.Asked.{Asked, bits_of, hertz, make, play, request_of, route, walk}
+use Rattle.program_words.specs.Asked.{Asked, bits_of, hertz, make, play, request_of, route, walk}
 use Rattle.sound_report.specs.declared.played.Played.{Played}
 use Rattle.sound_report.specs.declared.played.PlayFault.{PlayFault}
 use Rattle.sound_report.specs.declared.played.CutLine.{CutLine}

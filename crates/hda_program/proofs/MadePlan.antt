@@ -13,15 +13,15 @@ use Rattle.route_planner.specs.declared.routes.Plan.{Plan}
 use Rattle.route_planner.specs.Order.{comes_before}
 use Rattle.route_planner.specs.Paths.{IsAdmissible, LeadsTo, passes}
 use Rattle.route_planner.specs.Plans.{IsOutcome, IsPlan}
-use Rattle.codec_agenda.specs.Planned.{is_route}
+use Rattle.driver_agenda.specs.Planned.{is_route}
 use Rattle.codec_walk.specs.Commands.{walk_commands}
 use Rattle.setup_verbs.specs.Roles.{role_of}
 use Rattle.setup_verbs.specs.VerbList.{setup_verbs, to_all}
-use Rattle.machine_tasks.specs.Tasks.{HavePlans}
-use Rattle.scheduled_runs.specs.Histories.{commands_for}
+use Rattle.laws_start.specs.Tasks.{HavePlans}
+use Rattle.program_runs.specs.Histories.{commands_for}
 use Rattle.made_inputs.specs.MadeMachine.{made_codec, made_machine}
 use Rattle.made_inputs.specs.MadeSound.{made_format}
-use Rattle.made_runs.proofs.Callers.{candidate_is, outcome_is}
+use Rattle.program_runs.proofs.Callers.{candidate_is, outcome_is}
 
 -- ---- the one path
 

@@ -4,17 +4,17 @@ use Rattle.std.specs.Prelude.{All, sum, slice_get}
 use Rattle.std.specs.List.{flat_map}
 use Rattle.std.proofs.lemmas.List.{take-append-le}
 use Rattle.std.proofs.lemmas.List.Elements.{All-nil, All-cons, All-head, All-tail, All-append}
-use Rattle.device_steps.specs.declared.Step.{Step}
-use Rattle.device_steps.specs.declared.Step.TheVariants as step
-use Rattle.hda_schedule.specs.declared.schedule.DriverLine.{DriverLine}
-use Rattle.hda_schedule.specs.declared.schedule.Item.{Item}
-use Rattle.hda_schedule.specs.declared.schedule.Item.TheVariants.{Device, Drive}
-use Rattle.hda_schedule.specs.Counts.{items_of}
+use Rattle.world_steps.specs.declared.Step.{Step}
+use Rattle.world_steps.specs.declared.Step.TheVariants as step
+use Rattle.schedule_reader.specs.declared.schedule.DriverLine.{DriverLine}
+use Rattle.schedule_reader.specs.declared.schedule.Item.{Item}
+use Rattle.schedule_reader.specs.declared.schedule.Item.TheVariants.{Device, Drive}
+use Rattle.schedule_reader.specs.Counts.{items_of}
 use Rattle.hda_world.specs.declared.step.TheConstants.{FRAMES_TO_DISCOVERY}
-use Rattle.served_commands.specs.Serving.{KeepAnswers, ComeInOrder, round_trip}
-use Rattle.served_progress.specs.Rounds.{Round, Rounds, rounds_of, frames_of_steps}
-use Rattle.served_progress.specs.Serving.{HasStreamsAlone, IsCalmCall, IsCalmRound, Announces, AnswersEach, ServesCommands}
-use Rattle.turn_sound.specs.Turns.{AreInTurns, PlaysInTurns, EndsInTheLast}
+use Rattle.laws_serving.specs.ServingDevices.{KeepAnswers, ComeInOrder, round_trip}
+use Rattle.laws_serving.specs.Rounds.{Round, Rounds, rounds_of, frames_of_steps}
+use Rattle.laws_serving.specs.ServingSchedules.{HasStreamsAlone, IsCalmCall, IsCalmRound, Announces, AnswersEach, ServesCommands}
+use Rattle.laws_serving.specs.Turns.{AreInTurns, PlaysInTurns, EndsInTheLast}
 use Rattle.made_inputs.specs.MadeSound.{frames_for}
 use Rattle.made_inputs.specs.MadeSchedule.{draw, turn_frames, turns, call_with, turn_items, sound_items, schedule_with, AreTurns}
 use Rattle.made_inputs.proofs.Callers.{bring_up_items, items_are, length_turns}

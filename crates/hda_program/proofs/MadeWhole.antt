@@ -8,30 +8,30 @@ use Rattle.codec_graph.specs.Cycles.{IsWellFormed}
 use Rattle.route_planner.specs.declared.routes.Plan.{Plan}
 use Rattle.hda_files.specs.declared.machine.Machine.{Machine}
 use Rattle.hda_files.specs.Machines.{IsSound}
-use Rattle.hda_schedule.specs.declared.schedule.Schedule.{Schedule}
-use Rattle.hda_schedule.specs.Schedules.{IsLimited}
+use Rattle.schedule_reader.specs.declared.schedule.Schedule.{Schedule}
+use Rattle.schedule_reader.specs.Schedules.{IsLimited}
 use Rattle.wav_reader.specs.declared.wav.Wav.{Wav}
 use Rattle.period_writer.specs.declared.course.Span.{Span}
 use Rattle.period_writer.specs.declared.geometry.Geometry.{Geometry}
 use Rattle.period_writer.specs.Rings.{ring_bytes, limit_of}
 use Rattle.period_writer.specs.Runs.{measures}
-use Rattle.machine_tasks.specs.Reading.{IsWhole}
-use Rattle.machine_tasks.specs.Tasks.{HavePlans}
+use Rattle.laws_start.specs.Reading.{IsWhole}
+use Rattle.laws_start.specs.Tasks.{HavePlans}
 use Rattle.sound_report.specs.declared.played.Played.{Played}
-use Rattle.scheduled_runs.specs.Histories.{commands_for}
-use Rattle.scheduled_runs.specs.Shapes.{HasShape}
-use Rattle.scheduled_runs.specs.Plays.{IsPlayed}
-use Rattle.served_progress.specs.Rounds.{Round}
-use Rattle.served_progress.specs.Serving.{ServesCommands, ServesSound}
-use Rattle.served_runs.specs.Served.{all_rounds, ServesPlay, PlaysTurns, PlaysByTurns}
-use Rattle.turn_sound.specs.Turns.{PlaysInTurns, EndsInTheLast}
+use Rattle.program_runs.specs.Histories.{commands_for}
+use Rattle.program_runs.specs.Shapes.{HasShape}
+use Rattle.program_runs.specs.Plays.{IsPlayed}
+use Rattle.laws_serving.specs.Rounds.{Round}
+use Rattle.laws_serving.specs.ServingSchedules.{ServesCommands, ServesSound}
+use Rattle.program_runs.specs.Served.{all_rounds, ServesPlay, PlaysTurns, PlaysByTurns}
+use Rattle.laws_serving.specs.Turns.{PlaysInTurns, EndsInTheLast}
 use Rattle.made_inputs.specs.MadeMachine.{made_codec, made_machine}
 use Rattle.made_inputs.specs.MadeSound.{frames_for, made_format, made_sound}
 use Rattle.made_inputs.specs.MadeSchedule.{turns}
 use Rattle.made_inputs.proofs.Callers.{length_pcm, length_turns, made_is_limited}
-use Rattle.made_runs.specs.MadeRuns.{IsMadeRun}
-use Rattle.made_runs.proofs.Callers.{whole}
-use Rattle.made_runs.specs.Lines.{silence_bytes}
+use Rattle.program_runs.specs.MadeRuns.{IsMadeRun}
+use Rattle.program_runs.proofs.Callers.{whole}
+use Rattle.program_runs.specs.MadeLines.{silence_bytes}
 use Rattle.hda_program.specs.MadeEnds.{MadeRunEnds}
 use Rattle.hda_program.proofs.MadePlan.{commands_are}
 use Rattle.hda_program.proofs.MadeRounds.{IsShort, all_short, serves, plays_in_turns, ends_in_the_last}

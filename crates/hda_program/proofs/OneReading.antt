@@ -12,13 +12,13 @@ use Rattle.hda_files.specs.declared.fault.FileFault.{FileFault}
 use Rattle.hda_files.specs.declared.fault.FileFault.TheVariants as fault
 use Rattle.hda_files.specs.Machines.{IsReadingOfBytes, Reads}
 use Rattle.hda_files.proofs.Callers.{one_reading}
-use Rattle.hda_schedule.specs.declared.schedule.Schedule.{Schedule}
-use Rattle.hda_schedule.specs.declared.fault.SchedFault.{SchedFault}
-use Rattle.hda_schedule.specs.Schedules.{schedule_of}
+use Rattle.schedule_reader.specs.declared.schedule.Schedule.{Schedule}
+use Rattle.schedule_reader.specs.declared.fault.SchedFault.{SchedFault}
+use Rattle.schedule_reader.specs.Schedules.{schedule_of}
 use Rattle.wav_reader.specs.declared.opened.WavHead.{WavHead}
 use Rattle.wav_reader.specs.Heads.{Head, head_of}
 use Rattle.wav_reader.specs.Opening.{head_in_file, most_wav_bytes}
-use Rattle.machine_tasks.specs.Tasks.{HavePlans}
+use Rattle.laws_start.specs.Tasks.{HavePlans}
 use Rattle.hda_program.specs.Files.{IsCodecRefused, IsHeadIn, IsLonger, IsMachineOf, IsScheduleOf, IsScheduleRefused, IsShortFile, IsWavRefused, most_codec_bytes, most_schedule_bytes}
 
 -- ---- bytes

@@ -3,12 +3,12 @@ use Rattle.std.proofs.Common.{◌≢◌, ℕ, ◌+◌, List, [], ◌∷◌, leng
 use Rattle.route_planner.specs.declared.routes.Plan.{Plan}
 use Rattle.hda_outside.specs.Shelf.{Files}
 use Rattle.hda_files.specs.declared.machine.Machine.{Machine}
-use Rattle.hda_schedule.specs.declared.schedule.Schedule.{Schedule}
+use Rattle.schedule_reader.specs.declared.schedule.Schedule.{Schedule}
 use Rattle.period_writer.specs.declared.geometry.Geometry.{Geometry}
 use Rattle.wav_reader.specs.declared.opened.WavHead.{WavHead}
 use Rattle.sound_report.specs.declared.status.Status.{Status}
 use Rattle.sound_report.specs.declared.status.Status.TheVariants.{Done, WordsRefused, ShelfFailed, SinkFailed, CodecRefused, WavRefused, ScheduleRefused, NothingRouted, Unanswered, Late, ScheduleEnded, OutOfMemory, GeometryRefused, WavShrank}
-use Rattle.machine_tasks.specs.Tasks.{HavePlans}
+use Rattle.laws_start.specs.Tasks.{HavePlans}
 use Rattle.hda_program.specs.Answers.{MachinePlays, PlansPlay, PlayAnswers, SchedulePlays, SoundPlays}
 use Rattle.hda_program.specs.Causes.{HasStoppedUnread}
 use Rattle.hda_program.specs.Promises.{HasPlayedFiles, IsReported}

@@ -2,13 +2,13 @@
 use Rattle.std.proofs.Common.{ℕ, ◌+◌, List, length, inl, inr, Option, Some, None}
 use Rattle.hda_outside.specs.Shelf.{Files}
 use Rattle.hda_files.specs.declared.machine.Machine.{Machine}
-use Rattle.hda_schedule.specs.declared.schedule.Schedule.{Schedule}
+use Rattle.schedule_reader.specs.declared.schedule.Schedule.{Schedule}
 use Rattle.period_writer.specs.declared.geometry.Geometry.{Geometry}
 use Rattle.route_planner.specs.declared.routes.Plan.{Plan}
 use Rattle.wav_reader.specs.declared.opened.WavHead.{WavHead}
 use Rattle.sound_report.specs.declared.played.CutLine.{CutLine}
 use Rattle.sound_report.specs.declared.played.CutLine.TheVariants as cuts
-use Rattle.scheduled_runs.specs.Plays.{IsCutUnder}
+use Rattle.program_runs.specs.Plays.{IsCutUnder}
 use Rattle.hda_program.specs.Answers.{MachinePlays, PlansPlay, SchedulePlays, SoundPlays}
 use Rattle.hda_program.specs.Files.{bytes_before}
 use Rattle.hda_program.specs.Meanings.{Meant}

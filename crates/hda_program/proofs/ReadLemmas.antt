@@ -3,10 +3,10 @@ use Rattle.std.proofs.Common.{◌≡◌, ◌≢◌, ℕ, ◌≤◌, List, length
 use Rattle.std.specs.Prelude.{IfSome}
 use Rattle.hda_outside.specs.Shelf.{Files, file_of}
 use Rattle.hda_files.specs.declared.machine.Machine.{Machine}
-use Rattle.hda_schedule.specs.declared.schedule.Schedule.{Schedule}
-use Rattle.hda_schedule.specs.declared.fault.SchedFault.{SchedFault}
-use Rattle.hda_schedule.specs.declared.fault.SchedFault.TheVariants.{OutOfMemory}
-use Rattle.hda_schedule.specs.Schedules.{schedule_of, IsReadingOf}
+use Rattle.schedule_reader.specs.declared.schedule.Schedule.{Schedule}
+use Rattle.schedule_reader.specs.declared.fault.SchedFault.{SchedFault}
+use Rattle.schedule_reader.specs.declared.fault.SchedFault.TheVariants.{OutOfMemory}
+use Rattle.schedule_reader.specs.Schedules.{schedule_of, IsReadingOf}
 use Rattle.wav_reader.specs.declared.fault.WavFault.{WavFault}
 use Rattle.wav_reader.specs.declared.opened.WavHead.{WavHead}
 use Rattle.wav_reader.specs.declared.opened.WavOpen.TheVariants as opening

@@ -7,32 +7,32 @@ use Rattle.route_planner.specs.declared.routes.Plan.{Plan}
 use Rattle.hda_outside.specs.Shelf.{Files}
 use Rattle.hda_files.specs.declared.machine.Machine.{Machine}
 use Rattle.hda_files.specs.Machines.{IsSound}
-use Rattle.hda_schedule.specs.declared.schedule.Schedule.{Schedule}
-use Rattle.hda_schedule.specs.declared.fault.SchedFault.{SchedFault}
-use Rattle.hda_schedule.specs.declared.fault.SchedFault.TheVariants.{TooManySteps, TooManyFrames}
-use Rattle.hda_schedule.specs.Counts.{steps_of, frames_of}
-use Rattle.hda_schedule.specs.Faults.{first_fault}
-use Rattle.hda_schedule.specs.Parts.{parts}
-use Rattle.hda_schedule.specs.Schedules.{IsLimited, judged, limited, most_frames, most_steps, rows, schedule_of}
-use Rattle.hda_words.specs.Asked.{Asked, walk, play, make}
+use Rattle.schedule_reader.specs.declared.schedule.Schedule.{Schedule}
+use Rattle.schedule_reader.specs.declared.fault.SchedFault.{SchedFault}
+use Rattle.schedule_reader.specs.declared.fault.SchedFault.TheVariants.{TooManySteps, TooManyFrames}
+use Rattle.schedule_reader.specs.Counts.{steps_of, frames_of}
+use Rattle.schedule_reader.specs.Faults.{first_fault}
+use Rattle.schedule_reader.specs.Parts.{parts}
+use Rattle.schedule_reader.specs.Schedules.{IsLimited, judged, limited, most_frames, most_steps, rows, schedule_of}
+use Rattle.program_words.specs.Asked.{Asked, walk, play, make}
 use Rattle.wav_reader.specs.declared.opened.WavHead.{WavHead}
 use Rattle.wav_reader.specs.declared.wav.Wav.{Wav}
 use Rattle.period_writer.specs.declared.geometry.Geometry.{Geometry}
 use Rattle.period_writer.specs.Runs.{Measures, measures}
 use Rattle.period_writer.specs.Rings.{ring_bytes, limit_of, slack_of, ahead_of}
-use Rattle.machine_tasks.specs.Reading.{IsRead}
-use Rattle.machine_tasks.specs.Tasks.{HavePlans}
+use Rattle.laws_start.specs.Reading.{IsRead}
+use Rattle.laws_start.specs.Tasks.{HavePlans}
 use Rattle.sound_report.specs.declared.played.Played.{Played}
 use Rattle.sound_report.specs.declared.played.CutLine.{CutLine}
 use Rattle.sound_report.specs.declared.played.CutLine.TheVariants as cuts
 use Rattle.sound_report.specs.declared.status.Status.TheVariants.{OutOfMemory}
 use Rattle.sound_report.specs.Statuses.{number_of}
-use Rattle.scheduled_runs.specs.Shapes.{HasShape}
-use Rattle.scheduled_runs.specs.Walks.{walk_format, IsWalked}
-use Rattle.scheduled_runs.specs.Plays.{IsCutUnder, IsPlayed, IsReadUpTo, sound_with}
-use Rattle.scheduled_runs.specs.Histories.{commands_for, journal_of, told_by}
-use Rattle.served_progress.specs.Serving.{ServesSound}
-use Rattle.served_runs.specs.Served.{all_rounds, line_count, ServesBringUp, ServesPlay, ServedWalkEnds, ServedPlayEnds, IsFedWhole, PlaysAll}
+use Rattle.program_runs.specs.Shapes.{HasShape}
+use Rattle.program_runs.specs.Walks.{walk_format, IsWalked}
+use Rattle.program_runs.specs.Plays.{IsCutUnder, IsPlayed, IsReadUpTo, sound_with}
+use Rattle.program_runs.specs.Histories.{commands_for, journal_of, told_by}
+use Rattle.laws_serving.specs.ServingSchedules.{ServesSound}
+use Rattle.program_runs.specs.Served.{all_rounds, line_count, ServesBringUp, ServesPlay, ServedWalkEnds, ServedPlayEnds, IsFedWhole, PlaysAll}
 use Rattle.hda_program.specs.Answers.{HasEnded, HasEndedPlay, HasWritten}
 use Rattle.hda_program.specs.Asks.{IsWalkOf, IsPlayOf}
 use Rattle.hda_program.specs.Causes.{IsOfPlay, IsOfWalk, IsShortCut}

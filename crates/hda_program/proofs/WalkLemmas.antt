@@ -3,9 +3,9 @@ use Rattle.std.proofs.Common.{◌≡◌, ◌≢◌, ℕ, ◌+◌, ◌≤◌, Lis
 use Rattle.hda_outside.specs.Shelf.{Files}
 use Rattle.hda_outside.specs.Counts.{Rose}
 use Rattle.hda_files.specs.declared.machine.Machine.{Machine}
-use Rattle.hda_words.specs.declared.request.Request.{Request}
-use Rattle.hda_words.specs.declared.request.Request.TheVariants as request
-use Rattle.hda_words.specs.Asked.{Asked, asked_by, request_of}
+use Rattle.program_words.specs.declared.request.Request.{Request}
+use Rattle.program_words.specs.declared.request.Request.TheVariants as request
+use Rattle.program_words.specs.Asked.{Asked, asked_by, request_of}
 use Rattle.std.specs.List.{Contains}
 use Rattle.hda_program.specs.Answers.{IsMeant, MachineWalks, RequestAnswers}
 use Rattle.hda_program.specs.Asks.{Names, files_asked, files_of}

@@ -2,13 +2,13 @@
 use Rattle.std.specs.Prelude.{◌≡◌, ◌≢◌, ◌⊎◌, ◌+◌, ℕ, true, false, if◌then◌else◌, List, length, Option, None}
 use Rattle.stream_format.specs.declared.format.Format.{Format}
 use Rattle.route_planner.specs.declared.routes.Plan.{Plan}
-use Rattle.hda_words.specs.declared.request.Request.{Request}
-use Rattle.hda_words.specs.declared.request.Request.TheVariants as request
+use Rattle.program_words.specs.declared.request.Request.{Request}
+use Rattle.program_words.specs.declared.request.Request.TheVariants as request
 use Rattle.hda_files.specs.declared.machine.Machine.{Machine}
 use Rattle.hda_files.specs.declared.machine.CodecFile.{CodecFile}
 use Rattle.hda_outside.specs.Shelf.{Files}
 use Rattle.hda_outside.specs.Sink.{taken_with, TookFront}
-use Rattle.hda_schedule.specs.declared.schedule.Schedule.{Schedule}
+use Rattle.schedule_reader.specs.declared.schedule.Schedule.{Schedule}
 use Rattle.period_writer.specs.declared.geometry.Geometry.{Geometry}
 use Rattle.wav_reader.specs.declared.opened.WavHead.{WavHead}
 use Rattle.sound_report.specs.declared.played.Played.{Played}
@@ -16,14 +16,14 @@ use Rattle.sound_report.specs.declared.status.Status.TheVariants.{Done, WordsRef
 use Rattle.sound_report.specs.PlanLines.{plans_lines}
 use Rattle.sound_report.specs.Statuses.{number_of}
 use Rattle.hda_program.specs.Asks.{IsNoCommand, IsRouteOf, IsWalkOf, IsPlayOf}
-use Rattle.scheduled_runs.specs.Walks.{walk_format, IsWalked}
-use Rattle.scheduled_runs.specs.Plays.{IsCutUnder, IsPlayedFrom, most_of_frames, most_read}
+use Rattle.program_runs.specs.Walks.{walk_format, IsWalked}
+use Rattle.program_runs.specs.Plays.{IsCutUnder, IsPlayedFrom, most_of_frames, most_read}
 use Rattle.hda_program.specs.Files.{IsMachineOf, IsHeadOf, IsScheduleOf, CodecStops, WavStops, ScheduleStops}
 use Rattle.hda_program.specs.Files.{IsAskedAlone, bytes_before}
 use Rattle.hda_program.specs.Rings.{IsRingOf, RingStops}
 use Rattle.hda_program.specs.Meanings.{Meant, telling, unrouted, of_run}
-use Rattle.machine_tasks.specs.Tasks.{HavePlans}
-use Rattle.codec_agenda.specs.Planned.{have_route}
+use Rattle.laws_start.specs.Tasks.{HavePlans}
+use Rattle.driver_agenda.specs.Planned.{have_route}
 use Rattle.hda_program.specs.Made.{IsMakeOf, MakeAnswers}
 use Rattle.hda_program.specs.Text.{usage_line}
 

@@ -5,7 +5,7 @@ use Rattle.stream_format.specs.declared.format.Format.{Format}
 use Rattle.route_planner.specs.declared.routes.Plan.{Plan}
 use Rattle.hda_files.specs.declared.machine.Machine.{Machine}
 use Rattle.hda_outside.specs.Shelf.{Files}
-use Rattle.hda_schedule.specs.declared.schedule.Schedule.{Schedule}
+use Rattle.schedule_reader.specs.declared.schedule.Schedule.{Schedule}
 use Rattle.period_writer.specs.declared.geometry.GeometryFault.{GeometryFault}
 use Rattle.wav_reader.specs.declared.opened.WavHead.{WavHead}
 use Rattle.sound_report.specs.declared.played.Played.{Played}
@@ -16,12 +16,12 @@ use Rattle.sound_report.specs.declared.status.Status.TheVariants.{ScheduleRefuse
 use Rattle.sound_report.specs.declared.status.Status.TheVariants.{ScheduleEnded, GeometryRefused, WavShrank}
 use Rattle.sound_report.specs.Statuses.{number_of}
 use Rattle.hda_program.specs.Asks.{Names, NamesCodecFile, IsRouteOf, IsWalkOf, IsPlayOf}
-use Rattle.scheduled_runs.specs.Walks.{walk_format}
+use Rattle.program_runs.specs.Walks.{walk_format}
 use Rattle.hda_program.specs.Files.{IsMachineOf, IsHeadOf, IsScheduleOf, IsCodecRefused, IsWavRefused}
 use Rattle.hda_program.specs.Files.{IsScheduleRefused}
 use Rattle.hda_program.specs.Rings.{IsBadRing}
-use Rattle.machine_tasks.specs.Tasks.{HavePlans}
-use Rattle.codec_agenda.specs.Planned.{have_route}
+use Rattle.laws_start.specs.Tasks.{HavePlans}
+use Rattle.driver_agenda.specs.Planned.{have_route}
 
 -- the shelf failed under a name of the words
 abbrev pub HasUnreadFile : (List ℕ → Type 0) → List (List ℕ) → Type 0

@@ -4,16 +4,16 @@ use Rattle.stream_format.specs.declared.format.Format.{Format}
 use Rattle.route_planner.specs.declared.routes.Plan.{Plan}
 use Rattle.hda_outside.specs.Shelf.{Files}
 use Rattle.hda_files.specs.declared.machine.Machine.{Machine}
-use Rattle.hda_schedule.specs.declared.schedule.Schedule.{Schedule}
+use Rattle.schedule_reader.specs.declared.schedule.Schedule.{Schedule}
 use Rattle.period_writer.specs.Rings.{fault_of}
 use Rattle.wav_reader.specs.declared.opened.WavHead.{WavHead}
 use Rattle.sound_report.specs.declared.status.Status.TheVariants.{Done, OutOfMemory}
 use Rattle.sound_report.specs.Statuses.{number_of}
-use Rattle.scheduled_runs.specs.Walks.{walk_format}
-use Rattle.machine_tasks.specs.Tasks.{HavePlans}
+use Rattle.program_runs.specs.Walks.{walk_format}
+use Rattle.laws_start.specs.Tasks.{HavePlans}
 use Rattle.hda_program.specs.Causes.{IsOfPlay, IsOfWalk}
 use Rattle.hda_program.specs.Files.{IsHeadIn, IsMachineOf, IsScheduleOf}
-use Rattle.codec_agenda.specs.Planned.{have_route}
+use Rattle.driver_agenda.specs.Planned.{have_route}
 
 -- the shelf tells its files and failed under none of the three names. The files read as a machine and a schedule, and
 -- say a sound; the ring of these numbers has no fault, and some pin has a route for the sound's format

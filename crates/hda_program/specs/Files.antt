@@ -7,10 +7,10 @@ use Rattle.hda_files.specs.declared.machine.Machine.{Machine}
 use Rattle.hda_files.specs.declared.fault.FileFault.{FileFault}
 use Rattle.hda_files.specs.declared.fault.FileFault.TheVariants.{OutOfMemory}
 use Rattle.hda_files.specs.Machines.{Reads, IsSound}
-use Rattle.hda_schedule.specs.declared.schedule.Schedule.{Schedule}
-use Rattle.hda_schedule.specs.declared.fault.SchedFault.{SchedFault}
-use Rattle.hda_schedule.specs.Schedules.{schedule_of, IsLimited}
-use Rattle.hda_schedule.specs.Ranges.{IsInRange}
+use Rattle.schedule_reader.specs.declared.schedule.Schedule.{Schedule}
+use Rattle.schedule_reader.specs.declared.fault.SchedFault.{SchedFault}
+use Rattle.schedule_reader.specs.Schedules.{schedule_of, IsLimited}
+use Rattle.schedule_reader.specs.Ranges.{IsInRange}
 use Rattle.stream_format.specs.Layouts.{layout}
 use Rattle.wav_reader.specs.declared.fault.WavFault.{WavFault}
 use Rattle.wav_reader.specs.declared.fault.WavFault.TheVariants as wav

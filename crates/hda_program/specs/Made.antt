@@ -1,11 +1,11 @@
 -- What `make` answers. This project's own.
 use Rattle.std.specs.Prelude.{◌≡◌, ◌⊎◌, ℕ, List, Some}
-use Rattle.hda_words.specs.Asked.{make, request_of}
+use Rattle.program_words.specs.Asked.{make, request_of}
 use Rattle.sound_report.specs.declared.played.Played.{Played}
 use Rattle.sound_report.specs.declared.status.Status.TheVariants.{Done, SinkFailed, OutOfMemory}
 use Rattle.sound_report.specs.Statuses.{number_of}
-use Rattle.made_runs.specs.MadeRuns.{IsMadeRun}
-use Rattle.made_runs.specs.Lines.{made_line}
+use Rattle.program_runs.specs.MadeRuns.{IsMadeRun}
+use Rattle.program_runs.specs.MadeLines.{made_line}
 use Rattle.hda_program.specs.MadeEnds.{MadeRunEnds}
 use Rattle.hda_program.specs.Meanings.{Meant, of_made, status_of}
 

@@ -3,7 +3,7 @@ use Rattle.std.specs.Prelude.{◌≡◌, ◌+◌, ◌-◌, ◌*◌, ℕ, [], ◌
 use Rattle.sound_report.specs.declared.played.Played.{Played}
 use Rattle.made_inputs.specs.MadeSound.{frames_for}
 use Rattle.made_inputs.specs.MadeSchedule.{turns, AreTurns}
-use Rattle.made_runs.specs.Lines.{silence_bytes, holes_of}
+use Rattle.program_runs.specs.MadeLines.{silence_bytes, holes_of}
 
 -- 44 commands set the codec up, and all of the sound was played, in so many turns: one run for each and one more, and
 -- from the sound's end on one silence of four bytes for each link frame of the turns that is left, and of a ring

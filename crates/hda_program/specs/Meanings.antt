@@ -17,7 +17,7 @@ use Rattle.sound_report.specs.declared.status.Status.TheVariants.{WavShrank}
 use Rattle.sound_report.specs.PlanLines.{plans_lines}
 use Rattle.sound_report.specs.Statuses.{number_of}
 use Rattle.sound_report.specs.Texts.{text_of}
-use Rattle.made_runs.specs.Lines.{made_line}
+use Rattle.program_runs.specs.MadeLines.{made_line}
 use Rattle.hda_program.specs.declared.message.Message.{Message}
 use Rattle.hda_program.specs.declared.answer.Answer.{Answer}
 use Rattle.hda_program.specs.declared.answer.Answer.TheVariants as answer

@@ -4,21 +4,21 @@ use Rattle.std.specs.Prelude.{◌≡◌, ◌⊎◌, ◌+◌, ℕ, true, List, le
 use Rattle.route_planner.specs.declared.routes.Plan.{Plan}
 use Rattle.hda_files.specs.declared.machine.Machine.{Machine}
 use Rattle.hda_outside.specs.Shelf.{Files}
-use Rattle.hda_schedule.specs.declared.schedule.Schedule.{Schedule}
+use Rattle.schedule_reader.specs.declared.schedule.Schedule.{Schedule}
 use Rattle.period_writer.specs.declared.geometry.Geometry.{Geometry}
 use Rattle.wav_reader.specs.declared.opened.WavHead.{WavHead}
 use Rattle.sound_report.specs.declared.played.Played.{Played}
 use Rattle.hda_program.specs.Asks.{IsWalkOf, IsPlayOf}
-use Rattle.scheduled_runs.specs.Walks.{walk_format, IsWalked}
-use Rattle.scheduled_runs.specs.Plays.{IsCutUnder, IsPlayedFrom, most_of_frames, most_read}
+use Rattle.program_runs.specs.Walks.{walk_format, IsWalked}
+use Rattle.program_runs.specs.Plays.{IsCutUnder, IsPlayedFrom, most_of_frames, most_read}
 use Rattle.hda_program.specs.Files.{IsMachineOf, IsHeadOf, IsScheduleOf, bytes_before}
 use Rattle.hda_program.specs.Rings.{IsRingOf}
 use Rattle.hda_program.specs.Answers.{HasWritten}
 use Rattle.sound_report.specs.Texts.{text_of}
 use Rattle.hda_program.specs.Made.{HasMadeRun}
 use Rattle.hda_program.specs.Meanings.{run_meant}
-use Rattle.machine_tasks.specs.Tasks.{HavePlans}
-use Rattle.codec_agenda.specs.Planned.{have_route}
+use Rattle.laws_start.specs.Tasks.{HavePlans}
+use Rattle.driver_agenda.specs.Planned.{have_route}
 
 -- the run is that for which the words ask: of the machine that their codec file reads as, with its plans, by their
 -- schedule

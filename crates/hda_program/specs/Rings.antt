@@ -6,7 +6,7 @@ use Rattle.period_writer.specs.declared.geometry.GeometryFault.{GeometryFault}
 use Rattle.period_writer.specs.Rings.{fault_of}
 use Rattle.wav_reader.specs.declared.opened.WavHead.{WavHead}
 use Rattle.sound_report.specs.declared.status.Status.TheVariants.{GeometryRefused}
-use Rattle.scheduled_runs.specs.Shapes.{HasShape}
+use Rattle.program_runs.specs.Shapes.{HasShape}
 use Rattle.hda_program.specs.Meanings.{Meant, telling}
 use Rattle.hda_program.specs.Text.{geometry_fault_text, geometry_refused_line}
 

@@ -3,16 +3,16 @@ use Rattle.std.specs.Prelude.{◌≡◌, ◌⊎◌, ◌*◌, ℕ, List, Option, 
 use Rattle.stream_format.specs.Cadence.{block_bytes}
 use Rattle.route_planner.specs.declared.routes.Plan.{Plan}
 use Rattle.hda_files.specs.declared.machine.Machine.{Machine}
-use Rattle.hda_schedule.specs.declared.schedule.Schedule.{Schedule}
+use Rattle.schedule_reader.specs.declared.schedule.Schedule.{Schedule}
 use Rattle.period_writer.specs.declared.geometry.Geometry.{Geometry}
 use Rattle.period_writer.specs.Runs.{measures}
 use Rattle.wav_reader.specs.declared.opened.WavHead.{WavHead}
 use Rattle.sound_report.specs.declared.played.Played.{Played}
 use Rattle.sound_report.specs.declared.status.Status.TheVariants.{OutOfMemory}
 use Rattle.sound_report.specs.Statuses.{number_of}
-use Rattle.scheduled_runs.specs.Walks.{walk_format}
-use Rattle.scheduled_runs.specs.Histories.{commands_for, journal_of, told_by}
-use Rattle.served_runs.specs.Served.{all_rounds, line_count, ServedWalkEnds, ServedPlayEnds, IsFedWhole, PlaysAll}
+use Rattle.program_runs.specs.Walks.{walk_format}
+use Rattle.program_runs.specs.Histories.{commands_for, journal_of, told_by}
+use Rattle.program_runs.specs.Served.{all_rounds, line_count, ServedWalkEnds, ServedPlayEnds, IsFedWhole, PlaysAll}
 use Rattle.hda_program.specs.Meanings.{fault_status}
 
 -- a run that is given ended so. The status says how, and then there is a run; or memory was wanting

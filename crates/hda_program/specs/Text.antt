@@ -1,7 +1,7 @@
 -- The lines that the program writes, but for the words of a codec file's fault. This project's own.
 use Rattle.std.specs.Prelude.{ℕ, List, [], ◌++◌, codes, decimal}
-use Rattle.hda_schedule.specs.declared.fault.SchedFault.{SchedFault}
-use Rattle.hda_schedule.specs.declared.fault.SchedFault.TheVariants as schedule
+use Rattle.schedule_reader.specs.declared.fault.SchedFault.{SchedFault}
+use Rattle.schedule_reader.specs.declared.fault.SchedFault.TheVariants as schedule
 use Rattle.period_writer.specs.declared.geometry.GeometryFault.{GeometryFault}
 use Rattle.period_writer.specs.declared.geometry.GeometryFault.TheVariants.{FifoTooSmall, RingTooSmall}
 use Rattle.wav_reader.specs.declared.fault.WavFault.{WavFault}

@@ -1,6 +1,6 @@
 //! What the program answers to its words, before anything is written.
 ghost use Rattle.std.specs.Prelude.{◌≡◌, ◌≤◌, ℕ, List, Contains, map, string_bytes, IfOk};
-ghost use Rattle.hda_words.specs.Asked.{asked_by, IsInRange};
+ghost use Rattle.program_words.specs.Asked.{asked_by, IsInRange};
 ghost use Rattle.hda_program.specs.Answers.{IsMeant, RequestAnswers};
 ghost use Rattle.hda_program.specs.Asks.{AsksForItsFiles, files_of};
 ghost use Rattle.hda_program.specs.Meanings.{answer_meant};
@@ -12,7 +12,7 @@ use crate::play::answer_play;
 use crate::route::answer_route;
 use crate::walk::answer_walk;
 use hda_outside::Shelf;
-use hda_words::{Request, WordsFault, read_words};
+use program_words::{Request, WordsFault, read_words};
 use sound_report::Played;
 use std::alloc::{AllocError, Global};
 

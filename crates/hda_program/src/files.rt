@@ -1,7 +1,7 @@
 //! What `play` does with three files, for callers that have no words.
 ghost use Rattle.std.specs.Prelude.{◌≡◌, ◌≢◌, ◌≤◌, ◌∷◌, [], ℕ, List, IfSome, IsNone, IsSome, IsSomeAnd};
 ghost use Rattle.hda_outside.specs.Counts.{Rose};
-ghost use Rattle.hda_words.specs.Asked.{IsRingInRange};
+ghost use Rattle.program_words.specs.Asked.{IsRingInRange};
 ghost use Rattle.sound_report.specs.Statuses.{number_of};
 ghost use Rattle.hda_program.specs.Answers.{HasEndedPlay};
 ghost use Rattle.hda_program.specs.Causes.{HasStoppedUnread, IsOfSound, IsRunless, WasShortened, WasUnread};
@@ -9,15 +9,15 @@ ghost use Rattle.hda_program.specs.Promises.{HasPlayedFiles, IsReported, KeepsPr
 ghost use Rattle.hda_program.specs.Complete.{CanPlay, HasPlayedOn};
 ghost use Rattle.hda_program.specs.Files.{EmptiedUnder, FailedUnder, GivenAtMost, UnaskedUnder};
 ghost use Rattle.period_writer.specs.declared.geometry.Geometry.{Geometry};
-ghost use Rattle.served_runs.specs.Served.{ServesPlay};
+ghost use Rattle.program_runs.specs.Served.{ServesPlay};
 ghost use Rattle.hda_program.specs.Rings.{IsRingOf};
 ghost use Rattle.hda_program.specs.Served.{EndsSo, PlaysSo, PlaysWhole};
 
 use crate::play::answer_play;
 use crate::run::{Ended, write_answer};
 use hda_outside::{Shelf, Sink};
-use machine_tasks::read_machines_are_whole;
-use served_runs::{plays_all_so, plays_end_so};
+use laws_start::read_machines_are_whole;
+use program_runs::{plays_all_so, plays_end_so};
 use sound_report::Status;
 use std::alloc::Global;
 

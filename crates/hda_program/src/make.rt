@@ -7,7 +7,7 @@ use crate::answer::Answer;
 use crate::made_ends::made_runs_end_so;
 use crate::plans::plans_of;
 use made_inputs::{made_format, made_machine};
-use made_runs::play_made;
+use program_runs::play_made;
 use std::alloc::{AllocError, Global};
 
 /// What `make` answers for a number.

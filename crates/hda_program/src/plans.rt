@@ -1,8 +1,8 @@
 //! The plans of a machine's codecs, and what is said of them.
 ghost use Rattle.std.specs.Prelude.{◌≡◌, IfOk};
 ghost use Rattle.hda_program.specs.Meanings.{message_meant, telling, unrouted};
-ghost use Rattle.machine_tasks.specs.Tasks.{HavePlans};
-ghost use Rattle.codec_agenda.specs.Planned.{have_route};
+ghost use Rattle.laws_start.specs.Tasks.{HavePlans};
+ghost use Rattle.driver_agenda.specs.Planned.{have_route};
 ghost use Rattle.sound_report.specs.PlanLines.{plans_lines};
 
 use crate::message::Message;

@@ -1,9 +1,9 @@
 //! What `play` answers.
 ghost use Rattle.std.specs.Prelude.{◌≡◌, ◌≢◌, ◌≤◌, ℕ, List, IfOk};
 ghost use Rattle.hda_files.specs.Machines.{IsSound};
-ghost use Rattle.hda_words.specs.Asked.{IsRingInRange};
+ghost use Rattle.program_words.specs.Asked.{IsRingInRange};
 ghost use Rattle.hda_program.specs.Answers.{MachinePlays, PlayAnswers, RingPlays, SchedulePlays, SoundPlays};
-ghost use Rattle.machine_tasks.specs.Reading.{IsRead};
+ghost use Rattle.laws_start.specs.Reading.{IsRead};
 ghost use Rattle.hda_program.specs.Files.{EmptiedUnder, FailedUnder, GivenAtMost, IsGoodSchedule, IsHeadOf};
 ghost use Rattle.hda_program.specs.Files.{UnaskedUnder};
 ghost use Rattle.hda_program.specs.Meanings.{answer_meant};
@@ -15,13 +15,13 @@ use crate::plans::{nothing_routed, plans_of};
 use crate::schedule::read_schedule_file;
 use crate::text::geometry_fault_name;
 use crate::wav::open_wav_file;
-use codec_agenda::have_route;
+use driver_agenda::have_route;
 use hda_files::Machine;
 use hda_outside::Shelf;
-use hda_schedule::Schedule;
-use machine_tasks::read_machines_are_whole;
+use laws_start::read_machines_are_whole;
 use period_writer::Geometry;
-use scheduled_runs::play;
+use program_runs::play;
+use schedule_reader::Schedule;
 use std::alloc::{AllocError, Global};
 use wav_reader::WavHead;
 

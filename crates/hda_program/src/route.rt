@@ -7,7 +7,7 @@ ghost use Rattle.hda_program.specs.Files.{FailedUnder};
 use crate::codec::read_codec_file;
 use crate::message::Message;
 use crate::plans::{nothing_routed, plans_of, routed};
-use codec_agenda::have_route;
+use driver_agenda::have_route;
 use hda_files::Machine;
 use hda_outside::Shelf;
 use route_planner::Format;

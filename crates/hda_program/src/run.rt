@@ -6,7 +6,7 @@ ghost use Rattle.stream_format.specs.declared.format.Format.{Format};
 ghost use Rattle.hda_outside.specs.Counts.{Rose};
 ghost use Rattle.sound_report.specs.Statuses.{number_of};
 ghost use Rattle.hda_program.specs.Answers.{HasEnded, HasWritten};
-ghost use Rattle.hda_words.specs.Asked.{request_of};
+ghost use Rattle.program_words.specs.Asked.{request_of};
 ghost use Rattle.hda_program.specs.Asks.{AsksForItsFiles, IsNoCommand, IsPlayOf, IsRouteOf, IsWalkOf, files_asked};
 ghost use Rattle.hda_program.specs.Causes.{HasBadCodecFile, HasBadRing, HasBadSchedule, HasBadWav, HasPlanned};
 ghost use Rattle.hda_program.specs.Causes.{HasStoppedUnread, HasUnreadFile, IsOfSound, IsOfWalk, IsRunless};
@@ -18,16 +18,15 @@ ghost use Rattle.hda_program.specs.Meanings.{answer_meant, fault_status, of_made
 ghost use Rattle.hda_program.specs.Meanings.{written_status};
 ghost use Rattle.hda_program.specs.Files.{EmptiedUnder, FailedUnder, GivenAtMost, UnaskedUnder};
 ghost use Rattle.period_writer.specs.declared.geometry.Geometry.{Geometry};
-ghost use Rattle.scheduled_runs.specs.Walks.{walk_format};
-ghost use Rattle.served_runs.specs.Served.{ServesBringUp, ServesPlay};
+ghost use Rattle.program_runs.specs.Walks.{walk_format};
+ghost use Rattle.program_runs.specs.Served.{ServesBringUp, ServesPlay};
 ghost use Rattle.hda_program.specs.Rings.{IsRingOf};
 ghost use Rattle.hda_program.specs.Served.{EndsSo, PlaysSo, PlaysWhole, WalksSo};
 
 use crate::answer::{Answer, answer_words};
 use hda_outside::{Fault, Shelf, Sink, write_all};
-use machine_tasks::read_machines_are_whole;
-use made_runs::made_line;
-use served_runs::{plays_all_so, plays_end_so, walks_end_so};
+use laws_start::read_machines_are_whole;
+use program_runs::{made_line, plays_all_so, plays_end_so, walks_end_so};
 use sound_report::{CutLine, PlayFault, Played, Status, write_report};
 use std::alloc::Global;
 

@@ -5,7 +5,7 @@ ghost use Rattle.hda_program.specs.Files.{AreScheduleBytesRead, FailedUnder, Giv
 use crate::message::{Message, schedule_refused, unreadable};
 use crate::text::push_schedule_fault;
 use hda_outside::{ReadAll, Shelf, read_all};
-use hda_schedule::{MOST_SCHEDULE_BYTES, SchedFault, Schedule, read_schedule};
+use schedule_reader::{MOST_SCHEDULE_BYTES, SchedFault, Schedule, read_schedule};
 use std::alloc::{AllocError, Global};
 
 /// Reads the schedule of this name: the schedule, or the message with which the command ends.

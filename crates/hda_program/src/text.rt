@@ -2,8 +2,8 @@
 ghost use Rattle.std.specs.Prelude.{◌≡◌, ◌++◌, OnOk, codes, string_bytes};
 ghost use Rattle.hda_program.specs.Text as text;
 
-use hda_schedule::SchedFault;
 use period_writer::GeometryFault;
+use schedule_reader::SchedFault;
 use std::alloc::AllocError;
 use wav_reader::WavFault;
 

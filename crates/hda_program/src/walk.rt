@@ -2,7 +2,7 @@
 ghost use Rattle.std.specs.Prelude.{◌≡◌, ◌≢◌, ◌≤◌, ℕ, List, IfOk};
 ghost use Rattle.hda_files.specs.Machines.{IsSound};
 ghost use Rattle.hda_program.specs.Answers.{MachineWalks, ScheduleAnswers, WalkAnswers};
-ghost use Rattle.machine_tasks.specs.Reading.{IsRead};
+ghost use Rattle.laws_start.specs.Reading.{IsRead};
 ghost use Rattle.hda_program.specs.Files.{FailedUnder, IsGoodSchedule, UnaskedUnder};
 ghost use Rattle.hda_program.specs.Meanings.{answer_meant};
 
@@ -10,12 +10,12 @@ use crate::answer::Answer;
 use crate::codec::read_codec_file;
 use crate::plans::{nothing_routed, plans_of};
 use crate::schedule::read_schedule_file;
-use codec_agenda::have_route;
+use driver_agenda::have_route;
 use hda_files::Machine;
 use hda_outside::Shelf;
-use hda_schedule::Schedule;
-use machine_tasks::read_machines_are_whole;
-use scheduled_runs::{walk, walk_format};
+use laws_start::read_machines_are_whole;
+use program_runs::{walk, walk_format};
+use schedule_reader::Schedule;
 use std::alloc::{AllocError, Global};
 
 /// What `walk` answers for the codec file and the schedule of these names.

@@ -132,8 +132,8 @@ fn writes_pieces(rt: HostRuntime) -> Result<(), Fail> {
     Ok(())
 }
 
-/// A shelf that has one file of so many zeroes under every name. It notes the names under which it is asked, and counts how often
-/// that is its own.
+/// A shelf that has one file of so many zeroes under every name. It notes the names under which it is asked, and counts
+/// how often that is its own.
 #[derive(Drop)]
 struct NameShelf {
     own: &'static str,

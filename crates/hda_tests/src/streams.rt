@@ -24,7 +24,8 @@ fn sound_file(alloc: Global, mono: bool, len: u32) -> Result<Vec<u8>, AllocError
     Ok(bytes)
 }
 
-/// A file of so many bytes of sound, what it means as it is read whole, and a supply of it that holds at most so many bytes.
+/// A file of so many bytes of sound, what it means as it is read whole, and a supply of it that holds at most so many
+/// bytes.
 fn sound_of(
     rt: &impl Abort,
     alloc: Global,
@@ -101,7 +102,8 @@ fn streams_what_it_reads(rt: HostRuntime) -> Result<(), Fail> {
     Ok(())
 }
 
-/// Fails the test unless a supply that was cut holds the front of a sound, of so many bytes, and gives no more than that.
+/// Fails the test unless a supply that was cut holds the front of a sound, of so many bytes, and gives no more than
+/// that.
 fn expect_front(
     rt: &impl Abort,
     alloc: Global,
@@ -122,8 +124,8 @@ fn expect_front(
     Ok(())
 }
 
-/// Whether a file of 9,000 bytes of sound has one channel, the call that fails, of those that each ask for a piece of 4,096 bytes, and the bytes of
-/// sound that are held then.
+/// Whether a file of 9,000 bytes of sound has one channel, the call that fails, of those that each ask for a piece of
+/// 4,096 bytes, and the bytes of sound that are held then.
 const FAILING_CALLS: [(bool, u64, u64); 6] = [
     (false, 0, 0),
     (false, 1, 4_096),
@@ -145,8 +147,8 @@ fn stops_reading_where_the_shelf_fails(rt: HostRuntime) -> Result<(), Fail> {
     Ok(())
 }
 
-/// Whether a file of 84 bytes has one channel, how many of these are left when its sound is read, the place at which no byte more is found, and the
-/// bytes of sound that are held then.
+/// Whether a file of 84 bytes has one channel, how many of these are left when its sound is read, the place at which no
+/// byte more is found, and the bytes of sound that are held then.
 const FRONTS: [(bool, usize, u64, u64); 14] = [
     (false, 0, 44, 0),
     (false, 44, 44, 0),

@@ -1,6 +1,6 @@
 -- A relation through an access of a told platform: kept by the device's steps before it, and led on by the access itself.
 use Rattle.std.proofs.Common.{◌≡◌, List, [], ◌∷◌, ◌++◌, map, refl, sym, subst, ◌∙◌}
-use Rattle.device_steps.specs.declared.Step.{Step}
+use Rattle.world_steps.specs.declared.Step.{Step}
 use Rattle.hda_world.specs.Worlds.{World}
 use Rattle.hda_world.specs.Steps.{after_step, after_steps}
 use Rattle.hda_world.specs.Events.{Event, Stepped, happens, after, IsHonest, AreHonest}

@@ -7,13 +7,13 @@ use Rattle.codec_graph.specs.CodecStates.{CodecState, plugged}
 use Rattle.hda_registers.specs.declared.shapes.Raise.TheVariants as event
 use Rattle.hda_registers.specs.Fields.{Fields, is_out_of_reset}
 use Rattle.hda_registers.specs.Moves.{framed, raised}
-use Rattle.ring_entries.specs.declared.response.Response.{Response}
-use Rattle.ring_entries.specs.Entries.{after_response, after_responses}
-use Rattle.device_steps.specs.declared.Step.{Step}
+use Rattle.world_rings.specs.declared.response.Response.{Response}
+use Rattle.world_rings.specs.Entries.{after_response, after_responses}
+use Rattle.world_steps.specs.declared.Step.{Step}
 use Rattle.hda_world.specs.declared.step.TheConstants.{FRAMES_TO_DISCOVERY}
-use Rattle.stream_moves.specs.Output.{frame_of}
+use Rattle.world_streams.specs.Output.{frame_of}
 use Rattle.hda_world.specs.Worlds.{World, with_codec, output_of}
-use Rattle.device_steps.specs.declared.Step.TheVariants as step
+use Rattle.world_steps.specs.declared.Step.TheVariants as step
 use Rattle.hda_world.specs.Steps.{discovered, passed, output_framed, frame_step, times, after_step, after_steps}
 use Rattle.hda_world.specs.Kept.{Kept}
 use Rattle.hda_world.specs.Discovery.{addresses_of, AreSet, IsDiscovered}

@@ -7,7 +7,7 @@ use Rattle.codec_graph.specs.CodecStates.{CodecState, plugged, pin_plugged, node
 use Rattle.hda_registers.specs.declared.shapes.RingSize.{RingSize}
 use Rattle.hda_registers.specs.declared.shapes.RingSize.TheVariants.{Two, Sixteen, Full}
 use Rattle.hda_registers.specs.declared.shapes.Raise.TheVariants as event
-use Rattle.ring_entries.specs.declared.response.Response.{Response}
+use Rattle.world_rings.specs.declared.response.Response.{Response}
 use Rattle.hda_registers.specs.Fields.{Fields, Global, Descriptor, entries_of, rirb_address, is_out_of_reset, is_running}
 use Rattle.hda_registers.specs.Moves.{raised, moved, framed}
 use Rattle.hda_registers.specs.declared.shapes.Moved.TheVariants.{CorbRp, RirbWp}
@@ -15,11 +15,11 @@ use Rattle.hda_registers.specs.declared.shapes.Shape.{Shape}
 use Rattle.codec_graph.specs.declared.raw.RawCodec.{RawCodec}
 use Rattle.codec_graph.specs.declared.raw.RawNode.{RawNode}
 use Rattle.codec_graph.specs.Widget.{node_at, is_pin}
-use Rattle.ring_entries.specs.Memory.{IsOutside}
-use Rattle.ring_entries.proofs.Callers.{stored_outside}
-use Rattle.ring_entries.specs.Entries.{response_bytes, response_stored, response_place, responses_stored, after_response, after_responses}
-use Rattle.device_steps.specs.declared.Step.{Step}
-use Rattle.stream_moves.specs.Streams.{StreamState}
+use Rattle.world_rings.specs.Memory.{IsOutside}
+use Rattle.world_rings.proofs.Callers.{stored_outside}
+use Rattle.world_rings.specs.Entries.{response_bytes, response_stored, response_place, responses_stored, after_response, after_responses}
+use Rattle.world_steps.specs.declared.Step.{Step}
+use Rattle.world_streams.specs.Streams.{StreamState}
 use Rattle.hda_world.specs.Worlds.{World, CarriedFrame, codec_at, with_codec}
 use Rattle.hda_world.specs.declared.step.TheConstants.{FRAMES_TO_DISCOVERY}
 use Rattle.hda_world.specs.Steps.{discovered, passed, after_steps}

@@ -3,11 +3,11 @@ use Rattle.std.proofs.Common.{◌≡◌, ◌≢◌, ℕ, zero, suc, Bool, true, 
 use Rattle.codec_graph.specs.declared.waiting.Waiting.{Waiting}
 use Rattle.codec_graph.specs.CodecStates.{taken, plugged, without_first, without_answer}
 use Rattle.hda_registers.specs.Fields.{is_out_of_reset}
-use Rattle.ring_entries.specs.Engines.{next_word}
-use Rattle.ring_entries.specs.declared.response.TheConstants.{MOST_WAITING}
-use Rattle.device_steps.specs.declared.Step.{Step}
-use Rattle.device_steps.specs.declared.Step.TheVariants as step
-use Rattle.stream_moves.specs.Output.{frame_of}
+use Rattle.world_rings.specs.Engines.{next_word}
+use Rattle.world_rings.specs.declared.response.TheConstants.{MOST_WAITING}
+use Rattle.world_steps.specs.declared.Step.{Step}
+use Rattle.world_steps.specs.declared.Step.TheVariants as step
+use Rattle.world_streams.specs.Output.{frame_of}
 use Rattle.hda_world.specs.Worlds.{World, codec_at, output_of}
 use Rattle.hda_world.specs.Steps.{address_of, handed, handed_next, is_busy, sent_first, items_of, lost, passed, output_framed, output_fetched, frame_step, times, after_step, after_steps}
 use Rattle.hda_world.specs.Leaving.{AddressesOther, NamesOthers, NameOthers}

@@ -7,8 +7,8 @@ use Rattle.hda_registers.specs.Fields.{Descriptor, Fields, is_running}
 use Rattle.hda_registers.specs.Status.{worth}
 use Rattle.hda_registers.specs.Access.{written, rose, fell}
 use Rattle.stream_format.specs.Layouts.{layout_of}
-use Rattle.stream_moves.specs.Streams.{SamePlay, StreamState, begun, has_format, held, is_ready, most_by, settled, settled_state}
-use Rattle.stream_moves.proofs.Callers.{not_ready, write_plays, write_ready}
+use Rattle.world_streams.specs.Streams.{SamePlay, StreamState, begun, has_format, held, is_ready, most_by, settled, settled_state}
+use Rattle.world_streams.proofs.Callers.{not_ready, write_plays, write_ready}
 use Rattle.hda_world.specs.Worlds.{World, CarriedFrame}
 use Rattle.hda_world.specs.Events.{after_write}
 use Rattle.hda_world.specs.Streaming.{AreSent, HasPosition, HasSent, ShowsReady, carried_bytes}

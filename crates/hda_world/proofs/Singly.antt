@@ -2,9 +2,9 @@
 use Rattle.std.proofs.Common.{◌≡◌, ℕ, zero, suc, ◌+◌, Bool, true, false, ◌==◌, List, [], ◌∷◌, ◌++◌, length, take, drop, append-nil, append_assoc, refl, sym, ap, ap₂, subst, ◌∙◌, if◌then◌else◌, rules, tests}
 use Rattle.hda_registers.specs.Fields.{is_out_of_reset}
 use Rattle.hda_registers.specs.Moves.{framed}
-use Rattle.ring_entries.specs.declared.response.Response.{Response}
-use Rattle.ring_entries.specs.Entries.{after_responses, responses_stored}
-use Rattle.ring_entries.specs.Engines.{can_respond, batch_of, batch}
+use Rattle.world_rings.specs.declared.response.Response.{Response}
+use Rattle.world_rings.specs.Entries.{after_responses, responses_stored}
+use Rattle.world_rings.specs.Engines.{can_respond, batch_of, batch}
 use Rattle.hda_world.specs.declared.step.TheConstants.{FRAMES_TO_DISCOVERY}
 use Rattle.hda_world.specs.Worlds.{World}
 use Rattle.hda_world.specs.Steps.{responded, discovered}

@@ -5,14 +5,14 @@ use Rattle.codec_graph.specs.CodecStates.{CodecState}
 use Rattle.hda_registers.specs.Fields.{Fields, is_out_of_reset, is_running}
 use Rattle.hda_registers.specs.declared.shapes.Raise.TheVariants as event
 use Rattle.hda_registers.specs.Moves.{framed, raised}
-use Rattle.ring_entries.specs.declared.response.Response.{Response}
-use Rattle.ring_entries.specs.declared.response.TheConstants.{MOST_WAITING}
-use Rattle.ring_entries.specs.Entries.{next_command}
-use Rattle.ring_entries.specs.Engines.{can_fetch, can_respond, batch_of, batch}
-use Rattle.stream_moves.specs.Streams.{Stream, held, due, is_usable, broke}
-use Rattle.stream_moves.specs.Output.{has_room, byte_came, fetched_one, fetch_move, moves, Frame, Stopped, Broken, Gap, Blocks, Hole, frame_of}
-use Rattle.device_steps.specs.declared.Step.{Step}
-use Rattle.device_steps.specs.declared.Step.TheVariants as step
+use Rattle.world_rings.specs.declared.response.Response.{Response}
+use Rattle.world_rings.specs.declared.response.TheConstants.{MOST_WAITING}
+use Rattle.world_rings.specs.Entries.{next_command}
+use Rattle.world_rings.specs.Engines.{can_fetch, can_respond, batch_of, batch}
+use Rattle.world_streams.specs.Streams.{Stream, held, due, is_usable, broke}
+use Rattle.world_streams.specs.Output.{has_room, byte_came, fetched_one, fetch_move, moves, Frame, Stopped, Broken, Gap, Blocks, Hole, frame_of}
+use Rattle.world_steps.specs.declared.Step.{Step}
+use Rattle.world_steps.specs.declared.Step.TheVariants as step
 use Rattle.hda_world.specs.declared.step.TheConstants.{FRAMES_TO_DISCOVERY}
 use Rattle.hda_world.specs.Worlds.{World, CarriedFrame, codec_at, output_of, with_output}
 use Rattle.hda_world.specs.Steps.{address_of, is_busy, handed_next, items_of, sent_first, responded, discovered, passed, output_framed, frame_step, fetch_step, times, answer_step, lose_step, rirb_step, after_step, after_steps}

@@ -8,14 +8,14 @@ use Rattle.std.specs.Prelude.{All}
 use Rattle.std.proofs.lemmas.List.Elements.{All-head, All-tail}
 use Rattle.hda_registers.specs.Fields.{Descriptor, Fields, is_out_of_reset, is_running}
 use Rattle.hda_registers.specs.Status.{worth}
-use Rattle.stream_moves.specs.Streams.{StreamState, is_ready}
-use Rattle.ring_entries.specs.declared.response.Response.{Response}
-use Rattle.ring_entries.specs.Entries.{after_response, after_responses}
-use Rattle.ring_entries.specs.declared.response.TheConstants.{MOST_WAITING}
-use Rattle.ring_entries.specs.Engines.{next_word, batch}
+use Rattle.world_streams.specs.Streams.{StreamState, is_ready}
+use Rattle.world_rings.specs.declared.response.Response.{Response}
+use Rattle.world_rings.specs.Entries.{after_response, after_responses}
+use Rattle.world_rings.specs.declared.response.TheConstants.{MOST_WAITING}
+use Rattle.world_rings.specs.Engines.{next_word, batch}
 use Rattle.codec_graph.specs.declared.waiting.Waiting.{Waiting}
-use Rattle.device_steps.specs.declared.Step.{Step}
-use Rattle.device_steps.specs.declared.Step.TheVariants as step
+use Rattle.world_steps.specs.declared.Step.{Step}
+use Rattle.world_steps.specs.declared.Step.TheVariants as step
 use Rattle.hda_world.specs.Worlds.{World, CarriedFrame, codec_at}
 use Rattle.hda_world.specs.Steps.{address_of, is_busy, handed_next, items_of, sent_first, responded, after_step, after_steps}
 use Rattle.hda_world.specs.Kept.{Kept, KeptByBytes, KeptByFrames, unmoved}

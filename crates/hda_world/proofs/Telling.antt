@@ -1,6 +1,6 @@
 -- How the relations of what is told go together.
 use Rattle.std.proofs.Common.{◌≡◌, List, [], ◌∷◌, ◌++◌, map, refl, sym, ap, subst, ◌∙◌, append_assoc, append-nil, Option, Some, None}
-use Rattle.device_steps.specs.declared.Step.{Step}
+use Rattle.world_steps.specs.declared.Step.{Step}
 use Rattle.hda_world.specs.Worlds.{World}
 use Rattle.hda_world.specs.Events.{Event, Stepped, happens, after, AreHonest}
 use Rattle.hda_world.specs.Tellings.{Telling, world_of, Went, Accessed, Grew, Between, BetweenBy, Then}

@@ -7,10 +7,10 @@ use Rattle.hda_registers.specs.declared.shapes.RingSize.TheVariants.{Two, Sixtee
 use Rattle.hda_registers.specs.declared.shapes.Raise.TheVariants as event
 use Rattle.hda_registers.specs.Fields.{Fields, entries_of, is_out_of_reset}
 use Rattle.hda_registers.specs.Moves.{framed, raised}
-use Rattle.ring_entries.specs.declared.response.Response.{Response}
-use Rattle.ring_entries.specs.Entries.{after_response, after_responses}
-use Rattle.ring_entries.specs.Engines.{can_respond, batch_of, batch}
-use Rattle.device_steps.specs.declared.Step.{Step}
+use Rattle.world_rings.specs.declared.response.Response.{Response}
+use Rattle.world_rings.specs.Entries.{after_response, after_responses}
+use Rattle.world_rings.specs.Engines.{can_respond, batch_of, batch}
+use Rattle.world_steps.specs.declared.Step.{Step}
 use Rattle.hda_world.specs.declared.step.TheConstants.{FRAMES_TO_DISCOVERY}
 use Rattle.hda_world.specs.Worlds.{World}
 use Rattle.hda_world.specs.Steps.{discovered, passed, after_steps}

@@ -6,7 +6,7 @@ use Rattle.hda_registers.specs.Fields.{Global, Descriptor, Fields, reset_fields,
 use Rattle.hda_registers.specs.Access.{written, placed, with_global, global_written, access_of, is_taken, effects_of, rose}
 use Rattle.hda_registers.specs.Laws.{IsBesideStreams, LeavesStreams}
 use Rattle.hda_registers.proofs.Callers.{leaves-streams, keeps-shape}
-use Rattle.stream_moves.specs.Streams.{StreamState, begun, settled, settled_state}
+use Rattle.world_streams.specs.Streams.{StreamState, begun, settled, settled_state}
 use Rattle.hda_world.specs.Worlds.{World}
 use Rattle.hda_world.specs.Events.{reset_if, counted_anew_if, registers_written, after_write}
 use Rattle.hda_world.specs.Leaving.{StreamsStay}

@@ -5,9 +5,9 @@ use Rattle.codec_graph.specs.CodecStates.{cleared}
 use Rattle.hda_registers.specs.declared.shapes.Width.{Width}
 use Rattle.hda_registers.specs.Fields.{Fields}
 use Rattle.hda_registers.specs.Access.{value_at, written, effects_of}
-use Rattle.ring_entries.specs.Memory.{stored}
-use Rattle.stream_moves.specs.Streams.{settled, settled_state}
-use Rattle.device_steps.specs.declared.Step.{Step}
+use Rattle.world_rings.specs.Memory.{stored}
+use Rattle.world_streams.specs.Streams.{settled, settled_state}
+use Rattle.world_steps.specs.declared.Step.{Step}
 use Rattle.hda_world.specs.Worlds.{World}
 use Rattle.hda_world.specs.Steps.{after_step}
 

@@ -6,13 +6,13 @@ use Rattle.codec_graph.specs.declared.waiting.Waiting.{Waiting}
 use Rattle.hda_registers.specs.Fields.{is_out_of_reset, is_running, list_address}
 use Rattle.hda_registers.specs.Moves.{framed, raised}
 use Rattle.hda_registers.specs.declared.shapes.Raise.TheVariants as event
-use Rattle.ring_entries.specs.declared.response.Response.{Response}
-use Rattle.ring_entries.specs.declared.response.TheConstants.{MOST_WAITING}
-use Rattle.ring_entries.specs.Entries.{next_command, after_response, response_stored}
-use Rattle.ring_entries.specs.Engines.{can_fetch, can_respond, batch}
-use Rattle.stream_moves.specs.Lists.{is_good}
-use Rattle.stream_moves.specs.Streams.{held, due, is_usable, broke}
-use Rattle.stream_moves.specs.Output.{next_of, completes, byte_came, Gap, Blocks, Hole}
+use Rattle.world_rings.specs.declared.response.Response.{Response}
+use Rattle.world_rings.specs.declared.response.TheConstants.{MOST_WAITING}
+use Rattle.world_rings.specs.Entries.{next_command, after_response, response_stored}
+use Rattle.world_rings.specs.Engines.{can_fetch, can_respond, batch}
+use Rattle.world_streams.specs.Lists.{is_good}
+use Rattle.world_streams.specs.Streams.{held, due, is_usable, broke}
+use Rattle.world_streams.specs.Output.{next_of, completes, byte_came, Gap, Blocks, Hole}
 use Rattle.hda_world.specs.declared.step.TheConstants.{FRAMES_TO_DISCOVERY}
 use Rattle.hda_world.specs.Worlds.{World, codec_at, output_of, with_output}
 use Rattle.hda_world.specs.Steps.{address_of, is_busy, handed, items_of, sent, lost, responded, discovered, passed, output_framed, plugged_at}

@@ -2,10 +2,10 @@
 use Rattle.std.specs.Prelude.{◌≡◌, ◌≢◌, ◌<◌, ◌≤◌, ◌⊎◌, ℕ, ◌+◌, ◌*◌, false, List, [], ◌∷◌, ◌++◌, Option, None, Some, length, map, slice_index}
 use Rattle.codec_graph.specs.declared.raw.RawCodec.{RawCodec}
 use Rattle.hda_registers.specs.Fields.{Fields, Descriptor, entries_of, rirb_address, is_running}
-use Rattle.ring_entries.specs.declared.entries.TheConstants.{RESPONSE_BYTES}
-use Rattle.ring_entries.specs.Engines.{next_word}
-use Rattle.device_steps.specs.declared.Step.{Step}
-use Rattle.device_steps.specs.declared.Step.TheVariants as step
+use Rattle.world_rings.specs.declared.entries.TheConstants.{RESPONSE_BYTES}
+use Rattle.world_rings.specs.Engines.{next_word}
+use Rattle.world_steps.specs.declared.Step.{Step}
+use Rattle.world_steps.specs.declared.Step.TheVariants as step
 use Rattle.hda_world.specs.Worlds.{World}
 use Rattle.hda_world.specs.Steps.{address_of, after_step}
 

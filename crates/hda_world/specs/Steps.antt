@@ -8,13 +8,13 @@ use Rattle.codec_graph.specs.CodecStates.{CodecState, taken, is_full, plugged, w
 use Rattle.hda_registers.specs.Fields.{Fields, is_out_of_reset, is_running}
 use Rattle.hda_registers.specs.Moves.{framed, raised}
 use Rattle.hda_registers.specs.declared.shapes.Raise.TheVariants as event
-use Rattle.ring_entries.specs.Entries.{fetched, responses_stored}
-use Rattle.ring_entries.specs.Engines.{next_word, batch, after_batch}
-use Rattle.ring_entries.specs.declared.response.Response.{Response}
-use Rattle.ring_entries.specs.declared.response.TheConstants.{MOST_WAITING}
-use Rattle.stream_moves.specs.Output.{fetch, Frame, frame_of, after_frame, Carriage, carried_by}
-use Rattle.device_steps.specs.declared.Step.{Step}
-use Rattle.device_steps.specs.declared.Step.TheVariants as step
+use Rattle.world_rings.specs.Entries.{fetched, responses_stored}
+use Rattle.world_rings.specs.Engines.{next_word, batch, after_batch}
+use Rattle.world_rings.specs.declared.response.Response.{Response}
+use Rattle.world_rings.specs.declared.response.TheConstants.{MOST_WAITING}
+use Rattle.world_streams.specs.Output.{fetch, Frame, frame_of, after_frame, Carriage, carried_by}
+use Rattle.world_steps.specs.declared.Step.{Step}
+use Rattle.world_steps.specs.declared.Step.TheVariants as step
 use Rattle.hda_world.specs.declared.step.TheConstants.{FRAMES_TO_DISCOVERY}
 use Rattle.hda_world.specs.Worlds.{World, TakenCommand, CarriedFrame, codec_at, with_codec, output_of, with_output}
 

@@ -4,8 +4,8 @@ use Rattle.std.specs.Prelude.{◌≡◌, ◌≤◌, ◌+◌, ◌%◌, ℕ, true,
 use Rattle.std.specs.List.{flat_map}
 use Rattle.hda_registers.specs.Fields.{Descriptor, is_running}
 use Rattle.hda_registers.specs.Status.{worth}
-use Rattle.stream_moves.specs.Streams.{StreamState, is_ready}
-use Rattle.stream_moves.specs.Output.{Carriage, Sent, Missed}
+use Rattle.world_streams.specs.Streams.{StreamState, is_ready}
+use Rattle.world_streams.specs.Output.{Carriage, Sent, Missed}
 use Rattle.hda_world.specs.Worlds.{World, CarriedFrame, output_of}
 
 -- of so many bytes that entered a FIFO of this size so many left it

@@ -4,9 +4,9 @@ use Rattle.std.specs.Prelude.{ℕ, ◌==◌, Bool, List, map, Option, if◌then�
 use Rattle.std.specs.List.{find}
 use Rattle.codec_graph.specs.CodecStates.{CodecState}
 use Rattle.hda_registers.specs.Fields.{Fields}
-use Rattle.ring_entries.specs.declared.response.Response.{Response}
-use Rattle.stream_moves.specs.Streams.{StreamState, Stream}
-use Rattle.stream_moves.specs.Output.{Carriage}
+use Rattle.world_rings.specs.declared.response.Response.{Response}
+use Rattle.world_streams.specs.Streams.{StreamState, Stream}
+use Rattle.world_streams.specs.Output.{Carriage}
 
 -- a command that a codec took, with what later statements ask of that moment: the word, the codec as it was then, whether the
 -- output stream ran, and how many of the link frames below had passed

@@ -1,5 +1,6 @@
 //! The journal of a run: what driver and device did, in order.
-ghost use Rattle.std.specs.Prelude.{◌≡◌, ◌≤◌, ◌<◌, ◌+◌, ◌^◌, [], ◌∷◌, ◌++◌, OnOk, length, nat_le, vec_len, vec_capacity};
+ghost use Rattle.std.specs.Prelude.{◌≡◌, ◌≤◌, ◌<◌, ◌+◌, ◌^◌, [], ◌∷◌, ◌++◌, OnOk, length, nat_le, vec_len};
+ghost use Rattle.std.specs.Prelude.{vec_capacity};
 ghost use Rattle.hda_world.specs.Events.{Stepped, Begin, End, Read, Write, DmaRead, DmaWrite};
 ghost use Rattle.hda_world.specs.JournalEvents.{events_of};
 ghost use Rattle.hda_world.specs.Journals.{Used, event_of, pieces_named};

@@ -2,13 +2,13 @@
 ghost use Rattle.std.specs.Prelude.{◌≡◌, ◌≢◌, ◌<◌, ◌≤◌, ◌+◌, ℕ, true, false, List, [], ◌++◌, map, length};
 ghost use Rattle.hda_registers.specs.declared.shapes.Width.{Width};
 ghost use Rattle.codec_graph.specs.CodecStates.{CodecState, cleared};
-ghost use Rattle.device_steps.specs.declared.Step.{Step};
-ghost use Rattle.device_steps.specs.declared.Step.TheVariants as step;
+ghost use Rattle.world_steps.specs.declared.Step.{Step};
+ghost use Rattle.world_steps.specs.declared.Step.TheVariants as step;
 ghost use Rattle.hda_world.specs.Worlds.{World, codec_at, with_codec};
 ghost use Rattle.hda_world.specs.Steps.{after_step, after_steps};
 ghost use Rattle.hda_world.specs.Events.{Event, DmaWrite, after, AreHonest, streams_settled, registers_written};
 ghost use Rattle.hda_world.specs.Events.{after_write, happens};
-ghost use Rattle.ring_entries.specs.Memory.{PieceStored};
+ghost use Rattle.world_rings.specs.Memory.{PieceStored};
 ghost use Rattle.hda_registers.specs.Access.{written, effects_of};
 ghost use Rattle.hda_registers.specs.Fields.{is_out_of_reset};
 ghost use Rattle.hda_registers.specs.Laws.{IsBesideRings, LeavesRings};

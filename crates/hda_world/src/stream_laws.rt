@@ -4,7 +4,7 @@ ghost use Rattle.hda_registers.specs.declared.shapes.Width.{Width};
 ghost use Rattle.hda_registers.specs.Fields.{is_running, is_out_of_reset};
 ghost use Rattle.hda_registers.specs.Access.{written, rose};
 ghost use Rattle.hda_registers.specs.Laws.{IsBesideStreams};
-ghost use Rattle.device_steps.specs.declared.Step.{Step};
+ghost use Rattle.world_steps.specs.declared.Step.{Step};
 ghost use Rattle.hda_world.specs.Worlds.{World};
 ghost use Rattle.hda_world.specs.Steps.{after_step, after_steps};
 ghost use Rattle.hda_world.specs.Events.{Event, IsNoStep, after_write, happens};

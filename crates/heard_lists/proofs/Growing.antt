@@ -10,7 +10,7 @@ use Rattle.std.proofs.lemmas.Grind.{get_or-set_at}
 use Rattle.std.proofs.lemmas.List.Elements.{All-map}
 use Rattle.codec_graph.specs.declared.raw.RawCodec.{RawCodec}
 use Rattle.stream_format.specs.Layouts.{Layout, layout_of}
-use Rattle.stream_moves.specs.Output.{Sent, Missed}
+use Rattle.world_streams.specs.Output.{Sent, Missed}
 use Rattle.hda_world.specs.Worlds.{CarriedFrame}
 use Rattle.codec_sound.specs.declared.signals.Signal.{Signal}
 use Rattle.codec_sound.specs.declared.heard.Heard.{Heard}

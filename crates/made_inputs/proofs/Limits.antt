@@ -3,9 +3,9 @@ use Rattle.std.proofs.Common.{◌≡◌, ◌≤◌, ◌<◌, ℕ, zero, suc, ◌
 use Rattle.std.specs.Prelude.{sum, sum_by}
 use Rattle.std.specs.List.{flat_map}
 use Rattle.std.proofs.lemmas.List.Sums.{sum_by-append}
-use Rattle.hda_schedule.specs.declared.schedule.Schedule.{Schedule}
-use Rattle.hda_schedule.specs.Counts.{item_steps, item_frames, steps_of, frames_of}
-use Rattle.hda_schedule.specs.Schedules.{IsLimited}
+use Rattle.schedule_reader.specs.declared.schedule.Schedule.{Schedule}
+use Rattle.schedule_reader.specs.Counts.{item_steps, item_frames, steps_of, frames_of}
+use Rattle.schedule_reader.specs.Schedules.{IsLimited}
 use Rattle.made_inputs.specs.MadeSound.{frames_for}
 use Rattle.made_inputs.specs.MadeSchedule.{turn_frames, turns, turn_items, call_with, sound_items, schedule_with, AreTurns, IsMadeSchedule}
 use Rattle.made_inputs.proofs.Turns.{sum_more}

@@ -5,7 +5,7 @@ use Rattle.std.specs.List.{flat_map}
 use Rattle.std.proofs.lemmas.List.{append-nil}
 use Rattle.std.proofs.lemmas.List.Sums.{sum_by-append}
 use Rattle.std.proofs.lemmas.Grind.{flat_map-append}
-use Rattle.hda_schedule.specs.declared.schedule.Item.{Item}
+use Rattle.schedule_reader.specs.declared.schedule.Item.{Item}
 use Rattle.made_inputs.specs.MadeSound.{frames_for}
 use Rattle.made_inputs.specs.MadeSchedule.{draw, turn_frames, turns, turn_items, AreTurns}
 

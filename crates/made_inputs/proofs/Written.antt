@@ -2,8 +2,8 @@
 use Rattle.std.proofs.Common.{◌≡◌, ℕ, zero, suc, ◌+◌, List, [], ◌∷◌, ◌++◌, length, replicate, refl, ap, subst, ◌∙◌, add-one, arith, length-append}
 use Rattle.std.specs.List.{flat_map}
 use Rattle.std.proofs.lemmas.List.{append-nil}
-use Rattle.hda_schedule.specs.declared.schedule.Item.{Item}
-use Rattle.hda_schedule.specs.Counts.{items_of}
+use Rattle.schedule_reader.specs.declared.schedule.Item.{Item}
+use Rattle.schedule_reader.specs.Counts.{items_of}
 use Rattle.made_inputs.specs.MadeSchedule.{turn_frames, turns, reset_items, command_items, sound_items, schedule_with}
 use Rattle.made_inputs.proofs.Turns.{turns_more}
 

@@ -2,10 +2,10 @@
 -- project's own.
 use Rattle.std.specs.Prelude.{◌≡◌, ◌≤◌, ◌<◌, ℕ, zero, suc, ◌+◌, ◌*◌, ◌%◌, List, [], ◌∷◌, ◌++◌, false, sum}
 use Rattle.std.specs.List.{flat_map}
-use Rattle.device_steps.specs.declared.Step.TheVariants.{Corb, Answer, Rirb, Fetch, Link}
-use Rattle.hda_schedule.specs.declared.schedule.Schedule.{Schedule}
-use Rattle.hda_schedule.specs.declared.schedule.Item.{Item}
-use Rattle.hda_schedule.specs.declared.schedule.Item.TheVariants.{Device, Drive}
+use Rattle.world_steps.specs.declared.Step.TheVariants.{Corb, Answer, Rirb, Fetch, Link}
+use Rattle.schedule_reader.specs.declared.schedule.Schedule.{Schedule}
+use Rattle.schedule_reader.specs.declared.schedule.Item.{Item}
+use Rattle.schedule_reader.specs.declared.schedule.Item.TheVariants.{Device, Drive}
 use Rattle.made_inputs.specs.MadeSound.{frames_for}
 
 -- the numbers by which turns differ: the first is the number itself, and each other is made of the one before

@@ -1,14 +1,14 @@
 //! The schedule that is made of a number.
 ghost use Rattle.std.specs.Prelude.{◌≡◌, ◌<◌, ◌^◌, ◌++◌, ◌+◌, ◌*◌, ◌%◌, ℕ, [], ◌∷◌, IfOk, OnOk};
 ghost use Rattle.std.specs.List.{flat_map};
-ghost use Rattle.hda_schedule.specs.Schedules.{IsLimited};
+ghost use Rattle.schedule_reader.specs.Schedules.{IsLimited};
 ghost use Rattle.made_inputs.specs.MadeSchedule as spec;
 
 use crate::sound::frames_for;
-use device_steps::Step;
 use hda_items::Items;
-use hda_schedule::{DriverLine, Item, Part, Schedule};
+use schedule_reader::{DriverLine, Item, Part, Schedule};
 use std::alloc::{AllocError, Global};
+use world_steps::Step;
 
 /// The number that follows this one.
 fn next_draw(draw: u32) -> u32

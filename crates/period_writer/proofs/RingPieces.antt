@@ -3,10 +3,10 @@ use Rattle.std.proofs.Common.{◌≡◌, ◌≤◌, ◌<◌, ◌+◌, ◌-◌, �
 use Rattle.std.specs.Prelude.{slice_index, slice_range, min, max}
 use Rattle.std.specs.List.{range_with_len}
 use Rattle.std.proofs.lemmas.List.{length-take-le, get_or-take, get_or-drop}
-use Rattle.ring_entries.specs.Memory.{PieceStored, stored}
-use Rattle.ring_entries.proofs.Callers.{piece_is_stored}
+use Rattle.world_rings.specs.Memory.{PieceStored, stored}
+use Rattle.world_rings.proofs.Callers.{piece_is_stored}
 use Rattle.hda_world.specs.Worlds.{World}
-use Rattle.device_steps.specs.declared.Step.{Step}
+use Rattle.world_steps.specs.declared.Step.{Step}
 use Rattle.hda_world.specs.Events.{Event, Stepped, DmaWrite, happens, IsHonest}
 use Rattle.hda_world.specs.Kept.{Kept}
 use Rattle.hda_world.proofs.Callers.{Lead, lead_none, lead_more, lead_from}

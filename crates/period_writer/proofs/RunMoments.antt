@@ -3,7 +3,7 @@ use Rattle.std.proofs.Common.{◌≡◌, ◌≤◌, ◌<◌, ◌+◌, ◌-◌, �
 use Rattle.std.specs.Prelude.{slice_index, slice_range, nat_le, min, max}
 use Rattle.std.proofs.lemmas.List.{get_or-take, get_or-drop, length_push}
 use Rattle.std.proofs.Math.Nat.{mod-lt, mul-le-mul_left}
-use Rattle.device_steps.specs.declared.Step.{Step}
+use Rattle.world_steps.specs.declared.Step.{Step}
 use Rattle.stream_format.specs.Cadence.{block_bytes, most_bytes}
 use Rattle.stream_format.specs.Words.{format_word}
 use Rattle.hda_world.specs.Worlds.{World}

@@ -3,7 +3,7 @@ use Rattle.std.specs.Prelude.{◌≡◌, ◌≤◌, ◌<◌, ℕ, ◌+◌, ◌*�
 use Rattle.hda_registers.specs.Fields.{is_running}
 use Rattle.hda_registers.specs.declared.shapes.Width.TheVariants.{One, Four}
 use Rattle.hda_registers.specs.declared.places.TheConstants.{WALCLK}
-use Rattle.stream_moves.specs.Streams.{begun}
+use Rattle.world_streams.specs.Streams.{begun}
 use Rattle.hda_world.specs.Worlds.{World}
 use Rattle.hda_world.specs.Events.{Event, Read, Write, after}
 use Rattle.hda_world.specs.Tellings.{Telling, Went, Makes, world_of}

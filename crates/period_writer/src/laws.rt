@@ -4,7 +4,8 @@ ghost use Rattle.period_writer.specs.Courses.{IsCourse};
 ghost use Rattle.period_writer.specs.Lines.{IsLine, line_of, line_after};
 ghost use Rattle.period_writer.specs.Owning.{IsWritten};
 ghost use Rattle.period_writer.specs.Playing.{run_bytes};
-ghost use Rattle.period_writer.specs.Runs.{Measures, RunFacts, Stretch, Tally, facts_of, tally_if, tally_after, tally_opened};
+ghost use Rattle.period_writer.specs.Runs.{Measures, RunFacts, Stretch, Tally, facts_of, tally_if, tally_after};
+ghost use Rattle.period_writer.specs.Runs.{tally_opened};
 ghost use Rattle.period_writer.specs.Runs.{run_cut, run_reach, run_start, run_sound, takes_back, tally_on, HasRingLeft};
 
 use crate::registers::{CONTROL, FORMAT, LAST_INDEX, LIST_ADDRESS, POSITION, RING_LENGTH};
@@ -49,8 +50,8 @@ pub fn runs_write_the_line()
 
 /// Sound that a run could not take yet changes nothing of it: a run over a part of the sound that is left, which has as
 /// much as the budget and the ring take, is recorded as one over all of it. So runs before which a whole ring of a
-/// sound's front was left each time are those over the whole sound: where the reading of a sound is cut, the runs before
-/// the cut are those that would have been made had it been read to its end.
+/// sound's front was left each time are those over the whole sound: where the reading of a sound is cut, the runs
+/// before the cut are those that would have been made had it been read to its end.
 pub fn later_sound_changes_no_run()
     ensures run { (m : Measures) (runs : ℕ) (tally : Tally) (budget left part from lpib to : ℕ)
         → 1 ≤ m.ring → IsCourse m.ring runs tally.course → part ≤ left → min budget (min m.ring left) ≤ part

@@ -2,15 +2,15 @@
 use Rattle.std.proofs.Common.{◌≡◌, List, [], ◌∷◌, ◌++◌, length, map, drop, refl, sym, ap, subst, ◌∙◌, append-nil}
 use Rattle.std.proofs.Math.Seq.{drop-append_seam}
 use Rattle.std.proofs.lemmas.List.Elements.{filter_passes}
-use Rattle.hda_schedule.specs.declared.schedule.Group.{Group}
+use Rattle.schedule_reader.specs.declared.schedule.Group.{Group}
 use Rattle.std.specs.Prelude.{All, flat_map}
 use Rattle.std.proofs.lemmas.List.{map-append}
 use Rattle.std.proofs.lemmas.List.Concat.{flat_map-append}
 use Rattle.std.proofs.lemmas.List.Elements.{All-append, All-nil, All-push}
-use Rattle.device_steps.specs.declared.Step.{Step}
-use Rattle.hda_schedule.specs.declared.schedule.Item.{Item}
-use Rattle.hda_schedule.specs.declared.schedule.Item.TheVariants.{Device, Drive}
-use Rattle.hda_schedule.specs.declared.schedule.DriverLine.{DriverLine}
+use Rattle.world_steps.specs.declared.Step.{Step}
+use Rattle.schedule_reader.specs.declared.schedule.Item.{Item}
+use Rattle.schedule_reader.specs.declared.schedule.Item.TheVariants.{Device, Drive}
+use Rattle.schedule_reader.specs.declared.schedule.DriverLine.{DriverLine}
 use Rattle.hda_world.specs.Events.{Event, Stepped}
 use Rattle.rig.specs.Stretches.{is_access, accesses_of, stretch, IsStretchFrom}
 use Rattle.rig.specs.Follows.{Piece, laid_out, AreAccesses, FollowItems}

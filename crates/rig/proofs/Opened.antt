@@ -1,8 +1,8 @@
 -- What an open run keeps over its accesses.
 use Rattle.std.proofs.Common.{◌≡◌, ◌≤◌, ◌+◌, ◌-◌, ℕ, Bool, true, false, List, [], ◌∷◌, ◌++◌, length, map, drop, refl, sym, ap, subst, ◌∙◌, arith, flat_map}
 use Rattle.std.proofs.lemmas.List.{map-append}
-use Rattle.device_steps.specs.declared.Step.{Step}
-use Rattle.hda_schedule.specs.declared.schedule.Group.{Group}
+use Rattle.world_steps.specs.declared.Step.{Step}
+use Rattle.schedule_reader.specs.declared.schedule.Group.{Group}
 use Rattle.hda_world.specs.Journals.{JournalState}
 use Rattle.hda_world.specs.Events.{Event, Stepped, End}
 use Rattle.hda_world.specs.Tellings.{Telling, Went, Accessed}

@@ -7,8 +7,8 @@ use Rattle.hda_world.specs.Tellings.{Telling, Went}
 use Rattle.hda_world.specs.Events.{Event, Stepped}
 use Rattle.hda_world.proofs.Callers.{went_both}
 use Rattle.std.proofs.lemmas.List.{append-nil}
-use Rattle.device_steps.specs.declared.Step.{Step}
-use Rattle.hda_schedule.specs.declared.schedule.Group.{Group}
+use Rattle.world_steps.specs.declared.Step.{Step}
+use Rattle.schedule_reader.specs.declared.schedule.Group.{Group}
 use Rattle.rig.specs.Stretches.{steps_in, all_steps_in}
 
 pub all_taken : {X : Type 0} (xs : List X) (i : ℕ) → i ≡ length xs → take i xs ≡ xs

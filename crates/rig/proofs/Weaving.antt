@@ -5,8 +5,8 @@ use Rattle.std.proofs.lemmas.List.{drop-append-le, length-append}
 use Rattle.std.proofs.lemmas.List.Sums.{sum_by-cons}
 use Rattle.std.proofs.Math.Seq.{drop-append_seam, drop-nil}
 use Rattle.std.proofs.lemmas.List.Elements.{filter-append}
-use Rattle.device_steps.specs.declared.Step.{Step}
-use Rattle.hda_schedule.specs.declared.schedule.Group.{Group}
+use Rattle.world_steps.specs.declared.Step.{Step}
+use Rattle.schedule_reader.specs.declared.schedule.Group.{Group}
 use Rattle.hda_world.specs.Events.{Event, Stepped, Begin, End}
 use Rattle.rig.specs.Rooms.{steps_before, steps_of, step_count, item_count}
 use Rattle.rig.specs.Recordings.{items_for}

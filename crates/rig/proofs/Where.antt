@@ -9,11 +9,11 @@ use Rattle.hda_registers.specs.Access.{value_at}
 use Rattle.std.proofs.lemmas.List.Elements.{All-map}
 use Rattle.std.proofs.lemmas.List.{get_or-map, length-map}
 use Rattle.hda_registers.specs.declared.shapes.Width.{Width}
-use Rattle.ring_entries.specs.Memory.{stored}
+use Rattle.world_rings.specs.Memory.{stored}
 use Rattle.codec_sound.specs.declared.heard.Heard.{Heard}
 use Rattle.codec_sound.specs.HeardLists.{heard}
 use Rattle.codec_sound.proofs.Callers.{heard-append}
-use Rattle.device_steps.specs.declared.Step.{Step}
+use Rattle.world_steps.specs.declared.Step.{Step}
 use Rattle.hda_world.specs.Worlds.{World, CarriedFrame}
 use Rattle.hda_world.specs.Steps.{after_step}
 use Rattle.hda_world.specs.Events.{Event, Stepped, Write, DmaWrite, after, after_write, happens, IsHonest, AreHonest, IsPiece}

@@ -1,9 +1,9 @@
 -- What it means that a journal follows a schedule. This project's own.
 use Rattle.std.specs.Prelude.{◌≡◌, List, [], ◌∷◌, ◌++◌, All, map, true, flat_map}
-use Rattle.hda_schedule.specs.declared.schedule.Schedule.{Schedule}
-use Rattle.hda_schedule.specs.declared.schedule.Item.{Item}
-use Rattle.hda_schedule.specs.declared.schedule.Item.TheVariants.{Device, Drive}
-use Rattle.hda_schedule.specs.Counts.{items_of}
+use Rattle.schedule_reader.specs.declared.schedule.Schedule.{Schedule}
+use Rattle.schedule_reader.specs.declared.schedule.Item.{Item}
+use Rattle.schedule_reader.specs.declared.schedule.Item.TheVariants.{Device, Drive}
+use Rattle.schedule_reader.specs.Counts.{items_of}
 use Rattle.hda_world.specs.Events.{Event, Stepped}
 use Rattle.rig.specs.Stretches.{is_access, stretch}
 

@@ -1,13 +1,16 @@
 -- Replay of a journal: where its events lead from the start of a machine. This project's own.
-use Rattle.std.specs.Prelude.{◌≡◌, ℕ, List, All}
+use Rattle.std.specs.Prelude.{◌≡◌, ℕ, List, All, replicate}
 use Rattle.codec_sound.specs.HeardLists.{heard}
 use Rattle.hda_files.specs.declared.machine.Machine.{Machine}
-use Rattle.hda_platform.specs.Stillness.{zeros}
 use Rattle.hda_world.specs.Worlds.{World}
 use Rattle.hda_world.specs.Events.{Event, after, AreHonest}
 use Rattle.hda_world.specs.Tellings.{Telling}
 use Rattle.heard_lists.specs.Listings.{Listing}
 use Rattle.hda_controller.specs.Openings.{opening_world}
+
+-- so many bytes that are 0
+unfoldable pub zeros : ℕ → List ℕ
+zeros size = replicate size 0
 
 -- the start of a machine: a region of so many bytes that are 0, the controller in reset, and the codecs with the settings and what is
 -- plugged in that its file says

@@ -1,7 +1,7 @@
 -- Which steps the device makes before an access, and the room that a run asks. This project's own.
 use Rattle.std.specs.Prelude.{ℕ, List, [], length, sum_by, slice_get, Option, Some, None}
-use Rattle.device_steps.specs.declared.Step.{Step}
-use Rattle.hda_schedule.specs.declared.schedule.Group.{Group}
+use Rattle.world_steps.specs.declared.Step.{Step}
+use Rattle.schedule_reader.specs.declared.schedule.Group.{Group}
 use Rattle.rig.specs.Recordings.{items_for}
 
 -- the steps of a group, if there is one

@@ -1,6 +1,6 @@
 -- Stretches of a journal: the runs of the driver, with the steps that the device makes between its accesses. This project's own.
 use Rattle.std.specs.Prelude.{◌≡◌, ◌≤◌, ℕ, Bool, true, false, List, [], ◌∷◌, ◌++◌, length, map, drop, filter, flat_map}
-use Rattle.hda_schedule.specs.declared.schedule.Group.{Group}
+use Rattle.schedule_reader.specs.declared.schedule.Group.{Group}
 use Rattle.hda_world.specs.Events.{Event, Stepped, Begin, End, Read, Write, DmaRead, DmaWrite}
 
 -- an access of the driver, which is neither a step of the device nor a mark of a run

@@ -9,7 +9,7 @@ ghost use Rattle.rig.specs.Stretches.{all_steps_in};
 
 use crate::recording::Recording;
 use hda_items::Items;
-use hda_schedule::Group;
+use schedule_reader::Group;
 use std::alloc::{AllocError, Global};
 
 /// Groups of their own with the same steps.
@@ -30,11 +30,13 @@ pub(crate) fn copied(alloc: Global, groups: &[Group]) -> Result<Items<Group>, Al
 
 /// Makes the steps before the access of this number, counted from 0: those of its group, if there is one.
 pub(crate) fn pass(recording: &mut Recording, groups: &[Group], number: usize)
-    requires { HasRoomFor (length (steps_before number groups.now)) 0 (items_for (steps_before number groups.now)) recording.old.journal recording.old.heard }
+    requires { HasRoomFor (length (steps_before number groups.now)) 0 (items_for (steps_before number groups.now))
+        recording.old.journal recording.old.heard }
     ensures told { Went (told_of recording.old) (told_of recording.new) (map Stepped (steps_before number groups.now)) }
     ensures machine { recording.new.machine ≡ recording.old.machine }
     ensures room { (entries bytes items : ℕ)
-        → HasRoomFor (length (steps_before number groups.now) + entries) bytes (items_for (steps_before number groups.now) + items) recording.old.journal recording.old.heard
+        → HasRoomFor (length (steps_before number groups.now) + entries) bytes
+        (items_for (steps_before number groups.now) + items) recording.old.journal recording.old.heard
         → HasRoomFor entries bytes items recording.new.journal recording.new.heard }
 {
     if number < groups.len() {
@@ -48,7 +50,8 @@ pub(crate) fn pass_all(recording: &mut Recording, groups: &[Group])
     ensures told { Went (told_of recording.old) (told_of recording.new) (all_steps_in groups.now) }
     ensures machine { recording.new.machine ≡ recording.old.machine }
     ensures room { (entries bytes items : ℕ)
-        → HasRoomFor (step_count groups.now + entries) bytes (item_count groups.now + items) recording.old.journal recording.old.heard
+        → HasRoomFor (step_count groups.now + entries) bytes (item_count groups.now + items) recording.old.journal
+        recording.old.heard
         → HasRoomFor entries bytes items recording.new.journal recording.new.heard }
 {
     for group in groups {

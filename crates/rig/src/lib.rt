@@ -1,5 +1,5 @@
-//! The rig: a machine of codec files in motion, a platform for drivers. It makes the steps of a schedule, between the driver's
-//! accesses too, and keeps a journal of both. This project's own.
+//! The rig: a machine of codec files in motion, a platform for drivers. It makes the steps of a schedule, between the
+//! driver's accesses too, and keeps a journal of both. This project's own.
 #![tactic(auto)]
 
 mod groups;

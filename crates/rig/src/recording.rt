@@ -6,8 +6,7 @@ ghost use Rattle.hda_world.specs.JournalEvents.{events_of};
 ghost use Rattle.hda_files.specs.Machines.{IsSound};
 ghost use Rattle.heard_lists.specs.Listings.{AreListsOf, graphs_in};
 ghost use Rattle.hda_controller.specs.Hearing.{most_items};
-ghost use Rattle.hda_platform.specs.Stillness.{zeros};
-ghost use Rattle.rig.specs.Replays.{start_of};
+ghost use Rattle.rig.specs.Replays.{zeros, start_of};
 ghost use Rattle.rig.specs.Recordings.{IsWhere, HasRoomFor, items_for};
 ghost use Rattle.rig.specs.Honesty.{AreHonest-prop};
 
@@ -19,7 +18,8 @@ use hda_world::{Journal, REGION_BYTES, Step};
 use heard_lists::HeardLists;
 use std::alloc::{AllocError, Global};
 
-/// A machine in motion, what its pins hear, and the journal of all that happened since its start. It is where its journal leads.
+/// A machine in motion, what its pins hear, and the journal of all that happened since its start. It is where its
+/// journal leads.
 #[derive(Drop)]
 pub(crate) struct Recording {
     pub(crate) machine: Machine,
@@ -29,7 +29,8 @@ pub(crate) struct Recording {
     pub(crate) journal: Journal,
     pub ghost whole: { length memory.items ≡ REGION_BYTES },
     pub ghost honest: { AreHonest (events_of journal) (start_of REGION_BYTES machine) } by { AreHonest-prop _ _ },
-    pub ghost stands: { ∥ IsWhere (start_of REGION_BYTES machine) (events_of journal) memory.items controller heard ∥₁ },
+    pub ghost stands: { ∥ IsWhere (start_of REGION_BYTES machine) (events_of journal) memory.items
+        controller heard ∥₁ },
     pub ghost pins: { ∥ AreListsOf (graphs_in machine.codecs) heard ∥₁ },
 }
 
@@ -93,7 +94,8 @@ impl Recording {
         requires { HasRoomFor 1 0 (most_items step.now) self.old.journal self.old.heard }
         ensures told { Went (told_of self.old) (told_of self.new) (Stepped step.now ∷ []) }
         ensures machine { self.new.machine ≡ self.old.machine }
-        ensures room { (entries bytes items : ℕ) → HasRoomFor (1 + entries) bytes (most_items step.now + items) self.old.journal self.old.heard
+        ensures room { (entries bytes items : ℕ) → HasRoomFor (1 + entries) bytes (most_items step.now + items)
+            self.old.journal self.old.heard
             → HasRoomFor entries bytes items self.new.journal self.new.heard }
     {
         self.controller
@@ -106,7 +108,9 @@ impl Recording {
         requires { HasRoomFor (length steps.now) 0 (items_for steps.now) self.old.journal self.old.heard }
         ensures told { Went (told_of self.old) (told_of self.new) (map Stepped steps.now) }
         ensures machine { self.new.machine ≡ self.old.machine }
-        ensures room { (entries bytes items : ℕ) → HasRoomFor (length steps.now + entries) bytes (items_for steps.now + items) self.old.journal self.old.heard
+        ensures room { (entries bytes items : ℕ)
+            → HasRoomFor (length steps.now + entries) bytes (items_for steps.now + items) self.old.journal
+            self.old.heard
             → HasRoomFor entries bytes items self.new.journal self.new.heard }
     {
         for step in steps {

@@ -16,13 +16,13 @@ use hda_controller::most_items;
 use hda_files::Machine;
 use hda_items::Items;
 use hda_platform::Platform;
-use hda_schedule::Group;
 use hda_world::Step;
+use schedule_reader::Group;
 use std::alloc::{AllocError, Global};
 
-/// A machine in motion. Outside runs of a driver it makes the steps that it is told. In a run it makes the steps of a group before each
-/// access, while a group is left. All that happens stands in its journal, which leads from the machine's start to where it is. This
-/// project's own.
+/// A machine in motion. Outside runs of a driver it makes the steps that it is told. In a run it makes the steps of a
+/// group before each access, while a group is left. All that happens stands in its journal, which leads from the
+/// machine's start to where it is. This project's own.
 #[derive(Drop)]
 pub struct Rig {
     recording: Recording,
@@ -41,7 +41,8 @@ pub struct Rig {
     pub ghost counts: { made + spare_accesses < 2 ^ 32 },
     pub ghost laid: { in_run ≡ true → IsOpenFrom begun groups (events_of recording.journal) } by { Prim.hlevel props },
     pub ghost numbered: { in_run ≡ true → made ≡ length (accesses_of (drop begun (events_of recording.journal))) },
-    pub ghost room: { in_run ≡ true → HasRoomFor (spare_accesses + 1 + step_count (drop made groups)) spare_bytes (item_count (drop made groups))
+    pub ghost room: { in_run ≡ true → HasRoomFor (spare_accesses + 1 + step_count (drop made groups)) spare_bytes
+        (item_count (drop made groups))
         recording.journal recording.heard } by { Prim.hlevel props },
 }
 
@@ -82,7 +83,8 @@ impl Rig {
     /// Want of memory. Nothing happened then.
     pub fn step(&mut self, step: &Step) -> Result<(), AllocError>
         requires { (setting_of self.old).in_run ≡ false }
-        ensures told { OnOk result (Between (λ old new. Accessed old new (Stepped step.now)) (told_by self.old) (told_by self.new)) }
+        ensures told { OnOk result (Between (λ old new. Accessed old new (Stepped step.now)) (told_by self.old)
+            (told_by self.new)) }
         ensures went { OnOk result (Went (telling_of self.old) (telling_of self.new) (Stepped step.now ∷ [])) }
         ensures unchanged { OnErr result (told_by self.new ≡ told_by self.old) }
         ensures setting { setting_of self.new ≡ setting_of self.old }
@@ -92,8 +94,9 @@ impl Rig {
         Ok(())
     }
 
-    /// Begins a run of the driver, while none is open. Before the access with number k, counted from 0, it makes the steps of the group
-    /// with number k, while a group is left. There is room for so many accesses and bytes of pieces of memory.
+    /// Begins a run of the driver, while none is open. Before the access with number k, counted from 0, it makes the
+    /// steps of the group with number k, while a group is left. There is room for so many accesses and bytes of pieces
+    /// of memory.
     ///
     /// # Errors
     /// Want of memory. Nothing happened then.
@@ -132,7 +135,8 @@ impl Rig {
     pub fn end(&mut self)
         requires { (setting_of self.old).in_run ≡ true }
         ensures told { Between (λ old new. Accessed old new End) (told_by self.old) (told_by self.new) }
-        ensures stretch { IsStretchFrom (setting_of self.old).begun (setting_of self.old).groups (telling_of self.new).journal }
+        ensures stretch { IsStretchFrom (setting_of self.old).begun (setting_of self.old).groups
+            (telling_of self.new).journal }
         ensures setting { setting_of self.new ≡ record (setting_of self.old) { in_run = false } }
     {
         let left = groups_left(self.groups.as_slice(), self.made as usize);

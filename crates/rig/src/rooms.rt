@@ -4,8 +4,8 @@ ghost use Rattle.rig.specs.Recordings as recordings;
 ghost use Rattle.rig.specs.Rooms.{step_count, item_count};
 
 use hda_controller::most_items;
-use hda_schedule::Group;
 use hda_world::Step;
+use schedule_reader::Group;
 
 /// The room that steps of a run and its accesses and marks ask.
 #[derive(Clone, Copy, Debug, PartialEq, Eq)]
@@ -27,7 +27,8 @@ fn items_for_all(steps: &[Step]) -> Option<u64>
     Some(items)
 }
 
-/// The room that a run with these groups and so many accesses asks, its two marks among it. `None` where a number has no 64 bits.
+/// The room that a run with these groups and so many accesses asks, its two marks among it. `None` where a number has
+/// no 64 bits.
 pub(crate) fn room_for(groups: &[Group], accesses: u32) -> Option<Room>
     ensures entries { IfSome result (λ room. room.entries ≡ accesses + 2 + step_count groups.now) }
     ensures items { IfSome result (λ room. room.items ≡ item_count groups.now) }

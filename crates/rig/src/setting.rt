@@ -2,7 +2,7 @@
 
 use hda_files::Machine;
 use hda_items::Items;
-use hda_schedule::Group;
+use schedule_reader::Group;
 
 /// What no access changes. Contracts alone speak of it.
 #[derive(Drop)]

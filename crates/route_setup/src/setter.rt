@@ -60,9 +60,11 @@ pub trait Setter {
     ghost opens: { (setter : Self) (graph : RawCodec) (plan : Plan) (format : Format) (tag : ℕ) (settings : Entries)
         → IsWellFormed graph
         → IsPlanBy setter graph format plan → 1 ≤ tag → tag ≤ 15 → IsSettingsOf graph settings
-        → IsOpenBy setter graph (settings_after graph settings (verbs_by setter graph plan format tag)) plan format tag };
+        → IsOpenBy setter graph (settings_after graph settings (verbs_by setter graph plan format tag))
+        plan format tag };
 
     /// Each of them goes to the graph's codec, and can be encoded where that is one of 0 to 14.
     ghost encodable: { (setter : Self) (graph : RawCodec) (plan : Plan) (format : Format) (tag : ℕ) → IsWellFormed graph
-        → IsPlanBy setter graph format plan → tag ≤ 15 → All (IsCommandOf graph) (verbs_by setter graph plan format tag) };
+        → IsPlanBy setter graph format plan → tag ≤ 15
+        → All (IsCommandOf graph) (verbs_by setter graph plan format tag) };
 }

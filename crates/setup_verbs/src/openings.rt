@@ -39,7 +39,8 @@ pub(crate) fn open_source(
     requires tag { tag ≤ 15 }
     requires pair { pair < 8 }
     ensures { OnOk result (commands.new.items
-        ≡ commands.old.items ++ spec.commands_to codec.now nid (spec.source_verbs format tag pair ++ spec.output_verbs codec.now node.now)) }
+        ≡ commands.old.items ++ spec.commands_to codec.now nid
+        (spec.source_verbs format tag pair ++ spec.output_verbs codec.now node.now)) }
 {
     send_if(commands, codec, nid, true, Verb::SetFormat(format.word()))?;
     send_if(
@@ -68,7 +69,8 @@ pub(crate) fn open_passed(
     requires inputs { widget.is_mixer node.now ≡ true → length node.now.list ≤ 16 }
     requires selected { (widget.is_selector node.now && widget.has_input_amplifier node.now) ≡ true → index < 16 }
     ensures { OnOk result (commands.new.items
-        ≡ commands.old.items ++ spec.commands_to codec.now nid (spec.passed_verbs codec.now plan.now nid node.now index)) }
+        ≡ commands.old.items ++ spec.commands_to codec.now nid
+        (spec.passed_verbs codec.now plan.now nid node.now index)) }
 {
     open_mixer(commands, codec, nid, node, index)?;
     let selects = has_choice(node);
@@ -113,7 +115,8 @@ fn open_inputs(
 ) -> Result<(), AllocError>
     requires { length node.now.list ≤ 16 }
     ensures { OnOk result (commands.new.items
-        ≡ commands.old.items ++ spec.commands_to codec.now nid (map (spec.mixer_input codec.now node.now index) (range_with_len 0 (length node.now.list)))) }
+        ≡ commands.old.items ++ spec.commands_to codec.now nid
+        (map (spec.mixer_input codec.now node.now index) (range_with_len 0 (length node.now.list)))) }
 {
     let inputs = node.list.len() as u8;
     for place in 0..inputs {

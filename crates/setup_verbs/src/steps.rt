@@ -91,7 +91,8 @@ fn send_to_widget(
     requires tag { tag ≤ 15 }
     requires fits { spec.FitsWidget plan.now node.now role }
     ensures { OnOk result (commands.new.items
-        ≡ commands.old.items ++ list.commands_to codec.now nid (spec.step_verbs codec.now plan.now format tag step nid node.now role)) }
+        ≡ commands.old.items ++ list.commands_to codec.now nid
+        (spec.step_verbs codec.now plan.now format tag step nid node.now role)) }
 {
     match step {
         Step::Power => {
@@ -124,7 +125,8 @@ fn send_route(
     requires tag { tag ≤ 15 }
     requires fits { spec.FitsWidget plan.now node.now role }
     ensures { OnOk result (commands.new.items
-        ≡ commands.old.items ++ list.commands_to codec.now nid (list.route_verbs codec.now plan.now format tag nid node.now role)) }
+        ≡ commands.old.items ++ list.commands_to codec.now nid
+        (list.route_verbs codec.now plan.now format tag nid node.now role)) }
 {
     match role {
         Role::Unused => Ok(()),

@@ -1,6 +1,7 @@
 //! The last line of a run's text.
 ghost use Rattle.std.specs.Prelude.{◌≡◌, ◌++◌, OnOk};
-ghost use Rattle.sound_report.specs.Texts.{unanswered_line, commands_left_line, frames_left_line, fault_line, cut_line, done_line, last_line};
+ghost use Rattle.sound_report.specs.Texts.{unanswered_line, commands_left_line, frames_left_line, fault_line, cut_line};
+ghost use Rattle.sound_report.specs.Texts.{done_line, last_line};
 
 use crate::pieces::{push_hex, push_number, push_word};
 use crate::played::{CutLine, PlayFault, Played};

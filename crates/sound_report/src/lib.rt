@@ -1,5 +1,5 @@
-//! The text that the program writes of a run of the driver: what was planned, how the run went, what each pin heard, and how it
-//! ended. It goes out page by page. This project's own.
+//! The text that the program writes of a run of the driver: what was planned, how the run went, what each pin heard,
+//! and how it ended. It goes out page by page. This project's own.
 #![tactic(auto)]
 
 mod digits;

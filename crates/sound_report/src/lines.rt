@@ -56,7 +56,8 @@ pub(crate) fn write_lines<K: Sink, L: HasLine>(
     page: &mut Vec<u8>,
     lines: &[L],
 ) -> Result<(), Fault>
-    ensures text { Writes result (K.taken out.old) (K.taken out.new) (page.old.items ++ flat_map L.line lines.now) page.new.items }
+    ensures text { Writes result (K.taken out.old) (K.taken out.new) (page.old.items ++ flat_map L.line lines.now)
+        page.new.items }
     ensures pieces { K.longest out.new ≤ max (K.longest out.old) 4096 }
     ensures later { K.faults out.old ≤ K.faults out.new }
     ensures failed { result ≡ Err Fault.Failed → Rose (K.faults out.old) (K.faults out.new) }

@@ -91,6 +91,7 @@ pub struct Played {
     pub walk: bool,
     /// Why it ended before it was done. `None` where all was done.
     pub fault: Option<PlayFault>,
-    /// How the reading of the sound was cut. `None` where it was not, as for a walk. The run goes on over the frames that were read.
+    /// How the reading of the sound was cut. `None` where it was not, as for a walk. The run goes on over the frames
+    /// that were read.
     pub cut: Option<CutLine>,
 }

@@ -16,7 +16,8 @@ use std::alloc::{AllocError, Global};
 
 /// The lines between the plans and the last one.
 fn write_middle<K: Sink>(out: &mut K, page: &mut Vec<u8>, played: &Played) -> Result<(), Fault>
-    ensures text { Writes result (K.taken out.old) (K.taken out.new) (page.old.items ++ middle_lines played.now) page.new.items }
+    ensures text { Writes result (K.taken out.old) (K.taken out.new) (page.old.items ++ middle_lines played.now)
+        page.new.items }
     ensures pieces { K.longest out.new ≤ max (K.longest out.old) 4096 }
     ensures later { K.faults out.old ≤ K.faults out.new }
     ensures failed { result ≡ Err Fault.Failed → Rose (K.faults out.old) (K.faults out.new) }
@@ -27,9 +28,9 @@ fn write_middle<K: Sink>(out: &mut K, page: &mut Vec<u8>, played: &Played) -> Re
     write_pins(out, page, played.format.bits, &played.heard)
 }
 
-/// Writes the text of a run of the driver in pieces, in the order of its lines: the plans, the recorded runs, the silences, the jacks,
-/// what each candidate pin heard, and how it ended. Each line ends in a line feed. The text goes out in pages of 61,440 bytes and up to a line more,
-/// so that its length takes no memory. This project's own.
+/// Writes the text of a run of the driver in pieces, in the order of its lines: the plans, the recorded runs, the
+/// silences, the jacks, what each candidate pin heard, and how it ended. Each line ends in a line feed. The text goes
+/// out in pages of 61,440 bytes and up to a line more, so that its length takes no memory. This project's own.
 ///
 /// # Errors
 /// The sink's fault, or want of memory. The sink then took the first of the text's bytes, maybe none.

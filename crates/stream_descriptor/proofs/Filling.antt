@@ -7,9 +7,9 @@ use Rattle.hda_registers.specs.Status.{worth}
 use Rattle.stream_format.specs.declared.format.Format.{Format}
 use Rattle.stream_format.specs.Cadence.{most_bytes}
 use Rattle.stream_format.specs.Layouts.{Layout, layout_of}
-use Rattle.stream_moves.specs.Streams.{StreamState, Stream, begun, is_format, is_ready, is_usable, broke}
-use Rattle.stream_moves.specs.Output.{fetch, bytes_came, some_completes, some_breaks}
-use Rattle.stream_moves.proofs.Callers.{whole, fetch-whole, fetch-stopped, fetch-unusable, left-came, frame-came, not_ready}
+use Rattle.world_streams.specs.Streams.{StreamState, Stream, begun, is_format, is_ready, is_usable, broke}
+use Rattle.world_streams.specs.Output.{fetch, bytes_came, some_completes, some_breaks}
+use Rattle.world_streams.proofs.Callers.{whole, fetch-whole, fetch-stopped, fetch-unusable, left-came, frame-came, not_ready}
 use Rattle.stream_fetch.specs.Fetching.{Fetching}
 use Rattle.stream_fetch.specs.Fetching as fetching
 use Rattle.stream_descriptor.specs.Running.{Playing, StandsFor, LeadsTo, CanPlay, stream_at, with_descriptor, fetched_at, frame_cycle}

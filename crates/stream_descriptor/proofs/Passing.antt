@@ -6,9 +6,9 @@ use Rattle.hda_registers.specs.Status.{worth}
 use Rattle.stream_format.specs.declared.format.Format.{Format}
 use Rattle.stream_format.specs.Cadence.{blocks_of, most_bytes, block_bytes}
 use Rattle.stream_format.specs.Layouts.{layout, frame_bytes}
-use Rattle.stream_moves.specs.Streams.{StreamState, Stream, held, due, due_by, is_usable, is_ready}
-use Rattle.stream_moves.specs.Output as output
-use Rattle.stream_moves.proofs.Callers.{blocks-cycle}
+use Rattle.world_streams.specs.Streams.{StreamState, Stream, held, due, due_by, is_usable, is_ready}
+use Rattle.world_streams.specs.Output as output
+use Rattle.world_streams.proofs.Callers.{blocks-cycle}
 use Rattle.stream_fetch.specs.Fetching.{Fetching}
 use Rattle.stream_fetch.specs.Fetching as fetching
 use Rattle.stream_descriptor.specs.declared.frame.Frame.TheVariants.{Blocks}

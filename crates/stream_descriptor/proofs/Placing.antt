@@ -5,7 +5,7 @@ use Rattle.hda_registers.specs.Fields.{Descriptor, Fields, is_running, stream_of
 use Rattle.hda_registers.specs.Moves.{at_stream}
 use Rattle.stream_format.specs.declared.format.Format.{Format}
 use Rattle.stream_format.specs.Cadence.{most_bytes}
-use Rattle.stream_moves.specs.Streams.{StreamState, Stream, held, is_ready}
+use Rattle.world_streams.specs.Streams.{StreamState, Stream, held, is_ready}
 use Rattle.stream_fetch.specs.Fetching.{Fetching}
 use Rattle.stream_fetch.specs.Fetching as fetching
 use Rattle.stream_descriptor.specs.Running.{Playing, StandsFor, LeadsTo, Runs, CanPlay, stream_at, with_descriptor}

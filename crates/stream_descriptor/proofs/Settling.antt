@@ -3,8 +3,8 @@ use Rattle.std.proofs.Common.{◌≡◌, ℕ, sym, ap, subst, ◌∙◌}
 use Rattle.hda_registers.specs.declared.shapes.Width.{Width}
 use Rattle.hda_registers.specs.Fields.{Fields, is_running, stream_of}
 use Rattle.hda_registers.specs.Access.{written}
-use Rattle.stream_moves.specs.Streams.{SamePlay, StreamState}
-use Rattle.stream_moves.proofs.Callers.{write_plays}
+use Rattle.world_streams.specs.Streams.{SamePlay, StreamState}
+use Rattle.world_streams.proofs.Callers.{write_plays}
 use Rattle.stream_descriptor.specs.Running.{Playing, StandsFor, StoodFor}
 
 -- a stream that stood for its state before a write

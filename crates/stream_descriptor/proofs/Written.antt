@@ -7,7 +7,7 @@ use Rattle.hda_registers.specs.Fields.{Descriptor, Fields, reset_descriptor, is_
 use Rattle.hda_registers.specs.Access.{written, effects_of, rose, fell}
 use Rattle.hda_registers.specs.Laws.{IsHeldInReset}
 use Rattle.hda_registers.proofs.Callers.{keeps-shape, stays-held}
-use Rattle.stream_moves.specs.Streams.{StreamState, settled, settled_state}
+use Rattle.world_streams.specs.Streams.{StreamState, settled, settled_state}
 use Rattle.stream_descriptor.specs.Running.{Playing, StandsFor, StoodFor, Runs, LeadsTo, with_descriptor}
 use Rattle.stream_descriptor.proofs.Settling.{stood_written}
 

@@ -3,8 +3,8 @@ use Rattle.std.specs.Prelude.{◌≡◌, ℕ, ◌&&◌, Bool, true, false, nat_l
 use Rattle.hda_registers.specs.Fields.{Descriptor, Fields, is_out_of_reset, is_running, list_address, stream_of}
 use Rattle.hda_registers.specs.Status.{worth}
 use Rattle.stream_format.specs.Layouts.{layout_of}
-use Rattle.stream_moves.specs.Streams.{StreamState, is_usable, most_by}
-use Rattle.stream_moves.specs.Output.{bytes_came, some_breaks, some_completes}
+use Rattle.world_streams.specs.Streams.{StreamState, is_usable, most_by}
+use Rattle.world_streams.specs.Output.{bytes_came, some_breaks, some_completes}
 use Rattle.stream_fetch.specs.Fetching as fetching
 use Rattle.stream_descriptor.specs.Running.{Playing, with_descriptor}
 

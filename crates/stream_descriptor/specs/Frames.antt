@@ -1,12 +1,12 @@
 -- What the code answers of a link frame.
 use Rattle.std.specs.Prelude.{◌≡◌, ◌⊎◌, ◌==◌, ◌&&◌, nat_le, if◌then◌else◌, length, ℕ, List, ◌++◌, take, drop, Some}
 use Rattle.hda_registers.specs.Fields.{Fields, is_out_of_reset, is_running, stream_of}
-use Rattle.stream_moves.specs.Streams.{due_by, is_usable}
+use Rattle.world_streams.specs.Streams.{due_by, is_usable}
 use Rattle.stream_descriptor.specs.Running.{Playing}
 use Rattle.stream_format.specs.Layouts.{Layout, layout_of}
 use Rattle.stream_format.specs.Cadence.{blocks_of}
-use Rattle.stream_moves.specs.Streams.{Stream, held_bytes, due}
-use Rattle.stream_moves.specs.Output as output
+use Rattle.world_streams.specs.Streams.{Stream, held_bytes, due}
+use Rattle.world_streams.specs.Output as output
 use Rattle.stream_descriptor.specs.declared.frame.Frame.{Frame}
 use Rattle.stream_descriptor.specs.declared.frame.Frame.TheVariants.{Idle, Gap, Blocks, Hole}
 

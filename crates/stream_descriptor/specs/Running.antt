@@ -5,8 +5,8 @@ use Rattle.hda_registers.specs.Moves.{at_stream}
 use Rattle.hda_registers.specs.Status.{worth}
 use Rattle.stream_format.specs.declared.format.Format.{Format}
 use Rattle.stream_format.specs.Layouts.{layout, layout_of}
-use Rattle.stream_moves.specs.Streams.{SamePlay, StreamState, Stream, is_ready, is_usable}
-use Rattle.stream_moves.specs.Output.{fetch, Frame, Stopped, frame_of}
+use Rattle.world_streams.specs.Streams.{SamePlay, StreamState, Stream, is_ready, is_usable}
+use Rattle.world_streams.specs.Output.{fetch, Frame, Stopped, frame_of}
 use Rattle.stream_fetch.specs.Fetching.{Fetching}
 use Rattle.stream_fetch.specs.Fetching as fetching
 

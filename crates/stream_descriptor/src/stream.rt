@@ -5,9 +5,9 @@ ghost use Rattle.hda_registers.specs.Laws.{IsHeldInReset};
 ghost use Rattle.hda_registers.specs.Access.{rose, fell};
 ghost use Rattle.hda_registers.specs.Fields.{Descriptor, is_out_of_reset, is_running, stream_of};
 ghost use Rattle.stream_format.specs.Layouts.{layout, layout_of, frame_bytes};
-ghost use Rattle.stream_moves.specs.Streams.{StreamState, begun, is_usable};
-ghost use Rattle.stream_moves.specs.Streams as streams;
-ghost use Rattle.stream_moves.specs.Output as output;
+ghost use Rattle.world_streams.specs.Streams.{StreamState, begun, is_usable};
+ghost use Rattle.world_streams.specs.Streams as streams;
+ghost use Rattle.world_streams.specs.Output as output;
 ghost use Rattle.hda_registers.specs.Status.{worth};
 ghost use Rattle.stream_format.specs.Cadence.{most_bytes};
 ghost use Rattle.stream_descriptor.specs.Running.{StandsFor, StoodFor, LeadsTo, CanPlay, stream_at, with_descriptor};
@@ -174,7 +174,8 @@ impl Stream {
     /// The stream's format, where its registers can be used.
     fn usable_format(&self, regs: &Registers) -> Option<Format>
         ensures { option_map layout result
-            ≡ (if is_usable (stream_of regs.now self.now.index) then layout_of (stream_of regs.now self.now.index).format else None) }
+            ≡ (if is_usable (stream_of regs.now self.now.index) then layout_of (stream_of regs.now self.now.index).format
+            else None) }
     {
         if regs.buffer_length(self.index) == 0 || regs.last_index(self.index) == 0 {
             return None;
@@ -270,7 +271,8 @@ impl Stream {
         requires out { is_out_of_reset regs.old.global ≡ true }
         requires length { 0 < (stream_of regs.old self.now.index).buffer_length }
         ensures { regs.new ≡ with_descriptor self.now.index (record (stream_of regs.old self.now.index) {
-          link_position = ((stream_of regs.old self.now.index).link_position + sent) % (stream_of regs.old self.now.index).buffer_length;
+          link_position = ((stream_of regs.old self.now.index).link_position + sent)
+              % (stream_of regs.old self.now.index).buffer_length;
           fifo_ready = worth (nat_le (most_bytes format) (length self.now.fetch.bytes)) 0;
         }) regs.old }
     {
@@ -283,7 +285,8 @@ impl Stream {
         requires out { is_out_of_reset regs.old.global ≡ true }
         requires length { 0 < (stream_of regs.old self.now.index).buffer_length }
         ensures { regs.new ≡ with_descriptor self.now.index (record (stream_of regs.old self.now.index) {
-          link_position = ((stream_of regs.old self.now.index).link_position + sent) % (stream_of regs.old self.now.index).buffer_length;
+          link_position = ((stream_of regs.old self.now.index).link_position + sent)
+              % (stream_of regs.old self.now.index).buffer_length;
         }) regs.old }
     {
         let length = u64::from(regs.buffer_length(self.index));

@@ -1,12 +1,12 @@
 -- What is left of a fetch after some of its bytes.
 use Rattle.std.proofs.Common.{◌≡◌, ◌+◌, ◌||◌, ℕ, suc, Bool, true, false, List, refl, sym, ap, subst, ◌∙◌}
-use Rattle.stream_moves.specs.Streams.{StreamState}
-use Rattle.stream_moves.specs.Output.{bytes_came, some_completes, some_breaks}
+use Rattle.world_streams.specs.Streams.{StreamState}
+use Rattle.world_streams.specs.Output.{bytes_came, some_completes, some_breaks}
 use Rattle.stream_fetch.specs.Fetching.{Fetching, StandsFor}
 use Rattle.stream_fetch.specs.declared.fetch.Bytes.TheVariants.{Full, Broken, Came}
 use Rattle.stream_fetch.specs.Bytes.{AreBytes}
 use Rattle.stream_fetch.proofs.Runs.{came_both, completes_both, breaks_both}
-use Rattle.stream_moves.proofs.Callers.{cannot_full, cannot_bad, stays, none_completes, none_breaks, breaks_now}
+use Rattle.world_streams.proofs.Callers.{cannot_full, cannot_bad, stays, none_completes, none_breaks, breaks_now}
 
 -- of a fetch of so many bytes from a state on these are left, from the state for which the FIFO stands now
 pub record Left (fifo base last : ℕ) (memory : List ℕ) (most left : ℕ) (done : Bool) (fetch : Fetching) (start : StreamState) : Type 0 where

@@ -1,12 +1,12 @@
 -- Bytes of one buffer come one after the other.
 use Rattle.std.proofs.Common.{◌≡◌, ◌<◌, ◌≤◌, ◌+◌, ◌==◌, ◌&&◌, ◌||◌, ℕ, zero, suc, Bool, true, false, not, List, [], ◌∷◌, ◌++◌, length, take, drop, Some, None, if◌then◌else◌, refl, sym, ap, ap₂, ◌∙◌, arith, rules, tests, length-append, append_assoc}
 use Rattle.std.proofs.lemmas.List.{drop_more}
-use Rattle.stream_moves.specs.declared.buffers.Buffer.{Buffer}
-use Rattle.stream_moves.specs.declared.buffers.ListPlace.{ListPlace}
-use Rattle.stream_moves.specs.Lists.{after_byte, byte_of, is_good, is_last_byte, next_index}
-use Rattle.stream_moves.specs.Streams.{StreamState}
-use Rattle.stream_moves.specs.Output.{bytes_came, can_come, completes, has_room, next_byte, next_of, some_breaks, some_completes, with_byte}
-use Rattle.stream_moves.proofs.Callers.{breaks_later, can, come, completes_or}
+use Rattle.world_streams.specs.declared.buffers.Buffer.{Buffer}
+use Rattle.world_streams.specs.declared.buffers.ListPlace.{ListPlace}
+use Rattle.world_streams.specs.Lists.{after_byte, byte_of, is_good, is_last_byte, next_index}
+use Rattle.world_streams.specs.Streams.{StreamState}
+use Rattle.world_streams.specs.Output.{bytes_came, can_come, completes, has_room, next_byte, next_of, some_breaks, some_completes, with_byte}
+use Rattle.world_streams.proofs.Callers.{breaks_later, can, come, completes_or}
 use Rattle.stream_fetch.specs.Bytes.{after_bytes, with_bytes}
 
 or_false : (done : Bool) → (done || false) ≡ done

@@ -1,8 +1,8 @@
 -- What a FIFO stands for, byte by byte.
 use Rattle.std.proofs.Common.{◌≡◌, ◌<◌, ◌≤◌, ◌+◌, ◌-◌, ◌==◌, ℕ, true, false, List, ◌++◌, length, take, drop, refl, sym, ap, ◌∙◌, arith, rules, tests, length-append, length-drop}
 use Rattle.std.proofs.lemmas.List.{drop-append-le}
-use Rattle.stream_moves.specs.Streams.{StreamState}
-use Rattle.stream_moves.specs.Output.{has_room, next_of}
+use Rattle.world_streams.specs.Streams.{StreamState}
+use Rattle.world_streams.specs.Output.{has_room, next_of}
 use Rattle.stream_fetch.specs.Bytes.{after_bytes, with_bytes}
 use Rattle.stream_fetch.specs.Fetching.{Fetching, StandsFor}
 

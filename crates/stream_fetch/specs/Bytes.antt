@@ -1,10 +1,10 @@
 -- What the fetch of a run of bytes came to: bytes of one buffer, one after the other.
 use Rattle.std.specs.Prelude.{◌≡◌, ◌==◌, ◌≤◌, ◌+◌, ◌++◌, true, false, ℕ, List, take, drop, Some, None, if◌then◌else◌}
-use Rattle.stream_moves.specs.declared.buffers.Buffer.{Buffer}
-use Rattle.stream_moves.specs.declared.buffers.ListPlace.{ListPlace}
-use Rattle.stream_moves.specs.Lists.{is_good, next_index}
-use Rattle.stream_moves.specs.Streams.{StreamState}
-use Rattle.stream_moves.specs.Output.{has_room, next_of, some_completes, some_breaks}
+use Rattle.world_streams.specs.declared.buffers.Buffer.{Buffer}
+use Rattle.world_streams.specs.declared.buffers.ListPlace.{ListPlace}
+use Rattle.world_streams.specs.Lists.{is_good, next_index}
+use Rattle.world_streams.specs.Streams.{StreamState}
+use Rattle.world_streams.specs.Output.{has_room, next_of, some_completes, some_breaks}
 use Rattle.stream_fetch.specs.declared.fetch.Bytes.{Bytes}
 use Rattle.stream_fetch.specs.declared.fetch.Bytes.TheVariants.{Full, Broken, Came}
 

@@ -1,8 +1,8 @@
 -- What every place in a list of buffers keeps.
 use Rattle.std.specs.Prelude.{◌≡◌, ◌<◌, ◌≤◌, ◌^◌, ℕ, length, Option, Some, None}
 use Rattle.circular_buffer.specs.Buffer.{Buffer as Fifo}
-use Rattle.stream_moves.specs.declared.buffers.ListPlace.{ListPlace}
-use Rattle.stream_moves.specs.declared.buffers.Buffer.{Buffer}
+use Rattle.world_streams.specs.declared.buffers.ListPlace.{ListPlace}
+use Rattle.world_streams.specs.declared.buffers.Buffer.{Buffer}
 
 -- a buffer in use has a byte that was not fetched, and of one that is read next none was
 abbrev pub HasMore : Option Buffer → ℕ → Type 0

@@ -1,10 +1,10 @@
 //! Entries of a list of buffers (HDA 1.0a, 3.6.3).
 ghost use Rattle.std.specs.Prelude.{◌≡◌, ◌<◌, ◌≤◌, ◌+◌, ◌^◌, IfSome, length};
-ghost use Rattle.stream_moves.specs.Lists as lists;
+ghost use Rattle.world_streams.specs.Lists as lists;
 ghost use Rattle.stream_fetch.specs.Bytes as spec;
 
-use ring_entries::word_from;
-use stream_moves::{BUFFER_ALIGNMENT, BUFFER_ENTRY_BYTES, Buffer, ListPlace};
+use world_rings::word_from;
+use world_streams::{BUFFER_ALIGNMENT, BUFFER_ENTRY_BYTES, Buffer, ListPlace};
 
 /// The buffer of an entry of the list at an address.
 pub(crate) fn buffer_at(memory: &[u8], base: u32, index: u8) -> Buffer

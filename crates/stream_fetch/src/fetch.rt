@@ -1,9 +1,9 @@
 //! A FIFO that is filled from a list of buffers.
 ghost use Rattle.std.specs.Prelude.{◌≡◌, ◌≤◌, ◌<◌, ◌+◌, ◌-◌, [], ◌∷◌, ◌++◌, true, false, IsTrue, IfOk, length, min};
 ghost use Rattle.std.specs.Prelude.{nat_le, drop, take};
-ghost use Rattle.stream_moves.specs.Streams.{StreamState, begun, held, held_bytes};
-ghost use Rattle.stream_moves.specs.Output as output;
-ghost use Rattle.stream_moves.specs.Lists.{is_good};
+ghost use Rattle.world_streams.specs.Streams.{StreamState, begun, held, held_bytes};
+ghost use Rattle.world_streams.specs.Output as output;
+ghost use Rattle.world_streams.specs.Lists.{is_good};
 ghost use Rattle.stream_fetch.specs.Fetching.{StandsFor};
 ghost use Rattle.stream_fetch.specs.Bytes.{AreAtMost, AreBytes, count_of};
 ghost use Rattle.circular_buffer.specs.Buffer.{buffer};
@@ -12,7 +12,7 @@ use crate::entries::{after_bytes, buffer_at, is_good};
 use circular_buffer::HeapCircularBuffer;
 use std::alloc::{AllocError, Global};
 use std::marker::Model;
-use stream_moves::{Buffer, ListPlace};
+use world_streams::{Buffer, ListPlace};
 
 /// Before the first byte of a list.
 const LIST_START: ListPlace = ListPlace {

@@ -1,6 +1,5 @@
 //! The verbs that set codecs up.
 use crate::formats::stereo;
-use codec_examples::codec_of;
 use codec_graph::Graph;
 use route_planner::plan;
 use route_setup::{Analog, Setter, verbs};
@@ -8,6 +7,7 @@ use std::alloc::{AllocError, Global};
 use std::fmt::Write;
 use stream_format::{Bits, Format};
 use test_cases::push_hex;
+use test_codecs::codec_of;
 use verb_codes::{Command, encode};
 
 /// The tag of the stream.

@@ -1,7 +1,6 @@
 //! What the pins of codecs hear: after some words, and once their codec was set up, whatever it was set to before.
 ghost use Rattle.std.specs.Prelude.{◌≤◌};
 
-use codec_examples::{codec_of, push_controls};
 use codec_graph::Graph;
 use codec_nodes::Codec;
 use codec_sound::{Kept, signal};
@@ -10,6 +9,7 @@ use route_setup::verbs;
 use std::alloc::{AllocError, Global};
 use std::fmt::Write;
 use test_cases::{number_of, text_of};
+use test_codecs::{codec_of, push_controls};
 use verb_codes::encode;
 
 /// The tag of the stream that is heard after some words, and of the one that is heard after set-up.

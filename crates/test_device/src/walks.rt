@@ -1,12 +1,12 @@
 //! Walks over a codec that answers as it should, and over such as lie.
 ghost use Rattle.codec_graph.specs.Settings.{IsSettingsOf};
 
-use codec_examples::codec_of;
 use codec_graph::{Graph, Presence, Settings, answer};
 use codec_walk::{Walk, WalkError};
 use std::alloc::{AllocError, Global};
 use std::fmt::Write;
 use test_cases::{number_of, push_hex};
+use test_codecs::codec_of;
 use verb_codes::encode;
 
 /// The most commands of a walk here.

@@ -1,10 +1,10 @@
 //! Codec files, and the machine or the fault that each reads as.
-use codec_examples::push_controls;
 use codec_graph::{Presence, RawCodec, RawNode, Settings};
 use hda_files::{CodecFile, Machine, read_machine};
 use std::alloc::{AllocError, Global};
 use std::fmt::Write;
 use test_cases::push_hex;
+use test_codecs::push_controls;
 
 /// Puts the words of a widget that are not 0, and its connection list: its entries, and the nodes for which they stand.
 fn push_widget(text: &mut String, node: &RawNode) -> Result<(), AllocError> {

@@ -1,5 +1,5 @@
 //! The words of the command line, and what they ask for.
-use hda_words::{Request, read_words};
+use program_words::{Request, read_words};
 use std::alloc::{AllocError, Global};
 use test_cases::text_of;
 

@@ -1,11 +1,11 @@
 //! The settings of codecs, and how they answer commands.
 ghost use Rattle.codec_graph.specs.Settings.{IsSettingsOf};
 
-use codec_examples::{codec_of, push_controls};
 use codec_graph::{Graph, Presence, Settings, answer};
 use std::alloc::{AllocError, Global};
 use std::fmt::Write;
 use test_cases::number_of;
+use test_codecs::{codec_of, push_controls};
 use verb_codes::decode;
 
 /// Puts the answer to a word, and what the controls of its node are set to then.

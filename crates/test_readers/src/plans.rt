@@ -1,9 +1,9 @@
 //! The plans of codec files.
-use codec_examples::codec_of;
 use route_planner::{Bits, Format, Outcome, Plan, Rate, order, plan};
 use std::alloc::{AllocError, Global};
 use std::fmt::Write;
 use test_cases::{number_of, push_hex, text_of};
+use test_codecs::codec_of;
 
 /// The rate with this name.
 fn rate_named(name: &str) -> Rate {

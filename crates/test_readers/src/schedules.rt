@@ -1,8 +1,8 @@
 //! Schedules, and the parts or the fault that each reads as.
-use device_steps::Step;
-use hda_schedule::{DriverLine, Item, MOST_SCHEDULE_BYTES, Schedule, read_schedule};
+use schedule_reader::{DriverLine, Item, MOST_SCHEDULE_BYTES, Schedule, read_schedule};
 use std::alloc::{AllocError, Global};
 use std::fmt::Write;
+use world_steps::Step;
 
 /// Puts the steps of a group, in brackets.
 fn push_steps(text: &mut String, steps: &[Step]) -> Result<(), AllocError> {

@@ -1,4 +1,5 @@
-//! Writers over pools with holes, and several blocks taken at once. Where blocks stay taken, the test ends by a panic of its own.
+//! Writers over pools with holes, and several blocks taken at once. Where blocks stay taken, the test ends by a panic
+//! of its own.
 ghost use Rattle.std.specs.Prelude.{◌≤◌, Contains};
 ghost use Rattle.dma_pool.specs.declared.runs.Run.{Run};
 ghost use Rattle.dma_pool.specs.Blocks.{run_at};
@@ -105,8 +106,8 @@ fn put(rt: &impl Abort, place: &mut Option<Block>, block: Block) {
     }
 }
 
-/// Takes a granule for each place from an index on, one after another, and then gives those back that aren't to be kept, the last one
-/// first. The others stand in their places.
+/// Takes a granule for each place from an index on, one after another, and then gives those back that aren't to be
+/// kept, the last one first. The others stand in their places.
 fn make_holes(
     rt: &impl Abort,
     pool: &mut Pool,
@@ -139,7 +140,8 @@ fn holed(rt: &impl Abort, alloc: Global, keeps: &[usize]) -> (Pool, [Option<Bloc
     (pool, kept)
 }
 
-/// Whether a first run over a pool writes its list and periods at these addresses, and leaves so many granules free in the end.
+/// Whether a first run over a pool writes its list and periods at these addresses, and leaves so many granules free in
+/// the end.
 fn stands_at(alloc: Global, pool: Pool, places: [u32; 3], free: u32) -> Result<bool, Fail> {
     let [list, first, second] = places;
     let script = Script {
@@ -160,8 +162,8 @@ fn stands_at(alloc: Global, pool: Pool, places: [u32; 3], free: u32) -> Result<b
     Ok(all.get(5..9) == Some(wanted.as_slice()) && named && played.rest.1 == free)
 }
 
-/// Later runs over a ring whose periods stand at 256 and 768, each on from the one before: in the first period, from it to the second,
-/// and from the second round to the first.
+/// Later runs over a ring whose periods stand at 256 and 768, each on from the one before: in the first period, from it
+/// to the second, and from the second round to the first.
 const SCATTERED: [Access; 14] = [
     Read(0x30, Four),
     Read(0xA4, Four),
@@ -179,8 +181,8 @@ const SCATTERED: [Access; 14] = [
     Read(0x30, Four),
 ];
 
-/// Memory from 128 to 896 after the first run and each later one: a granule that stays taken, the first period, another such granule,
-/// and the first third of the second period.
+/// Memory from 128 to 896 after the first run and each later one: a granule that stays taken, the first period, another
+/// such granule, and the first third of the second period.
 const SCATTERED_BYTES: [Bytes; 20] = [
     (128, None),
     (384, Some(0)),

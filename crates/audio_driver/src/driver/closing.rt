@@ -6,8 +6,8 @@ ghost use Rattle.dma_pool.specs.Pools.{PoolState};
 ghost use Rattle.command_engine.specs.Blocks.{corb_bytes, rirb_bytes};
 ghost use Rattle.period_writer.specs.Writers.{OwnsBlocks, periods_of, ring_size};
 ghost use Rattle.driver_progress.specs.Phases.{is_asking};
-ghost use Rattle.codec_bring_up.specs.Told.{IsShut};
-ghost use Rattle.codec_bring_up.specs.Failing.{FailsWith};
+ghost use Rattle.driver_bring_up.specs.Told.{IsShut};
+ghost use Rattle.driver_bring_up.specs.Failing.{FailsWith};
 ghost use Rattle.audio_driver.specs.States as states;
 ghost use Rattle.audio_driver.specs.Closing as spec;
 ghost use Rattle.audio_driver.specs.Drivers.{TakesBlocks, GivesBlocks};
@@ -16,10 +16,10 @@ ghost use Rattle.audio_driver.specs.Calls.{ClosesBy};
 use super::Driver;
 use super::ending::end_call;
 use super::sounding::phase_of;
-use codec_bring_up::BroughtUp;
 use codec_graph::Graph;
 use command_engine::Engine;
 use dma_pool::Pool;
+use driver_bring_up::BroughtUp;
 use driver_progress::{Jack, Phase};
 use hda_platform::Platform;
 use period_writer::{Records, Run, Span, Writer};
@@ -128,10 +128,10 @@ impl<T: Setter + Drop> Driver<T> {
         }
     }
 
-    /// Lets a driver go without a call more, and all blocks go back to the pool. The controller stays as it is: where it
-    /// was reset by this driver and not since, it may go on to read and write these blocks, so the pool is of use again
-    /// only once the controller was reset or its engines were stopped by other means (HDA 1.0a, 3.3.7). It is for where
-    /// no call can be made any more.
+    /// Lets a driver go without a call more, and all blocks go back to the pool. The controller stays as it is: where
+    /// it was reset by this driver and not since, it may go on to read and write these blocks, so the pool is of use
+    /// again only once the controller was reset or its engines were stopped by other means (HDA 1.0a, 3.3.7). It is for
+    /// where no call can be made any more.
     pub fn abandon(self) -> Pool
         ensures gives { GivesBlocks self result }
         ensures pool { (before : PoolState) → TakesBlocks self.writer.geometry before self → result ≡ before }

@@ -2,15 +2,15 @@
 ghost use Rattle.std.specs.Prelude.{◌≡◌, ◌≤◌, ◌<◌, ◌+◌, length, true, false, OnOk, OnErr};
 ghost use Rattle.driver_progress.specs.Phases.{is_asking, is_ready};
 ghost use Rattle.period_writer.specs.Writers.{KeepsRing, tally_of, ring_size};
-ghost use Rattle.codec_bring_up.specs.Calls.{IsKept};
-ghost use Rattle.codec_bring_up.specs.Told.{IsShut};
-ghost use Rattle.codec_bring_up.specs.Failing.{FailsLast};
+ghost use Rattle.driver_bring_up.specs.Calls.{IsKept};
+ghost use Rattle.driver_bring_up.specs.Told.{IsShut};
+ghost use Rattle.driver_bring_up.specs.Failing.{FailsLast};
 ghost use Rattle.audio_driver.specs.States as states;
 ghost use Rattle.audio_driver.specs.Calls.{EndsAny, FinishesBy};
 
 use super::sounding::{is_open, plays_now};
-use codec_bring_up::BringUp;
-use driver_stretches::shut;
+use driver_bring_up::BringUp;
+use driver_progress::shut;
 use hda_platform::Platform;
 use period_writer::Writer;
 use route_setup::Setter;

@@ -5,9 +5,9 @@ ghost use Rattle.audio_driver.specs.Opening as spec;
 
 use super::Driver;
 use super::closing::give_back;
-use codec_bring_up::BringUp;
 use command_engine::{CORB_BYTES, Engine, RIRB_BYTES};
 use dma_pool::{NoRun, Pool};
+use driver_bring_up::BringUp;
 use hda_platform::OpenFault;
 use period_writer::{Geometry, Records, Writer};
 use route_setup::{Analog, Setter};
@@ -41,8 +41,8 @@ impl<T: Setter + Drop> Driver<T> {
     /// those of a writer with room to record a run for each call, and one more. Nothing is played yet.
     ///
     /// # Errors
-    /// `NoRun` exactly where one of these takes, in this order, meets no run. `OutOfMemory`: each of them meets one, and
-    /// memory is wanting.
+    /// `NoRun` exactly where one of these takes, in this order, meets no run. `OutOfMemory`: each of them meets one,
+    /// and memory is wanting.
     pub fn open_with(
         alloc: Global,
         setter: T,
@@ -126,7 +126,8 @@ impl Driver<Analog> {
     /// A driver that sets analog outputs up, as [`Driver::open_with`] opens it.
     ///
     /// # Errors
-    /// `NoRun` exactly where one of the takes meets no run. `OutOfMemory`: each of them meets one, and memory is wanting.
+    /// `NoRun` exactly where one of the takes meets no run. `OutOfMemory`: each of them meets one, and memory is
+    /// wanting.
     pub fn open(
         alloc: Global,
         pool: Pool,

@@ -4,8 +4,8 @@ ghost use Rattle.driver_progress.specs.declared.phase.Phase.TheVariants as phase
 ghost use Rattle.wav_reader.specs.Supplies.{IsTaken};
 ghost use Rattle.period_writer.specs.Accounts.{Accounts};
 ghost use Rattle.period_writer.specs.Writers.{measures_of, ring_size};
-ghost use Rattle.codec_bring_up.specs.Calls as calls;
-ghost use Rattle.codec_bring_up.specs.Failing.{Fails};
+ghost use Rattle.driver_bring_up.specs.Calls as calls;
+ghost use Rattle.driver_bring_up.specs.Failing.{Fails};
 ghost use Rattle.audio_driver.specs.States as states;
 ghost use Rattle.audio_driver.specs.Drivers.{IsDriver, KeepsTerms};
 ghost use Rattle.audio_driver.specs.Calls.{SufficesIfOpen, SoundsAny, LeadsBy};

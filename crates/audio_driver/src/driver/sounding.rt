@@ -5,13 +5,12 @@ ghost use Rattle.period_writer.specs.Accounts.{Accounts};
 ghost use Rattle.period_writer.specs.Runs.{tally_opened};
 ghost use Rattle.period_writer.specs.Writers.{KeepsRing, measures_of, tally_of, ring_size};
 ghost use Rattle.driver_progress.specs.Phases.{is_ready};
-ghost use Rattle.codec_bring_up.specs.Calls.{IsKept};
+ghost use Rattle.driver_bring_up.specs.Calls.{IsKept};
 ghost use Rattle.audio_driver.specs.States as states;
 ghost use Rattle.audio_driver.specs.Calls.{SufficesIfOpen, SoundsAny};
 
-use codec_bring_up::BringUp;
-use driver_progress::Phase;
-use driver_stretches::has_interrupt;
+use driver_bring_up::BringUp;
+use driver_progress::{Phase, has_interrupt};
 use hda_platform::Platform;
 use period_writer::{Ran, Writer};
 use wav_reader::Supply;

@@ -1,7 +1,7 @@
 //! How an answer is looked for.
 ghost use Rattle.std.specs.Prelude.{◌≡◌, ◌≤◌, ◌<◌, ◌+◌, ◌*◌, [], length, slice_get, drop};
 ghost use Rattle.hda_registers.specs.Fields.{entries_of};
-ghost use Rattle.ring_entries.specs.declared.entries.TheConstants.{RESPONSE_BYTES};
+ghost use Rattle.world_rings.specs.declared.entries.TheConstants.{RESPONSE_BYTES};
 ghost use Rattle.command_engine.specs.Polling as spec;
 ghost use Rattle.command_engine.specs.Reading as reading;
 ghost use Rattle.command_engine.specs.Told as told;

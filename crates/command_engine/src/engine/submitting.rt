@@ -2,7 +2,7 @@
 ghost use Rattle.std.specs.Prelude.{◌≡◌, ◌≤◌, ◌+◌, true, None};
 ghost use Rattle.verb_codes.specs.Verbs.{IsInRange, word_of};
 ghost use Rattle.hda_world.specs.Tellings.{Between, Makes};
-ghost use Rattle.ring_entries.specs.declared.entries.TheConstants.{COMMAND_BYTES};
+ghost use Rattle.world_rings.specs.declared.entries.TheConstants.{COMMAND_BYTES};
 ghost use Rattle.command_engine.specs.Submitting as spec;
 ghost use Rattle.command_engine.specs.Told as told;
 

@@ -12,7 +12,7 @@ use crate::geometry::Geometry;
 use dma_pool::{Block, Lent, NoRun, Pool};
 use hda_platform::OpenFault;
 use std::alloc::{AllocError, Global};
-use stream_moves::BUFFER_ENTRY_BYTES;
+use world_streams::BUFFER_ENTRY_BYTES;
 
 /// What a writer needs memory for.
 struct Room {
@@ -72,8 +72,8 @@ impl Writer {
     /// makes room to record so many runs, and one where that is 0.
     ///
     /// # Errors
-    /// `NoRun` exactly where one of these takes, in this order, meets no run; `OutOfMemory` where each of them meets one.
-    /// After each error the pool is as it was.
+    /// `NoRun` exactly where one of these takes, in this order, meets no run; `OutOfMemory` where each of them meets
+    /// one. After each error the pool is as it was.
     pub fn open(
         alloc: Global,
         pool: &mut Pool,

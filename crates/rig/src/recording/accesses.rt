@@ -3,7 +3,7 @@ ghost use Rattle.std.specs.Prelude.{◌≡◌, ◌≤◌, ◌+◌, [], ◌∷◌
 ghost use Rattle.hda_world.specs.declared.world.TheConstants.{REGION_BYTES};
 ghost use Rattle.hda_world.specs.Events.{Read, Write, DmaRead, DmaWrite};
 ghost use Rattle.hda_world.specs.Tellings.{Went};
-ghost use Rattle.ring_entries.specs.Memory.{stored};
+ghost use Rattle.world_rings.specs.Memory.{stored};
 ghost use Rattle.rig.specs.Recordings.{HasRoomFor};
 ghost use Rattle.rig.specs.Rigs.{told_of};
 
@@ -42,7 +42,8 @@ impl Recording {
         requires room { HasRoomFor 1 (length into.old) 0 self.old.journal self.old.heard }
         ensures told { Went (told_of self.old) (told_of self.new) (DmaRead address into.new ∷ []) }
         ensures machine { self.new.machine ≡ self.old.machine }
-        ensures room { (entries bytes items : ℕ) → HasRoomFor (1 + entries) (length into.old + bytes) items self.old.journal self.old.heard
+        ensures room { (entries bytes items : ℕ) → HasRoomFor (1 + entries) (length into.old + bytes) items
+            self.old.journal self.old.heard
             → HasRoomFor entries bytes items self.new.journal self.new.heard }
     {
         copy_piece(&self.memory, address as usize, into);
@@ -55,7 +56,8 @@ impl Recording {
         requires room { HasRoomFor 1 (length piece.now) 0 self.old.journal self.old.heard }
         ensures told { Went (told_of self.old) (told_of self.new) (DmaWrite address piece.now ∷ []) }
         ensures machine { self.new.machine ≡ self.old.machine }
-        ensures room { (entries bytes items : ℕ) → HasRoomFor (1 + entries) (length piece.now + bytes) items self.old.journal self.old.heard
+        ensures room { (entries bytes items : ℕ) → HasRoomFor (1 + entries) (length piece.now + bytes) items
+            self.old.journal self.old.heard
             → HasRoomFor entries bytes items self.new.journal self.new.heard }
     {
         store_piece(&mut self.memory, address as usize, piece);

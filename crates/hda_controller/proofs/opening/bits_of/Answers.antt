@@ -3,7 +3,7 @@ use Rattle.std.specs.Prelude.{All}
 use Rattle.std.proofs.lemmas.List.{get_or-map, length-map}
 use Rattle.std.proofs.lemmas.List.Elements.{All-get_or}
 use Rattle.codec_graph.specs.CodecStates.{CodecState}
-use Rattle.hda_device.specs.Codecs.{addresses_of}
+use Rattle.device_core.specs.Codecs.{addresses_of}
 use Rattle.hda_controller.proofs.Bits.{bits_more}
 use Rattle.hda_controller.proofs.opening.bits_of.Goals as goal
 

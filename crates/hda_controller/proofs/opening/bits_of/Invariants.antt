@@ -1,5 +1,5 @@
 use Rattle.std.proofs.Common.{◌≡◌, take}
-use Rattle.hda_device.specs.Codecs.{codec_bits}
+use Rattle.device_core.specs.Codecs.{codec_bits}
 use Rattle.hda_controller.proofs.opening.bits_of.Given as goal
 
 abbrev pub invariant-loop-codec : goal.invariant-loop-codec

@@ -1,8 +1,8 @@
 use Rattle.std.proofs.Common.{◌≡◌, ℕ, ◌+◌, ◌≤◌, List, subst, sym}
 use Rattle.std.specs.Prelude.{IfOk, Contains}
 use Rattle.hda_outside.specs.Counts.{Rose}
-use Rattle.hda_words.specs.Asked.{asked_by, IsInRange}
-use Rattle.hda_words.specs.declared.request.Request.{Request}
+use Rattle.program_words.specs.Asked.{asked_by, IsInRange}
+use Rattle.program_words.specs.declared.request.Request.{Request}
 use Rattle.hda_program.specs.Answers.{RequestAnswers}
 use Rattle.hda_program.specs.Asks.{files_of}
 use Rattle.hda_program.specs.Meanings.{answer_meant, message_meant}

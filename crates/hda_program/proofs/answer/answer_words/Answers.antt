@@ -1,7 +1,7 @@
 use Rattle.std.proofs.Common.{◌≡◌, ℕ, ◌+◌, ◌≤◌, List, map, string_bytes}
 use Rattle.std.proofs.lemmas.Result.{IfOk-weaker}
 use Rattle.hda_outside.specs.Counts.{Rose}
-use Rattle.hda_words.specs.Asked.{asked_by}
+use Rattle.program_words.specs.Asked.{asked_by}
 use Rattle.hda_program.specs.Answers.{RequestAnswers, IsMeant}
 use Rattle.hda_program.specs.Meanings.{answer_meant}
 use Rattle.hda_program.proofs.WalkLemmas.{request_meant, other_name}

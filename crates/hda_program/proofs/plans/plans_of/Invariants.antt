@@ -1,5 +1,5 @@
 use Rattle.std.proofs.Common.{take}
-use Rattle.machine_tasks.specs.Tasks.{HavePlans}
+use Rattle.laws_start.specs.Tasks.{HavePlans}
 use Rattle.hda_program.proofs.plans.plans_of.Given as goal
 
 -- the codecs so far have their plans

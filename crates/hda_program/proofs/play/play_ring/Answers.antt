@@ -1,6 +1,6 @@
 use Rattle.std.proofs.Common.{◌≡◌, true, rules, inr, refl}
-use Rattle.machine_tasks.specs.Tasks.{HavePlans}
-use Rattle.codec_agenda.specs.Planned.{have_route}
+use Rattle.laws_start.specs.Tasks.{HavePlans}
+use Rattle.driver_agenda.specs.Planned.{have_route}
 use Rattle.hda_program.proofs.play.play_ring.Goals as goal
 
 pub returns-in_ok-played-clause-answers : goal.returns-in_ok-played-clause-answers

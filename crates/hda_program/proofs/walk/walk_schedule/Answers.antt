@@ -1,7 +1,7 @@
 use Rattle.std.proofs.Common.{◌≡◌, true, rules, inr, refl}
-use Rattle.scheduled_runs.specs.Walks.{walk_format}
-use Rattle.machine_tasks.specs.Tasks.{HavePlans}
-use Rattle.codec_agenda.specs.Planned.{have_route}
+use Rattle.program_runs.specs.Walks.{walk_format}
+use Rattle.laws_start.specs.Tasks.{HavePlans}
+use Rattle.driver_agenda.specs.Planned.{have_route}
 use Rattle.hda_program.proofs.walk.walk_schedule.Goals as goal
 
 pub returns-in_ok-walk : goal.returns-in_ok-walk

@@ -1,5 +1,5 @@
 use Rattle.std.proofs.Common.{refl}
-use Rattle.ring_entries.proofs.Callers.{piece_is_stored}
+use Rattle.world_rings.proofs.Callers.{piece_is_stored}
 use Rattle.hda_world.proofs.laws.memory_write_leaves.Goals as goal
 
 pub returns : goal.returns

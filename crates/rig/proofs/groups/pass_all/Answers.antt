@@ -1,8 +1,8 @@
 use Rattle.std.proofs.Common.{◌≡◌, ◌+◌, ℕ, List, length, get_or, take, map, refl, sym, ap, subst, ◌∙◌, arith}
 use Rattle.std.proofs.lemmas.List.Sums.{sum_by_more, sum_by_more_le}
-use Rattle.device_steps.specs.declared.Step.{Step}
+use Rattle.world_steps.specs.declared.Step.{Step}
 use Rattle.hda_world.specs.Events.{Stepped}
-use Rattle.hda_schedule.specs.declared.schedule.Group.{Group}
+use Rattle.schedule_reader.specs.declared.schedule.Group.{Group}
 use Rattle.hda_world.specs.Tellings.{Went}
 use Rattle.hda_world.proofs.Callers.{went_none}
 use Rattle.rig.specs.Recordings.{HasRoomFor, items_for}

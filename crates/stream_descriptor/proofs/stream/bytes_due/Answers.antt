@@ -1,5 +1,5 @@
 use Rattle.std.proofs.Common.{◌*◌, ◌≤◌, arith}
-use Rattle.stream_moves.proofs.Callers.{few_bytes}
+use Rattle.world_streams.proofs.Callers.{few_bytes}
 use Rattle.stream_descriptor.proofs.stream.bytes_due.Goals as goal
 
 few : (c : goal.After-block_bytes) → c.blocks-2.result * c.block_bytes.result ≤ 128

@@ -1,6 +1,6 @@
 use Rattle.std.proofs.Common.{◌≡◌, ◌≤◌, ◌+◌, ◌*◌, length}
 use Rattle.hda_registers.specs.Fields.{entries_of}
-use Rattle.ring_entries.specs.declared.entries.TheConstants.{RESPONSE_BYTES}
+use Rattle.world_rings.specs.declared.entries.TheConstants.{RESPONSE_BYTES}
 use Rattle.command_engine.specs.Polling.{asked_of}
 use Rattle.command_engine.specs.Reading.{ReadsEntries}
 use Rattle.command_engine.proofs.engine.polling.read_entries.Given as goal

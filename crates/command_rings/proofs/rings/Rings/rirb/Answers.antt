@@ -1,5 +1,5 @@
 use Rattle.std.proofs.Common.{sym, ◌∙◌, take}
-use Rattle.ring_entries.specs.Engines.{batch_of}
+use Rattle.world_rings.specs.Engines.{batch_of}
 use Rattle.command_rings.proofs.Batches.{out_of_reset, may_respond}
 use Rattle.command_rings.proofs.rings.Rings.rirb.Goals as goal
 

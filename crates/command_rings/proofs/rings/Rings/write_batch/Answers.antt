@@ -1,7 +1,7 @@
 use Rattle.std.proofs.Common.{◌≡◌, List, Some, slice_get, take, drop, ap, sym, ◌∙◌, arith}
 use Rattle.std.proofs.lemmas.List.{drop-drop}
 use Rattle.circular_buffer.specs.Buffer.{Buffer}
-use Rattle.ring_entries.specs.declared.response.Response.{Response}
+use Rattle.world_rings.specs.declared.response.Response.{Response}
 use Rattle.command_rings.proofs.Batches.{may_respond, some_left, registers_more, memory_more}
 use Rattle.command_rings.proofs.rings.Rings.write_batch.Goals as goal
 

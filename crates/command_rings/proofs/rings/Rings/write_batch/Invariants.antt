@@ -1,6 +1,6 @@
 use Rattle.std.proofs.Common.{◌≡◌, ◌≤◌, take, drop, length}
-use Rattle.ring_entries.specs.Entries.{after_responses, responses_stored}
-use Rattle.ring_entries.specs.declared.response.TheConstants.{MOST_WAITING}
+use Rattle.world_rings.specs.Entries.{after_responses, responses_stored}
+use Rattle.world_rings.specs.declared.response.TheConstants.{MOST_WAITING}
 use Rattle.command_rings.proofs.rings.Rings.write_batch.Given as goal
 
 abbrev pub invariant-loop-written : goal.invariant-loop-written

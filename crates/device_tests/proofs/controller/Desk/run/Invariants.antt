@@ -1,5 +1,5 @@
 use Rattle.std.specs.Prelude.{Contains}
-use Rattle.hda_device.specs.Codecs.{addresses_of}
+use Rattle.device_core.specs.Codecs.{addresses_of}
 use Rattle.hda_controller.specs.Hearing.{AreHeard}
 use Rattle.device_tests.proofs.controller.Desk.run.Given as goal
 

@@ -1,10 +1,10 @@
 use Rattle.std.proofs.Common.{◌≡◌, List, map, Option, ap, sym, subst, ◌∙◌}
 use Rattle.std.specs.Vec.{with_items}
-use Rattle.ring_entries.specs.Engines.{next_word}
+use Rattle.world_rings.specs.Engines.{next_word}
 use Rattle.codec_sound.specs.Keeping.{KeptSignals}
-use Rattle.hda_device.specs.declared.codecs.Handed.{Handed}
-use Rattle.hda_device.specs.Codecs.{handed_now}
-use Rattle.hda_device.specs.Devices.{IsWorld}
+use Rattle.device_core.specs.declared.codecs.Handed.{Handed}
+use Rattle.device_core.specs.Codecs.{handed_now}
+use Rattle.device_core.specs.Devices.{IsWorld}
 use Rattle.hda_controller.specs.Controllers.{ControllerState, IsController, renewals_of, renewals_handed}
 use Rattle.hda_controller.specs.Renewing.{renewed_after}
 use Rattle.hda_controller.proofs.Taking.{handed_fits, handed_renewals, handed_back, none_or_there}

@@ -1,10 +1,10 @@
 use Rattle.std.proofs.Common.{◌+◌, [], drop, refl, sym, ap, subst, ◌∙◌, arith}
 use Rattle.hda_registers.specs.Fields.{Fields}
-use Rattle.stream_moves.specs.Streams.{due}
-use Rattle.stream_moves.specs.Output.{Missed, Sent}
+use Rattle.world_streams.specs.Streams.{due}
+use Rattle.world_streams.specs.Output.{Missed, Sent}
 use Rattle.hda_world.specs.Worlds.{output_of}
 use Rattle.hda_world.specs.Steps.{frame_carried}
-use Rattle.hda_device.specs.Devices.{IsWorld}
+use Rattle.device_core.specs.Devices.{IsWorld}
 use Rattle.heard_lists.proofs.Callers.{hole-grows, gap-grows}
 use Rattle.hda_controller.specs.Controllers.{ControllerState}
 use Rattle.hda_controller.proofs.Due.{HasRoom-fewer}

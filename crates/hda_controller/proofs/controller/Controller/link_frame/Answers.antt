@@ -1,11 +1,11 @@
 use Rattle.std.proofs.Common.{◌≡◌, ◌+◌, [], ◌∷◌, ℕ, List, drop, map, refl, sym, ap, subst, ◌∙◌, arith}
 use Rattle.hda_registers.specs.Fields.{Fields}
-use Rattle.stream_moves.specs.Streams.{due}
-use Rattle.stream_moves.specs.Output.{Missed, Sent}
+use Rattle.world_streams.specs.Streams.{due}
+use Rattle.world_streams.specs.Output.{Missed, Sent}
 use Rattle.codec_sound.specs.declared.heard.Heard.TheVariants.{Hole}
 use Rattle.hda_world.specs.Worlds.{output_of}
 use Rattle.hda_world.specs.Steps.{frame_carried, frame_step}
-use Rattle.hda_device.specs.Devices.{DeviceState, IsWorld}
+use Rattle.device_core.specs.Devices.{DeviceState, IsWorld}
 use Rattle.heard_lists.specs.Listings.{Listing, with_items}
 use Rattle.heard_lists.proofs.Callers.{hole-grows, gap-grows}
 use Rattle.hda_controller.specs.Controllers.{ControllerState, signal_now}

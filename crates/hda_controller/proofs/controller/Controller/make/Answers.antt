@@ -1,5 +1,5 @@
 use Rattle.std.proofs.Common.{◌≡◌, refl, sym, subst}
-use Rattle.device_steps.specs.declared.Step.{Step}
+use Rattle.world_steps.specs.declared.Step.{Step}
 use Rattle.hda_world.specs.Steps.{after_step}
 use Rattle.hda_controller.specs.Controllers.{StandsFor}
 use Rattle.hda_controller.specs.Hearing.{Grew}

@@ -5,8 +5,8 @@ use Rattle.codec_graph.specs.CodecStates.{CodecState}
 use Rattle.codec_sound.specs.Keeping.{KeptSignals}
 use Rattle.hda_registers.specs.Fields.{Fields}
 use Rattle.hda_registers.specs.declared.shapes.Shape.{Shape}
-use Rattle.hda_device.specs.Codecs.{AreAddresses, AreIdle, addresses_of}
-use Rattle.hda_device.specs.Devices.{IsWorld, new_world}
+use Rattle.device_core.specs.Codecs.{AreAddresses, AreIdle, addresses_of}
+use Rattle.device_core.specs.Devices.{IsWorld, new_world}
 use Rattle.hda_controller.specs.Keeping.{AreKeptFor}
 use Rattle.hda_controller.specs.Hearing.{AreHeard}
 use Rattle.hda_controller.specs.Openings.{codecs_in}

@@ -1,5 +1,5 @@
 use Rattle.std.proofs.Common.{sym, subst}
-use Rattle.hda_device.specs.Devices.{IsWorld}
+use Rattle.device_core.specs.Devices.{IsWorld}
 use Rattle.hda_controller.specs.Controllers.{ControllerState}
 use Rattle.hda_controller.proofs.Keeping.{device_stays, sound_same}
 use Rattle.hda_controller.proofs.controller.Controller.plug.Goals as goal

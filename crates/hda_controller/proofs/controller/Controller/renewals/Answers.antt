@@ -3,7 +3,7 @@ use Rattle.std.specs.Prelude.{option_map}
 use Rattle.std.proofs.lemmas.Option.{slice_get-map, slice_get_read}
 use Rattle.codec_graph.specs.CodecStates.{CodecState}
 use Rattle.codec_sound.specs.Keeping.{KeptSignals}
-use Rattle.hda_device.specs.Codecs.{place_of}
+use Rattle.device_core.specs.Codecs.{place_of}
 use Rattle.hda_controller.specs.Controllers.{ControllerState, renewals_of, renewals_at}
 use Rattle.hda_controller.proofs.controller.Controller.renewals.Goals as goal
 

@@ -3,7 +3,7 @@ use Rattle.std.specs.Prelude.{Some, Contains}
 use Rattle.std.proofs.lemmas.Option.{slice_get_read}
 use Rattle.codec_graph.specs.CodecStates.{CodecState}
 use Rattle.codec_sound.specs.Keeping.{KeptSignals}
-use Rattle.hda_device.specs.Codecs.{addresses_of, place_of}
+use Rattle.device_core.specs.Codecs.{addresses_of, place_of}
 use Rattle.hda_controller.specs.Controllers.{ControllerState, is_candidate_of, signal_now}
 use Rattle.hda_controller.proofs.Start.{candidate_there}
 use Rattle.hda_controller.proofs.Hearing.{IsHeard, heard_there}

@@ -1,12 +1,12 @@
 use Rattle.std.proofs.Common.{◌≡◌, List, map, ap, sym, subst, refl, ◌∙◌}
 use Rattle.std.specs.Vec.{with_items}
 use Rattle.codec_sound.specs.Keeping.{KeptSignals}
-use Rattle.hda_device.specs.Sound.{touches_sound}
-use Rattle.hda_device.specs.Devices.{IsWorld}
+use Rattle.device_core.specs.Sound.{touches_sound}
+use Rattle.device_core.specs.Devices.{IsWorld}
 use Rattle.hda_controller.specs.Controllers.{ControllerState, IsController, renewals_of, renewals_written}
 use Rattle.hda_controller.specs.Renewing.{renewed_if}
 use Rattle.hda_controller.specs.Hearing.{AreHeard}
-use Rattle.hda_device.specs.Codecs.{addresses_of}
+use Rattle.device_core.specs.Codecs.{addresses_of}
 use Rattle.hda_controller.proofs.Listed.{heard_by, addresses_by}
 use Rattle.hda_controller.proofs.Writing.{written_fits, written_renewals, kept_back}
 use Rattle.hda_controller.proofs.controller.Controller.write.Goals.{After-self-1}

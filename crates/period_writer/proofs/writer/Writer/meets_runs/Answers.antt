@@ -1,6 +1,6 @@
 use Rattle.std.proofs.Common.{◌≡◌, ◌*◌, ◌∙◌, ℕ, Err, Ok, OnErr, Result, subst, sym, refl, inl, inr, ap}
 use Rattle.std.proofs.lemmas.Result.{on_ok_weaker, on_err_weaker}
-use Rattle.stream_moves.specs.declared.buffers.TheConstants.{BUFFER_ENTRY_BYTES}
+use Rattle.world_streams.specs.declared.buffers.TheConstants.{BUFFER_ENTRY_BYTES}
 use Rattle.dma_pool.specs.Pools.{PoolState, AddsRun, HasNoRun, granules_for}
 use Rattle.dma_pool.specs.Blocks.{run_at}
 use Rattle.dma_pool.specs.Several.{TakesFirst, TakesAll, MeetsNoRun}

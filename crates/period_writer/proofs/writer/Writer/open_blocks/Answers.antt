@@ -1,7 +1,7 @@
 use Rattle.std.proofs.Common.{◌≡◌, ◌*◌, ◌∙◌, ℕ, length, None, sym, subst, ap, inl, inr, arith}
 use Rattle.std.specs.Prelude.{All, Contains}
 use Rattle.std.proofs.lemmas.List.{length-replicate}
-use Rattle.stream_moves.specs.declared.buffers.TheConstants.{BUFFER_ENTRY_BYTES}
+use Rattle.world_streams.specs.declared.buffers.TheConstants.{BUFFER_ENTRY_BYTES}
 use Rattle.dma_pool.specs.declared.blocks.Lent.{Lent}
 use Rattle.dma_pool.specs.Pools.{PoolState, AddsRun, HasNoRun, granules_for}
 use Rattle.dma_pool.specs.Blocks.{run_at}

@@ -1,6 +1,6 @@
 use Rattle.std.proofs.Common.{ℕ, List, length, refl, ap, ◌∙◌, arith}
 use Rattle.std.proofs.Math.Logic.{∥∥₁_map}
-use Rattle.ring_entries.specs.Memory.{stored}
+use Rattle.world_rings.specs.Memory.{stored}
 use Rattle.rig.proofs.Where.{honest_more, where_stored, went_one, memory_there, room_there, whole_write}
 use Rattle.rig.proofs.recording.Recording.write_piece.Goals as goal
 

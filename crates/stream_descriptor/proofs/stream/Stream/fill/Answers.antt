@@ -1,6 +1,6 @@
 use Rattle.std.proofs.Common.{subst}
-use Rattle.stream_moves.specs.Streams.{StreamState}
-use Rattle.stream_moves.specs.Output as output
+use Rattle.world_streams.specs.Streams.{StreamState}
+use Rattle.world_streams.specs.Output as output
 use Rattle.stream_descriptor.specs.Running.{Playing, StandsFor, LeadsTo, CanPlay, stream_at}
 use Rattle.stream_descriptor.proofs.Filling.{fill_leads}
 use Rattle.stream_descriptor.proofs.stream.Stream.fill.Goals as goal

@@ -1,8 +1,8 @@
 use Rattle.std.proofs.Common.{◌≡◌, ◌+◌, ◌%◌, refl, ℕ, List, sym, ap, subst, ◌∙◌}
 use Rattle.hda_registers.specs.Fields.{Fields}
 use Rattle.stream_format.specs.Cadence.{blocks_of}
-use Rattle.stream_moves.specs.Streams.{StreamState, Stream}
-use Rattle.stream_moves.specs.Output as output
+use Rattle.world_streams.specs.Streams.{StreamState, Stream}
+use Rattle.world_streams.specs.Output as output
 use Rattle.stream_fetch.specs.Fetching.{Fetching}
 use Rattle.stream_descriptor.specs.declared.frame.Frame.{Frame}
 use Rattle.stream_descriptor.specs.declared.frame.Frame.TheVariants.{Gap, Blocks, Hole}

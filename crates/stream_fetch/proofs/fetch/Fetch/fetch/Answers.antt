@@ -1,6 +1,6 @@
 use Rattle.std.proofs.Common.{◌≡◌, ◌<◌, ◌+◌, ◌-◌, suc, ℕ, true, false, ◌∙◌, arith}
-use Rattle.stream_moves.specs.Streams.{StreamState}
-use Rattle.stream_moves.specs.Output.{bytes_came}
+use Rattle.world_streams.specs.Streams.{StreamState}
+use Rattle.world_streams.specs.Output.{bytes_came}
 use Rattle.stream_fetch.specs.Fetching.{StandsFor}
 use Rattle.stream_fetch.specs.declared.fetch.Bytes.TheVariants.{Full, Broken, Came}
 use Rattle.stream_fetch.specs.Bytes.{AreBytes}

@@ -1,5 +1,5 @@
 use Rattle.std.proofs.Common.{◌≡◌, ◌≤◌, ◌+◌, ◌-◌, false, length, ℕ}
-use Rattle.stream_moves.specs.Streams.{StreamState}
+use Rattle.world_streams.specs.Streams.{StreamState}
 use Rattle.stream_fetch.specs.Fetching.{StandsFor}
 use Rattle.stream_fetch.proofs.Rest.{Left}
 use Rattle.stream_fetch.proofs.fetch.Fetch.fetch.Given as goal

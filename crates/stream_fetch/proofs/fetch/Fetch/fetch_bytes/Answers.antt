@@ -2,14 +2,14 @@ use Rattle.std.proofs.Common.{◌≡◌, ◌≢◌, ◌+◌, ◌-◌, ◌≤◌,
 use Rattle.std.proofs.Math.Nat.{min-le_left, min-le_right, le-min}
 use Rattle.std.proofs.lemmas.List.{length-take-le, take-take}
 use Rattle.circular_buffer.specs.Buffer.{buffer}
-use Rattle.stream_moves.specs.Streams.{StreamState}
-use Rattle.stream_moves.specs.Output.{bytes_came, next_of}
+use Rattle.world_streams.specs.Streams.{StreamState}
+use Rattle.world_streams.specs.Output.{bytes_came, next_of}
 use Rattle.stream_fetch.specs.Bytes.{after_bytes}
 use Rattle.stream_fetch.specs.Fetching.{Fetching, StandsFor}
 use Rattle.stream_fetch.specs.contracts.fetch.Fetch.{the_view}
-use Rattle.stream_moves.specs.declared.buffers.ListPlace.{ListPlace}
-use Rattle.stream_moves.specs.declared.buffers.Buffer.{Buffer}
-use Rattle.stream_moves.specs.Lists.{is_good}
+use Rattle.world_streams.specs.declared.buffers.ListPlace.{ListPlace}
+use Rattle.world_streams.specs.declared.buffers.Buffer.{Buffer}
+use Rattle.world_streams.specs.Lists.{is_good}
 use Rattle.stream_fetch.proofs.Runs.{HasBytes, ends_in, some_come, some_complete, none_break}
 use Rattle.stream_fetch.proofs.Standing.{some_more, held_length}
 use Rattle.stream_fetch.proofs.fetch.Fetch.fetch_bytes.Goals as goal

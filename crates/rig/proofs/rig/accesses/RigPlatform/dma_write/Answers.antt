@@ -1,5 +1,5 @@
 use Rattle.std.proofs.Common.{◌-◌, ℕ, List, [], ◌∷◌, length, refl, sym, subst, arith}
-use Rattle.hda_schedule.specs.declared.schedule.Group.{Group}
+use Rattle.schedule_reader.specs.declared.schedule.Group.{Group}
 use Rattle.hda_world.specs.Events.{DmaWrite}
 use Rattle.hda_world.specs.Tellings.{Went}
 use Rattle.hda_world.proofs.Callers.{went_both}

@@ -1,0 +1,18 @@
+pub mod Callers
+pub mod Settles
+pub mod Leading
+pub mod Asks
+pub mod Still
+pub mod Staying
+pub mod Unread
+pub mod CommandCallers
+mod Agreeing
+mod Asked
+pub mod Commands
+mod Events
+pub mod Entries
+mod FailingLooks
+mod AllJacks
+mod Counting
+pub mod OfPins
+mod Steps

@@ -1,0 +1,7 @@
+use Rattle.codec_graph.specs.declared.raw.RawCodec.{RawCodec}
+use Rattle.driver_bring_up.proofs.Agreeing.{agree}
+use Rattle.driver_bring_up.proofs.command_laws.agendas_agree.Goals as goal
+
+pub returns : goal.returns
+returns g c = λ setter format verbs graphs count agenda task all follows for.
+    agree (λ (graph : RawCodec). g.T.Setter.IsPlanBy setter graph format) verbs graphs count agenda task (c.agendas_ask_in_order.ensures setter format verbs graphs count agenda all follows) follows for

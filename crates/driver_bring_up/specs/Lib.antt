@@ -1,0 +1,9 @@
+pub mod Told
+pub mod Calls
+pub mod Failing
+pub mod Addresses
+pub mod Standing
+pub mod Commanding
+pub mod Jacks
+pub mod Listed
+pub mod Counted

@@ -1,0 +1,149 @@
+//! A call, a call for an interrupt, and the last one.
+ghost use Rattle.std.specs.Prelude.{◌≡◌, ◌≢◌, ◌≤◌, ◌<◌, ◌+◌, true, false, OnOk, OnErr};
+ghost use Rattle.driver_progress.specs.declared.phase.Phase.TheVariants as phases;
+ghost use Rattle.driver_progress.specs.Phases as progress;
+ghost use Rattle.driver_bring_up.specs.Calls as spec;
+ghost use Rattle.driver_bring_up.specs.Told.{IsShut};
+ghost use Rattle.driver_bring_up.specs.Failing.{Fails, FailsLast};
+
+use super::BringUp;
+use super::phases::{is_active, is_asking, is_reset};
+use crate::answers::TAG;
+use crate::jack_laws::events_are_of_pins;
+use driver_progress::{Phase, has_interrupt, shut};
+use hda_platform::Platform;
+use route_setup::Setter;
+use std::alloc::AllocError;
+
+impl BringUp {
+    /// One call. In the first the controller is reset; then it looks whether the codecs had their time, and from then
+    /// on for the answer to each command, after which the next is submitted. Once all codecs are set up, or it ended
+    /// before that, nothing is done. The setter is the same at each call.
+    ///
+    /// # Errors
+    /// Want of memory, in the phases where codecs are found and answers come. Then it is over, in the phase `Failed`:
+    /// the look that found codecs or an answer was made, and no command was submitted after it.
+    pub fn run<P: Platform, T: Setter>(
+        &mut self,
+        platform: &mut P,
+        setter: &T,
+    ) -> Result<(), AllocError>
+        requires few { self.old.looks < 1000000 }
+        requires room { 261 ≤ P.spare_accesses platform.old }
+        requires bytes_room { 2044 ≤ P.spare_bytes platform.old }
+        ensures leads { OnOk result (spec.Leads (λ graph. T.IsPlanBy setter.now graph self.old.agenda.format)
+            (λ graph plan. T.verbs_by setter.now graph plan self.old.agenda.format TAG) false self.old self.new
+            (P.told platform.old) (P.told platform.new)) }
+        ensures kept { spec.IsKept self.old self.new }
+        ensures failed { OnErr result (self.new.phase ≡ phases.Failed) }
+        ensures unfailed { OnOk result (self.old.phase ≢ phases.Failed → self.new.phase ≢ phases.Failed) }
+        ensures wanting { OnErr result (Fails false self.old self.new (P.told platform.old) (P.told platform.new)) }
+        ensures cause { OnErr result (spec.takes_memory self.old.phase ≡ true) }
+        ensures fixed { P.fixed platform.new ≡ P.fixed platform.old }
+        ensures accesses { P.spare_accesses platform.old ≤ P.spare_accesses platform.new + 261 }
+        ensures bytes { P.spare_bytes platform.old ≤ P.spare_bytes platform.new + 2044 }
+    {
+        if is_asking(self.phase) {
+            return self.command(platform, setter);
+        }
+        match self.phase {
+            Phase::Reset => {
+                self.reset(platform);
+                Ok(())
+            }
+            Phase::Settling => self.settle(platform),
+            _ => Ok(()),
+        }
+    }
+
+    /// One call for an interrupt: where there is one, what [`BringUp::run`] does; else nothing but the look for it.
+    /// Once it is over, interrupts are not looked for.
+    ///
+    /// # Errors
+    /// Want of memory, in the phases where codecs are found and answers come. Then it is over, in the phase `Failed`:
+    /// the look that found codecs or an answer was made, and no command was submitted after it.
+    pub fn irq<P: Platform, T: Setter>(
+        &mut self,
+        platform: &mut P,
+        setter: &T,
+    ) -> Result<(), AllocError>
+        requires few { self.old.looks < 1000000 }
+        requires room { 264 ≤ P.spare_accesses platform.old }
+        requires bytes_room { 2044 ≤ P.spare_bytes platform.old }
+        ensures leads { OnOk result (spec.Leads (λ graph. T.IsPlanBy setter.now graph self.old.agenda.format)
+            (λ graph plan. T.verbs_by setter.now graph plan self.old.agenda.format TAG) true self.old self.new
+            (P.told platform.old) (P.told platform.new)) }
+        ensures kept { spec.IsKept self.old self.new }
+        ensures failed { OnErr result (self.new.phase ≡ phases.Failed) }
+        ensures unfailed { OnOk result (self.old.phase ≢ phases.Failed → self.new.phase ≢ phases.Failed) }
+        ensures wanting { OnErr result (Fails true self.old self.new (P.told platform.old) (P.told platform.new)) }
+        ensures cause { OnErr result (spec.takes_memory self.old.phase ≡ true) }
+        ensures fixed { P.fixed platform.new ≡ P.fixed platform.old }
+        ensures accesses { P.spare_accesses platform.old ≤ P.spare_accesses platform.new + 264 }
+        ensures bytes { P.spare_bytes platform.old ≤ P.spare_bytes platform.new + 2044 }
+    {
+        if !is_active(self.phase) {
+            return Ok(());
+        }
+        if has_interrupt(platform) {
+            self.run(platform, setter)
+        } else {
+            Ok(())
+        }
+    }
+
+    /// Reads what codecs told unasked since the last look, once all codecs are set up, and counts it (HDA 1.0a, 4.4.2).
+    pub fn listen<P: Platform>(&mut self, platform: &mut P)
+        requires ready { self.old.phase ≡ phases.Ready }
+        requires few { self.old.looks ≤ 1000000 }
+        requires room { 258 ≤ P.spare_accesses platform.old }
+        requires bytes_room { 2040 ≤ P.spare_bytes platform.old }
+        ensures listens { spec.Listens self.old self.new (P.told platform.old) (P.told platform.new) }
+        ensures kept { spec.IsKept self.old self.new }
+        ensures fixed { P.fixed platform.new ≡ P.fixed platform.old }
+        ensures accesses { P.spare_accesses platform.old ≤ P.spare_accesses platform.new + 258 }
+        ensures bytes { P.spare_bytes platform.old ≤ P.spare_bytes platform.new + 2040 }
+    {
+        self.looks += 1;
+        let _nothing_asked = self.engine.poll(platform, self.kept);
+        events_are_of_pins();
+        self.jacks.take_events(&mut self.engine);
+    }
+
+    /// The last call: while commands are sent it looks once more for an answer. It submits nothing. Where the
+    /// controller was reset before, it stops both rings and leaves the controller in reset.
+    ///
+    /// # Errors
+    /// Want of memory, while commands are sent. Then it is over, in the phase `Failed`; the controller is left in reset
+    /// also then.
+    pub fn end<P: Platform, T: Setter>(
+        &mut self,
+        platform: &mut P,
+        setter: &T,
+    ) -> Result<(), AllocError>
+        requires few { self.old.looks ≤ 1000000 }
+        requires room { 262 ≤ P.spare_accesses platform.old }
+        requires bytes_room { 2040 ≤ P.spare_bytes platform.old }
+        ensures ends { OnOk result (spec.Ends (λ graph. T.IsPlanBy setter.now graph self.old.agenda.format)
+            (λ graph plan. T.verbs_by setter.now graph plan self.old.agenda.format TAG) self.old self.new
+            (P.told platform.old) (P.told platform.new)) }
+        ensures kept { spec.IsKept self.old self.new }
+        ensures failed { OnErr result (self.new.phase ≡ phases.Failed) }
+        ensures unfailed { OnOk result (self.old.phase ≢ phases.Failed → self.new.phase ≢ phases.Failed) }
+        ensures wanting { OnErr result (FailsLast self.old self.new (P.told platform.old) (P.told platform.new)) }
+        ensures cause { OnErr result (progress.is_asking self.old.phase ≡ true) }
+        ensures shut { OnErr result (IsShut (P.told platform.new)) }
+        ensures fixed { P.fixed platform.new ≡ P.fixed platform.old }
+        ensures accesses { P.spare_accesses platform.old ≤ P.spare_accesses platform.new + 262 }
+        ensures bytes { P.spare_bytes platform.old ≤ P.spare_bytes platform.new + 2040 }
+    {
+        if is_asking(self.phase) {
+            return self.end_commands(platform, setter);
+        }
+        if is_reset(self.phase) {
+            return Ok(());
+        }
+        shut(platform);
+        Ok(())
+    }
+}

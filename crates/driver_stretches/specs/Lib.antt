@@ -1,9 +1,0 @@
-pub mod Resetting
-pub mod Settling
-pub mod Commands
-pub mod Interrupts
-pub mod Shutting
-pub mod Beginning
-pub mod Announcing
-pub mod Answers
-pub mod Unread

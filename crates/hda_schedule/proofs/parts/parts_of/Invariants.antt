@@ -1,9 +1,0 @@
-use Rattle.std.proofs.Common.{◌≡◌, ◌++◌, false}
-use Rattle.hda_schedule.specs.Parts.{parts, parts_of}
-use Rattle.hda_schedule.specs.Schedules.{rows}
-use Rattle.hda_schedule.specs.Left.{rows_left}
-use Rattle.hda_schedule.proofs.parts.parts_of.Given as goal
-
--- the parts so far and those of the lines that are left are all
-abbrev pub invariant-loop-line : goal.invariant-loop-line
-invariant-loop-line l = l.parts.items ++ parts_of false (rows_left l.lines) ≡ parts (rows l.fn.bytes)

@@ -1,3 +1,0 @@
-pub mod Lives
-pub mod Sounding
-pub mod Ending

@@ -1,4 +1,0 @@
-mod AllJacks
-mod Counting
-pub mod OfPins
-mod Steps

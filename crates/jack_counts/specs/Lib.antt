@@ -1,3 +1,0 @@
-pub mod Jacks
-pub mod Listed
-pub mod Counted

@@ -1,0 +1,241 @@
+-- Rows of accesses that keep codecs set up.
+use Rattle.std.proofs.Common.{◌≡◌, ◌⊎◌, inl, inr, ◌==◌, ◌&&◌, ◌||◌, ℕ, Bool, true, false, if◌then◌else◌, List, [], ◌∷◌, length, refl, sym, ap, subst, ◌∙◌, rules, tests}
+use Rattle.hda_registers.specs.declared.places.TheConstants.{RIRBSTS}
+use Rattle.codec_graph.specs.declared.raw.RawCodec.{RawCodec}
+use Rattle.codec_graph.specs.Settings.{Entries}
+use Rattle.route_planner.specs.declared.routes.Plan.{Plan}
+use Rattle.world_steps.specs.declared.Step.{Step}
+use Rattle.hda_world.specs.Worlds.{World}
+use Rattle.hda_world.specs.Steps.{after_steps}
+use Rattle.hda_world.specs.Events.{Event, Stepped, Begin, End, Read, Write, DmaRead, DmaWrite, happens}
+use Rattle.hda_world.specs.Tellings.{Telling, world_of, Accessed, MakesBy}
+use Rattle.driver_progress.specs.declared.phase.Phase.{Phase}
+use Rattle.driver_progress.specs.declared.phase.Phase.TheVariants.{Reset, Settling, Walking, SettingUp, Ready, Playing, Drained, NothingRouted, Unanswered, Late, Malformed, Failed}
+use Rattle.driver_progress.specs.Phases.{is_asking, is_early}
+use Rattle.driver_progress.specs.Requests.{requests_in, requests_of}
+use Rattle.driver_progress.specs.Noting.{IsPlain, ArePlain}
+use Rattle.driver_progress.specs.States.{State}
+use Rattle.driver_progress.specs.Tasks.{Task, DriverLine}
+use Rattle.driver_progress.specs.Progress.{Course, course_of, is_answered, noted}
+use Rattle.driver_progress.specs.Unread.{IsUnread, AreUnread}
+use Rattle.laws_bring_up.specs.SettingUp.{are_set_up, are_answered, AreSetUpForGood, SetUpAt, StaysSetUp}
+use Rattle.laws_bring_up.proofs.Calm.{AreCalm, IsLast, calm_front, calm_back}
+use Rattle.laws_bring_up.proofs.Same.{steps_for_good, write_for_good}
+use Rattle.laws_bring_up.proofs.Always.{access_always, at_access, course_there}
+
+-- ---- when all are answered
+
+not_true : false ≡ true → ⊥
+not_true is = cc
+
+pub ready_phase : (phase : Phase) → is_early phase ≡ true → are_set_up phase ≡ true → phase ≡ Ready
+ready_phase Reset early is = absurd (not_true is)
+ready_phase Settling early is = absurd (not_true is)
+ready_phase Walking early is = absurd (not_true is)
+ready_phase SettingUp early is = absurd (not_true is)
+ready_phase Ready early is = refl
+ready_phase Playing early is = absurd (not_true early)
+ready_phase Drained early is = absurd (not_true early)
+ready_phase NothingRouted early is = absurd (not_true is)
+ready_phase (Unanswered codec command issued noticed) early is = absurd (not_true is)
+ready_phase (Late from to limit) early is = absurd (not_true early)
+ready_phase (Malformed codec fault) early is = absurd (not_true is)
+ready_phase Failed early is = absurd (not_true is)
+
+asking_early : (phase : Phase) → is_asking phase ≡ true → is_early phase ≡ true
+asking_early Reset is = refl
+asking_early Settling is = refl
+asking_early Walking is = refl
+asking_early SettingUp is = refl
+asking_early Ready is = refl
+asking_early Playing is = absurd (not_true is)
+asking_early Drained is = absurd (not_true is)
+asking_early NothingRouted is = refl
+asking_early (Unanswered codec command issued noticed) is = refl
+asking_early (Late from to limit) is = absurd (not_true is)
+asking_early (Malformed codec fault) is = refl
+asking_early Failed is = refl
+
+-- of a state that is another
+pub early_as : (state other : State) → state ≡ other → is_early other.phase ≡ true → is_early state.phase ≡ true
+early_as state other same early = subst (λ (state : State). is_early state.phase ≡ true) (sym same) early
+
+-- the look of an open stretch found the last answer
+pub record FoundLast (asks within sent answered : Bool) : Type 0 where
+  pub asks_is : asks ≡ true
+  pub within_is : within ≡ true
+  pub sent_is : sent ≡ true
+  pub answered_is : answered ≡ true
+
+parts : (ready asks within sent answered : Bool) → (ready || (asks && (within && (sent && answered)))) ≡ true → (ready ≡ true) ⊎ FoundLast asks within sent answered
+parts true asks within sent answered is = inl refl
+parts false true true true true is = inr (record { asks_is = refl; within_is = refl; sent_is = refl; answered_is = refl })
+parts false true true true false is = absurd (not_true is)
+parts false true true false answered is = absurd (not_true is)
+parts false true false sent answered is = absurd (not_true is)
+parts false false within sent answered is = absurd (not_true is)
+
+pub answered_parts : (task : Task) (course : Course) → is_early course.state.phase ≡ true → are_answered task course ≡ true
+    → (course.state.phase ≡ Ready) ⊎ FoundLast (is_asking course.state.phase) course.within (course.state.sent == length task.orders) course.answered
+answered_parts task course early is = by (parts (are_set_up course.state.phase) (is_asking course.state.phase) course.within (course.state.sent == length task.orders) course.answered is)
+  where
+    by : (are_set_up course.state.phase ≡ true) ⊎ FoundLast (is_asking course.state.phase) course.within (course.state.sent == length task.orders) course.answered
+        → (course.state.phase ≡ Ready) ⊎ FoundLast (is_asking course.state.phase) course.within (course.state.sent == length task.orders) course.answered
+    by (inl ready) = inl (ready_phase course.state.phase early ready)
+    by (inr found) = inr found
+
+pub ready_answered : (task : Task) (course : Course) → course.state.phase ≡ Ready → are_answered task course ≡ true
+ready_answered task course is = ap (λ (phase : Phase). are_set_up phase || (is_asking phase && (course.within && ((course.state.sent == length task.orders) && course.answered)))) is
+
+all_true : (ready asks within sent answered : Bool) → FoundLast asks within sent answered → (ready || (asks && (within && (sent && answered)))) ≡ true
+all_true true asks within sent answered found = refl
+all_true false true true true true found = refl
+all_true false true true true false found = found.answered_is
+all_true false true true false answered found = found.sent_is
+all_true false true false sent answered found = found.within_is
+all_true false false within sent answered found = found.asks_is
+
+pub found_answered : (task : Task) (course : Course) → FoundLast (is_asking course.state.phase) course.within (course.state.sent == length task.orders) course.answered → are_answered task course ≡ true
+found_answered task course found = all_true (are_set_up course.state.phase) (is_asking course.state.phase) course.within (course.state.sent == length task.orders) course.answered found
+
+pub are_same : (a b : ℕ) → (a == b) ≡ true → a ≡ b
+are_same a b is = search (rules, tests)
+
+pub same_are : (a b : ℕ) → a ≡ b → (a == b) ≡ true
+same_are a b is = search (rules, tests)
+
+pub last_of : (task : Task) (course : Course) (state : State) → course.state ≡ state → is_early state.phase ≡ true → are_answered task course ≡ true → IsLast task state
+last_of task course state same early is = subst (IsLast task) same (by (answered_parts task course (early_as course.state state same early) is))
+  where
+    by : (course.state.phase ≡ Ready) ⊎ FoundLast (is_asking course.state.phase) course.within (course.state.sent == length task.orders) course.answered → IsLast task course.state
+    by (inl ready) = inl ready
+    by (inr found) = inr (found.asks_is, are_same course.state.sent (length task.orders) found.sent_is)
+
+-- before an answer was looked for they are not, unless they were before
+not_found : (asks within sent : Bool) (answered : Bool) → answered ≡ false → FoundLast asks within sent answered → ⊥
+not_found asks within sent answered none found = not_true (sym none ∙ found.answered_is)
+
+not_ready : (phase : Phase) → is_asking phase ≡ true → phase ≡ Ready → ⊥
+not_ready phase asking ready = not_true (sym (ap is_asking ready) ∙ asking)
+
+pub unlooked : (task : Task) (course : Course) → is_early course.state.phase ≡ true → course.answered ≡ false → are_answered task course ≡ true → course.state.phase ≡ Ready
+unlooked task course early none is = by (answered_parts task course early is)
+  where
+    by : (course.state.phase ≡ Ready) ⊎ FoundLast (is_asking course.state.phase) course.within (course.state.sent == length task.orders) course.answered → course.state.phase ≡ Ready
+    by (inl ready) = ready
+    by (inr found) = absurd (not_found (is_asking course.state.phase) course.within (course.state.sent == length task.orders) course.answered none found)
+
+pub unanswered : (task : Task) (course : Course) → is_asking course.state.phase ≡ true → course.answered ≡ false → are_answered task course ≡ true → ⊥
+unanswered task course asking none is = not_ready course.state.phase asking (unlooked task course (asking_early course.state.phase asking) none is)
+
+-- ---- accesses that look for no answer
+
+abbrev pub IsNoLook : Event → Type 0
+IsNoLook (Stepped step) = ⊥
+IsNoLook Begin = ⊥
+IsNoLook End = ⊥
+IsNoLook (Read at width value) = (at == RIRBSTS) ≡ false
+IsNoLook (Write at width value) = Unit {0}
+IsNoLook (DmaRead at bytes) = Unit {0}
+IsNoLook (DmaWrite at bytes) = Unit {0}
+
+abbrev pub AreNoLooks : List Event → Type 0
+AreNoLooks [] = Unit {0}
+AreNoLooks (event ∷ events) = IsNoLook event × AreNoLooks events
+
+unread_no_look : (event : Event) → IsUnread event → IsNoLook event
+unread_no_look (Stepped step) is = is
+unread_no_look Begin is = is
+unread_no_look End is = is
+unread_no_look (Read at width value) is = is
+unread_no_look (Write at width value) is = tt {0}
+unread_no_look (DmaRead at bytes) is = tt {0}
+unread_no_look (DmaWrite at bytes) is = tt {0}
+
+pub unread_no_looks : (events : List Event) → AreUnread events → AreNoLooks events
+unread_no_looks [] unread = tt {0}
+unread_no_looks (event ∷ events) unread = (unread_no_look event unread.0, unread_no_looks events unread.1)
+
+plain_no_look : (event : Event) → IsPlain event → IsNoLook event
+plain_no_look (Stepped step) is = is
+plain_no_look Begin is = is
+plain_no_look End is = is
+plain_no_look (Read at width value) is = is
+plain_no_look (Write at width value) is = tt {0}
+plain_no_look (DmaRead at bytes) is = tt {0}
+plain_no_look (DmaWrite at bytes) is = tt {0}
+
+pub plain_no_looks : (events : List Event) → ArePlain events → AreNoLooks events
+plain_no_looks [] plain = tt {0}
+plain_no_looks (event ∷ events) plain = (plain_no_look event plain.0, plain_no_looks events plain.1)
+
+same_answered : (task : Task) (course : Course) (world : World) (event : Event) → IsNoLook event → are_answered task (noted task course world event) ≡ are_answered task course
+same_answered task course world (Stepped step) none = absurd none
+same_answered task course world Begin none = absurd none
+same_answered task course world End none = absurd none
+same_answered task course world (Read at width value) none =
+    ap (λ (is : Bool). are_set_up course.state.phase || (is_asking course.state.phase && (course.within && ((course.state.sent == length task.orders) && (if is then is_answered course world else course.answered))))) none
+same_answered task course world (Write at width value) none = refl
+same_answered task course world (DmaRead at bytes) none = refl
+same_answered task course world (DmaWrite at bytes) none = refl
+
+same_state : (task : Task) (course : Course) (world : World) (event : Event) → IsNoLook event → (noted task course world event).state ≡ course.state
+same_state task course world (Stepped step) none = absurd none
+same_state task course world Begin none = absurd none
+same_state task course world End none = absurd none
+same_state task course world (Read at width value) none = refl
+same_state task course world (Write at width value) none = refl
+same_state task course world (DmaRead at bytes) none = refl
+same_state task course world (DmaWrite at bytes) none = refl
+
+-- ---- codecs that are set up
+
+abbrev pub ForGoodAt : (IsPlanBy : RawCodec → Plan → Type 0) (IsOpenBy : RawCodec → Entries → Plan → Type 0) (graphs : List RawCodec) → Task → World → Course → Type 0
+ForGoodAt IsPlanBy IsOpenBy graphs task world course = are_answered task course ≡ true → AreSetUpForGood IsPlanBy IsOpenBy graphs world
+
+-- from the last answer on they are, in a stretch that began in this state
+pub record IsFine (IsPlanBy : RawCodec → Plan → Type 0) (IsOpenBy : RawCodec → Entries → Plan → Type 0) (graphs : List RawCodec) (task : Task) (lines : List DriverLine) (state : State) (telling : Telling) : Type 0 where
+  pub set_up : StaysSetUp IsPlanBy IsOpenBy graphs task lines telling
+  pub good : ForGoodAt IsPlanBy IsOpenBy graphs task (world_of telling) (course_of task lines telling)
+  pub state_is : (course_of task lines telling).state ≡ state
+
+module _ (IsPlanBy : RawCodec → Plan → Type 0) (IsOpenBy : RawCodec → Entries → Plan → Type 0) (graphs : List RawCodec) (task : Task) (lines : List DriverLine) (state : State) where
+  abbrev Fine : Telling → Type 0
+  Fine telling = IsFine IsPlanBy IsOpenBy graphs task lines state telling
+
+  abbrev GoodAt : World → Course → Type 0
+  GoodAt world course = ForGoodAt IsPlanBy IsOpenBy graphs task world course
+
+  -- over an access
+  pub access_fine : (event : Event) (old new : Telling) (accessed : Accessed old new event) → Fine old
+      → (noted task (course_of task lines old) (after_steps accessed.steps (world_of old)) event).state ≡ (course_of task lines old).state
+      → (GoodAt (after_steps accessed.steps (world_of old)) (course_of task lines old)
+      → GoodAt (happens (after_steps accessed.steps (world_of old)) event) (noted task (course_of task lines old) (after_steps accessed.steps (world_of old)) event)) → Fine new
+  access_fine event old new accessed fine stays leads =
+      let good_on : (done : List Step) → GoodAt (after_steps done (world_of old)) (course_of task lines old) = λ done answered. steps_for_good IsPlanBy IsOpenBy graphs done (world_of old) (fine.good answered) in
+      let last = leads (good_on accessed.steps) in record {
+        set_up = access_always (SetUpAt IsPlanBy IsOpenBy graphs task) task lines event old new accessed (λ done answered. (good_on done answered).set_up) (λ answered. (last answered).set_up) fine.set_up;
+        good = at_access GoodAt task lines event old new accessed last;
+        state_is = ap (λ (course : Course). course.state) (course_there task lines event old new accessed) ∙ stays ∙ fine.state_is;
+      }
+
+  event_good : (event : Event) (world : World) → IsNoLook event → AreCalm (requests_in event) → AreSetUpForGood IsPlanBy IsOpenBy graphs world → AreSetUpForGood IsPlanBy IsOpenBy graphs (happens world event)
+  event_good (Stepped step) world none calm good = absurd none
+  event_good Begin world none calm good = absurd none
+  event_good End world none calm good = absurd none
+  event_good (Read at width value) world none calm good = good
+  event_good (Write at width value) world none calm good = write_for_good IsPlanBy IsOpenBy graphs world at width value calm.0 good
+  event_good (DmaRead at bytes) world none calm good = good
+  event_good (DmaWrite at bytes) world none calm good = record { idle = good.idle; set_up = good.set_up }
+
+  -- over accesses that look for no answer, and submit no command once all are answered
+  pub calm_row : (made : List Event) (old new : Telling) → MakesBy made old new → AreNoLooks made → (are_answered task (course_of task lines old) ≡ true → AreCalm (requests_of made)) → Fine old → Fine new
+  calm_row [] old new none no_looks calm fine = subst Fine (sym none) fine
+  calm_row (event ∷ made) old new makes no_looks calm fine =
+      let first = makes.1 in
+      let there = after_steps first.steps (world_of old) in
+      let same = same_answered task (course_of task lines old) there event no_looks.0 in
+      let here = access_fine event old makes.0 first fine (same_state task (course_of task lines old) there event no_looks.0)
+      (λ good answered. let before = sym same ∙ answered in event_good event there no_looks.0 (calm_front (requests_in event) (requests_of made) (calm before)) (good before)) in
+      calm_row made makes.0 new makes.2 no_looks.1
+      (λ answered. calm_back (requests_in event) (requests_of made) (calm (sym same ∙ sym (ap (λ (course : Course). are_answered task course) (course_there task lines event old makes.0 first)) ∙ answered))) here

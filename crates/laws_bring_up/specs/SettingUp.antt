@@ -1,0 +1,82 @@
+-- That all codecs are set up at every moment from the last answer on. This project's own.
+use Rattle.std.specs.Prelude.{◌≡◌, ◌==◌, ◌&&◌, ◌||◌, Bool, true, false, List, [], ◌∷◌, length, Contains, Some}
+use Rattle.codec_graph.specs.declared.raw.RawCodec.{RawCodec}
+use Rattle.codec_graph.specs.CodecStates.{CodecState}
+use Rattle.codec_graph.specs.Settings.{Entries}
+use Rattle.route_planner.specs.declared.routes.Plan.{Plan}
+use Rattle.hda_world.specs.Worlds.{World, codec_at}
+use Rattle.hda_world.specs.Events.{Event, happens}
+use Rattle.hda_world.specs.Tellings.{Telling, world_of}
+use Rattle.driver_progress.specs.declared.phase.Phase.{Phase}
+use Rattle.driver_progress.specs.declared.phase.Phase.TheVariants.{Reset, Settling, Walking, SettingUp, Ready, Playing, Drained, NothingRouted, Unanswered, Late, Malformed, Failed}
+use Rattle.driver_progress.specs.Phases.{is_asking}
+use Rattle.driver_progress.specs.Tasks.{Task, DriverLine}
+use Rattle.driver_progress.specs.Progress.{Course, course_of, course_opened, noted}
+use Rattle.driver_bring_up.specs.declared.bringing.BringUp.{BringUp}
+
+-- ---- the moments
+
+-- whether all codecs are set up in a phase: sound may be played from then on
+abbrev pub are_set_up : Phase → Bool
+are_set_up Reset = false
+are_set_up Settling = false
+are_set_up Walking = false
+are_set_up SettingUp = false
+are_set_up Ready = true
+are_set_up Playing = true
+are_set_up Drained = true
+are_set_up NothingRouted = false
+are_set_up (Unanswered codec command issued noticed) = false
+are_set_up (Late from to limit) = true
+are_set_up (Malformed codec fault) = false
+are_set_up Failed = false
+
+-- whether all commands were sent, and the look of a stretch that is open found the answer to the last of them
+abbrev pub found_last : Task → Course → Bool
+found_last task course = course.within && ((course.state.sent == length task.orders) && course.answered)
+
+-- whether all commands are answered: the state says so, or the look of the open stretch
+abbrev pub are_answered : Task → Course → Bool
+are_answered task course = are_set_up course.state.phase || (is_asking course.state.phase && found_last task course)
+
+-- something holds of world and course before the first of these events and after each of them
+abbrev pub Always : (World → Course → Type 0) → Task → List Event → World → Course → Type 0
+Always Holds task [] world course = Holds world course
+Always Holds task (event ∷ events) world course = Holds world course × Always Holds task events (happens world event) (noted task course world event)
+
+-- ---- the codecs
+
+-- the codec with this graph is there, and its settings are open for its plan
+pub record IsThere (IsPlanBy : RawCodec → Plan → Type 0) (IsOpenBy : RawCodec → Entries → Plan → Type 0) (graph : RawCodec) (codecs : List CodecState) : Type 0 where
+  pub now : CodecState
+  pub found : codec_at graph.address codecs ≡ Some now
+  pub graph_is : now.graph ≡ graph
+  pub opened : (plan : Plan) → IsPlanBy graph plan → IsOpenBy graph now.settings plan
+
+abbrev pub AreSetUp : (IsPlanBy : RawCodec → Plan → Type 0) (IsOpenBy : RawCodec → Entries → Plan → Type 0) (graphs : List RawCodec) → World → Type 0
+AreSetUp IsPlanBy IsOpenBy graphs world = (graph : RawCodec) → Contains graphs graph → IsThere IsPlanBy IsOpenBy graph world.codecs
+
+-- wherever all commands are answered, all codecs are set up
+abbrev pub SetUpAt : (IsPlanBy : RawCodec → Plan → Type 0) (IsOpenBy : RawCodec → Entries → Plan → Type 0) (graphs : List RawCodec) → Task → World → Course → Type 0
+SetUpAt IsPlanBy IsOpenBy graphs task world course = are_answered task course ≡ true → AreSetUp IsPlanBy IsOpenBy graphs world
+
+-- at every moment that is told
+abbrev pub StaysSetUp : (IsPlanBy : RawCodec → Plan → Type 0) (IsOpenBy : RawCodec → Entries → Plan → Type 0) (graphs : List RawCodec) → Task → (lines : List DriverLine) → Telling → Type 0
+StaysSetUp IsPlanBy IsOpenBy graphs task lines telling =
+    Always (SetUpAt IsPlanBy IsOpenBy graphs task) task telling.journal telling.start (course_opened lines)
+
+-- ---- why it stays so
+
+-- CORB has no command that was not fetched
+abbrev pub IsIdle : World → Type 0
+IsIdle world = world.registers.global.corb_read_pointer ≡ world.registers.global.corb_write_pointer
+
+-- all codecs are set up, and no command comes
+pub record AreSetUpForGood (IsPlanBy : RawCodec → Plan → Type 0) (IsOpenBy : RawCodec → Entries → Plan → Type 0) (graphs : List RawCodec) (world : World) : Type 0 where
+  pub idle : IsIdle world
+  pub set_up : AreSetUp IsPlanBy IsOpenBy graphs world
+
+-- so it is in an open stretch whose accesses were made, where all commands are answered then or by where it leads
+pub record RemainSetUp (IsPlanBy : RawCodec → Plan → Type 0) (IsOpenBy : RawCodec → Entries → Plan → Type 0) (graphs : List RawCodec) (task : Task) (lines : List DriverLine) (bring_up : BringUp) (telling : Telling) : Type 0 where
+  pub before : are_answered task (course_of task lines telling) ≡ true → AreSetUpForGood IsPlanBy IsOpenBy graphs (world_of telling)
+  pub after : are_set_up bring_up.phase ≡ true → AreSetUpForGood IsPlanBy IsOpenBy graphs (world_of telling)

@@ -1,0 +1,75 @@
+-- The accesses of a call that plays no sound leave streams at rest.
+use Rattle.std.proofs.Common.{◌≡◌, ℕ, Bool, true, false, List, [], ◌++◌, Option, Some, refl, ap, subst, ◌∙◌, ◌⊎◌, inl, inr}
+use Rattle.std.specs.Prelude.{All}
+use Rattle.verb_codes.specs.declared.verbs.Command.{Command}
+use Rattle.codec_graph.specs.declared.raw.RawCodec.{RawCodec}
+use Rattle.codec_graph.specs.Settings.{Entries}
+use Rattle.route_planner.specs.declared.routes.Plan.{Plan}
+use Rattle.hda_world.specs.Events.{Event}
+use Rattle.hda_world.specs.Tellings.{Telling, world_of, Makes}
+use Rattle.command_engine.specs.Polling.{rings_polled}
+use Rattle.driver_progress.specs.Phases.{is_asking}
+use Rattle.driver_progress.specs.Requests.{requests_of}
+use Rattle.driver_progress.specs.Tasks.{Task, DriverLine}
+use Rattle.driver_progress.specs.Seen.{Seen}
+use Rattle.driver_progress.specs.States.{State}
+use Rattle.driver_progress.specs.Next.{expected}
+use Rattle.driver_progress.specs.Progress.{course_of, seen_in, Fits}
+use Rattle.driver_progress.specs.Shutting.{shut_accesses}
+use Rattle.driver_progress.specs.Unread.{AreAccesses}
+use Rattle.driver_bring_up.specs.Commanding.{submit_made}
+use Rattle.driver_bring_up.specs.declared.bringing.BringUp.{BringUp}
+use Rattle.driver_bring_up.specs.Calls.{Leads, Ends}
+use Rattle.driver_bring_up.specs.Told.{LooksOn, IsStill}
+use Rattle.laws_bring_up.specs.Stretches.{IsOpen}
+use Rattle.laws_bring_up.specs.Standing.{IsTaskOfCodecs, IsBroughtUp}
+use Rattle.laws_bring_up.proofs.Callers.{AgendaLaws, SetterLaws, Laws, accesses_row, asking_in, asking_goes, unread_accesses, looked_accesses, submit_are, shut_are}
+use Rattle.laws_stream.specs.Resting.{LeavesRest}
+use Rattle.laws_stream.specs.Silent.{plays_in}
+
+-- what this goes by
+abbrev pub StretchesRest : Type 0
+StretchesRest = (task : Task) (state : State) (turn : Option DriverLine) (seen : Seen) (made : List Event) → plays_in task turn state.phase ≡ false → requests_of made ≡ expected task state turn seen → All LeavesRest made
+
+-- the accesses of a stretch that fits
+pub made_rest : StretchesRest → (task : Task) (lines left : List DriverLine) (turn : Option DriverLine) (state : State) (made : List Event) (before after : Telling) → IsOpen task lines left turn state before → Makes made before after → AreAccesses made
+    → plays_in task turn state.phase ≡ false → Fits task (course_of task lines after) → All LeavesRest made
+made_rest stretches task lines left turn state made before after opened makes are silent fits =
+    let row = accesses_row task lines made before after makes.by are in
+    let course = course_of task lines after in
+    let turn_is = row.turn_is ∙ opened.turn_is in
+    let state_is = row.state_is ∙ opened.state_is in
+    let still : plays_in task course.turn course.state.phase ≡ false =
+    ap (λ (turn : Option DriverLine). plays_in task turn course.state.phase) turn_is ∙ ap (λ (state : State). plays_in task turn state.phase) state_is ∙ silent in
+    subst (All LeavesRest) (row.made_is ∙ ap (λ (front : List Event). front ++ made) opened.none_made) (stretches task course.state course.turn (seen_in course) course.made still fits)
+
+-- ---- what a bring-up makes are accesses
+
+module _ (IsPlanBy : RawCodec → Plan → Type 0) (verbs_by : RawCodec → Plan → List Command) (verbs : RawCodec → List Command) (IsOpenBy : RawCodec → Entries → Plan → Type 0) (graphs : List RawCodec) (task : Task)
+    (laws : AgendaLaws IsPlanBy verbs_by verbs graphs) (of : IsTaskOfCodecs IsPlanBy verbs_by verbs graphs task) (setter : SetterLaws IsPlanBy verbs_by IsOpenBy) (notes : Laws) (lines : List DriverLine) where
+  pub leads_accesses : (irq : Bool) (old new : BringUp) (before after : Telling) → IsBroughtUp IsPlanBy verbs graphs task (course_of task lines before).written old (world_of before)
+      → (leads : Leads IsPlanBy verbs_by irq old new (Some before) (Some after)) → AreAccesses leads.made
+  leads_accesses irq old new before after stands leads = by (is_asking old.phase) refl
+    where
+      looks : (from read : ℕ) → LooksOn irq old new leads.made from read before after ⊎ IsStill old new leads.made from read after → AreAccesses leads.made
+      looks from read (inl on) =
+          let rest = submit_made old.engine.corb.address (rings_polled old.engine.rings on.reads) on.order in
+          looked_accesses old leads.made on.first on.clock on.reads rest from read before after on.looked (submit_are old.engine.corb.address (rings_polled old.engine.rings on.reads) on.order)
+      looks from read (inr still) = unread_accesses leads.made still.unread
+
+      by : (asks : Bool) → is_asking old.phase ≡ asks → AreAccesses leads.made
+      by false not = unread_accesses leads.made (leads.unread not)
+      by true asking =
+          let a = asking_in IsPlanBy verbs_by verbs IsOpenBy graphs task laws of setter notes lines old.phase (course_of task lines before).written old (world_of before) asking stands.stage in
+          looks a.from a.read ((leads.stays (asking_goes old.phase asking)).is a.from a.read a.stands)
+
+  pub ends_accesses : (old new : BringUp) (before after : Telling) → IsBroughtUp IsPlanBy verbs graphs task (course_of task lines before).written old (world_of before)
+      → (ends : Ends IsPlanBy verbs_by old new (Some before) (Some after)) → AreAccesses ends.made
+  ends_accesses old new before after stands ends = by (is_asking old.phase) refl
+    where
+      by : (asks : Bool) → is_asking old.phase ≡ asks → AreAccesses ends.made
+      by false not = unread_accesses ends.made (ends.unread not)
+      by true asking =
+          let a = asking_in IsPlanBy verbs_by verbs IsOpenBy graphs task laws of setter notes lines old.phase (course_of task lines before).written old (world_of before) asking stands.stage in
+          let on = (ends.looks asking).is a.from a.read a.stands in
+          looked_accesses old ends.made [] on.clock on.reads shut_accesses a.from a.read before after on.looked shut_are

@@ -1,0 +1,79 @@
+-- While CORB has no command that was not fetched, codecs keep their graphs and settings.
+use Rattle.std.proofs.Common.{◌≡◌, ◌==◌, not, ℕ, List, [], ◌∷◌, refl, sym, ap, subst, ◌∙◌}
+use Rattle.std.specs.Prelude.{All}
+use Rattle.std.proofs.lemmas.List.Elements.{All-head, All-tail}
+use Rattle.codec_graph.specs.CodecStates.{CodecState, plugged, without_first, without_answer}
+use Rattle.codec_graph.specs.Widget.{node_at}
+use Rattle.hda_registers.specs.Fields.{Fields, Global, is_out_of_reset}
+use Rattle.hda_registers.proofs.Callers.{keeps-reset, keeps-left}
+use Rattle.hda_registers.specs.declared.shapes.Width.{Width}
+use Rattle.hda_world.specs.Worlds.{World}
+use Rattle.hda_world.specs.Steps.{passed}
+use Rattle.hda_world.specs.Events.{Event, Stepped, Begin, End, Read, Write, DmaRead, DmaWrite, happens, after, after_write}
+use Rattle.hda_world.specs.Kept.{Kept}
+use Rattle.hda_world.proofs.Callers.{kept_step, frames_after, passed_global, plain_write}
+use Rattle.laws_hearing.specs.Steady.{settings_of, AreIdleBy, AreIdle, LeavesCommands}
+use Rattle.laws_hearing.proofs.Steadying.{settings_with, plugged_same, batch_registers, no_fetch}
+use Rattle.laws_hearing.proofs.SteadyEvents.{written_pointers, not_pointers}
+
+module _ (codecs : List CodecState) where
+  abbrev Idle : World → Type 0
+  Idle = AreIdle codecs
+
+  same_settings : (world : World) (now : List CodecState) → settings_of now ≡ settings_of world.codecs → Idle world
+      → AreIdleBy codecs now world.registers.global.corb_read_pointer world.registers.global.corb_write_pointer
+  same_settings world now same idle = record { settings = same ∙ idle.settings; idle = idle.idle }
+
+  passed_idle : (world : World) → Idle world → Idle (passed world)
+  passed_idle world idle =
+      subst (λ (global : Global). AreIdleBy codecs world.codecs global.corb_read_pointer global.corb_write_pointer) (sym (passed_global world)) idle
+
+  idle_kept : Kept Idle
+  idle_kept = record {
+    codecs = record {
+      hands = λ world idle can free.
+          no_fetch (is_out_of_reset world.registers.global) (world.registers.global.corb_run == 1) (not (world.registers.global.corb_pointer_reset == 1)) world.registers.global.corb_read_pointer world.registers.global.corb_write_pointer idle.idle can;
+      sends = λ world address item rest idle out room are. same_settings world _ (settings_with address without_first (λ codec. refl) (λ codec. refl) world.codecs) idle;
+      loses = λ world address idle out. same_settings world _ (settings_with address without_answer (λ codec. refl) (λ codec. refl) world.codecs) idle;
+      plugs = λ world address nid present idle.
+          same_settings world _ (settings_with address (λ codec. plugged codec nid present) (λ codec. (plugged_same codec nid present (node_at codec.graph nid)).0) (λ codec. (plugged_same codec nid present (node_at codec.graph nid)).1) world.codecs) idle;
+    };
+    responds = λ world response rest idle can are.
+        subst (λ (fields : Fields). AreIdleBy codecs world.codecs fields.global.corb_read_pointer fields.global.corb_write_pointer) (sym (batch_registers response rest world.registers)) idle;
+    bytes = record {
+      comes = λ world idle can room good is. idle;
+      ends = λ world idle can room good is. idle;
+      breaks = λ world idle can room bad. idle;
+      refuses = λ world idle must. idle;
+    };
+    passes = λ world idle out still. passed_idle world idle;
+    frames = frames_after Idle (λ world idle out. passed_idle world idle) (record {
+      gaps = λ world idle can none. idle;
+      sends = λ world idle can some enough. idle;
+      misses = λ world idle can short. idle;
+      stops = λ world idle must. idle;
+    });
+  }
+
+  write_idle : (world : World) (at value : ℕ) (width : Width) → LeavesCommands (Write at width value) → Idle world → Idle (after_write at width value world)
+  write_idle world at value width beside idle =
+      let plain = plain_write world at value width (keeps-reset world.registers at width value beside.control) (keeps-left world.registers at width value beside.control) in
+      let pointers = written_pointers world.registers at width value beside.control (not_pointers at beside.corb) (is_out_of_reset world.registers.global) refl in
+      record {
+        settings = ap (λ (w : World). settings_of w.codecs) plain ∙ idle.settings;
+        idle = ap (λ (w : World). w.registers.global.corb_read_pointer) plain ∙ pointers.read ∙ idle.idle ∙ sym (ap (λ (w : World). w.registers.global.corb_write_pointer) plain ∙ pointers.write);
+      }
+
+  event_idle : (event : Event) (world : World) → LeavesCommands event → Idle world → Idle (happens world event)
+  event_idle (Stepped step) world leaves idle = kept_step Idle idle_kept step world idle
+  event_idle Begin world leaves idle = idle
+  event_idle End world leaves idle = idle
+  event_idle (Read at width value) world leaves idle = idle
+  event_idle (Write at width value) world leaves idle = write_idle world at value width leaves idle
+  event_idle (DmaRead at bytes) world leaves idle = idle
+  event_idle (DmaWrite at bytes) world leaves idle = idle
+
+  pub events_idle : (events : List Event) (world : World) → All LeavesCommands events → Idle world → Idle (after events world)
+  events_idle [] world all idle = idle
+  events_idle (event ∷ events) world all idle =
+      events_idle events (happens world event) (All-tail LeavesCommands event events all) (event_idle event world (All-head LeavesCommands event events all) idle)

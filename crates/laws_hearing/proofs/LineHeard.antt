@@ -1,0 +1,122 @@
+-- What pins hear of a line that a writer plays.
+use Rattle.std.proofs.Common.{◌≡◌, ◌≤◌, ◌<◌, ◌+◌, ◌-◌, ◌*◌, ◌/◌, ◌⊎◌, inl, inr, ℕ, true, false, List, [], ◌∷◌, ◌++◌, length, map, take, drop, replicate, slice_index, Some, refl, sym, ap, subst, ◌∙◌, arith, rules, append-nil}
+use Rattle.std.specs.Prelude.{All}
+use Rattle.std.specs.List.{range_with_len}
+use Rattle.std.proofs.lemmas.List.FromFn.{length-range_with_len}
+use Rattle.std.proofs.lemmas.List.{length-map, length-take-le, get_or_append_left, get_or-append_right, get_or-replicate}
+use Rattle.std.proofs.lemmas.List.Elements.{All-append, All-cons, All-head, All-nil, All-tail}
+use Rattle.codec_graph.specs.CodecStates.{CodecState}
+use Rattle.stream_format.specs.Layouts.{Layout, layout_of}
+use Rattle.world_streams.specs.Output.{Carriage, Sent, Missed}
+use Rattle.world_streams.proofs.Callers.{some_block}
+use Rattle.hda_world.specs.Worlds.{World, CarriedFrame, codec_at}
+use Rattle.hda_world.specs.Streaming.{HasSent}
+use Rattle.codec_sound.specs.declared.signals.Signal.{Signal}
+use Rattle.codec_sound.specs.declared.signals.Signal.TheVariants.{Pair}
+use Rattle.codec_sound.specs.declared.heard.Heard.{Heard}
+use Rattle.codec_sound.specs.declared.heard.Heard.TheVariants.{Hole}
+use Rattle.codec_sound.specs.HeardLists.{block_size, blocks, item_of, items_of, signal_with, frame_items, heard}
+use Rattle.period_writer.specs.Runs.{Tally}
+use Rattle.period_writer.specs.Lines.{line_of}
+use Rattle.period_writer.specs.Standing.{Ring, limit_in}
+use Rattle.period_writer.specs.Owning.{IsPlaying}
+use Rattle.period_writer.specs.Outcomes.{HasDrained, WasStopped}
+use Rattle.period_writer.proofs.Callers.{playing_owns, playing_within}
+use Rattle.laws_hearing.specs.Plays.{without_holes, sound_at, sounds, Plays, PlaysBelow}
+use Rattle.laws_hearing.specs.Steady.{IsSteadyFrame, Steady}
+use Rattle.laws_hearing.proofs.Hearing.{pair_heard, frame_is}
+use Rattle.laws_hearing.proofs.Playing.{plays, plays_below, sounds_of}
+
+-- a format's block has bytes
+pub some_of : (word : ℕ) (layout : Layout) → layout_of word ≡ Some layout → 1 ≤ block_size layout
+some_of word layout known = some_block word layout known
+
+module _ (codecs : List CodecState) (tag word : ℕ) (layout : Layout) (known : layout_of word ≡ Some layout) (some : 1 ≤ block_size layout) (from : ℕ) (world : World)
+    (steady : Steady codecs tag word (block_size layout) from world) (sent : HasSent from world) (address pin : ℕ) where
+  abbrev list : List Heard
+  list = heard address pin (drop from world.carried)
+
+  -- ---- a pin that hears a pair
+
+  module _ (pair : ℕ) (is : signal_with (codec_at address codecs) tag word (Some layout) pin ≡ Pair pair) where
+    -- it heard what was sent
+    heard_is : without_holes list ≡ sounds layout pair (take world.output.left world.output.entered) (world.output.left / block_size layout)
+    heard_is =
+        pair_heard codecs tag word layout known address pin pair some is (drop from world.carried) steady.frames
+        ∙ ap (λ bytes. map (item_of layout (Pair pair)) (blocks (block_size layout) bytes)) sent.bytes
+        ∙ sounds_of layout pair (take world.output.left world.output.entered)
+        ∙ ap (λ n. sounds layout pair (take world.output.left world.output.entered) (n / block_size layout)) (length-take-le world.output.left world.output.entered sent.behind)
+
+    -- as many blocks as were sent
+    pub count_heard : length (without_holes list) ≡ world.output.left / block_size layout
+    count_heard =
+        ap length heard_is
+        ∙ length-map (range_with_len 0 (world.output.left / block_size layout)) (sound_at layout pair (take world.output.left world.output.entered))
+        ∙ length-range_with_len 0 (world.output.left / block_size layout)
+
+    -- the line that the writer plays
+    pub playing_heard : (ring : Ring) (pcm : List ℕ) (tally : Tally) → IsPlaying ring pcm tally world → 500 * world.frames ≤ tally.course.from + 500 * limit_in ring → Plays layout pair (line_of tally pcm) false list
+    playing_heard ring pcm tally playing few =
+        let within = playing_within ring pcm tally world playing few in
+        let owns = playing_owns ring pcm tally world playing in
+        let long = playing.written.whole in
+        let behind = sent.behind in
+        plays layout pair world.output.entered world.output.left sent.behind list heard_is (line_of tally pcm) false 0 (λ e. refl) (omega (arith, within, long, behind))
+        (λ at below. owns.fetched at (omega (arith, below, behind)) (omega (arith, below, behind, within)) ∙ ap (λ l. slice_index l at) (sym (append-nil (line_of tally pcm))))
+
+    -- the line that has drained, and zeros after it
+    pub drained_heard : (ring : Ring) (pcm : List ℕ) (tally : Tally) → HasDrained ring pcm tally world → Plays layout pair (line_of tally pcm) true list
+    drained_heard ring pcm tally drained =
+        plays layout pair world.output.entered world.output.left sent.behind list heard_is (line_of tally pcm) true (world.output.left - tally.course.reach) (λ e. cc)
+        (let long = drained.written.whole in omega (arith, long)) each where
+          order : (at : ℕ) → (at < tally.course.reach) ⊎ (tally.course.reach ≤ at)
+          order at = search (rules, arith)
+
+          by : (at : ℕ) → at < world.output.left → (at < tally.course.reach) ⊎ (tally.course.reach ≤ at)
+              → slice_index world.output.entered at ≡ slice_index (line_of tally pcm ++ replicate (world.output.left - tally.course.reach) 0) at
+          by at below (inl under) =
+              let behind = sent.behind in
+              let long = drained.written.whole in
+              drained.fetched at (omega (arith, below, behind)) under
+              ∙ sym (get_or_append_left (line_of tally pcm) (replicate (world.output.left - tally.course.reach) 0) 0 at (omega (arith, under, long)))
+          by at below (inr past) =
+              let behind = sent.behind in
+              drained.silent at (omega (arith, below, behind)) past
+              ∙ sym (get_or-append_right (line_of tally pcm) (replicate (world.output.left - tally.course.reach) 0) tally.course.reach at 0 drained.written.whole past
+              ∙ get_or-replicate (world.output.left - tally.course.reach) (at - tally.course.reach) 0 0 (omega (arith, below, past)))
+
+          each : (at : ℕ) → at < world.output.left → slice_index world.output.entered at ≡ slice_index (line_of tally pcm ++ replicate (world.output.left - tally.course.reach) 0) at
+          each at below = by at below (order at)
+
+    -- after a stop the line below the last recorded reach
+    pub stopped_heard : (ring : Ring) (pcm : List ℕ) (tally : Tally) → WasStopped ring pcm tally world → PlaysBelow layout pair (line_of tally pcm) tally.course.sure list
+    stopped_heard ring pcm tally stopped =
+        let long = stopped.written.whole in
+        let sure = stopped.written.sure in
+        let behind = sent.behind in
+        plays_below layout pair world.output.entered world.output.left sent.behind list heard_is (line_of tally pcm) tally.course.sure (omega (arith, long, sure))
+        (λ at below under. stopped.fetched at (omega (arith, below, behind)) under)
+
+-- ---- every item of a list
+
+-- what holds of a hole and of what is heard of any block
+module _ (codecs : List CodecState) (tag word : ℕ) (layout : Layout) (known : layout_of word ≡ Some layout) (from : ℕ) (world : World) (steady : Steady codecs tag word (block_size layout) from world) (address pin : ℕ)
+    (signal : Signal) (is : signal_with (codec_at address codecs) tag word (Some layout) pin ≡ signal) (Holds : Heard → Type 0) (hole : Holds Hole) (blocks_hold : (block : List ℕ) → Holds (item_of layout signal block)) where
+  each_item : (bs : List (List ℕ)) → All Holds (map (item_of layout signal) bs)
+  each_item [] = All-nil Holds
+  each_item (b ∷ bs) = All-cons Holds (item_of layout signal b) (map (item_of layout signal) bs) (blocks_hold b) (each_item bs)
+
+  each_carried : (carriage : Carriage) → All Holds (items_of (Some layout) signal carriage)
+  each_carried Missed = All-cons Holds Hole [] hole (All-nil Holds)
+  each_carried (Sent bytes) = each_item (blocks (block_size layout) bytes)
+
+  each_frame : (frames : List CarriedFrame) → All (IsSteadyFrame codecs tag word (block_size layout)) frames → All Holds (heard address pin frames)
+  each_frame [] all = All-nil Holds
+  each_frame (frame ∷ frames) all =
+      let here = All-head (IsSteadyFrame codecs tag word (block_size layout)) frame frames all in
+      All-append Holds (frame_items address pin frame) (heard address pin frames)
+      (subst (All Holds) (sym (frame_is codecs tag word layout known address pin signal frame here is)) (each_carried frame.carriage))
+      (each_frame frames (All-tail (IsSteadyFrame codecs tag word (block_size layout)) frame frames all))
+
+  pub each_heard : All Holds (heard address pin (drop from world.carried))
+  each_heard = each_frame (drop from world.carried) steady.frames

@@ -1,0 +1,168 @@
+-- Accesses beside the rings and the stream keep what is steady.
+use Rattle.std.proofs.Common.{◌≡◌, ◌≢◌, ◌≤◌, ◌<◌, ◌-◌, ◌/◌, ◌==◌, ◌&&◌, not, if◌then◌else◌, ◌⊎◌, inl, inr, ℕ, Bool, true, false, List, [], ◌∷◌, length, drop, Some, refl, sym, ap, subst, ◌∙◌, arith}
+use Rattle.std.specs.Prelude.{All, nat_lt}
+use Rattle.std.proofs.lemmas.Bool.{ne_eqb}
+use Rattle.std.proofs.lemmas.List.Elements.{All-head, All-tail}
+use Rattle.codec_graph.specs.CodecStates.{CodecState}
+use Rattle.hda_registers.specs.declared.shapes.Shape.{Shape}
+use Rattle.hda_registers.specs.declared.shapes.Width.{Width}
+use Rattle.hda_registers.specs.declared.shapes.Width.TheVariants.{One}
+use Rattle.hda_registers.specs.Fields.{Fields, Global, Descriptor, reset_fields, is_out_of_reset, is_running}
+use Rattle.hda_registers.specs.Access.{access_of, written, placed, is_taken, global_written, stream_written, rose}
+use Rattle.hda_registers.specs.Laws.{IsBesideStreams}
+use Rattle.hda_registers.proofs.Callers.{leaves-streams, changes-input, status-output, ignored, keeps-reset, keeps-left}
+use Rattle.stream_format.specs.Layouts.{Layout, layout_of}
+use Rattle.hda_world.specs.Worlds.{World}
+use Rattle.hda_world.specs.Events.{Event, Stepped, Begin, End, Read, Write, DmaRead, DmaWrite, happens, after, after_write}
+use Rattle.hda_world.specs.Streaming.{HasSent}
+use Rattle.hda_world.proofs.Callers.{kept_step, plain_write, keeps_sent, write_keeps_order}
+use Rattle.codec_sound.specs.HeardLists.{block_size}
+use Rattle.laws_hearing.specs.Steady.{settings_of, IsSteadyFrame, Steady, IsStatusOrStop, LeavesSteady}
+use Rattle.laws_hearing.proofs.Steadying.{steady_kept}
+
+-- the stream's tag and its format word are the same, and RUN does not rise
+record KeepsStream (old new : Fields) : Type 0 where
+  tag : new.output.tag ≡ old.output.tag
+  format : new.output.format ≡ old.output.format
+  still : rose old.output new.output ≡ false
+
+not_both : (runs : Bool) → (not runs && runs) ≡ false
+not_both true = refl
+not_both false = refl
+
+not_then : (ran : Bool) → (not ran && false) ≡ false
+not_then true = refl
+not_then false = refl
+
+same_run : (old new : Descriptor) → new.run ≡ old.run → rose old new ≡ false
+same_run old new same = ap (λ (run : ℕ). not (is_running old) && (run == 1)) same ∙ not_both (is_running old)
+
+same_output : (old new : Fields) → new.output ≡ old.output → KeepsStream old new
+same_output old new same = record {
+  tag = ap (λ (d : Descriptor). d.tag) same;
+  format = ap (λ (d : Descriptor). d.format) same;
+  still = same_run old.output new.output (ap (λ (d : Descriptor). d.run) same);
+}
+
+-- the stop leaves them
+write_stop : (f : Fields) → is_out_of_reset f.global ≡ true
+    → written f 0xA0 One 0 ≡ record f { output = record f.output { stream_reset = 0; run = 0; completion_interrupt = 0; fifo_interrupt = 0; descriptor_interrupt = 0 } }
+unfolding written placed stream_written
+write_stop f out = rw out refl
+
+stop_keeps : (f : Fields) (out : Bool) → is_out_of_reset f.global ≡ out → KeepsStream f (written f 0xA0 One 0)
+stop_keeps f true is = subst (KeepsStream f) (sym (write_stop f is)) (record { tag = refl; format = refl; still = not_then (is_running f.output) })
+stop_keeps f false is = same_output f (written f 0xA0 One 0) (ap (λ (g : Fields). g.output) (ignored f 0xA0 One 0 is (λ e. cc)))
+
+written_keeps : (f : Fields) (at value : ℕ) (width : Width) → at / 4 ≢ 2 → IsBesideStreams at ⊎ IsStatusOrStop at width value → KeepsStream f (written f at width value)
+written_keeps f at value width other (inl beside) = same_output f (written f at width value) (leaves-streams f at width value other beside).output
+written_keeps f at value width other (inr (one, inl input)) =
+    subst (λ (at : ℕ). KeepsStream f (written f at width value)) (sym input) (same_output f (written f 0x83 width value) (changes-input f 0x83 width value (omega arith) (omega arith)).output)
+written_keeps f at value width other (inr (one, inr (inl output))) =
+    subst (λ (at : ℕ). KeepsStream f (written f at width value)) (sym output)
+    (subst (λ (w : Width). KeepsStream f (written f 0xA3 w value)) (sym one)
+    (let status = status-output f value in record {
+      tag = ap (λ (d : Descriptor). d.tag) status;
+      format = ap (λ (d : Descriptor). d.format) status;
+      still = same_run f.output (written f 0xA3 One value).output (ap (λ (d : Descriptor). d.run) status);
+    }))
+written_keeps f at value width other (inr (one, inr (inr (control, none)))) =
+    subst (λ (at : ℕ). KeepsStream f (written f at width value)) (sym control)
+    (subst (λ (w : Width). KeepsStream f (written f 0xA0 w value)) (sym one)
+    (subst (λ (v : ℕ). KeepsStream f (written f 0xA0 One v)) (sym none) (stop_keeps f (is_out_of_reset f.global) refl)))
+
+-- ---- CORB's pointers
+
+-- both pointers are the same
+pub record KeepsPointers (old new : Fields) : Type 0 where
+  pub read : new.global.corb_read_pointer ≡ old.global.corb_read_pointer
+  pub write : new.global.corb_write_pointer ≡ old.global.corb_write_pointer
+
+global_pointers : (shape : Shape) (at : ℕ) (w : Width) (v : ℕ) (g : Global) → (18 == at / 4) ≡ false
+    → ((global_written shape (access_of at w v) g).corb_read_pointer ≡ g.corb_read_pointer) × ((global_written shape (access_of at w v) g).corb_write_pointer ≡ g.corb_write_pointer)
+unfolding global_written
+global_pointers shape at w v g elsewhere = (rw elsewhere refl, rw elsewhere refl)
+
+global_reset : (shape : Shape) (at : ℕ) (w : Width) (v : ℕ) (g : Global) → (2 == at / 4) ≡ false → (global_written shape (access_of at w v) g).controller_reset ≡ g.controller_reset
+unfolding global_written
+global_reset shape at w v g elsewhere = rw elsewhere refl
+
+with_pointers : (f : Fields) (g : Global) (out : Bool) → out ≡ true → (g.corb_read_pointer ≡ f.global.corb_read_pointer) × (g.corb_write_pointer ≡ f.global.corb_write_pointer)
+    → KeepsPointers f (if out then record f { global = g } else reset_fields f.shape g.state_status)
+with_pointers f g true is same = record { read = same.0; write = same.1 }
+with_pointers f g false is same = cc
+
+placed_pointers : (f : Fields) (at : ℕ) (w : Width) (v : ℕ) → at / 4 ≢ 2 → at / 4 ≢ 18 → is_out_of_reset f.global ≡ true → (low : Bool) → nat_lt at 0x80 ≡ low → KeepsPointers f (placed f at w v)
+unfolding placed
+placed_pointers f at w v control corb out true is =
+    let same = global_pointers f.shape at w v f.global (ne_eqb 18 (at / 4) (λ e. corb (sym e))) in
+    let still = ap (λ n. n == 1) (global_reset f.shape at w v f.global (ne_eqb 2 (at / 4) (λ e. control (sym e)))) ∙ out in
+    rw is (with_pointers f (global_written f.shape (access_of at w v) f.global) _ still same)
+placed_pointers f at w v control corb out false is = rw is (beyond f (stream_written (access_of (at - 0x80) w v) f.input) (stream_written (access_of (at - 0xA0) w v) f.output) (nat_lt at 0xA0) (nat_lt at 0xC0)) where
+  beyond : (f : Fields) (input output : Descriptor) (a b : Bool) → KeepsPointers f (if a then record f { input = input } else (if b then record f { output = output } else f))
+  beyond f input output true b = record { read = refl; write = refl }
+  beyond f input output false true = record { read = refl; write = refl }
+  beyond f input output false false = record { read = refl; write = refl }
+
+taken_or : (f new : Fields) (taken : Bool) → KeepsPointers f new → KeepsPointers f (if taken then new else f)
+taken_or f new true keeps = keeps
+taken_or f new false keeps = record { read = refl; write = refl }
+
+pub written_pointers : (f : Fields) (at : ℕ) (w : Width) (v : ℕ) → at / 4 ≢ 2 → at / 4 ≢ 18 → (out : Bool) → is_out_of_reset f.global ≡ out → KeepsPointers f (written f at w v)
+unfolding written
+written_pointers f at w v control corb true is = taken_or f (placed f at w v) (is_taken f at w) (placed_pointers f at w v control corb is (nat_lt at 0x80) refl)
+written_pointers f at w v control corb false is = subst (KeepsPointers f) (sym (ignored f at w v is control)) (record { read = refl; write = refl })
+
+pub not_pointers : (at : ℕ) → (at < 0x40) ⊎ (0x50 ≤ at) → at / 4 ≢ 18
+not_pointers at (inl low) is = absurd (omega (arith, low, is))
+not_pointers at (inr high) is = absurd (omega (arith, high, is))
+
+module _ (codecs : List CodecState) (tag word : ℕ) (layout : Layout) (from : ℕ) (known : layout_of word ≡ Some layout) where
+  abbrev Holds : World → Type 0
+  Holds = Steady codecs tag word (block_size layout) from
+
+  write_kept : (world : World) (at value : ℕ) (width : Width) → LeavesSteady (Write at width value) → Holds world → Holds (after_write at width value world)
+  write_kept world at value width (beside, streams) steady =
+      let plain = plain_write world at value width (keeps-reset world.registers at width value beside.control) (keeps-left world.registers at width value beside.control) in
+      let pointers = written_pointers world.registers at width value beside.control (not_pointers at beside.corb) (is_out_of_reset world.registers.global) refl in
+      let keeps = written_keeps world.registers at value width beside.control streams in
+      record {
+        settings = ap (λ (w : World). settings_of w.codecs) plain ∙ steady.settings;
+        idle = ap (λ (w : World). w.registers.global.corb_read_pointer) plain ∙ pointers.read ∙ steady.idle ∙ sym (ap (λ (w : World). w.registers.global.corb_write_pointer) plain ∙ pointers.write);
+        tag_is = ap (λ (w : World). w.registers.output.tag) plain ∙ keeps.tag ∙ steady.tag_is;
+        word_is = ap (λ (w : World). w.registers.output.format) plain ∙ keeps.format ∙ steady.word_is;
+        begun = subst (λ (w : World). from ≤ length w.carried) (sym plain) steady.begun;
+        frames = subst (λ (w : World). All (IsSteadyFrame codecs tag word (block_size layout)) (drop from w.carried)) (sym plain) steady.frames;
+      }
+
+  event_kept : (event : Event) (world : World) → LeavesSteady event → Holds world → Holds (happens world event)
+  event_kept (Stepped step) world leaves steady = kept_step Holds (steady_kept codecs tag word layout from known) step world steady
+  event_kept Begin world leaves steady = steady
+  event_kept End world leaves steady = steady
+  event_kept (Read at width value) world leaves steady = steady
+  event_kept (Write at width value) world leaves steady = write_kept world at value width leaves steady
+  event_kept (DmaRead at bytes) world leaves steady = steady
+  event_kept (DmaWrite at bytes) world leaves steady = steady
+
+  pub events_steady : (events : List Event) (world : World) → All LeavesSteady events → Holds world → Holds (after events world)
+  events_steady [] world all steady = steady
+  events_steady (event ∷ events) world all steady =
+      events_steady events (happens world event) (All-tail LeavesSteady event events all) (event_kept event world (All-head LeavesSteady event events all) steady)
+
+-- ---- what was sent
+
+module _ (from : ℕ) where
+  sent_kept : (event : Event) (world : World) → LeavesSteady event → HasSent from world → HasSent from (happens world event)
+  sent_kept (Stepped step) world leaves sent = kept_step (HasSent from) (keeps_sent from) step world sent
+  sent_kept Begin world leaves sent = sent
+  sent_kept End world leaves sent = sent
+  sent_kept (Read at width value) world leaves sent = sent
+  sent_kept (Write at width value) world (beside, streams) sent =
+      write_keeps_order world at value width from (written_keeps world.registers at value width beside.control streams).still sent
+  sent_kept (DmaRead at bytes) world leaves sent = sent
+  sent_kept (DmaWrite at bytes) world leaves sent = sent
+
+  pub events_sent : (events : List Event) (world : World) → All LeavesSteady events → HasSent from world → HasSent from (after events world)
+  events_sent [] world all sent = sent
+  events_sent (event ∷ events) world all sent =
+      events_sent events (happens world event) (All-tail LeavesSteady event events all) (sent_kept event world (All-head LeavesSteady event events all) sent)

@@ -1,0 +1,273 @@
+-- What steps of streams, and accesses beside GCTL, leave of the world.
+use Rattle.std.proofs.Common.{◌≡◌, ◌≢◌, ◌≤◌, ℕ, zero, suc, ◌+◌, ◌*◌, ◌/◌, ◌%◌, ◌^◌, ◌==◌, Bool, true, false, List, refl, sym, ap, subst, ◌∙◌, arith, if◌then◌else◌}
+use Rattle.std.specs.Prelude.{All, nat_lt}
+use Rattle.std.proofs.lemmas.Bool.{ne_eqb}
+use Rattle.hda_registers.specs.declared.shapes.Width.{Width}
+use Rattle.hda_registers.specs.declared.shapes.Shape.{Shape}
+use Rattle.hda_registers.specs.Fields.{Fields, Global, reset_fields, is_out_of_reset}
+use Rattle.hda_registers.specs.Access.{access_of, global_written, placed, written, is_taken}
+use Rattle.hda_registers.proofs.Callers.{keeps-reset, keeps-left}
+use Rattle.world_streams.specs.Output.{frame_of}
+use Rattle.world_steps.specs.declared.Step.{Step}
+use Rattle.world_steps.specs.declared.Step.TheVariants as step
+use Rattle.schedule_reader.specs.Counts.{step_frames}
+use Rattle.hda_world.specs.Worlds.{World, output_of}
+use Rattle.hda_world.specs.Steps.{after_step, frame_step, output_fetched, output_framed, passed, times}
+use Rattle.hda_world.specs.Events.{Event, Stepped, Begin, End, Read, Write, DmaRead, DmaWrite, IsNoStep, happens, after_write, registers_written}
+use Rattle.hda_world.proofs.Callers.{passed_global, plain_write, kept_step}
+use Rattle.driver_progress.specs.Beginning.{KeepsTime}
+use Rattle.driver_progress.proofs.StretchCallers.{keeps_time}
+use Rattle.laws_serving.specs.ServingSchedules.{IsOfStreams}
+use Rattle.laws_serving.proofs.Rows.{CalmRow, kept_row}
+
+-- ---- the codecs and what waits
+
+-- all stays that a command and its answer pass
+pub record SameLink (old new : World) : Type 0 where
+  pub codecs : new.codecs ≡ old.codecs
+  pub waiting : new.waiting ≡ old.waiting
+  pub commands : new.commands ≡ old.commands
+  pub written : new.written ≡ old.written
+
+pub link_same : (world : World) → SameLink world world
+link_same world = record { codecs = refl; waiting = refl; commands = refl; written = refl }
+
+pub link_then : (old middle new : World) → SameLink old middle → SameLink middle new → SameLink old new
+link_then old middle new first second =
+    record { codecs = second.codecs ∙ first.codecs; waiting = second.waiting ∙ first.waiting; commands = second.commands ∙ first.commands; written = second.written ∙ first.written }
+
+frame_link : (b : Bool) (world : World) → SameLink world (if b then output_framed (frame_of (output_of world)) (passed world) else world)
+frame_link true world = record { codecs = refl; waiting = refl; commands = refl; written = refl }
+frame_link false world = link_same world
+
+frames_link : (count : ℕ) (world : World) → SameLink world (times count frame_step world)
+frames_link zero world = link_same world
+frames_link (suc count) world =
+    link_then world (frame_step world) (times count frame_step (frame_step world)) (frame_link (is_out_of_reset world.registers.global) world) (frames_link count (frame_step world))
+
+fetch_link : (b : Bool) (most : ℕ) (world : World) → SameLink world (if b then output_fetched most world else world)
+fetch_link true most world = record { codecs = refl; waiting = refl; commands = refl; written = refl }
+fetch_link false most world = link_same world
+
+pub step_link : (one : Step) (world : World) → IsOfStreams one → SameLink world (after_step one world)
+step_link step.Corb world is = absurd is
+step_link (step.Answer codec) world is = absurd is
+step_link (step.Lose codec) world is = absurd is
+step_link step.Rirb world is = absurd is
+step_link (step.Fetch stream most) world is = fetch_link _ most world
+step_link (step.Link count) world is = frames_link count world
+step_link (step.Plug codec nid) world is = absurd is
+step_link (step.Unplug codec nid) world is = absurd is
+
+-- ---- the registers beside the streams
+
+-- all but the wall clock and the state change status
+abbrev pub SameRegisters : (old new : Global) → Type 0
+SameRegisters old new = new ≡ record old { wall_clock = new.wall_clock; state_status = new.state_status }
+
+pub record SameControl (old new : World) : Type 0 where
+  pub global : SameRegisters old.registers.global new.registers.global
+  pub shape : new.registers.shape ≡ old.registers.shape
+
+pub control_same : (world : World) → SameControl world world
+control_same world = record { global = refl; shape = refl }
+
+registers_then : (old middle new : Global) → SameRegisters old middle → SameRegisters middle new → SameRegisters old new
+registers_then old middle new first second = second ∙ ap (λ (global : Global). record global { wall_clock = new.wall_clock; state_status = new.state_status }) first
+
+pub control_then : (old middle new : World) → SameControl old middle → SameControl middle new → SameControl old new
+control_then old middle new first second =
+    record { global = registers_then old.registers.global middle.registers.global new.registers.global first.global second.global; shape = second.shape ∙ first.shape }
+
+passed_same : (world : World) → SameRegisters world.registers.global (passed world).registers.global
+passed_same world =
+    let same = passed_global world in
+    same ∙ ap (λ (clock : ℕ). record world.registers.global { wall_clock = clock; state_status = (passed world).registers.global.state_status }) (sym (ap (λ (global : Global). global.wall_clock) same))
+
+frame_control : (b : Bool) (world : World) → SameControl world (if b then output_framed (frame_of (output_of world)) (passed world) else world)
+frame_control true world = record { global = passed_same world; shape = refl }
+frame_control false world = control_same world
+
+frames_control : (count : ℕ) (world : World) → SameControl world (times count frame_step world)
+frames_control zero world = control_same world
+frames_control (suc count) world =
+    control_then world (frame_step world) (times count frame_step (frame_step world)) (frame_control (is_out_of_reset world.registers.global) world) (frames_control count (frame_step world))
+
+fetch_control : (b : Bool) (most : ℕ) (world : World) → SameControl world (if b then output_fetched most world else world)
+fetch_control true most world = record { global = refl; shape = refl }
+fetch_control false most world = control_same world
+
+pub step_control : (one : Step) (world : World) → IsOfStreams one → SameControl world (after_step one world)
+step_control step.Corb world is = absurd is
+step_control (step.Answer codec) world is = absurd is
+step_control (step.Lose codec) world is = absurd is
+step_control step.Rirb world is = absurd is
+step_control (step.Fetch stream most) world is = fetch_control _ most world
+step_control (step.Link count) world is = frames_control count world
+step_control (step.Plug codec nid) world is = absurd is
+step_control (step.Unplug codec nid) world is = absurd is
+
+-- ---- writes beside GCTL
+
+abbrev pub IsBesideControl : Event → Type 0
+IsBesideControl (Stepped step) = Unit {0}
+IsBesideControl Begin = Unit {0}
+IsBesideControl End = Unit {0}
+IsBesideControl (Read at width value) = Unit {0}
+IsBesideControl (Write at width value) = at / 4 ≢ 2
+IsBesideControl (DmaRead at bytes) = Unit {0}
+IsBesideControl (DmaWrite at bytes) = Unit {0}
+
+pub write_is : (world : World) (at value : ℕ) (width : Width) → at / 4 ≢ 2 → after_write at width value world ≡ registers_written (written world.registers at width value) world
+write_is world at value width apart = plain_write world at value width (keeps-reset world.registers at width value apart) (keeps-left world.registers at width value apart)
+
+write_link : (world : World) (at value : ℕ) (width : Width) → at / 4 ≢ 2 → SameLink world (after_write at width value world)
+write_link world at value width apart =
+    subst (SameLink world) (sym (write_is world at value width apart)) (record { codecs = refl; waiting = refl; commands = refl; written = refl })
+
+pub event_link : (event : Event) (world : World) → IsBesideControl event → IsNoStep event → SameLink world (happens world event)
+event_link (Stepped step) world is none = absurd none
+event_link Begin world is none = link_same world
+event_link End world is none = link_same world
+event_link (Read at width value) world is none = link_same world
+event_link (Write at width value) world is none = write_link world at value width is
+event_link (DmaRead at bytes) world is none = link_same world
+event_link (DmaWrite at bytes) world is none = record { codecs = refl; waiting = refl; commands = refl; written = refl }
+
+-- ---- time
+
+-- CRST and the wall clock are the same
+pub record SameTime (old new : Global) : Type 0 where
+  pub reset : new.controller_reset ≡ old.controller_reset
+  pub clock : new.wall_clock ≡ old.wall_clock
+
+either_way : (test : Bool) (n : ℕ) → (if test then n else n) ≡ n
+either_way true n = refl
+either_way false n = refl
+
+time_kept : (shape : Shape) (at : ℕ) (w : Width) (v : ℕ) (g : Global) → (2 == at / 4) ≡ false → SameTime g (global_written shape (access_of at w v) g)
+unfolding global_written
+time_kept shape at w v g elsewhere = record { reset = rw elsewhere refl; clock = either_way (12 == at / 4) g.wall_clock }
+
+with_time : (f : Fields) (g : Global) (out : Bool) → out ≡ true → SameTime f.global g → SameTime f.global (if out then record f { global = g } else reset_fields f.shape g.state_status).global
+with_time f g true is keeps = keeps
+with_time f g false is keeps = cc
+
+in_stream : (f : Fields) (input output : Bool) (one other : Fields) → SameTime f.global one.global → SameTime f.global other.global → SameTime f.global (if input then one else (if output then other else f)).global
+in_stream f true output one other first second = first
+in_stream f false true one other first second = second
+in_stream f false false one other first second = record { reset = refl; clock = refl }
+
+same_time : (f : Fields) → SameTime f.global f.global
+same_time f = record { reset = refl; clock = refl }
+
+placed_time : (f : Fields) (at : ℕ) (w : Width) (v : ℕ) → at / 4 ≢ 2 → is_out_of_reset f.global ≡ true → SameTime f.global (placed f at w v).global
+unfolding placed
+placed_time f at w v other out = by (nat_lt at 0x80) refl
+  where
+    keeps : SameTime f.global (global_written f.shape (access_of at w v) f.global)
+    keeps = time_kept f.shape at w v f.global (ne_eqb 2 (at / 4) (λ e. other (sym e)))
+
+    by : (b : Bool) → nat_lt at 0x80 ≡ b → SameTime f.global (placed f at w v).global
+    by true below = rw below (with_time f (global_written f.shape (access_of at w v) f.global) _ (ap (λ n. n == 1) keeps.reset ∙ out) keeps)
+    by false above = rw above (in_stream f (nat_lt at 0xA0) (nat_lt at 0xC0) _ _ (same_time f) (same_time f))
+
+taken_or : (f new : Fields) (taken : Bool) → SameTime f.global new.global → SameTime f.global (if taken then new else f).global
+taken_or f new true keeps = keeps
+taken_or f new false keeps = same_time f
+
+pub written_time : (f : Fields) (at : ℕ) (w : Width) (v : ℕ) → at / 4 ≢ 2 → is_out_of_reset f.global ≡ true → SameTime f.global (written f at w v).global
+unfolding written
+written_time f at w v other out = taken_or f (placed f at w v) (is_taken f at w) (placed_time f at w v other out)
+
+pub event_time : (event : Event) (world : World) → IsBesideControl event → IsNoStep event → is_out_of_reset world.registers.global ≡ true → SameTime world.registers.global (happens world event).registers.global
+event_time (Stepped step) world is none out = absurd none
+event_time Begin world is none out = same_time world.registers
+event_time End world is none out = same_time world.registers
+event_time (Read at width value) world is none out = same_time world.registers
+event_time (Write at width value) world is none out =
+    subst (λ (now : World). SameTime world.registers.global now.registers.global) (sym (write_is world at value width is)) (written_time world.registers at width value is out)
+event_time (DmaRead at bytes) world is none out = same_time world.registers
+event_time (DmaWrite at bytes) world is none out = same_time world.registers
+
+pub event_frames_stay : (event : Event) (world : World) → IsBesideControl event → IsNoStep event → (happens world event).frames ≡ world.frames
+event_frames_stay (Stepped step) world is none = absurd none
+event_frames_stay Begin world is none = refl
+event_frames_stay End world is none = refl
+event_frames_stay (Read at width value) world is none = refl
+event_frames_stay (Write at width value) world is none = ap (λ (now : World). now.frames) (write_is world at value width is)
+event_frames_stay (DmaRead at bytes) world is none = refl
+event_frames_stay (DmaWrite at bytes) world is none = refl
+
+-- ---- link frames
+
+if_frames : (b : Bool) (one other : World) (frames : ℕ) → one.frames ≡ frames → other.frames ≡ frames → (if b then one else other).frames ≡ frames
+if_frames true one other frames first second = first
+if_frames false one other frames first second = second
+
+if_out : (b : Bool) (one other : World) → is_out_of_reset one.registers.global ≡ true → is_out_of_reset other.registers.global ≡ true → is_out_of_reset (if b then one else other).registers.global ≡ true
+if_out true one other first second = first
+if_out false one other first second = second
+
+out_kept : (old new : Global) → SameRegisters old new → is_out_of_reset old ≡ true → is_out_of_reset new ≡ true
+out_kept old new same out = ap (λ (global : Global). is_out_of_reset global) same ∙ out
+
+pub step_out : (one : Step) (world : World) → IsOfStreams one → is_out_of_reset world.registers.global ≡ true → is_out_of_reset (after_step one world).registers.global ≡ true
+step_out one world is out = out_kept world.registers.global (after_step one world).registers.global (step_control one world is).global out
+
+frame_counted : (b : Bool) (world : World) → b ≡ true → (if b then output_framed (frame_of (output_of world)) (passed world) else world).frames ≡ world.frames + 1
+frame_counted true world is = refl
+frame_counted false world is = cc
+
+frames_counted : (count : ℕ) (world : World) → is_out_of_reset world.registers.global ≡ true → (times count frame_step world).frames ≡ world.frames + count
+frames_counted zero world out = omega arith
+frames_counted (suc count) world out =
+    let one : (frame_step world).frames ≡ world.frames + 1 = frame_counted (is_out_of_reset world.registers.global) world out in
+    let rest = frames_counted count (frame_step world) (out_kept world.registers.global (frame_step world).registers.global (frame_control (is_out_of_reset world.registers.global) world).global out) in
+    omega (arith, one, rest)
+
+fetch_counted : (b : Bool) (most : ℕ) (world : World) → (if b then output_fetched most world else world).frames ≡ world.frames + 0
+fetch_counted true most world = omega arith
+fetch_counted false most world = omega arith
+
+pub step_counted : (one : Step) (world : World) → IsOfStreams one → is_out_of_reset world.registers.global ≡ true → (after_step one world).frames ≡ world.frames + step_frames one
+step_counted step.Corb world is out = absurd is
+step_counted (step.Answer codec) world is out = absurd is
+step_counted (step.Lose codec) world is out = absurd is
+step_counted step.Rirb world is out = absurd is
+step_counted (step.Fetch stream most) world is out = fetch_counted _ most world
+step_counted (step.Link count) world is out = frames_counted count world out
+step_counted (step.Plug codec nid) world is out = absurd is
+step_counted (step.Unplug codec nid) world is out = absurd is
+
+-- ---- the wall clock
+
+-- the controller is out of reset, the wall clock goes by the link frames, and so many passed at least
+pub record IsTimed (least : ℕ) (world : World) : Type 0 where
+  pub out : is_out_of_reset world.registers.global ≡ true
+  pub time : KeepsTime world
+  pub later : least ≤ world.frames
+
+pub timed_step : (least : ℕ) (one : Step) (world : World) → IsOfStreams one → IsTimed least world → IsTimed least (after_step one world)
+timed_step least one world is timed = record {
+  out = step_out one world is timed.out;
+  time = kept_step KeepsTime keeps_time one world timed.time;
+  later = let more = step_counted one world is timed.out in let later = timed.later in omega (arith, more, later);
+}
+
+pub timed_access : (least : ℕ) (event : Event) (world : World) → IsBesideControl event → IsNoStep event → IsTimed least world → IsTimed least (happens world event)
+timed_access least event world is none timed =
+    let same = event_time event world is none timed.out in
+    let frames = event_frames_stay event world is none in record {
+      out = ap (λ (n : ℕ). n == 1) same.reset ∙ timed.out;
+      time = same.clock ∙ timed.time ∙ ap (λ (frames : ℕ). 500 * frames % 2 ^ 32) (sym frames);
+      later = let later = timed.later in omega (arith, frames, later);
+    }
+
+-- over a row of accesses beside GCTL
+abbrev pub IsBeside : Event → Type 0
+IsBeside event = IsBesideControl event × IsNoStep event
+
+pub timed_row : (accesses : List Event) (old new : World) (least : ℕ) → All IsBeside accesses → CalmRow accesses old new → IsTimed least old → IsTimed least new
+timed_row accesses old new least beside row timed =
+    kept_row (IsTimed least) IsBeside (timed_step least) (λ event world is honest timed. timed_access least event world is.0 is.1 timed) accesses old new beside row timed

@@ -1,0 +1,389 @@
+-- The last run stops the stream, and pins heard the line.
+use Rattle.std.proofs.Common.{◌≡◌, inl, inr, ◌≤◌, ◌+◌, ◌-◌, ◌*◌, ◌/◌, ◌==◌, ◌&&◌, ◌||◌, not, ℕ, min, Bool, true, false, if◌then◌else◌, List, [], ◌∷◌, ◌++◌, append_assoc, length, map, drop, Some, refl, sym, ap, subst, ◌∙◌, arith, rules}
+use Rattle.std.specs.Prelude.{All, nat_lt}
+use Rattle.std.specs.List.{range_with_len}
+use Rattle.std.proofs.Math.Nat.{mod-eq_of_lt, div-mul-le_self}
+use Rattle.std.proofs.lemmas.Nat.{le-div}
+use Rattle.std.proofs.lemmas.List.Elements.{All-from_recursion}
+use Rattle.codec_graph.specs.CodecStates.{CodecState}
+use Rattle.hda_registers.specs.declared.shapes.Width.TheVariants.{One, Four}
+use Rattle.hda_registers.specs.declared.places.TheConstants.{WALCLK}
+use Rattle.hda_registers.specs.Access.{value_at}
+use Rattle.hda_registers.specs.Fields.{Fields}
+use Rattle.hda_registers.proofs.Callers.{read-wall_clock}
+use Rattle.stream_format.specs.Layouts.{Layout, layout, layout_of}
+use Rattle.stream_format.specs.Words.{format_word}
+use Rattle.stream_format.proofs.Callers.{read_back}
+use Rattle.world_streams.proofs.Callers.{some_block}
+use Rattle.codec_sound.specs.declared.signals.Signal.TheVariants.{Pair, Silence}
+use Rattle.codec_sound.specs.declared.heard.Heard.{Heard}
+use Rattle.codec_sound.specs.HeardLists.{block_size, signal_with, heard}
+use Rattle.hda_world.specs.Worlds.{World, CarriedFrame, codec_at}
+use Rattle.hda_world.specs.Events.{Event, Read, Write, happens, AreHonest, IsNoStep}
+use Rattle.hda_world.specs.Streaming.{HasSent}
+use Rattle.hda_world.specs.Tellings.{Telling, world_of, Went, Makes}
+use Rattle.hda_world.proofs.Callers.{world_of-went, went_both, Weaving, woven}
+use Rattle.command_engine.specs.Polling.{poll_accesses}
+use Rattle.period_writer.specs.declared.course.Course.{Course}
+use Rattle.period_writer.specs.declared.course.Ran.{Ran}
+use Rattle.period_writer.specs.declared.course.Ran.TheVariants as ran
+use Rattle.period_writer.specs.declared.registers.TheConstants.{CONTROL}
+use Rattle.period_writer.specs.Rings.{period_bytes, whole_blocks}
+use Rattle.period_writer.specs.Courses.{IsCourse}
+use Rattle.period_writer.specs.Runs.{RunFacts, Tally, Measures, measures, run_cut, run_reach, run_room, run_start, run_sound, run_sure, takes_back, is_late, is_late_since, is_slow, tally_if, tally_after}
+use Rattle.period_writer.specs.Lines.{IsLine, line_of, sound_and_silence}
+use Rattle.period_writer.specs.Places.{line_writes, piece_write, touched}
+use Rattle.period_writer.specs.Playing.{run_bytes, writes_by, turn_accesses, finish_accesses}
+use Rattle.period_writer.specs.Standing.{Ring, size_of, limit_in}
+use Rattle.period_writer.specs.Owning.{IsPlaying}
+use Rattle.period_writer.specs.Beside.{LeavesStopped}
+use Rattle.period_writer.specs.Writers.{WriterState, tally_of, ring_of}
+use Rattle.period_writer.specs.Outcomes.{HasNotWrapped, HasDrained, WasStopped, EndsLast, FinishTells, allowed_in}
+use Rattle.driver_progress.specs.Shutting.{shut_accesses}
+use Rattle.driver_bring_up.specs.declared.bringing.BringUp.{BringUp}
+use Rattle.laws_hearing.specs.Plays.{Plays, PlaysBelow, WasSent, IsSilent, without_holes}
+use Rattle.laws_hearing.specs.Steady.{Steady}
+use Rattle.audio_driver.specs.States.{is_open, was_late, IsLeft}
+use Rattle.audio_driver.specs.Sounding.{ShutsAlone, StopsSound, EndTells}
+use Rattle.laws_stream.specs.Lives.{Along, IsStopped, IsGoing, HasStopped, Lives}
+use Rattle.laws_stream.specs.Sounding.{StreamIs, IsHeardBy, Sounds}
+use Rattle.laws_stream.specs.Ending.{HeardAs, HearTheLine}
+use Rattle.laws_stream.proofs.Rows.{woven_all, woven_alone, carried_alone, all_front, all_back, went_same}
+use Rattle.laws_stream.proofs.Lives.{Along-end, Along-front, stays_stopped}
+use Rattle.laws_stream.proofs.Beside.{Laws, heard_row, drained_stopped, stopped_along}
+use Rattle.laws_stream.proofs.Runs.{finish_steady, finish_is, stopped_by}
+use Rattle.laws_stream.proofs.Calls.{row_sounds, poll_beside, open_plays}
+
+not_true : false ≡ true → ⊥
+not_true is = cc
+
+-- ---- the laws of what is heard
+
+pub record HearLaws : Type 0 where
+  pub playing : (codecs : List CodecState) (tag word : ℕ) (layout : Layout) (from : ℕ) (world : World) (address pin pair : ℕ) (ring : Ring) (pcm : List ℕ) (tally : Tally) → layout_of word ≡ Some layout
+      → Steady codecs tag word (block_size layout) from world → HasSent from world → signal_with (codec_at address codecs) tag word (Some layout) pin ≡ Pair pair → IsPlaying ring pcm tally world
+      → 500 * world.frames ≤ tally.course.from + 500 * limit_in ring → Plays layout pair (line_of tally pcm) false (heard address pin (drop from world.carried))
+  pub drained : (codecs : List CodecState) (tag word : ℕ) (layout : Layout) (from : ℕ) (world : World) (address pin pair : ℕ) (ring : Ring) (pcm : List ℕ) (tally : Tally) → layout_of word ≡ Some layout
+      → Steady codecs tag word (block_size layout) from world → HasSent from world → signal_with (codec_at address codecs) tag word (Some layout) pin ≡ Pair pair → HasDrained ring pcm tally world
+      → Plays layout pair (line_of tally pcm) true (heard address pin (drop from world.carried))
+  pub stopped : (codecs : List CodecState) (tag word : ℕ) (layout : Layout) (from : ℕ) (world : World) (address pin pair : ℕ) (ring : Ring) (pcm : List ℕ) (tally : Tally) → layout_of word ≡ Some layout
+      → Steady codecs tag word (block_size layout) from world → HasSent from world → signal_with (codec_at address codecs) tag word (Some layout) pin ≡ Pair pair → WasStopped ring pcm tally world
+      → PlaysBelow layout pair (line_of tally pcm) tally.course.sure (heard address pin (drop from world.carried))
+  pub count : (codecs : List CodecState) (tag word : ℕ) (layout : Layout) (from : ℕ) (world : World) (address pin pair : ℕ) → layout_of word ≡ Some layout → Steady codecs tag word (block_size layout) from world
+      → HasSent from world → signal_with (codec_at address codecs) tag word (Some layout) pin ≡ Pair pair → length (without_holes (heard address pin (drop from world.carried))) ≡ world.output.left / block_size layout
+  pub longer : (layout : Layout) (pair : ℕ) (line more : List ℕ) (list : List Heard) → Plays layout pair line false list → Plays layout pair (line ++ more) false list
+  pub sent_alone : (codecs : List CodecState) (tag word : ℕ) (layout : Layout) (from : ℕ) (world : World) (address pin pair : ℕ) → layout_of word ≡ Some layout → Steady codecs tag word (block_size layout) from world
+      → signal_with (codec_at address codecs) tag word (Some layout) pin ≡ Pair pair → All WasSent (heard address pin (drop from world.carried))
+  pub silent : (codecs : List CodecState) (tag word : ℕ) (layout : Layout) (from : ℕ) (world : World) (address pin : ℕ) → layout_of word ≡ Some layout → Steady codecs tag word (block_size layout) from world
+      → signal_with (codec_at address codecs) tag word (Some layout) pin ≡ Silence → All IsSilent (heard address pin (drop from world.carried))
+  pub grows : (m : Measures) (runs : ℕ) (tally : Tally) (facts : RunFacts) (pcm : List ℕ) → IsCourse m.ring runs tally.course → IsLine tally
+      → takes_back m tally.course facts ≡ false → line_of (tally_if false m tally facts) pcm ≡ line_of tally pcm ++ run_bytes m tally.course facts (drop tally.course.used pcm)
+
+-- ---- the end of a stream that was stopped
+
+shut_leaves : All LeavesStopped shut_accesses
+shut_leaves = All-from_recursion LeavesStopped shut_accesses (inl (inl (omega arith)), (inl (inl (omega arith)), (inl (inl (omega arith)), tt)))
+
+shut_stopped : (ring : Ring) (pcm : List ℕ) (tally : Tally) (old new : Telling) → Makes shut_accesses old new → WasStopped ring pcm tally (world_of old) → HasStopped old → HasStopped new
+shut_stopped ring pcm tally old new makes was lives =
+    let weaving = woven makes in
+    stays_stopped old new weaving.events weaving.went lives
+    (stopped_along ring pcm tally weaving.events (world_of old) (woven_all LeavesStopped (λ step. tt {0}) shut_accesses weaving.events weaving.woven shut_leaves) was)
+
+over_stopped : (was : Ran) (ring : Ring) (pcm : List ℕ) (tally : Tally) (world : World) → is_open was ≡ false → StreamIs was ring pcm tally world → WasStopped ring pcm tally world
+over_stopped ran.Playing ring pcm tally world over stream = absurd (not_true (sym over))
+over_stopped ran.Drained ring pcm tally world over stream = drained_stopped ring pcm tally world stream
+over_stopped (ran.Late from to limit) ring pcm tally world over stream = stream
+
+-- ---- what pins heard
+
+abbrev is_drained : Ran → Bool
+is_drained ran.Playing = false
+is_drained ran.Drained = true
+is_drained (ran.Late from to limit) = false
+
+never_drained : (was : Ran) → is_drained was ≡ false → was ≡ ran.Drained → ⊥
+never_drained was not same = not_true (sym not ∙ ap is_drained same)
+
+more_blocks : (some many block : ℕ) → 1 ≤ block → some ≤ many → some / block ≤ many / block
+more_blocks some many block whole more = let fewer = div-mul-le_self some block in le-div (some / block) many block whole (omega (arith, fewer, more))
+
+-- where the line has drained the link stood at what was sent at most
+over_past : (was : Ran) (ring : Ring) (pcm : List ℕ) (tally : Tally) (world : World) → StreamIs was ring pcm tally world → was ≡ ran.Drained → tally.course.at ≤ world.output.left
+over_past ran.Playing ring pcm tally world stream drained = absurd (never_drained ran.Playing refl drained)
+over_past ran.Drained ring pcm tally world stream drained = stream.sent
+over_past (ran.Late from to limit) ring pcm tally world stream drained = absurd (never_drained (ran.Late from to limit) refl drained)
+
+module _ (laws : HearLaws) (codecs : List CodecState) (ring : Ring) (pcm : List ℕ) (tally : Tally) (world : World) (hears : IsHeardBy codecs ring world) where
+  -- of a stream that was over
+  over_heard : (was : Ran) → is_open was ≡ false → StreamIs was ring pcm tally world → (address pin pair : ℕ)
+      → signal_with (codec_at address codecs) 1 (format_word ring.geometry.format) (Some (layout ring.geometry.format)) pin ≡ Pair pair
+      → HeardAs was (layout ring.geometry.format) pair (line_of tally pcm) tally.course.sure (heard address pin world.carried)
+  over_heard ran.Playing over stream address pin pair is = absurd (not_true (sym over))
+  over_heard ran.Drained over stream address pin pair is =
+      laws.drained codecs 1 (format_word ring.geometry.format) (layout ring.geometry.format) 0 world address pin pair ring pcm tally (read_back ring.geometry.format) hears.steady hears.sent is stream
+  over_heard (ran.Late from to limit) over stream address pin pair is =
+      laws.stopped codecs 1 (format_word ring.geometry.format) (layout ring.geometry.format) 0 world address pin pair ring pcm tally (read_back ring.geometry.format) hears.steady hears.sent is stream
+
+  hear : (carried : List CarriedFrame) → carried ≡ world.carried
+      → ((address pin pair : ℕ) → signal_with (codec_at address codecs) 1 (format_word ring.geometry.format) (Some (layout ring.geometry.format)) pin ≡ Pair pair
+      → HeardAs tally.course.ran (layout ring.geometry.format) pair (line_of tally pcm) tally.course.sure (heard address pin world.carried))
+      → (tally.course.ran ≡ ran.Drained → tally.course.at ≤ world.output.left) → HearTheLine codecs ring.geometry.format pcm tally carried
+  hear carried same plays past = subst (HearTheLine codecs ring.geometry.format pcm tally) (sym same) (record {
+    plays = plays;
+    all_sent = λ drained address pin pair is.
+        subst (λ (count : ℕ). tally.course.at / block_size (layout ring.geometry.format) ≤ count)
+        (sym (laws.count codecs 1 (format_word ring.geometry.format) (layout ring.geometry.format) 0 world address pin pair (read_back ring.geometry.format) hears.steady hears.sent is))
+        (more_blocks tally.course.at world.output.left (block_size (layout ring.geometry.format)) (some_block (format_word ring.geometry.format) (layout ring.geometry.format) (read_back ring.geometry.format)) (past drained));
+    sent_alone = λ address pin pair is. laws.sent_alone codecs 1 (format_word ring.geometry.format) (layout ring.geometry.format) 0 world address pin pair (read_back ring.geometry.format) hears.steady is;
+    silent = λ address pin is. laws.silent codecs 1 (format_word ring.geometry.format) (layout ring.geometry.format) 0 world address pin (read_back ring.geometry.format) hears.steady is;
+  })
+
+-- ---- the last run
+
+ends_stopped : (answer : Ran) (ring : Ring) (pcm : List ℕ) (tally tally' : Tally) (facts : RunFacts) (world : World) → tally' ≡ tally_after (measures ring.geometry) tally facts → answer ≡ tally'.course.ran
+    → EndsLast answer ring pcm tally' world → WasStopped ring pcm tally' world
+ends_stopped ran.Playing ring pcm tally tally' facts world recorded is ends = ends
+ends_stopped ran.Drained ring pcm tally tally' facts world recorded is ends = drained_stopped ring pcm tally' world ends
+ends_stopped (ran.Late from to limit) ring pcm tally tally' facts world recorded is ends = ends
+
+-- a run leaves the stream set going in its tally
+still_going : (late : Bool) (m : Measures) (tally : Tally) (facts : RunFacts) → tally.course.started ≡ true → (tally_if late m tally facts).course.started ≡ true
+still_going true m tally facts is = is
+still_going false m tally facts is = refl
+
+-- the clock that it reads last, where the device makes no step
+row_read : (bytes : ℕ) (periods : List ℕ) (from to : ℕ) (written : List ℕ) (xs : List ℕ) (rest : List Event) (world : World) {A : Type 0}
+    → ((later : World) → later.registers ≡ world.registers → AreHonest rest later → A) → AreHonest (map (piece_write bytes periods from to written) xs ++ rest) world → A
+row_read bytes periods from to written [] rest world goes honest = goes world refl honest
+row_read bytes periods from to written (x ∷ xs) rest world goes honest = row_read bytes periods from to written xs rest (happens world (piece_write bytes periods from to written x)) goes honest.1
+
+clock_read : (bytes : ℕ) (periods : List ℕ) (start sound reach reach' : ℕ) (pcm : List ℕ) (clock : ℕ) (later : List Event) (world : World)
+    → AreHonest (writes_by bytes periods start sound reach reach' pcm ++ (Read WALCLK Four clock ∷ later)) world → clock ≡ value_at world.registers WALCLK Four
+clock_read bytes periods start sound reach reach' pcm clock later world honest =
+    row_read bytes periods start (min reach (start + sound)) _ (range_with_len (start / bytes) (touched bytes start (min reach (start + sound)))) (line_writes bytes periods reach reach' (sound_and_silence (sound - (min reach (start + sound) - start)) (reach' - reach) (drop (min reach (start + sound) - start) pcm)) ++ (Read WALCLK Four clock ∷ later)) world
+    (λ middle same honest. row_read bytes periods reach reach' _ (range_with_len (reach / bytes) (touched bytes reach reach')) (Read WALCLK Four clock ∷ later) middle (λ last same' honest. honest.0 ∙ ap (λ (fields : Fields). value_at fields WALCLK Four) (same' ∙ same)) honest)
+    (subst (λ (events : List Event). AreHonest events world) (append_assoc (line_writes bytes periods start (min reach (start + sound)) (sound_and_silence (min reach (start + sound) - start) (min reach (start + sound) - start) pcm)) (line_writes bytes periods reach reach' (sound_and_silence (sound - (min reach (start + sound) - start)) (reach' - reach) (drop (min reach (start + sound) - start) pcm))) (Read WALCLK Four clock ∷ later)) honest)
+
+or_first : (a b : Bool) → (a || b) ≡ false → a ≡ false
+or_first true b e = cc
+or_first false b e = refl
+
+-- with a budget of 0 nothing is taken back
+no_budget : (m : Measures) (course : Course) (facts : RunFacts) → facts.budget ≡ 0 → takes_back m course facts ≡ false
+no_budget m course facts none = by (nat_lt (run_cut m course facts) course.reach) where
+  least : (block budget n : ℕ) → budget ≡ 0 → whole_blocks block (min budget n) ≡ 0
+  least block budget n e = grind (arith, e)
+
+  silent : (run_sound m course facts == 0) ≡ true
+  silent = ap (λ (n : ℕ). n == 0) (least m.block facts.budget (min (run_room m course facts) facts.left) none)
+
+  by : (below : Bool) → (below && not (run_sound m course facts == 0)) ≡ false
+  by true = ap not silent
+  by false = refl
+
+never_late : (since_first : Bool) (course_from from to limit slack : ℕ) → ran.Playing ≡ (if since_first then ran.Late course_from to limit else ran.Late from to slack) → ⊥
+never_late true course_from from to limit slack is = cc
+never_late false course_from from to limit slack is = cc
+
+playing_late : (late : Bool) (m : Measures) (tally : Tally) (facts : RunFacts) → is_late m tally.course facts ≡ late → ran.Playing ≡ (tally_if late m tally facts).course.ran → is_late m tally.course facts ≡ false
+playing_late true m tally facts is plays = absurd (never_late (is_late_since m tally.course facts) tally.course.from facts.from facts.to m.limit m.slack plays)
+playing_late false m tally facts is plays = is
+
+not_more : (a b : ℕ) → nat_lt a b ≡ false → b ≤ a
+not_more a b e = search (rules, e)
+
+few_frames : (frames clock from limit : ℕ) → clock ≡ 500 * frames → clock - from ≤ 500 * limit → 500 * frames ≤ from + 500 * limit
+few_frames frames clock from limit is few = omega (arith, is, few)
+
+module _ (laws : HearLaws) (codecs : List CodecState) (ring : Ring) (pcm : List ℕ) (tally tally' : Tally) (runs : ℕ) (course : IsCourse (size_of ring) runs tally.course) (begins ends : Telling)
+    (playing : IsPlaying ring pcm tally (world_of begins)) (hears : IsHeardBy codecs ring (world_of begins)) (small : HasNotWrapped (world_of begins))
+    (run : FinishTells ring pcm tally ran.Playing tally' begins ends) (plays : ran.Playing ≡ tally'.course.ran) where
+  abbrev m : Measures
+  m = measures ring.geometry
+
+  in_time : is_late m tally.course run.facts ≡ false
+  in_time = playing_late (is_late m tally.course run.facts) m tally run.facts refl (plays ∙ ap (λ (tally : Tally). tally.course.ran) run.recorded)
+
+  back_none : takes_back m tally.course run.facts ≡ false
+  back_none = no_budget m tally.course run.facts run.budget_is
+
+  line_is : line_of tally' pcm ≡ line_of tally pcm ++ run_bytes m tally.course run.facts (drop tally.course.used pcm)
+  line_is =
+      ap (λ (tally : Tally). line_of tally pcm) (run.recorded ∙ ap (λ (late : Bool). tally_if late m tally run.facts) in_time)
+      ∙ laws.grows m runs tally run.facts pcm course playing.written.line back_none
+
+  -- where the device makes no step
+  module _ (events : List Event) (went : Went begins ends events) (alone : All IsNoStep events) where
+    clock_is : run.facts.to ≡ 500 * (world_of begins).frames
+    clock_is =
+        let weaving = woven run.made in
+        let same : weaving.events ≡ events = went_same begins ends weaving.events events weaving.went went in
+        let made : weaving.events ≡ finish_accesses ring.geometry ring.periods tally.course run.facts (drop tally.course.used pcm) =
+        woven_alone (finish_accesses ring.geometry ring.periods tally.course run.facts (drop tally.course.used pcm)) weaving.events weaving.woven (subst (All IsNoStep) (sym same) alone) in
+        let honest = subst (λ (events : List Event). AreHonest events (world_of begins)) made weaving.went.honest in
+        clock_read (period_bytes ring.geometry.period) ring.periods (run_start m tally.course run.facts) (run_sound m tally.course run.facts) tally.course.reach (run_reach m tally.course run.facts) (drop tally.course.used pcm) run.facts.to (Write CONTROL One 0 ∷ []) (world_of begins) honest.1.1
+        ∙ read-wall_clock (world_of begins).registers ∙ playing.stands.clock_is ∙ mod-eq_of_lt small
+
+    few : 500 * (world_of begins).frames ≤ tally.course.from + 500 * limit_in ring
+    few =
+        let late : nat_lt (500 * m.limit) (run.facts.to - tally.course.from) ≡ false =
+        (let first = or_first (is_late_since m tally.course run.facts) (is_slow m tally.course run.facts) in_time in sym (ap (λ (started : Bool). started && nat_lt (500 * m.limit) (run.facts.to - tally.course.from)) playing.started) ∙ first) in
+        few_frames (world_of begins).frames run.facts.to tally.course.from (limit_in ring) clock_is (not_more (500 * limit_in ring) (run.facts.to - tally.course.from) late)
+
+    playing_heard : (address pin pair : ℕ) → signal_with (codec_at address codecs) 1 (format_word ring.geometry.format) (Some (layout ring.geometry.format)) pin ≡ Pair pair
+        → HeardAs tally'.course.ran (layout ring.geometry.format) pair (line_of tally' pcm) tally'.course.sure (heard address pin (world_of begins).carried)
+    playing_heard address pin pair is =
+        subst (λ (was : Ran). HeardAs was (layout ring.geometry.format) pair (line_of tally' pcm) tally'.course.sure (heard address pin (world_of begins).carried)) plays
+        (subst (λ (line : List ℕ). Plays (layout ring.geometry.format) pair line false (heard address pin (world_of begins).carried)) (sym line_is)
+        (laws.longer (layout ring.geometry.format) pair (line_of tally pcm) (run_bytes m tally.course run.facts (drop tally.course.used pcm)) (heard address pin (world_of begins).carried)
+        (laws.playing codecs 1 (format_word ring.geometry.format) (layout ring.geometry.format) 0 (world_of begins) address pin pair ring pcm tally (read_back ring.geometry.format) hears.steady hears.sent is playing few)))
+
+-- ---- the last call
+
+module _ (on : Laws) (laws : HearLaws) (codecs : List CodecState) (pcm : List ℕ) (old ended : BringUp) (writer : WriterState) (tally' : Tally) (supply : List ℕ) (made last : List Event) (before after : Telling)
+    (went : Went before after last) (small : Along HasNotWrapped last (world_of before)) (left : IsLeft pcm writer.course supply) (sounds : Sounds codecs (ring_of writer) pcm (tally_of writer) before) where
+  abbrev ring : Ring
+  ring = ring_of writer
+
+  abbrev tally : Tally
+  tally = tally_of writer
+
+  abbrev Ends : Type 0
+  Ends = (tally'.course.started ≡ true) × HasStopped after × (All IsNoStep last → HearTheLine codecs writer.geometry.format pcm tally' (world_of after).carried)
+
+  -- no link frame passes where the device makes no step
+  same_carried : All IsNoStep last → (world_of after).carried ≡ (world_of before).carried
+  same_carried alone = ap (λ (world : World). world.carried) (world_of-went before after last went) ∙ carried_alone last (world_of before) alone
+
+  -- the stream was over
+  shuts_end : ShutsAlone old ended writer tally' made → Makes made before after → Ends
+  shuts_end shuts makes =
+      let over : is_open writer.course.ran ≡ false = sym (ap (λ (started : Bool). started && is_open writer.course.ran) sounds.started) ∙ shuts.still in (
+        ap (λ (tally : Tally). tally.course.started) shuts.tally_is ∙ sounds.started,
+        shut_stopped ring pcm tally before after (subst (λ (made : List Event). Makes made before after) shuts.made_is makes) (over_stopped writer.course.ran ring pcm tally (world_of before) over sounds.stream)
+            (subst (λ (open' : Bool). Lives open' before) over sounds.lives),
+        λ alone. subst (λ (tally : Tally). HearTheLine codecs writer.geometry.format pcm tally (world_of after).carried) (sym shuts.tally_is)
+            (hear laws codecs ring pcm tally (world_of before) sounds.heard (world_of after).carried (same_carried alone) (over_heard laws codecs ring pcm tally (world_of before) sounds.heard writer.course.ran over sounds.stream)
+            (over_past writer.course.ran ring pcm tally (world_of before) sounds.stream)),
+      )
+
+  -- or it played
+  module _ (stops_sound : StopsSound old ended writer tally' supply made before after) where
+    abbrev begins : Telling
+    begins = stops_sound.begins
+
+    abbrev ends : Telling
+    ends = stops_sound.ends
+
+    abbrev poll : List Event
+    poll = poll_accesses old.engine.rirb.address old.engine.rings stops_sound.reads
+
+    polled : Weaving poll before begins
+    polled = woven stops_sound.listened
+
+    ran_on : Weaving stops_sound.run begins ends
+    ran_on = woven stops_sound.run_made
+
+    shut : Weaving shut_accesses ends after
+    shut = woven stops_sound.shut
+
+    went_ends : Went before ends (polled.events ++ ran_on.events)
+    went_ends = went_both before begins ends polled.events ran_on.events polled.went ran_on.went
+
+    last_is : last ≡ (polled.events ++ ran_on.events) ++ shut.events
+    last_is = went_same before after last ((polled.events ++ ran_on.events) ++ shut.events) went (went_both before ends after (polled.events ++ ran_on.events) shut.events went_ends shut.went)
+
+    small_along : Along HasNotWrapped (polled.events ++ ran_on.events) (world_of before)
+    small_along = Along-front HasNotWrapped (polled.events ++ ran_on.events) shut.events (world_of before) (subst (λ (events : List Event). Along HasNotWrapped events (world_of before)) last_is small)
+
+    small_ends : HasNotWrapped (world_of ends)
+    small_ends = subst HasNotWrapped (sym (world_of-went before ends (polled.events ++ ran_on.events) went_ends)) (Along-end HasNotWrapped (polled.events ++ ran_on.events) (world_of before) small_along)
+
+    small_begins : HasNotWrapped (world_of begins)
+    small_begins =
+        subst HasNotWrapped (sym (world_of-went before begins polled.events polled.went))
+        (Along-end HasNotWrapped polled.events (world_of before) (Along-front HasNotWrapped polled.events ran_on.events (world_of before) small_along))
+
+    here : Sounds codecs ring pcm tally begins
+    here = row_sounds on codecs ring pcm tally poll before begins stops_sound.listened (poll_beside old.engine.rirb.address old.engine.rings stops_sound.reads) sounds
+
+    open_is : is_open writer.course.ran ≡ true
+    open_is = sym (ap (λ (started : Bool). started && is_open writer.course.ran) sounds.started) ∙ stops_sound.plays
+
+    plays : writer.course.ran ≡ ran.Playing
+    plays = open_plays writer.course.ran open_is
+
+    playing : IsPlaying ring pcm tally (world_of begins)
+    playing = subst (λ (was : Ran). StreamIs was ring pcm tally (world_of begins)) plays here.stream
+
+    going : IsGoing begins
+    going = subst (λ (was : Ran). Lives (is_open was) begins) plays here.lives
+
+    module _ (answer : Ran) (is : answer ≡ tally'.course.ran) (run : FinishTells ring pcm tally answer tally' begins ends) where
+      set_going : tally'.course.started ≡ true
+      set_going = ap (λ (tally : Tally). tally.course.started) run.recorded ∙ still_going (is_late (measures ring.geometry) tally.course run.facts) (measures ring.geometry) tally run.facts sounds.started
+
+      stopped : WasStopped ring pcm tally' (world_of ends)
+      stopped = ends_stopped answer ring pcm tally tally' run.facts (world_of ends) run.recorded is run.ends
+
+      has_stopped : HasStopped after
+      has_stopped =
+          let stop : IsStopped (world_of ends) = record { stopped = stopped.stopped; no_error = stopped.no_error } in
+          shut_stopped ring pcm tally' ends after stops_sound.shut stopped
+          (stopped_by ring (line_of tally pcm) (run_sure (measures ring.geometry) tally.course run.facts) tally.course.from (allowed_in ring tally run.facts)
+          (finish_accesses ring.geometry ring.periods tally.course run.facts (drop tally.course.used pcm)) (turn_accesses ring.geometry ring.periods tally.course run.facts (drop tally.course.used pcm))
+          run.events begins ends run.made (finish_is ring tally run.facts (drop tally.course.used pcm)) run.went run.moments going stop)
+
+      hears_ends : IsHeardBy codecs ring (world_of ends)
+      hears_ends =
+          heard_row on codecs ring (finish_accesses ring.geometry ring.periods tally.course run.facts (drop tally.course.used pcm)) begins ends run.made
+          (finish_steady ring tally run.facts (drop tally.course.used pcm)) here.heard
+
+    alone_ends : All IsNoStep last → All IsNoStep (polled.events ++ ran_on.events)
+    alone_ends alone = all_front IsNoStep (polled.events ++ ran_on.events) shut.events (subst (All IsNoStep) last_is alone)
+
+    carried_ends : All IsNoStep last → (world_of after).carried ≡ (world_of ends).carried
+    carried_ends alone =
+        ap (λ (world : World). world.carried) (world_of-went ends after shut.events shut.went)
+        ∙ carried_alone shut.events (world_of ends) (all_back IsNoStep (polled.events ++ ran_on.events) shut.events (subst (All IsNoStep) last_is alone))
+
+    carried_begins : All IsNoStep last → (world_of after).carried ≡ (world_of begins).carried
+    carried_begins alone =
+        carried_ends alone ∙ ap (λ (world : World). world.carried) (world_of-went begins ends ran_on.events ran_on.went)
+        ∙ carried_alone ran_on.events (world_of begins) (all_back IsNoStep polled.events ran_on.events (alone_ends alone))
+
+    abbrev HeardAt : Ran → Type 0
+    HeardAt was =
+        (address pin pair : ℕ) → signal_with (codec_at address codecs) 1 (format_word writer.geometry.format) (Some (layout writer.geometry.format)) pin ≡ Pair pair
+        → HeardAs was (layout writer.geometry.format) pair (line_of tally' pcm) tally'.course.sure (heard address pin (world_of ends).carried)
+
+    ends_by : (answer : Ran) → answer ≡ tally'.course.ran → FinishTells ring pcm tally answer tally' begins ends → Ends
+    ends_by ran.Playing is run = (
+      set_going ran.Playing is run,
+      has_stopped ran.Playing is run,
+      λ alone. hear laws codecs ring pcm tally' (world_of begins) here.heard (world_of after).carried (carried_begins alone)
+          (playing_heard laws codecs ring pcm tally tally' (length writer.runs) stops_sound.course_is begins ends playing here.heard small_begins run is ran_on.events ran_on.went (all_back IsNoStep polled.events ran_on.events (alone_ends alone)))
+          (λ drained. absurd (never_drained ran.Playing refl (is ∙ drained))),
+    )
+    ends_by ran.Drained is run = (
+      set_going ran.Drained is run,
+      has_stopped ran.Drained is run,
+      λ alone. hear laws codecs ring pcm tally' (world_of ends) (hears_ends ran.Drained is run) (world_of after).carried (carried_ends alone)
+          (subst HeardAt is (over_heard laws codecs ring pcm tally' (world_of ends) (hears_ends ran.Drained is run) ran.Drained refl run.ends))
+          (λ drained. run.ends.sent),
+    )
+    ends_by (ran.Late from to limit) is run = (
+      set_going (ran.Late from to limit) is run,
+      has_stopped (ran.Late from to limit) is run,
+      λ alone. hear laws codecs ring pcm tally' (world_of ends) (hears_ends (ran.Late from to limit) is run) (world_of after).carried (carried_ends alone)
+          (subst HeardAt is (over_heard laws codecs ring pcm tally' (world_of ends) (hears_ends (ran.Late from to limit) is run) (ran.Late from to limit) refl (stopped (ran.Late from to limit) is run)))
+          (λ drained. absurd (never_drained (ran.Late from to limit) refl (is ∙ drained))),
+    )
+
+    sound_ends : Ends
+    sound_ends = ends_by tally'.course.ran refl (stops_sound.tells pcm (left (ap was_late plays)) playing small_ends)
+
+  pub call_ends : EndTells old ended writer tally' supply made before after → Makes made before after → Ends
+  call_ends (inl shuts) makes = shuts_end shuts makes
+  call_ends (inr stops_sound) makes = sound_ends stops_sound

@@ -1,0 +1,15 @@
+pub mod Rows
+pub mod Lives
+pub mod Beside
+pub mod Runs
+pub mod Calls
+pub mod Silent
+pub mod Begun
+pub mod Ended
+pub mod Over
+pub mod Callers
+pub mod Kept
+pub mod Written
+pub mod RestingRows
+pub mod Requests
+pub mod Beginning

@@ -1,0 +1,5 @@
+pub mod Lives
+pub mod Sounding
+pub mod Ending
+pub mod Resting
+pub mod Silent

@@ -1,5 +1,0 @@
-use Rattle.line_heard.proofs.Steadying.{steps_steady}
-use Rattle.line_heard.proofs.laws.steps_keep_it_steady.Goals as goal
-
-pub returns : goal.returns
-returns c = λ codecs tag word layout from steps world known steady. steps_steady codecs tag word layout from known steps world steady

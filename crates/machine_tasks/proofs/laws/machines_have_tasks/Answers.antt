@@ -1,5 +1,0 @@
-use Rattle.machine_tasks.proofs.Tasked.{tasked}
-use Rattle.machine_tasks.proofs.laws.machines_have_tasks.Goals as goal
-
-pub returns : goal.returns
-returns c = λ format machine plans geometry plays pcm blocks sound whole have routed. tasked format machine plans geometry plays pcm blocks sound whole have routed

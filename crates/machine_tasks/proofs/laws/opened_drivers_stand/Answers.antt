@@ -1,5 +1,0 @@
-use Rattle.machine_tasks.proofs.Beginning.{stands_before}
-use Rattle.machine_tasks.proofs.laws.opened_drivers_stand.Goals as goal
-
-pub returns : goal.returns
-returns g c = λ setter format. stands_before (λ graph. g.T.Setter.IsPlanBy setter graph format)

@@ -1,6 +1,0 @@
-mod Formats
-mod Heads
-pub mod Machines
-pub mod Routes
-mod Sounds
-pub mod Callers

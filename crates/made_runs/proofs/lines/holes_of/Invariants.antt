@@ -1,6 +1,0 @@
-use Rattle.std.proofs.Common.{◌≡◌, ◌≤◌, ◌*◌, take}
-use Rattle.made_runs.specs.Lines.{holes_of}
-use Rattle.made_runs.proofs.lines.holes_of.Given as goal
-
-abbrev pub invariant-loop-place : goal.invariant-loop-place
-invariant-loop-place l = (l.holes ≡ holes_of (take l.place l.heard)) × (l.holes ≤ 0xFFFFFFFFFFFFFFFF * l.place)

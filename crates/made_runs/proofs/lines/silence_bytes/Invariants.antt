@@ -1,6 +1,0 @@
-use Rattle.std.proofs.Common.{◌≡◌, ◌≤◌, ◌*◌, take}
-use Rattle.made_runs.specs.Lines.{silence_bytes}
-use Rattle.made_runs.proofs.lines.silence_bytes.Given as goal
-
-abbrev pub invariant-loop-span : goal.invariant-loop-span
-invariant-loop-span l = (l.bytes ≡ silence_bytes (take l.span-index l.silences)) × (l.bytes ≤ 0xFFFFFFFFFFFFFFFF * l.span-index)

@@ -1,3 +1,0 @@
-pub mod MadeRuns
-pub mod Shelves
-pub mod Lines

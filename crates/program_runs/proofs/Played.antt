@@ -1,0 +1,197 @@
+-- What comes of playing.
+use Rattle.std.proofs.Common.{◌≡◌, ◌≤◌, ℕ, Bool, true, false, List, length, refl, sym, ap, subst, ◌∙◌, inl, inr, arith}
+use Rattle.std.specs.Prelude.{◌⊎◌, [], Contains}
+use Rattle.std.specs.List.{AllZip}
+use Rattle.std.proofs.lemmas.List.{get_or-map, length-map}
+use Rattle.stream_format.specs.declared.format.Format.{Format}
+use Rattle.stream_format.specs.Cadence.{block_bytes}
+use Rattle.codec_graph.specs.declared.raw.RawCodec.{RawCodec}
+use Rattle.route_planner.specs.declared.routes.Plan.{Plan}
+use Rattle.wav_reader.specs.declared.wav.Wav.{Wav}
+use Rattle.hda_files.specs.declared.machine.CodecFile.{CodecFile}
+use Rattle.hda_files.specs.declared.machine.Machine.{Machine}
+use Rattle.schedule_reader.specs.declared.schedule.Schedule.{Schedule}
+use Rattle.hda_world.specs.declared.world.TheConstants.{REGION_BYTES}
+use Rattle.hda_world.specs.Events.{Event}
+use Rattle.hda_world.specs.Worlds.{CarriedFrame}
+use Rattle.hda_world.specs.Tellings.{Telling, world_of}
+use Rattle.driver_progress.specs.States.{State}
+use Rattle.period_writer.specs.declared.course.Course.{Course}
+use Rattle.period_writer.specs.declared.course.Ran.{Ran}
+use Rattle.period_writer.specs.declared.course.Ran.TheVariants as ran
+use Rattle.period_writer.specs.declared.geometry.Geometry.{Geometry}
+use Rattle.period_writer.specs.Owning.{IsWritten}
+use Rattle.period_writer.specs.Runs.{Tally, tally_opened, measures, tally_of_stretches}
+use Rattle.audio_driver.specs.States.{phase_if, played_as, state_with}
+use Rattle.audio_driver.specs.declared.driver.closing.Closed.{Closed}
+use Rattle.driver_progress.specs.declared.phase.Phase.{Phase}
+use Rattle.driver_progress.specs.declared.phase.Phase.TheVariants.{Reset, Settling, Walking, SettingUp, Ready, Playing, Drained, NothingRouted, Unanswered, Late, Malformed, Failed}
+use Rattle.driver_progress.specs.Tasks.{Task, Blocks}
+use Rattle.laws_stream.specs.Ending.{HearTheLine}
+use Rattle.driver_bring_up.specs.Standing.{answers_of}
+use Rattle.laws_bring_up.specs.Standing.{AreWalked, WalkedIn}
+use Rattle.laws_driver.specs.Sounding.{Parts}
+use Rattle.laws_driver.specs.Keeping.{WasHeard, WasNeverHeard}
+use Rattle.sound_report.specs.declared.played.Played.{Played}
+use Rattle.rig.specs.Replays.{telling_from}
+use Rattle.heard_lists.specs.Listings.{graphs_in}
+use Rattle.laws_start.specs.Tasks.{HavePlans}
+use Rattle.program_runs.specs.Lines.{lines_of}
+use Rattle.program_runs.specs.Going.{plan_by, open_by}
+use Rattle.program_runs.specs.Ends.{can_end}
+use Rattle.program_runs.specs.Histories.{MakesProgress, StaysOpen, journal_of, told_by, walked_all}
+use Rattle.program_runs.specs.FrameCounts.{written_by}
+use Rattle.program_runs.specs.Hearing.{HasPlayedAll, HearTheirs, lists_heard}
+use Rattle.program_runs.specs.Stretches.{stretches_of}
+use Rattle.program_runs.specs.Plays.{AreRecorded, HasRunUpTo, IsHeard, IsPlayFault, Lived, played_task}
+use Rattle.program_runs.proofs.Gone.{analog, Gone, phase_left, played_phase, unplayed_ends}
+use Rattle.program_runs.proofs.Hearing.{all_hear, none_hear}
+use Rattle.program_runs.proofs.LineRecorded.{RunLaws, recorded_line}
+use Rattle.program_runs.proofs.Recorded.{recorded_is}
+use Rattle.program_runs.proofs.WalkedIn.{walked_in}
+use Rattle.program_runs.proofs.Written.{drained_whole, written_within}
+
+-- ---- graphs
+
+abbrev graph_in : CodecFile → RawCodec
+graph_in file = file.graph
+
+graph_among : (files : List CodecFile) (file : CodecFile) → Contains files file → Contains (graphs_in files) file.graph
+graph_among files file has =
+    let long = length-map files graph_in in (has.0, omega (arith, long, has.1), get_or-map graph_in files has.0 file file.graph has.1 ∙ ap graph_in has.2)
+
+-- ---- phases
+
+-- it can end in any way in which a run does
+ran_ends : (was : Ran) → can_end false (played_as was) ≡ true
+ran_ends ran.Playing = refl
+ran_ends ran.Drained = refl
+ran_ends (ran.Late from to limit) = refl
+
+all_walked_if : (started : Bool) (phase : Phase) (was : Ran) (all : Type 0) → (started ≡ true → phase ≡ Ready) → WalkedIn phase all → walked_all (phase_if started phase was) ≡ true → all
+all_walked_if true phase was all ready by is = walked_in Ready all refl (subst (λ (phase : Phase). WalkedIn phase all) (ready refl) by)
+all_walked_if false phase was all ready by is = walked_in phase all is by
+
+-- it tells how the last run ended
+has_run_as : (course : Course) (was : Ran) → course.ran ≡ was → course.started ≡ true → HasRunUpTo (played_as was) course
+has_run_as course ran.Playing is started = (started, is)
+has_run_as course ran.Drained is started = (started, is)
+has_run_as course (ran.Late from to limit) is started = (started, is)
+
+-- or that there was none
+has_no_run : (course : Course) → course.started ≡ false → (phase : Phase) (all : Type 0) → WalkedIn phase all → HasRunUpTo phase course
+has_no_run course none Reset all walked = none
+has_no_run course none Settling all walked = none
+has_no_run course none Walking all walked = none
+has_no_run course none SettingUp all walked = none
+has_no_run course none Ready all walked = none
+has_no_run course none Playing all walked = absurd walked
+has_no_run course none Drained all walked = absurd walked
+has_no_run course none NothingRouted all walked = none
+has_no_run course none (Unanswered codec command issued noticed) all walked = none
+has_no_run course none (Late from to limit) all walked = absurd walked
+has_no_run course none (Malformed codec fault) all walked = none
+has_no_run course none Failed all walked = none
+
+has_run : (course : Course) (started : Bool) → course.started ≡ started → (phase : Phase) (all : Type 0) → WalkedIn phase all → HasRunUpTo (phase_if started phase course.ran) course
+has_run course true is phase all walked = has_run_as course course.ran refl is
+has_run course false is phase all walked = has_no_run course is phase all walked
+
+-- ---- the run
+
+-- what is told of a run is that of the state to which its journal leads
+pub record IsDriven (machine : Machine) (plans : List Plan) (wav : Wav) (schedule : Schedule) (task : Task) (state : State) (telling : Telling) (played : Played) : Type 0 where
+  pub progress : MakesProgress machine schedule task state telling played.graphs
+  pub opened : StaysOpen wav.format machine schedule task telling
+  pub runs : AreRecorded schedule task state.phase state.tally telling played
+  pub heard : IsHeard machine plans wav state.tally (world_of telling).carried played.heard
+  pub ended : IsPlayFault state.phase state.sent played.commands (block_bytes wav.format) played.total state.tally.runs state.tally.silences played.fault
+
+module _ (machine : Machine) (plans : List Plan) (wav : Wav) (geometry : Geometry) (blocks : Blocks) (schedule : Schedule) (old : Parts) (closed : Closed) (journal : List Event)
+    (gone : Gone machine wav.format true (played_task machine plans wav geometry blocks) schedule old closed journal) where
+  abbrev task : Task
+  task = played_task machine plans wav geometry blocks
+
+  abbrev telling : Telling
+  telling = telling_from REGION_BYTES machine journal
+
+  -- it can end in its phase
+  pub playing_ends : can_end false closed.phase ≡ true
+  playing_ends = by gone.tally.course.started refl
+    where
+      by : (started : Bool) → gone.tally.course.started ≡ started → can_end false closed.phase ≡ true
+      by true some = ap (can_end false) (played_phase machine wav.format true task schedule old closed journal gone some) ∙ ran_ends gone.tally.course.ran
+      by false none = unplayed_ends machine wav.format true task schedule old closed journal gone false none
+
+  -- no more was written than there is
+  pub written_few : written_by closed.runs.items ≤ length wav.pcm
+  written_few =
+      subst (λ runs. written_by runs ≤ length wav.pcm) (sym gone.leaves.runs)
+      (subst (λ state. written_by state.tally.runs ≤ length wav.pcm) gone.has.state_is (written_within task (lines_of schedule) telling))
+
+  -- ---- what was heard
+
+  abbrev carried : List CarriedFrame
+  carried = (world_of telling).carried
+
+  abbrev Heard : Type 0
+  Heard = ((gone.tally ≡ tally_opened) × WasNeverHeard telling) ⊎ WasHeard (plan_by analog wav.format) (open_by analog wav.format) (graphs_in machine.codecs) task gone.tally gone.last telling
+
+  streamed : Heard → Lived gone.tally.course.started gone.tally telling
+  streamed (inl (none, never)) =
+      subst (λ (started : Bool). Lived started gone.tally telling) (sym (ap (λ (tally : Tally). tally.course.started) none)) (record { none = none; stopped = never.stopped; carried = never.none })
+  streamed (inr was) = subst (λ (started : Bool). Lived started gone.tally telling) (sym was.started) was.lived
+
+  hears_by : HavePlans wav.format machine.codecs plans → geometry.format ≡ wav.format → Heard → AllZip (HearTheirs wav.format wav.pcm gone.tally carried) machine.codecs plans
+  hears_by planned same (inl (none, never)) =
+      subst (λ (frames : List CarriedFrame). AllZip (HearTheirs wav.format wav.pcm gone.tally frames) machine.codecs plans) (sym never.none)
+      (subst (λ (tally : Tally). AllZip (HearTheirs wav.format wav.pcm tally []) machine.codecs plans) (sym none) (none_hear wav.format wav.pcm machine.codecs plans planned))
+  hears_by planned same (inr was) =
+      let hear = subst (λ (format : Format). HearTheLine was.codecs format wav.pcm gone.tally carried) same (was.hear gone.no_steps) in
+      all_hear wav.format wav.pcm gone.tally carried was.codecs hear machine.codecs plans planned (λ file has. was.set_up file.graph (graph_among machine.codecs file has))
+
+  -- what is told of it is that of the run that is kept
+  pub driven : RunLaws → (played : Played) → journal_of played ≡ journal → geometry ≡ old.writer.geometry → geometry.format ≡ wav.format → HavePlans wav.format machine.codecs plans → played.graphs ≡ closed.graphs.items
+      → played.runs ≡ closed.runs.items → played.silences ≡ closed.silences.items → played.heard ≡ lists_heard carried machine.codecs plans
+      → IsPlayFault closed.phase closed.sent played.commands (block_bytes wav.format) played.total closed.runs.items closed.silences.items played.fault
+      → IsDriven machine plans wav schedule task (state_with gone.ended gone.tally) (told_by machine played) played
+  driven laws played told ring format planned graphs runs silences heard fault =
+      subst (λ (events : List Event). IsDriven machine plans wav schedule task (state_with gone.ended gone.tally) (telling_from REGION_BYTES machine events) played) (sym told) (record {
+        progress = record {
+          progress = gone.has.progress;
+          finds = gone.has.finds;
+          state_is = gone.has.state_is;
+          walked = subst (λ (walked : List RawCodec). AreWalked (graphs_in machine.codecs) walked task.walks gone.ended.sent (answers_of gone.ended.sent gone.ended.engine.rings.outstanding)) (sym walked) gone.has.ended_is.walked;
+          all_walked = all_walked_if gone.tally.course.started gone.ended.phase gone.tally.course.ran (played.graphs ≡ graphs_in machine.codecs) gone.has.ready
+              (subst (λ (walked : List RawCodec). WalkedIn gone.ended.phase (walked ≡ graphs_in machine.codecs)) (sym walked) gone.has.ended_is.by_phase);
+        };
+        opened = gone.has.set_up;
+        runs = record {
+          recorded = recorded;
+          runs = runs ∙ gone.leaves.runs;
+          silences = silences ∙ gone.leaves.silences;
+          line = subst (IsWritten wav.pcm) (sym recorded) (recorded_line laws geometry wav.pcm (stretches_of (lines_of schedule) journal));
+          phase_is = has_run gone.tally.course gone.tally.course.started refl gone.ended.phase _ gone.has.ended_is.by_phase;
+          stream = streamed gone.has.heard;
+        };
+        heard = record {
+          lists_are = heard;
+          hear = hears_by planned format gone.has.heard;
+          whole = λ drained. subst (λ state. HasPlayedAll wav.pcm state.tally) gone.has.state_is (drained_whole task (lines_of schedule) telling (ap (λ state. state.tally.course.ran) gone.has.state_is ∙ drained));
+        };
+        ended = fault_left;
+      })
+    where
+      recorded : gone.tally ≡ tally_of_stretches (measures geometry) (length wav.pcm) (stretches_of (lines_of schedule) journal)
+      recorded = ap (λ state. state.tally) (sym gone.has.state_is) ∙ recorded_is task (lines_of schedule) telling
+
+      walked : played.graphs ≡ gone.ended.agenda.graphs.items
+      walked = graphs ∙ ap (λ graphs. graphs.items) gone.leaves.graphs
+
+      fault_left : IsPlayFault (state_with gone.ended gone.tally).phase gone.ended.sent played.commands (block_bytes wav.format) played.total gone.tally.runs gone.tally.silences played.fault
+      fault_left =
+          subst (λ silences. IsPlayFault (state_with gone.ended gone.tally).phase gone.ended.sent played.commands (block_bytes wav.format) played.total gone.tally.runs silences played.fault) gone.leaves.silences
+          (subst (λ runs. IsPlayFault (state_with gone.ended gone.tally).phase gone.ended.sent played.commands (block_bytes wav.format) played.total runs closed.silences.items played.fault) gone.leaves.runs
+          (subst (λ (sent : ℕ). IsPlayFault (state_with gone.ended gone.tally).phase sent played.commands (block_bytes wav.format) played.total closed.runs.items closed.silences.items played.fault) gone.leaves.sent
+          (subst (λ (phase : Phase). IsPlayFault phase closed.sent played.commands (block_bytes wav.format) played.total closed.runs.items closed.silences.items played.fault)
+          (phase_left machine wav.format true task schedule old closed journal gone) fault)))

@@ -1,0 +1,94 @@
+-- What is promised of a driver's run over a machine by a schedule, whether it plays sound or not. This project's own.
+use Rattle.std.specs.Prelude.{◌≡◌, ℕ, Bool, true, false, List, length}
+use Rattle.stream_format.specs.declared.format.Format.{Format}
+use Rattle.codec_graph.specs.declared.raw.RawCodec.{RawCodec}
+use Rattle.codec_graph.specs.Settings.{Entries}
+use Rattle.route_planner.specs.declared.routes.Plan.{Plan}
+use Rattle.route_planner.specs.Plans.{IsPlan}
+use Rattle.setup_verbs.specs.SetUp.{IsSetUp}
+use Rattle.schedule_reader.specs.declared.schedule.Schedule.{Schedule}
+use Rattle.hda_files.specs.declared.machine.Machine.{Machine}
+use Rattle.hda_files.specs.Machines.{IsSound}
+use Rattle.hda_world.specs.declared.world.TheConstants.{REGION_BYTES}
+use Rattle.hda_world.specs.Events.{Event, AreHonest}
+use Rattle.hda_world.specs.JournalEvents.{events_of}
+use Rattle.hda_world.specs.Tellings.{Telling}
+use Rattle.driver_progress.specs.declared.phase.Phase.{Phase}
+use Rattle.driver_progress.specs.declared.phase.Phase.TheVariants.{Reset, Settling, Walking, SettingUp, Ready, Playing}
+use Rattle.driver_progress.specs.declared.phase.Phase.TheVariants.{Drained, NothingRouted, Unanswered, Late, Malformed}
+use Rattle.driver_progress.specs.declared.phase.Phase.TheVariants.{Failed}
+use Rattle.driver_progress.specs.Tasks.{Task}
+use Rattle.driver_progress.specs.States.{State}
+use Rattle.driver_progress.specs.Progress.{state_of, IsProgress}
+use Rattle.driver_bring_up.specs.Standing.{answers_of}
+use Rattle.laws_bring_up.specs.Stretches.{HasFound}
+use Rattle.laws_bring_up.specs.Standing.{AreWalked}
+use Rattle.laws_bring_up.specs.SettingUp.{StaysSetUp}
+use Rattle.sound_report.specs.declared.played.Played.{Played}
+use Rattle.rig.specs.Follows.{Follows}
+use Rattle.rig.specs.Replays.{start_of, telling_from}
+use Rattle.heard_lists.specs.Listings.{graphs_in}
+use Rattle.laws_start.specs.Tasks.{commands_of, stream_tag}
+use Rattle.program_runs.specs.Lines.{lines_of}
+
+-- what driver and device did, and what it tells from the machine's start on
+abbrev pub journal_of : Played → List Event
+journal_of played = events_of played.journal
+
+abbrev pub told_by : Machine → Played → Telling
+told_by machine played = telling_from REGION_BYTES machine (journal_of played)
+
+-- what went into the run is kept with it: the machine, which is sound, with the plans of its codecs, whether it is a
+-- walk, and the format and the frames of its sound
+pub record HasInput (walk : Bool) (format : Format) (frames : ℕ) (machine : Machine) (plans : List Plan)
+    (played : Played) : Type 0 where
+  pub sound : IsSound machine
+  pub machine_is : played.machine ≡ machine
+  pub plans_are : played.plans ≡ plans
+  pub walk_is : played.walk ≡ walk
+  pub format_is : played.format ≡ format
+  pub frames_are : played.total ≡ frames
+
+-- one history: the journal replays from the machine's start, each access with the answer that the device gives, and
+-- follows the schedule
+pub record IsHistory (machine : Machine) (schedule : Schedule) (journal : List Event) : Type 0 where
+  pub replays : AreHonest journal (start_of REGION_BYTES machine)
+  pub follows : Follows schedule journal
+
+-- whether all codecs were walked in a phase
+abbrev pub walked_all : Phase → Bool
+walked_all Reset = false
+walked_all Settling = false
+walked_all Walking = false
+walked_all SettingUp = true
+walked_all Ready = true
+walked_all Playing = true
+walked_all Drained = true
+walked_all NothingRouted = false
+walked_all (Unanswered codec command issued noticed) = false
+walked_all (Late from to limit) = true
+walked_all (Malformed codec fault) = false
+walked_all Failed = false
+
+-- progress: in each call the driver made the accesses that are to be made, and no others, and they lead to this state
+-- of its task. The graphs that it was told are the first of the machine's, as many as the answers that came told, and
+-- all of them from the set-up on
+pub record MakesProgress (machine : Machine) (schedule : Schedule) (task : Task) (state : State) (telling : Telling)
+    (graphs : List RawCodec) : Type 0 where
+  pub progress : IsProgress task (lines_of schedule) telling
+  pub finds : HasFound task (lines_of schedule) telling
+  pub state_is : state_of task (lines_of schedule) telling ≡ state
+  pub walked : AreWalked (graphs_in machine.codecs) graphs task.walks state.sent
+      (answers_of state.sent state.rings.outstanding)
+  pub all_walked : walked_all state.phase ≡ true → graphs ≡ graphs_in machine.codecs
+
+-- open: from the answer to the last command on, at every moment all codecs are set up by their plans for the format
+abbrev pub StaysOpen : Format → Machine → Schedule → Task → Telling → Type 0
+StaysOpen format machine schedule task telling =
+    StaysSetUp (λ (graph : RawCodec) (plan : Plan). IsPlan graph format plan)
+    (λ (graph : RawCodec) (settings : Entries) (plan : Plan). IsSetUp graph settings plan format stream_tag)
+    (graphs_in machine.codecs) task (lines_of schedule) telling
+
+-- the number of commands that it takes to walk over the machine's codecs and to set them up
+abbrev pub commands_for : Format → Machine → List Plan → ℕ
+commands_for format machine plans = length (commands_of format machine.codecs plans)

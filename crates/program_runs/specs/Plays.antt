@@ -1,0 +1,187 @@
+-- What comes of playing a sound over a machine by a schedule. This project's own.
+use Rattle.std.specs.List.{AllZip}
+use Rattle.std.specs.Prelude.{◌≡◌, ◌≢◌, ◌<◌, ℕ, ◌+◌, ◌-◌, ◌*◌, Bool, true, false, List, length, take, Option, Some}
+use Rattle.std.specs.Prelude.{None, string_bytes}
+use Rattle.stream_format.specs.Cadence.{block_bytes}
+use Rattle.route_planner.specs.declared.routes.Plan.{Plan}
+use Rattle.hda_outside.specs.Shelf.{Files}
+use Rattle.wav_reader.specs.declared.opened.WavHead.{WavHead}
+use Rattle.wav_reader.specs.declared.wav.Wav.{Wav}
+use Rattle.wav_reader.specs.Fills.{IsInFrame}
+use Rattle.wav_reader.specs.Supplies.{block_of}
+use Rattle.wav_reader.specs.Heads.{frame_length}
+use Rattle.stream_format.specs.Layouts.{layout}
+use Rattle.wav_reader.specs.Opening.{head_in_file}
+use Rattle.wav_reader.specs.Shelves.{HasFile}
+use Rattle.wav_reader.specs.Wavs.{ring_bytes}
+use Rattle.schedule_reader.specs.declared.schedule.Schedule.{Schedule}
+use Rattle.hda_files.specs.declared.machine.Machine.{Machine}
+use Rattle.hda_world.specs.Worlds.{CarriedFrame}
+use Rattle.hda_world.specs.Tellings.{Telling, world_of}
+use Rattle.heard_lists.specs.declared.pin_list.PinHeard.{PinHeard}
+use Rattle.laws_stream.specs.Lives.{HasStopped}
+use Rattle.period_writer.specs.declared.course.Course.{Course}
+use Rattle.period_writer.specs.declared.course.Run.{Run}
+use Rattle.period_writer.specs.declared.course.Span.{Span}
+use Rattle.period_writer.specs.declared.course.Ran.TheVariants as ran
+use Rattle.period_writer.specs.declared.geometry.Geometry.{Geometry}
+use Rattle.period_writer.specs.Runs.{Tally, measures, tally_of_stretches}
+use Rattle.period_writer.specs.Owning.{IsWritten}
+use Rattle.period_writer.specs.Rings as rings
+use Rattle.driver_progress.specs.declared.phase.Phase.{Phase}
+use Rattle.driver_progress.specs.declared.phase.Phase.TheVariants.{Reset, Settling, Walking, SettingUp, Ready, Playing}
+use Rattle.driver_progress.specs.declared.phase.Phase.TheVariants.{Drained, NothingRouted, Unanswered, Late, Malformed}
+use Rattle.driver_progress.specs.declared.phase.Phase.TheVariants.{Failed}
+use Rattle.driver_progress.specs.Tasks.{Task, Blocks}
+use Rattle.driver_progress.specs.States.{State}
+use Rattle.driver_bring_up.specs.Jacks.{Counts}
+use Rattle.sound_report.specs.declared.played.CutLine.{CutLine}
+use Rattle.sound_report.specs.declared.played.CutLine.TheVariants as cuts
+use Rattle.sound_report.specs.declared.played.Played.{Played}
+use Rattle.sound_report.specs.declared.played.PlayFault.{PlayFault}
+use Rattle.sound_report.specs.declared.played.PlayFault.TheVariants as faults
+use Rattle.laws_start.specs.Tasks.{task_of}
+use Rattle.program_runs.specs.FirstFits.{AreFirstFits}
+use Rattle.program_runs.specs.Lines.{lines_of}
+use Rattle.program_runs.specs.Events.{told_in}
+use Rattle.program_runs.specs.Histories.{HasInput, IsHistory, MakesProgress, StaysOpen, commands_for, journal_of}
+use Rattle.program_runs.specs.Histories.{told_by}
+use Rattle.program_runs.specs.Stretches.{stretches_of}
+use Rattle.program_runs.specs.FrameCounts.{frames_written, frames_below, last_at, written_by}
+use Rattle.program_runs.specs.Hearing.{HasPlayedAll, HearTheirs, WasSilent, lists_heard}
+
+-- ---- how it ended
+
+-- why it ended before all was played, by how far the driver came: so many commands were sent of how many, and with
+-- these runs and silences so many of the frames were written and heard
+abbrev pub IsPlayFault : Phase → (sent of block total : ℕ) → List Run → List Span → Option PlayFault → Type 0
+IsPlayFault Reset sent of block total runs silences fault = fault ≡ Some (faults.CommandsLeft sent of)
+IsPlayFault Settling sent of block total runs silences fault = fault ≡ Some (faults.CommandsLeft sent of)
+IsPlayFault Walking sent of block total runs silences fault = fault ≡ Some (faults.CommandsLeft sent of)
+IsPlayFault SettingUp sent of block total runs silences fault = fault ≡ Some (faults.CommandsLeft sent of)
+IsPlayFault Ready sent of block total runs silences fault = fault ≡ Some (faults.CommandsLeft sent of)
+IsPlayFault Playing sent of block total runs silences fault =
+    fault ≡ Some (faults.FramesLeft (frames_written block runs) (frames_below block silences (last_at runs)) total)
+IsPlayFault Drained sent of block total runs silences fault = fault ≡ None
+IsPlayFault NothingRouted sent of block total runs silences fault = ⊥
+IsPlayFault (Unanswered codec command issued noticed) sent of block total runs silences fault =
+    fault ≡ Some (faults.Unanswered codec command issued noticed)
+IsPlayFault (Late from to limit) sent of block total runs silences fault = fault ≡ Some (faults.Late from to limit)
+IsPlayFault (Malformed codec fault') sent of block total runs silences fault = ⊥
+IsPlayFault Failed sent of block total runs silences fault = ⊥
+
+-- ---- the run
+
+-- the task: the machine's codecs are set up by these plans, and the sound is played through a ring in these blocks
+abbrev pub played_task : Machine → List Plan → Wav → Geometry → Blocks → Task
+played_task machine plans wav geometry blocks = task_of wav.format machine plans geometry true wav.pcm blocks
+
+-- by its phase the driver made no run, or this is how its last one ended
+abbrev pub HasRunUpTo : Phase → Course → Type 0
+HasRunUpTo Reset course = course.started ≡ false
+HasRunUpTo Settling course = course.started ≡ false
+HasRunUpTo Walking course = course.started ≡ false
+HasRunUpTo SettingUp course = course.started ≡ false
+HasRunUpTo Ready course = course.started ≡ false
+HasRunUpTo Playing course = (course.started ≡ true) × (course.ran ≡ ran.Playing)
+HasRunUpTo Drained course = (course.started ≡ true) × (course.ran ≡ ran.Drained)
+HasRunUpTo NothingRouted course = course.started ≡ false
+HasRunUpTo (Unanswered codec command issued noticed) course = course.started ≡ false
+HasRunUpTo (Late from to limit) course = (course.started ≡ true) × (course.ran ≡ ran.Late from to limit)
+HasRunUpTo (Malformed codec fault) course = course.started ≡ false
+HasRunUpTo Failed course = course.started ≡ false
+
+-- without a run the stream was never set going; else it was once, and ran without an error until it was stopped once
+abbrev pub Lived : (started : Bool) → Tally → Telling → Type 0
+Lived false tally telling = WasSilent tally telling
+Lived true tally telling = HasStopped telling
+
+-- runs and silences are those of the journal's stretches: no two silences of the line touch, all else of it is the
+-- sound, and it is as long as the last run's reach
+pub record AreRecorded (schedule : Schedule) (task : Task) (phase : Phase) (tally : Tally) (telling : Telling)
+    (played : Played) : Type 0 where
+  pub recorded : tally ≡ tally_of_stretches (measures task.geometry) (length task.pcm)
+      (stretches_of (lines_of schedule) telling.journal)
+  pub runs : played.runs ≡ tally.runs
+  pub silences : played.silences ≡ tally.silences
+  pub line : IsWritten task.pcm tally
+  pub phase_is : HasRunUpTo phase tally.course
+  pub stream : Lived tally.course.started tally telling
+
+-- what was heard is what the link frames carried, as each candidate pin hears it: the line by its plan. Where the line
+-- has drained, that was all sound
+pub record IsHeard (machine : Machine) (plans : List Plan) (wav : Wav) (tally : Tally) (carried : List CarriedFrame)
+    (lists : List PinHeard) : Type 0 where
+  pub lists_are : lists ≡ lists_heard carried machine.codecs plans
+  pub hear : AllZip (HearTheirs wav.format wav.pcm tally carried) machine.codecs plans
+  pub whole : tally.course.ran ≡ ran.Drained → HasPlayedAll wav.pcm tally
+
+-- the run of a driver that plays a sound through a ring, over a machine whose codecs have these plans
+pub record IsPlayed (machine : Machine) (plans : List Plan) (wav : Wav) (geometry : Geometry) (schedule : Schedule)
+    (played : Played) : Type 0 where
+  pub input : HasInput false wav.format wav.frames machine plans played
+  -- the driver's blocks are first fits
+  pub blocks : Blocks
+  pub first_fits : AreFirstFits geometry blocks
+  pub state : State
+  pub history : IsHistory machine schedule (journal_of played)
+  pub progress : MakesProgress machine schedule (played_task machine plans wav geometry blocks) state
+      (told_by machine played) played.graphs
+  pub opened : StaysOpen wav.format machine schedule (played_task machine plans wav geometry blocks)
+      (told_by machine played)
+  pub runs : AreRecorded schedule (played_task machine plans wav geometry blocks) state.phase state.tally
+      (told_by machine played) played
+  pub heard : IsHeard machine plans wav state.tally (world_of (told_by machine played)).carried played.heard
+  -- jacks count what was read of RIRB that came unasked
+  pub jacks : Counts (told_in (journal_of played)) played.jacks
+  pub commands : played.commands ≡ commands_for wav.format machine plans
+  pub ended : IsPlayFault state.phase state.sent played.commands (block_bytes wav.format) played.total state.tally.runs
+      state.tally.silences played.fault
+
+-- ---- the sound
+
+-- a sound with this head and these bytes, of which a part may have been read
+abbrev pub sound_with : WavHead → (pcm : List ℕ) → Wav
+sound_with head pcm = record { format = head.format; mono = head.mono; frames = head.frames; pcm = pcm }
+
+-- how many of the frames were read: all where the reading was not cut, and fewer where it was
+abbrev pub IsReadUpTo : Option CutLine → (read frames : ℕ) → Type 0
+IsReadUpTo None read frames = read ≡ frames
+IsReadUpTo (Some cut) read frames = read < frames
+
+-- these are the bytes of the sound that was read, in whole blocks. Where the file is told they are its first ones, and
+-- it does not get shorter
+pub record IsSoundRead (told : Option Files) (name : List ℕ) (head : WavHead) (played : Played) (pcm : List ℕ) : Type 0
+  where
+    pub blocks : length pcm ≡ played.read * block_bytes head.format
+    pub up_to : IsReadUpTo played.cut played.read head.frames
+    pub told_is : (file : List ℕ) → HasFile told name (head_in_file head) file
+        → pcm ≡ take (played.read * block_bytes head.format) (ring_bytes file (head_in_file head))
+    pub never_short : (file : List ℕ) → HasFile told name (head_in_file head) file → (place : ℕ)
+        → played.cut ≢ Some (cuts.Short place)
+
+-- why the reading was cut, after so many frames: the shelf failed under the name, or it answered that there was no byte
+-- more, at a place in the frame that came next
+abbrev pub IsCutUnder : (name : List ℕ) → WavHead → (read : ℕ) → (failed emptied : Type 0) → Option CutLine → Type 0
+IsCutUnder name head read failed emptied None = Unit {0}
+IsCutUnder name head read failed emptied (Some (cuts.Failed other)) = (string_bytes other ≡ name) × failed
+IsCutUnder name head read failed emptied (Some (cuts.Short place)) =
+    IsInFrame (head_in_file head) (read * block_of (head_in_file head)) place × emptied
+
+-- the run of a driver that plays a sound which it reads meanwhile: over the sound that was read
+pub record IsPlayedFrom (told : Option Files) (name : List ℕ) (head : WavHead) (machine : Machine) (plans : List Plan)
+    (geometry : Geometry) (schedule : Schedule) (played : Played) : Type 0 where
+  pub pcm : List ℕ
+  pub sound : IsSoundRead told name head played pcm
+  pub run : IsPlayed machine plans (sound_with head pcm) geometry schedule played
+
+-- no more bytes are given than the recorded runs wrote, and twice what the ring has: as many may be held at the end,
+-- and as many a late run may have taken
+abbrev pub most_read : Geometry → Played → ℕ
+most_read geometry played = written_by played.runs + 2 * rings.ring_bytes geometry.periods geometry.period
+
+-- no byte of the file is given twice, and none that is given is dropped, but a part of a frame at a cut: so many bytes
+-- at most are given for so many frames
+abbrev pub most_of_frames : WavHead → (frames : ℕ) → ℕ
+most_of_frames head frames =
+    frames * frame_length head.mono (layout head.format) + (frame_length head.mono (layout head.format) - 1)

@@ -1,6 +1,0 @@
-use Rattle.std.proofs.Common.{ap}
-use Rattle.scheduled_runs.specs.FrameCounts.{position_of}
-use Rattle.scheduled_runs.proofs.frame_counts.last_at.Goals as goal
-
-pub returns-in-Some : goal.returns-in-Some
-returns-in-Some c = ap position_of c.in-Some.ensures.value

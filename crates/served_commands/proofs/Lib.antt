@@ -1,4 +1,0 @@
-pub mod Lower
-pub mod Steps
-pub mod RoundTrips
-pub mod Polled

@@ -1,5 +1,0 @@
-use Rattle.served_commands.proofs.Polled.{submitted_comes}
-use Rattle.served_commands.proofs.laws.a_submission_comes.Goals as goal
-
-pub returns : goal.returns
-returns c = λ from read corb rirb rings. submitted_comes from read corb rirb rings

@@ -1,5 +1,0 @@
-use Rattle.served_commands.proofs.RoundTrips.{steps_serve}
-use Rattle.served_commands.proofs.laws.steps_keep_serving.Goals as goal
-
-pub returns : goal.returns
-returns c = λ from read corb rirb rings. steps_serve from read corb rirb rings

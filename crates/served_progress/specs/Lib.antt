@@ -1,4 +1,0 @@
-pub mod Rounds
-pub mod Serving
-pub mod Coming
-pub mod Runs

@@ -1,5 +1,0 @@
-pub mod Kept
-pub mod Written
-pub mod Rows
-pub mod Requests
-pub mod Beginning
