@@ -1,5 +1,5 @@
 /* A device with its memory, its time and its habits, over the proved model. No proof covers this file. */
-#include "device_core.h"
+#include "hda_device.h"
 #include <stdatomic.h>
 #include <stdlib.h>
 #include <string.h>

@@ -1,5 +1,5 @@
 /* The log of a device, as text and as a schedule. No proof covers this file. */
-#include "device_core.h"
+#include "hda_device.h"
 #include <stdarg.h>
 #include <stdlib.h>
 

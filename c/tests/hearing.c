@@ -1,7 +1,7 @@
 /* What pins hear, in parts and as bytes; two codecs with three pins; the interrupt line; the time that passed. Usage:
  * hearing CODEC_FILE FILE_OF_TWO_CODECS */
 #include "driver.h"
-#include "device_core.h"
+#include "hda_device.h"
 
 static hda_item items[65536];
 

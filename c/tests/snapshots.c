@@ -1,7 +1,7 @@
 /* A device that was saved and restored answers the next thousand accesses as it did before, and two devices share
  * nothing. Usage: snapshots CODEC_FILE FILE_OF_TWO_CODECS */
 #include "driver.h"
-#include "device_core.h"
+#include "hda_device.h"
 
 /* A thousand accesses, with all that the device does between them. */
 static uint64_t thousand(driver r) {
