@@ -9,7 +9,7 @@ use Rattle.command_engine.specs.declared.answers.Poll.TheVariants as polls
 use Rattle.command_engine.specs.Polling.{PollReads, AreNew, poll_of, found_by, rings_polled}
 use Rattle.driver_agenda.specs.declared.agenda.Agenda.{Agenda}
 use Rattle.driver_progress.specs.declared.phase.Phase.{Phase}
-use Rattle.driver_progress.specs.declared.phase.Phase.TheVariants.{Reset, Settling, Walking, SettingUp, Ready, Playing, Drained, NothingRouted, Unanswered, Late, Malformed, Failed}
+use Rattle.driver_progress.specs.declared.phase.Phase.TheVariants.{Walking, SettingUp, Playing, Drained, Late, Failed}
 use Rattle.driver_progress.specs.Tasks.{Task, Order}
 use Rattle.driver_progress.specs.States.{State}
 use Rattle.driver_progress.specs.Expected.{shuts}
@@ -26,46 +26,20 @@ use Rattle.driver_bring_up.proofs.Leading.{outstanding_none}
 -- ---- phases
 
 pub asking_goes_on : (phase : Phase) → is_asking phase ≡ true → goes_on phase ≡ true
-asking_goes_on Reset is = cc
-asking_goes_on Settling is = cc
 asking_goes_on Walking is = refl
 asking_goes_on SettingUp is = refl
-asking_goes_on Ready is = cc
-asking_goes_on Playing is = cc
-asking_goes_on Drained is = cc
-asking_goes_on NothingRouted is = cc
-asking_goes_on (Unanswered codec command issued noticed) is = cc
-asking_goes_on (Late from to limit) is = cc
-asking_goes_on (Malformed codec fault) is = cc
-asking_goes_on Failed is = cc
+asking_goes_on phase is = cc
 
 asking_early : (phase : Phase) → is_asking phase ≡ true → is_early phase ≡ true
-asking_early Reset is = refl
-asking_early Settling is = refl
 asking_early Walking is = refl
 asking_early SettingUp is = refl
-asking_early Ready is = refl
-asking_early Playing is = cc
-asking_early Drained is = cc
-asking_early NothingRouted is = refl
-asking_early (Unanswered codec command issued noticed) is = refl
-asking_early (Late from to limit) is = cc
-asking_early (Malformed codec fault) is = refl
-asking_early Failed is = refl
+asking_early phase is = cc
 
 follows_early : (phase : Phase) → can_follow phase ≡ true → is_early phase ≡ true
-follows_early Reset is = refl
-follows_early Settling is = refl
-follows_early Walking is = refl
-follows_early SettingUp is = refl
-follows_early Ready is = refl
 follows_early Playing is = cc
 follows_early Drained is = cc
-follows_early NothingRouted is = refl
-follows_early (Unanswered codec command issued noticed) is = refl
 follows_early (Late from to limit) is = cc
-follows_early (Malformed codec fault) is = refl
-follows_early Failed is = refl
+follows_early phase is = refl
 
 -- ---- whether an answer ended it
 

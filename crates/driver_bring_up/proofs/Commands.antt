@@ -13,7 +13,7 @@ use Rattle.period_writer.specs.declared.course.Ran.{Ran}
 use Rattle.period_writer.specs.declared.course.Ran.TheVariants as ran
 use Rattle.period_writer.specs.Runs.{Tally, Measures, Stretch, taken_up_if}
 use Rattle.driver_progress.specs.declared.phase.Phase.{Phase}
-use Rattle.driver_progress.specs.declared.phase.Phase.TheVariants.{Reset, Settling, Walking, SettingUp, Ready, Playing, Drained, NothingRouted, Unanswered, Late, Malformed, Failed}
+use Rattle.driver_progress.specs.declared.phase.Phase.TheVariants.{Walking, SettingUp, Unanswered}
 use Rattle.driver_progress.specs.Tasks.{Task, Order, DriverLine}
 use Rattle.driver_progress.specs.Seen.{Seen, seen_by, values_of}
 use Rattle.driver_progress.specs.Phases.{is_asking}
@@ -36,32 +36,14 @@ use Rattle.driver_progress.specs.Requests.{Request, requests_of}
 
 pub runs_asks : (task : Task) (state : State) (budget : ℕ) (seen : Seen) (tally : Tally) (phase : Phase) → is_asking phase ≡ true
     → runs task state budget seen tally phase ≡ asks task state seen (submits task.blocks state.rings (next_order task state seen))
-runs_asks task state budget seen tally Reset is = cc
-runs_asks task state budget seen tally Settling is = cc
 runs_asks task state budget seen tally Walking is = refl
 runs_asks task state budget seen tally SettingUp is = refl
-runs_asks task state budget seen tally Ready is = cc
-runs_asks task state budget seen tally Playing is = cc
-runs_asks task state budget seen tally Drained is = cc
-runs_asks task state budget seen tally NothingRouted is = cc
-runs_asks task state budget seen tally (Unanswered codec command issued noticed) is = cc
-runs_asks task state budget seen tally (Late from to limit) is = cc
-runs_asks task state budget seen tally (Malformed codec fault) is = cc
-runs_asks task state budget seen tally Failed is = cc
+runs_asks task state budget seen tally phase is = cc
 
 led_asks : (task : Task) (state : State) (seen : Seen) (tally : Tally) (phase : Phase) → is_asking phase ≡ true → led task state seen tally phase ≡ after_commands task state seen
-led_asks task state seen tally Reset is = cc
-led_asks task state seen tally Settling is = cc
 led_asks task state seen tally Walking is = refl
 led_asks task state seen tally SettingUp is = refl
-led_asks task state seen tally Ready is = cc
-led_asks task state seen tally Playing is = cc
-led_asks task state seen tally Drained is = cc
-led_asks task state seen tally NothingRouted is = cc
-led_asks task state seen tally (Unanswered codec command issued noticed) is = cc
-led_asks task state seen tally (Late from to limit) is = cc
-led_asks task state seen tally (Malformed codec fault) is = cc
-led_asks task state seen tally Failed is = cc
+led_asks task state seen tally phase is = cc
 
 -- a stretch that reads the clock once is no run
 one_read : (was : Ran) (clock : ℕ) (m : Measures) (total : ℕ) (stretch : Stretch) (tally : Tally) → taken_up_if was (clock ∷ []) m total stretch tally ≡ tally
@@ -181,32 +163,14 @@ stretch task state budget clock reads phase' order asking new comes =
 -- ---- the closing stretch
 
 closes_asks : (task : Task) (state : State) (seen : Seen) (phase : Phase) → is_asking phase ≡ true → closes task state seen phase ≡ asks task state seen shuts
-closes_asks task state seen Reset is = cc
-closes_asks task state seen Settling is = cc
 closes_asks task state seen Walking is = refl
 closes_asks task state seen SettingUp is = refl
-closes_asks task state seen Ready is = cc
-closes_asks task state seen Playing is = cc
-closes_asks task state seen Drained is = cc
-closes_asks task state seen NothingRouted is = cc
-closes_asks task state seen (Unanswered codec command issued noticed) is = cc
-closes_asks task state seen (Late from to limit) is = cc
-closes_asks task state seen (Malformed codec fault) is = cc
-closes_asks task state seen Failed is = cc
+closes_asks task state seen phase is = cc
 
 closed_asks : (task : Task) (state : State) (seen : Seen) (tally : Tally) (phase : Phase) → is_asking phase ≡ true → closed task state seen tally phase ≡ after_poll task state seen
-closed_asks task state seen tally Reset is = cc
-closed_asks task state seen tally Settling is = cc
 closed_asks task state seen tally Walking is = refl
 closed_asks task state seen tally SettingUp is = refl
-closed_asks task state seen tally Ready is = cc
-closed_asks task state seen tally Playing is = cc
-closed_asks task state seen tally Drained is = cc
-closed_asks task state seen tally NothingRouted is = cc
-closed_asks task state seen tally (Unanswered codec command issued noticed) is = cc
-closed_asks task state seen tally (Late from to limit) is = cc
-closed_asks task state seen tally (Malformed codec fault) is = cc
-closed_asks task state seen tally Failed is = cc
+closed_asks task state seen tally phase is = cc
 
 pub closing : (task : Task) (state : State) (clock : ℕ) (reads : PollReads) (phase' : Phase) (order : Option Order)
     → is_asking state.phase ≡ true → AreNew state.rings reads → Comes task state clock state.rings.outstanding (found_by state.rings reads) phase' order

@@ -10,18 +10,18 @@ use Rattle.period_writer.specs.declared.course.Ran.TheVariants as ran
 use Rattle.period_writer.specs.Runs.{Tally, Measures, Stretch, taken_up_if}
 use Rattle.driver_progress.specs.declared.registers.TheConstants.{STREAM_STATUS}
 use Rattle.driver_progress.specs.declared.phase.Phase.{Phase}
-use Rattle.driver_progress.specs.declared.phase.Phase.TheVariants.{Reset, Settling, Walking, SettingUp, Ready, Playing, Drained, NothingRouted, Unanswered, Late, Malformed, Failed}
+use Rattle.driver_progress.specs.declared.phase.Phase.TheVariants.{Reset, Settling, Walking, SettingUp, Ready, Playing}
 use Rattle.driver_progress.specs.Requests.{Request, Gets, requests_of}
 use Rattle.driver_progress.specs.Tasks.{Task, DriverLine}
 use Rattle.driver_progress.specs.Seen.{Seen, seen_by, values_of}
 use Rattle.driver_progress.specs.States.{State}
-use Rattle.driver_progress.specs.Expected.{runs, starts, asks, clears, interrupted_if, closes, shuts}
+use Rattle.driver_progress.specs.Expected.{runs, runs_in, starts, asks, clears, interrupted_if, closes, shuts}
 use Rattle.driver_progress.specs.Next.{led, closed, polled, tally_next, next, expected}
 use Rattle.driver_progress.specs.Interrupts.{clear_accesses, interrupt_accesses}
 use Rattle.driver_progress.specs.Shutting.{shut_accesses}
 use Rattle.driver_progress.proofs.StretchCallers.{interrupt_fits}
 use Rattle.driver_bring_up.specs.Commanding.{IsStretch, IsLastLook, run_of}
-use Rattle.driver_progress.specs.Phases.{is_active, is_asking, is_early, is_reset, is_settling}
+use Rattle.driver_progress.specs.Phases.{Group, Over, group_of, acts, is_active, is_asking, is_early, is_reset, is_settling}
 
 -- ---- nothing is left to do
 
@@ -30,28 +30,18 @@ still_runs task state budget seen tally Reset asking reset settling early silent
 still_runs task state budget seen tally Settling asking reset settling early silent = cc
 still_runs task state budget seen tally Walking asking reset settling early silent = cc
 still_runs task state budget seen tally SettingUp asking reset settling early silent = cc
-still_runs task state budget seen tally Ready asking reset settling early silent = ap (λ (plays : Bool). if plays then starts task state budget seen else []) (silent refl)
 still_runs task state budget seen tally Playing asking reset settling early silent = cc
-still_runs task state budget seen tally Drained asking reset settling early silent = cc
-still_runs task state budget seen tally NothingRouted asking reset settling early silent = refl
-still_runs task state budget seen tally (Unanswered codec command issued noticed) asking reset settling early silent = refl
-still_runs task state budget seen tally (Late from to limit) asking reset settling early silent = cc
-still_runs task state budget seen tally (Malformed codec fault) asking reset settling early silent = refl
-still_runs task state budget seen tally Failed asking reset settling early silent = refl
+still_runs task state budget seen tally Ready asking reset settling early silent = ap (λ (plays : Bool). if plays then starts task state budget seen else []) (silent refl)
+still_runs task state budget seen tally phase asking reset settling early silent = refl
 
 still_led : (task : Task) (state : State) (seen : Seen) (tally : Tally) (phase : Phase) → is_asking phase ≡ false → is_reset phase ≡ false → is_settling phase ≡ false → is_early phase ≡ true → (phase ≡ Ready → task.plays ≡ false) → led task state seen tally phase ≡ state
 still_led task state seen tally Reset asking reset settling early silent = cc
 still_led task state seen tally Settling asking reset settling early silent = cc
 still_led task state seen tally Walking asking reset settling early silent = cc
 still_led task state seen tally SettingUp asking reset settling early silent = cc
-still_led task state seen tally Ready asking reset settling early silent = ap (λ (plays : Bool). if plays then record state { phase = Playing } else state) (silent refl)
 still_led task state seen tally Playing asking reset settling early silent = cc
-still_led task state seen tally Drained asking reset settling early silent = cc
-still_led task state seen tally NothingRouted asking reset settling early silent = refl
-still_led task state seen tally (Unanswered codec command issued noticed) asking reset settling early silent = refl
-still_led task state seen tally (Late from to limit) asking reset settling early silent = cc
-still_led task state seen tally (Malformed codec fault) asking reset settling early silent = refl
-still_led task state seen tally Failed asking reset settling early silent = refl
+still_led task state seen tally Ready asking reset settling early silent = ap (λ (plays : Bool). if plays then record state { phase = Playing } else state) (silent refl)
+still_led task state seen tally phase asking reset settling early silent = refl
 
 -- a stretch that reads no clock is no run
 pub none_read : (was : Ran) (m : Measures) (total : ℕ) (stretch : Stretch) (tally : Tally) → taken_up_if was [] m total stretch tally ≡ tally
@@ -73,59 +63,24 @@ still_stretch task state budget asking reset settling early silent =
 
 shut_closes : (task : Task) (state : State) (seen : Seen) (phase : Phase) → is_asking phase ≡ false → is_reset phase ≡ false → is_early phase ≡ true → closes task state seen phase ≡ shuts
 shut_closes task state seen Reset asking reset early = cc
-shut_closes task state seen Settling asking reset early = refl
 shut_closes task state seen Walking asking reset early = cc
 shut_closes task state seen SettingUp asking reset early = cc
-shut_closes task state seen Ready asking reset early = refl
 shut_closes task state seen Playing asking reset early = cc
-shut_closes task state seen Drained asking reset early = cc
-shut_closes task state seen NothingRouted asking reset early = refl
-shut_closes task state seen (Unanswered codec command issued noticed) asking reset early = refl
-shut_closes task state seen (Late from to limit) asking reset early = cc
-shut_closes task state seen (Malformed codec fault) asking reset early = refl
-shut_closes task state seen Failed asking reset early = refl
+shut_closes task state seen phase asking reset early = refl
 
 shut_closed : (task : Task) (state : State) (seen : Seen) (tally : Tally) (phase : Phase) → is_asking phase ≡ false → is_reset phase ≡ false → is_early phase ≡ true → closed task state seen tally phase ≡ state
-shut_closed task state seen tally Reset asking reset early = cc
-shut_closed task state seen tally Settling asking reset early = refl
 shut_closed task state seen tally Walking asking reset early = cc
 shut_closed task state seen tally SettingUp asking reset early = cc
-shut_closed task state seen tally Ready asking reset early = refl
 shut_closed task state seen tally Playing asking reset early = cc
-shut_closed task state seen tally Drained asking reset early = cc
-shut_closed task state seen tally NothingRouted asking reset early = refl
-shut_closed task state seen tally (Unanswered codec command issued noticed) asking reset early = refl
-shut_closed task state seen tally (Late from to limit) asking reset early = cc
-shut_closed task state seen tally (Malformed codec fault) asking reset early = refl
-shut_closed task state seen tally Failed asking reset early = refl
+shut_closed task state seen tally phase asking reset early = refl
 
 reset_closes : (task : Task) (state : State) (seen : Seen) (phase : Phase) → is_reset phase ≡ true → closes task state seen phase ≡ []
 reset_closes task state seen Reset reset = refl
-reset_closes task state seen Settling reset = cc
-reset_closes task state seen Walking reset = cc
-reset_closes task state seen SettingUp reset = cc
-reset_closes task state seen Ready reset = cc
-reset_closes task state seen Playing reset = cc
-reset_closes task state seen Drained reset = cc
-reset_closes task state seen NothingRouted reset = cc
-reset_closes task state seen (Unanswered codec command issued noticed) reset = cc
-reset_closes task state seen (Late from to limit) reset = cc
-reset_closes task state seen (Malformed codec fault) reset = cc
-reset_closes task state seen Failed reset = cc
+reset_closes task state seen phase reset = cc
 
 reset_closed : (task : Task) (state : State) (seen : Seen) (tally : Tally) (phase : Phase) → is_reset phase ≡ true → closed task state seen tally phase ≡ state
 reset_closed task state seen tally Reset reset = refl
-reset_closed task state seen tally Settling reset = cc
-reset_closed task state seen tally Walking reset = cc
-reset_closed task state seen tally SettingUp reset = cc
-reset_closed task state seen tally Ready reset = cc
-reset_closed task state seen tally Playing reset = cc
-reset_closed task state seen tally Drained reset = cc
-reset_closed task state seen tally NothingRouted reset = cc
-reset_closed task state seen tally (Unanswered codec command issued noticed) reset = cc
-reset_closed task state seen tally (Late from to limit) reset = cc
-reset_closed task state seen tally (Malformed codec fault) reset = cc
-reset_closed task state seen tally Failed reset = cc
+reset_closed task state seen tally phase reset = cc
 
 pub shut_stretch : (task : Task) (state : State) → is_asking state.phase ≡ false → is_reset state.phase ≡ false → is_early state.phase ≡ true → IsStretch task state None shut_accesses false state
 shut_stretch task state asking reset early =
@@ -149,31 +104,11 @@ none_stretch task state reset =
 
 runs_same : (task : Task) (state : State) (budget interrupts stream : ℕ) (seen : Seen) (tally : Tally) (phase : Phase) → runs task state budget (record seen { interrupts = interrupts; stream = stream }) tally phase ≡ runs task state budget seen tally phase
 runs_same task state budget interrupts stream seen tally Reset = refl
-runs_same task state budget interrupts stream seen tally Settling = refl
-runs_same task state budget interrupts stream seen tally Walking = refl
-runs_same task state budget interrupts stream seen tally SettingUp = refl
-runs_same task state budget interrupts stream seen tally Ready = refl
-runs_same task state budget interrupts stream seen tally Playing = refl
-runs_same task state budget interrupts stream seen tally Drained = refl
-runs_same task state budget interrupts stream seen tally NothingRouted = refl
-runs_same task state budget interrupts stream seen tally (Unanswered codec command issued noticed) = refl
-runs_same task state budget interrupts stream seen tally (Late from to limit) = refl
-runs_same task state budget interrupts stream seen tally (Malformed codec fault) = refl
-runs_same task state budget interrupts stream seen tally Failed = refl
+runs_same task state budget interrupts stream seen tally phase = refl
 
 led_same : (task : Task) (state : State) (interrupts stream : ℕ) (seen : Seen) (tally : Tally) (phase : Phase) → led task state (record seen { interrupts = interrupts; stream = stream }) tally phase ≡ led task state seen tally phase
 led_same task state interrupts stream seen tally Reset = refl
-led_same task state interrupts stream seen tally Settling = refl
-led_same task state interrupts stream seen tally Walking = refl
-led_same task state interrupts stream seen tally SettingUp = refl
-led_same task state interrupts stream seen tally Ready = refl
-led_same task state interrupts stream seen tally Playing = refl
-led_same task state interrupts stream seen tally Drained = refl
-led_same task state interrupts stream seen tally NothingRouted = refl
-led_same task state interrupts stream seen tally (Unanswered codec command issued noticed) = refl
-led_same task state interrupts stream seen tally (Late from to limit) = refl
-led_same task state interrupts stream seen tally (Malformed codec fault) = refl
-led_same task state interrupts stream seen tally Failed = refl
+led_same task state interrupts stream seen tally phase = refl
 
 abbrev pub irq_of : (budget : ℕ) → DriverLine
 irq_of budget = record { irq = true; budget = budget }
@@ -192,45 +127,18 @@ seen_same false interrupts stream called found = refl
 
 pub not_reset : (phase : Phase) → (phase ≡ Reset → ⊥) → is_reset phase ≡ false
 not_reset Reset not = absurd (not refl)
-not_reset Settling not = refl
-not_reset Walking not = refl
-not_reset SettingUp not = refl
-not_reset Ready not = refl
-not_reset Playing not = refl
-not_reset Drained not = refl
-not_reset NothingRouted not = refl
-not_reset (Unanswered codec command issued noticed) not = refl
-not_reset (Late from to limit) not = refl
-not_reset (Malformed codec fault) not = refl
-not_reset Failed not = refl
+not_reset phase not = refl
 
 pub not_settling : (phase : Phase) → (phase ≡ Settling → ⊥) → is_settling phase ≡ false
-not_settling Reset not = refl
 not_settling Settling not = absurd (not refl)
-not_settling Walking not = refl
-not_settling SettingUp not = refl
-not_settling Ready not = refl
-not_settling Playing not = refl
-not_settling Drained not = refl
-not_settling NothingRouted not = refl
-not_settling (Unanswered codec command issued noticed) not = refl
-not_settling (Late from to limit) not = refl
-not_settling (Malformed codec fault) not = refl
-not_settling Failed not = refl
+not_settling phase not = refl
+
+inactive_in : (task : Task) (state : State) (budget : ℕ) (seen : Seen) (tally : Tally) (phase : Phase) (group : Group) → acts group ≡ false → runs_in task state budget seen tally phase group ≡ []
+inactive_in task state budget seen tally phase Over inactive = refl
+inactive_in task state budget seen tally phase group inactive = cc
 
 inactive_runs : (task : Task) (state : State) (budget : ℕ) (seen : Seen) (tally : Tally) (phase : Phase) → is_active phase ≡ false → runs task state budget seen tally phase ≡ []
-inactive_runs task state budget seen tally Reset inactive = cc
-inactive_runs task state budget seen tally Settling inactive = cc
-inactive_runs task state budget seen tally Walking inactive = cc
-inactive_runs task state budget seen tally SettingUp inactive = cc
-inactive_runs task state budget seen tally Ready inactive = cc
-inactive_runs task state budget seen tally Playing inactive = cc
-inactive_runs task state budget seen tally Drained inactive = refl
-inactive_runs task state budget seen tally NothingRouted inactive = refl
-inactive_runs task state budget seen tally (Unanswered codec command issued noticed) inactive = refl
-inactive_runs task state budget seen tally (Late from to limit) inactive = refl
-inactive_runs task state budget seen tally (Malformed codec fault) inactive = refl
-inactive_runs task state budget seen tally Failed inactive = refl
+inactive_runs task state budget seen tally phase inactive = inactive_in task state budget seen tally phase (group_of phase) inactive
 
 -- no interrupt is looked for
 pub inactive_stretch : (task : Task) (state : State) (budget : ℕ) → is_active state.phase ≡ false → IsStretch task state (Some (irq_of budget)) [] false state
@@ -306,15 +214,6 @@ interrupted_last task state later made state' interrupts stream on last =
     (last_first task state later made state' interrupts stream on last)
 
 pub asking_active : (phase : Phase) → is_asking phase ≡ true → is_active phase ≡ true
-asking_active Reset is = refl
-asking_active Settling is = refl
 asking_active Walking is = refl
 asking_active SettingUp is = refl
-asking_active Ready is = refl
-asking_active Playing is = refl
-asking_active Drained is = cc
-asking_active NothingRouted is = cc
-asking_active (Unanswered codec command issued noticed) is = cc
-asking_active (Late from to limit) is = cc
-asking_active (Malformed codec fault) is = cc
-asking_active Failed is = cc
+asking_active phase is = cc

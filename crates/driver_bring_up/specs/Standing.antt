@@ -6,7 +6,7 @@ use Rattle.codec_graph.specs.declared.raw.RawCodec.{RawCodec}
 use Rattle.route_planner.specs.declared.routes.Plan.{Plan}
 use Rattle.command_engine.specs.declared.answers.Outstanding.{Outstanding}
 use Rattle.driver_progress.specs.declared.phase.Phase.{Phase}
-use Rattle.driver_progress.specs.declared.phase.Phase.TheVariants.{Reset, Settling, Walking, SettingUp, Ready, Playing, Drained, NothingRouted, Unanswered, Late, Malformed, Failed}
+use Rattle.driver_progress.specs.declared.phase.Phase.TheVariants.{Walking, SettingUp, Ready, NothingRouted, Malformed}
 use Rattle.driver_progress.specs.Phases.{goes_on}
 use Rattle.driver_progress.specs.Tasks.{Task, Order, order_of}
 use Rattle.driver_progress.specs.Next.{phase_of_answers}
@@ -30,22 +30,14 @@ pub record LeadsOn (IsPlanBy : RawCodec → Plan → Type 0) (verbs_by : RawCode
   pub led : goes_on phase ≡ true → LedBy IsPlanBy verbs_by old.walk answer old new
   pub phase_is : goes_on phase ≡ true → phase ≡ phase_of new
 
--- where no command comes after the answer that led to it
+-- where the answer that led to it does not lead on, it tells why
 abbrev pub EndsBy : (IsPlanBy : RawCodec → Plan → Type 0) (answer : ℕ) (old new : Agenda) → Phase → Type 0
-EndsBy IsPlanBy answer old new Reset = ⊥
-EndsBy IsPlanBy answer old new Settling = ⊥
-EndsBy IsPlanBy answer old new Walking = Unit {0}
-EndsBy IsPlanBy answer old new SettingUp = Unit {0}
-EndsBy IsPlanBy answer old new Ready = Unit {0}
-EndsBy IsPlanBy answer old new Playing = ⊥
-EndsBy IsPlanBy answer old new Drained = ⊥
-EndsBy IsPlanBy answer old new NothingRouted = TellsNoRoute IsPlanBy old.walk answer old.addresses.items old.graphs.items new
-EndsBy IsPlanBy answer old new (Unanswered codec command issued noticed) = ⊥
-EndsBy IsPlanBy answer old new (Late from to limit) = ⊥
+EndsBy IsPlanBy answer old new NothingRouted =
+    TellsNoRoute IsPlanBy old.walk answer old.addresses.items old.graphs.items new
 EndsBy IsPlanBy answer old new (Malformed codec fault) =
     (codec ≡ slice_index old.addresses.items (length old.graphs.items)) × TellsFault old.walk answer fault
     × (new.graphs ≡ old.graphs) × (new.plans ≡ old.plans)
-EndsBy IsPlanBy answer old new Failed = ⊥
+EndsBy IsPlanBy answer old new phase = goes_on phase ≡ true
 
 -- how many commands were answered, where so many were sent
 abbrev pub answers_of : (sent : ℕ) → Option Outstanding → ℕ

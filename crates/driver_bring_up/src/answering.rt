@@ -1,6 +1,5 @@
 //! A look for the answer to the outstanding command, and where it leads.
 ghost use Rattle.std.specs.Prelude.{◌≡◌, ◌≤◌, ◌+◌, [], true, None, IfOk, OnErr, IsSome};
-ghost use Rattle.driver_progress.specs.Phases as phases;
 ghost use Rattle.driver_bring_up.specs.Standing as standing;
 ghost use Rattle.driver_bring_up.specs.Commanding as spec;
 
@@ -121,15 +120,8 @@ fn leaves_free(poll: Poll, phase: Phase) -> bool
 {
     match poll {
         Poll::Idle => true,
-        Poll::Answered(_) => goes_on(phase),
+        Poll::Answered(_) => phase.goes_on(),
         Poll::Waiting => false,
         Poll::Unanswered { .. } => false,
     }
-}
-
-/// Whether an answer that led to this phase leads on.
-fn goes_on(phase: Phase) -> bool
-    ensures { result ≡ phases.goes_on phase }
-{
-    matches!(phase, Phase::Walking | Phase::SettingUp | Phase::Ready)
 }

@@ -5,7 +5,6 @@ ghost use Rattle.driver_bring_up.specs.Standing.{phase_of};
 
 mod calling;
 mod opening;
-mod phases;
 mod running;
 
 use crate::jacks::Jacks;

@@ -18,13 +18,12 @@ use Rattle.period_writer.specs.Starting.{entry_writes, run_accesses}
 use Rattle.period_writer.specs.Playing.{run_writes, stop_accesses}
 use Rattle.period_writer.specs.Runs.{RunFacts, Tally, measures, facts_of}
 use Rattle.driver_progress.specs.declared.phase.Phase.{Phase}
-use Rattle.driver_progress.specs.declared.phase.Phase.TheVariants.{Reset, Settling, Walking, SettingUp, Ready, Playing, Drained, NothingRouted, Unanswered, Late, Malformed, Failed}
 use Rattle.driver_progress.specs.declared.registers.TheConstants.{STREAM_STATUS}
 use Rattle.driver_progress.specs.Requests.{Request, Gets, Puts, Fetches, Stores, requests_of}
 use Rattle.driver_progress.specs.Tasks.{Order, Blocks, Task, DriverLine}
 use Rattle.driver_progress.specs.Seen.{Seen, clock_of, interrupts_at, stream_interrupts_at}
 use Rattle.driver_progress.specs.States.{State}
-use Rattle.driver_progress.specs.Phases.{is_active}
+use Rattle.driver_progress.specs.Phases.{Group, BeforeWalk, Asking, BeforeSound, Sounding, Over, group_of, is_reset, is_active}
 
 -- ---- the reset
 
@@ -122,20 +121,21 @@ stops tally = requests_of (stop_accesses tally.course.ran)
 
 -- ---- a call
 
--- by phase, where the tally after the call is this one. From Drained on nothing is done
+-- before the walk
+abbrev pub begins : Task → State → Seen → Phase → List Request
+begins task state seen phase = if is_reset phase then resets else settles task state seen
+
+-- by the group of the phase, where the tally after the call is this one. Once it is over nothing is done
+abbrev pub runs_in : Task → State → (budget : ℕ) → Seen → Tally → Phase → Group → List Request
+runs_in task state budget seen tally phase BeforeWalk = begins task state seen phase
+runs_in task state budget seen tally phase Asking =
+    asks task state seen (submits task.blocks state.rings (next_order task state seen))
+runs_in task state budget seen tally phase BeforeSound = if task.plays then starts task state budget seen else []
+runs_in task state budget seen tally phase Sounding = plays_on task state budget seen (stops tally)
+runs_in task state budget seen tally phase Over = []
+
 abbrev pub runs : Task → State → (budget : ℕ) → Seen → Tally → Phase → List Request
-runs task state budget seen tally Reset = resets
-runs task state budget seen tally Settling = settles task state seen
-runs task state budget seen tally Walking = asks task state seen (submits task.blocks state.rings (next_order task state seen))
-runs task state budget seen tally SettingUp = asks task state seen (submits task.blocks state.rings (next_order task state seen))
-runs task state budget seen tally Ready = if task.plays then starts task state budget seen else []
-runs task state budget seen tally Playing = plays_on task state budget seen (stops tally)
-runs task state budget seen tally Drained = []
-runs task state budget seen tally NothingRouted = []
-runs task state budget seen tally (Unanswered codec command issued noticed) = []
-runs task state budget seen tally (Late from to limit) = []
-runs task state budget seen tally (Malformed codec fault) = []
-runs task state budget seen tally Failed = []
+runs task state budget seen tally phase = runs_in task state budget seen tally phase (group_of phase)
 
 -- of an interrupt of the output stream the status bits that are set are cleared (3.3.36)
 abbrev pub clears : Seen → List Request
@@ -155,20 +155,16 @@ interrupted_if false seen called = called
 abbrev pub shuts : List Request
 shuts = Puts CORBCTL One 0 ∷ Puts RIRBCTL One 0 ∷ Puts GCTL Four 0 ∷ []
 
--- by phase: no command is submitted, no sound is written, and a stream that runs is stopped
+-- by the group of the phase: no command is submitted, no sound is written, and a stream that runs is stopped
+abbrev pub closes_in : Task → State → Seen → Phase → Group → List Request
+closes_in task state seen phase BeforeWalk = if is_reset phase then [] else shuts
+closes_in task state seen phase Asking = asks task state seen shuts
+closes_in task state seen phase BeforeSound = shuts
+closes_in task state seen phase Sounding = plays_on task state 0 seen (Puts CONTROL One 0 ∷ shuts)
+closes_in task state seen phase Over = shuts
+
 abbrev pub closes : Task → State → Seen → Phase → List Request
-closes task state seen Reset = []
-closes task state seen Settling = shuts
-closes task state seen Walking = asks task state seen shuts
-closes task state seen SettingUp = asks task state seen shuts
-closes task state seen Ready = shuts
-closes task state seen Playing = plays_on task state 0 seen (Puts CONTROL One 0 ∷ shuts)
-closes task state seen Drained = shuts
-closes task state seen NothingRouted = shuts
-closes task state seen (Unanswered codec command issued noticed) = shuts
-closes task state seen (Late from to limit) = shuts
-closes task state seen (Malformed codec fault) = shuts
-closes task state seen Failed = shuts
+closes task state seen phase = closes_in task state seen phase (group_of phase)
 
 -- ---- all accesses of a stretch, where it is one of a line or the closing one
 

@@ -10,7 +10,9 @@ use Rattle.period_writer.specs.declared.course.Ran.{Ran}
 use Rattle.period_writer.specs.declared.course.Ran.TheVariants as ran
 use Rattle.period_writer.specs.Runs.{Tally, measures, taken_up}
 use Rattle.driver_progress.specs.declared.phase.Phase.{Phase}
-use Rattle.driver_progress.specs.declared.phase.Phase.TheVariants.{Reset, Settling, Walking, SettingUp, Ready, Playing, Drained, NothingRouted, Unanswered, Late, Malformed, Failed}
+use Rattle.driver_progress.specs.declared.phase.Phase.TheVariants.{Settling, Walking, SettingUp, Ready, Playing}
+use Rattle.driver_progress.specs.declared.phase.Phase.TheVariants.{Drained, Unanswered, Late}
+use Rattle.driver_progress.specs.Phases.{Group, BeforeWalk, Asking, BeforeSound, Sounding, Over, group_of, is_reset}
 use Rattle.driver_progress.specs.Requests.{Request}
 use Rattle.driver_progress.specs.Tasks.{Order, Task, DriverLine}
 use Rattle.driver_progress.specs.Seen.{Seen, clock_of, interrupts_at}
@@ -86,35 +88,34 @@ after_run task state seen tally = record state { phase = phase_played task tally
 
 -- ---- a stretch
 
--- by phase, but for the tally. From Drained on nothing changes
+-- before the walk
+abbrev pub begun_by : State → Seen → Phase → State
+begun_by state seen phase =
+    if is_reset phase
+    then reset_if (has_bit seen.control 0) (clock_of seen) state
+    else settled_if (has_settled state.kept (clock_of seen)) (rings_seen seen) state
+
+-- by the group of the phase, but for the tally. Once it is over nothing changes
+abbrev pub led_in : Task → State → Seen → Tally → Phase → Group → State
+led_in task state seen tally phase BeforeWalk = begun_by state seen phase
+led_in task state seen tally phase Asking = after_commands task state seen
+led_in task state seen tally phase BeforeSound = if task.plays then record state { phase = Playing } else state
+led_in task state seen tally phase Sounding = after_run task state seen tally
+led_in task state seen tally phase Over = state
+
 abbrev pub led : Task → State → Seen → Tally → Phase → State
-led task state seen tally Reset = reset_if (has_bit seen.control 0) (clock_of seen) state
-led task state seen tally Settling = settled_if (has_settled state.kept (clock_of seen)) (rings_seen seen) state
-led task state seen tally Walking = after_commands task state seen
-led task state seen tally SettingUp = after_commands task state seen
-led task state seen tally Ready = if task.plays then record state { phase = Playing } else state
-led task state seen tally Playing = after_run task state seen tally
-led task state seen tally Drained = state
-led task state seen tally NothingRouted = state
-led task state seen tally (Unanswered codec command issued noticed) = state
-led task state seen tally (Late from to limit) = state
-led task state seen tally (Malformed codec fault) = state
-led task state seen tally Failed = state
+led task state seen tally phase = led_in task state seen tally phase (group_of phase)
 
 -- the closing stretch submits nothing
+abbrev pub closed_in : Task → State → Seen → Tally → Group → State
+closed_in task state seen tally BeforeWalk = state
+closed_in task state seen tally Asking = after_poll task state seen
+closed_in task state seen tally BeforeSound = state
+closed_in task state seen tally Sounding = after_run task state seen tally
+closed_in task state seen tally Over = state
+
 abbrev pub closed : Task → State → Seen → Tally → Phase → State
-closed task state seen tally Reset = state
-closed task state seen tally Settling = state
-closed task state seen tally Walking = after_poll task state seen
-closed task state seen tally SettingUp = after_poll task state seen
-closed task state seen tally Ready = state
-closed task state seen tally Playing = after_run task state seen tally
-closed task state seen tally Drained = state
-closed task state seen tally NothingRouted = state
-closed task state seen tally (Unanswered codec command issued noticed) = state
-closed task state seen tally (Late from to limit) = state
-closed task state seen tally (Malformed codec fault) = state
-closed task state seen tally Failed = state
+closed task state seen tally phase = closed_in task state seen tally (group_of phase)
 
 -- whether a call for an interrupt found none
 abbrev pub finds_none : DriverLine → Seen → Bool

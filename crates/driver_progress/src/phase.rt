@@ -52,3 +52,58 @@ pub enum Phase {
     /// Memory was wanting.
     Failed,
 }
+
+impl Phase {
+    ghost use Rattle.std.specs.Prelude.{◌≡◌};
+    ghost use Rattle.driver_progress.specs.Phases as spec;
+
+    /// Whether commands are sent in it.
+    pub fn is_asking(self) -> bool
+        ensures { result ≡ spec.is_asking self }
+    {
+        matches!(self, Phase::Walking | Phase::SettingUp)
+    }
+
+    /// Whether anything is left to do in it.
+    pub fn is_active(self) -> bool
+        ensures { result ≡ spec.is_active self }
+    {
+        matches!(
+            self,
+            Phase::Reset
+                | Phase::Settling
+                | Phase::Walking
+                | Phase::SettingUp
+                | Phase::Ready
+                | Phase::Playing
+        )
+    }
+
+    /// Whether nothing was done yet.
+    pub fn is_reset(self) -> bool
+        ensures { result ≡ spec.is_reset self }
+    {
+        matches!(self, Phase::Reset)
+    }
+
+    /// Whether all codecs are set up, and no sound was played yet.
+    pub fn is_ready(self) -> bool
+        ensures { result ≡ spec.is_ready self }
+    {
+        matches!(self, Phase::Ready)
+    }
+
+    /// Whether an answer that led to it leads on.
+    pub fn goes_on(self) -> bool
+        ensures { result ≡ spec.goes_on self }
+    {
+        matches!(self, Phase::Walking | Phase::SettingUp | Phase::Ready)
+    }
+
+    /// Whether sound may be played at the next call.
+    pub fn may_play(self) -> bool
+        ensures { result ≡ spec.may_play self }
+    {
+        matches!(self, Phase::Ready | Phase::Playing)
+    }
+}

@@ -17,7 +17,8 @@ use Rattle.period_writer.specs.declared.geometry.GeometryFault.{GeometryFault}
 use Rattle.period_writer.specs.Rings.{fault_of}
 use Rattle.wav_reader.specs.declared.opened.WavHead.{WavHead}
 use Rattle.driver_progress.specs.declared.phase.Phase.{Phase}
-use Rattle.driver_progress.specs.declared.phase.Phase.TheVariants.{Reset, Settling, Walking, SettingUp, Ready, Playing, Drained, NothingRouted, Unanswered, Late, Malformed, Failed}
+use Rattle.driver_progress.specs.declared.phase.Phase.TheVariants.{Reset, Settling, Walking, SettingUp, Ready}
+use Rattle.driver_progress.specs.declared.phase.Phase.TheVariants.{Unanswered}
 use Rattle.sound_report.specs.declared.played.Played.{Played}
 use Rattle.sound_report.specs.declared.played.PlayFault.{PlayFault}
 use Rattle.sound_report.specs.declared.played.PlayFault.TheVariants as fault
@@ -57,13 +58,8 @@ of_walk Settling sent of end is = subst (λ (e : Option PlayFault). WalkEnd e) (
 of_walk Walking sent of end is = subst (λ (e : Option PlayFault). WalkEnd e) (sym is) (inr (inr refl))
 of_walk SettingUp sent of end is = subst (λ (e : Option PlayFault). WalkEnd e) (sym is) (inr (inr refl))
 of_walk Ready sent of end is = subst (λ (e : Option PlayFault). WalkEnd e) (sym is) (inl refl)
-of_walk Playing sent of end is = absurd is
-of_walk Drained sent of end is = absurd is
-of_walk NothingRouted sent of end is = absurd is
 of_walk (Unanswered codec command issued noticed) sent of end is = subst (λ (e : Option PlayFault). WalkEnd e) (sym is) (inr (inl refl))
-of_walk (Late from to limit) sent of end is = absurd is
-of_walk (Malformed codec malformed) sent of end is = absurd is
-of_walk Failed sent of end is = absurd is
+of_walk phase sent of end is = absurd is
 
 walk_end : (machine : Machine) (plans : List Plan) (schedule : Schedule) (played : Played) → IsWalked machine plans schedule played → IsOfWalk (number_of (status_of played))
 unfolding WalkEnd

@@ -14,7 +14,7 @@ use Rattle.command_engine.specs.Belonging.{from_after}
 use Rattle.command_engine.specs.Courses.{Stands, AscendFrom, graphs_in}
 use Rattle.command_engine.specs.Polling.{asked_of, rings_polled, still_outstanding}
 use Rattle.driver_progress.specs.declared.phase.Phase.{Phase}
-use Rattle.driver_progress.specs.declared.phase.Phase.TheVariants.{Reset, Settling, Walking, SettingUp, Ready, Playing, Drained, NothingRouted, Unanswered, Late, Malformed, Failed}
+use Rattle.driver_progress.specs.declared.phase.Phase.TheVariants.{Settling, Walking, SettingUp, Ready}
 use Rattle.driver_progress.specs.Phases.{is_asking, goes_on, can_follow}
 use Rattle.driver_progress.specs.Tasks.{Task, Order, DriverLine}
 use Rattle.driver_progress.specs.Seen.{seen_by, values_of}
@@ -77,18 +77,10 @@ outstanding_with (Some order) clock rings = refl
 module _ (IsPlanBy : RawCodec → Plan → Type 0) (verbs_by : RawCodec → Plan → List Command) (verbs : RawCodec → List Command) (graphs : List RawCodec) (task : Task) (laws : AgendaLaws IsPlanBy verbs_by verbs graphs)
     (of : IsTaskOfCodecs IsPlanBy verbs_by verbs graphs task) where
   pub stands_in : (phase : Phase) (written : ℕ) (bring_up : BringUp) (world : World) → goes_on phase ≡ true → IsAsking IsPlanBy verbs graphs task written bring_up world → StandsIn phase IsPlanBy verbs graphs task written bring_up world
-  stands_in Reset written bring_up world goes asking = absurd (not_true goes)
-  stands_in Settling written bring_up world goes asking = absurd (not_true goes)
   stands_in Walking written bring_up world goes asking = asking
   stands_in SettingUp written bring_up world goes asking = asking
   stands_in Ready written bring_up world goes asking = asking
-  stands_in Playing written bring_up world goes asking = absurd (not_true goes)
-  stands_in Drained written bring_up world goes asking = absurd (not_true goes)
-  stands_in NothingRouted written bring_up world goes asking = absurd (not_true goes)
-  stands_in (Unanswered codec command issued noticed) written bring_up world goes asking = absurd (not_true goes)
-  stands_in (Late from to limit) written bring_up world goes asking = absurd (not_true goes)
-  stands_in (Malformed codec fault) written bring_up world goes asking = absurd (not_true goes)
-  stands_in Failed written bring_up world goes asking = absurd (not_true goes)
+  stands_in phase written bring_up world goes asking = absurd (not_true goes)
 
   stands_then : (outstanding : Option Outstanding) (clock written : ℕ) (bring_up : BringUp) (world : World) → (goes_on bring_up.phase ≡ true) ⊎ IsGivenUp outstanding clock bring_up.phase → IsAsking IsPlanBy verbs graphs task written bring_up world
       → StandsIn bring_up.phase IsPlanBy verbs graphs task written bring_up world

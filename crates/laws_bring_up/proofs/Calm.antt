@@ -11,7 +11,7 @@ use Rattle.command_engine.specs.declared.ring_places.RingPlaces.{RingPlaces}
 use Rattle.command_engine.specs.Polling.{new_entries}
 use Rattle.period_writer.specs.Runs.{Tally}
 use Rattle.driver_progress.specs.declared.phase.Phase.{Phase}
-use Rattle.driver_progress.specs.declared.phase.Phase.TheVariants.{Reset, Settling, Walking, SettingUp, Ready, Playing, Drained, NothingRouted, Unanswered, Late, Malformed, Failed}
+use Rattle.driver_progress.specs.declared.phase.Phase.TheVariants.{Walking, SettingUp, Ready}
 use Rattle.driver_progress.specs.Phases.{is_asking, is_active}
 use Rattle.driver_progress.specs.Requests.{Request, Gets, Puts, Fetches, Stores}
 use Rattle.driver_progress.specs.Seen.{Seen, interrupts_at, stream_interrupts_at}
@@ -107,32 +107,14 @@ asking_calm task state budget seen all =
     (submits_calm task.blocks state.rings task.orders state.sent (is_free state.rings.outstanding seen.answered) (next_order task state seen) all refl)
 
 runs_calm : (task : Task) (state : State) (budget : ℕ) (seen : Seen) (tally : Tally) (phase : Phase) → is_asking phase ≡ true → state.sent ≡ length task.orders → AreCalm (runs task state budget seen tally phase)
-runs_calm task state budget seen tally Reset asking all = absurd (not_true asking)
-runs_calm task state budget seen tally Settling asking all = absurd (not_true asking)
 runs_calm task state budget seen tally Walking asking all = asking_calm task state budget seen all
 runs_calm task state budget seen tally SettingUp asking all = asking_calm task state budget seen all
-runs_calm task state budget seen tally Ready asking all = absurd (not_true asking)
-runs_calm task state budget seen tally Playing asking all = absurd (not_true asking)
-runs_calm task state budget seen tally Drained asking all = absurd (not_true asking)
-runs_calm task state budget seen tally NothingRouted asking all = absurd (not_true asking)
-runs_calm task state budget seen tally (Unanswered codec command issued noticed) asking all = absurd (not_true asking)
-runs_calm task state budget seen tally (Late from to limit) asking all = absurd (not_true asking)
-runs_calm task state budget seen tally (Malformed codec fault) asking all = absurd (not_true asking)
-runs_calm task state budget seen tally Failed asking all = absurd (not_true asking)
+runs_calm task state budget seen tally phase asking all = absurd (not_true asking)
 
 closes_calm : (task : Task) (state : State) (seen : Seen) (phase : Phase) → is_asking phase ≡ true → AreCalm (closes task state seen phase)
-closes_calm task state seen Reset asking = absurd (not_true asking)
-closes_calm task state seen Settling asking = absurd (not_true asking)
 closes_calm task state seen Walking asking = asks_calm task state seen shuts shuts_calm
 closes_calm task state seen SettingUp asking = asks_calm task state seen shuts shuts_calm
-closes_calm task state seen Ready asking = absurd (not_true asking)
-closes_calm task state seen Playing asking = absurd (not_true asking)
-closes_calm task state seen Drained asking = absurd (not_true asking)
-closes_calm task state seen NothingRouted asking = absurd (not_true asking)
-closes_calm task state seen (Unanswered codec command issued noticed) asking = absurd (not_true asking)
-closes_calm task state seen (Late from to limit) asking = absurd (not_true asking)
-closes_calm task state seen (Malformed codec fault) asking = absurd (not_true asking)
-closes_calm task state seen Failed asking = absurd (not_true asking)
+closes_calm task state seen phase asking = absurd (not_true asking)
 
 -- a stretch of a line plays no sound once all is set up
 abbrev pub IsSilent : Task → State → Option DriverLine → Type 0

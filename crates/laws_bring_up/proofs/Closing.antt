@@ -13,7 +13,8 @@ use Rattle.command_engine.specs.declared.answers.Outstanding.{Outstanding}
 use Rattle.command_engine.specs.Courses.{AscendFrom, graphs_in}
 use Rattle.command_engine.specs.Polling.{asked_of, still_outstanding}
 use Rattle.driver_progress.specs.declared.phase.Phase.{Phase}
-use Rattle.driver_progress.specs.declared.phase.Phase.TheVariants.{Reset, Settling, Walking, SettingUp, Ready, Playing, Drained, NothingRouted, Unanswered, Late, Malformed, Failed}
+use Rattle.driver_progress.specs.declared.phase.Phase.TheVariants.{Reset, Settling, Walking, SettingUp, Ready, Playing}
+use Rattle.driver_progress.specs.declared.phase.Phase.TheVariants.{Unanswered, Failed}
 use Rattle.driver_progress.specs.Phases.{is_asking, goes_on, is_early}
 use Rattle.driver_progress.specs.Tasks.{Task, DriverLine}
 use Rattle.driver_progress.specs.States.{State}
@@ -106,18 +107,10 @@ last_noted laws task lines left old new made from read before after opened agree
 -- ---- where it leads
 
 pub closed_still : (task : Task) (state : State) (seen : Seen) (tally : Tally) (phase : Phase) → is_asking phase ≡ false → is_early phase ≡ true → closed task state seen tally phase ≡ state
-closed_still task state seen tally Reset not early = refl
-closed_still task state seen tally Settling not early = refl
 closed_still task state seen tally Walking not early = absurd (not_true (sym not))
 closed_still task state seen tally SettingUp not early = absurd (not_true (sym not))
-closed_still task state seen tally Ready not early = refl
 closed_still task state seen tally Playing not early = absurd (not_true early)
-closed_still task state seen tally Drained not early = refl
-closed_still task state seen tally NothingRouted not early = refl
-closed_still task state seen tally (Unanswered codec command issued noticed) not early = refl
-closed_still task state seen tally (Late from to limit) not early = refl
-closed_still task state seen tally (Malformed codec fault) not early = refl
-closed_still task state seen tally Failed not early = refl
+closed_still task state seen tally phase not early = refl
 
 -- to a phase where commands may come, or one was given up
 record WasGivenUp (phase : Phase) : Type 0 where
@@ -144,18 +137,9 @@ polled_ends task state clock (Some command) goes = by (nat_le (command.issued + 
     by false = inl goes
 
 closed_ends : (task : Task) (state : State) (seen : Seen) (tally : Tally) (phase : Phase) → is_asking phase ≡ true → goes_on state.phase ≡ true → EndsIn (closed task state seen tally phase).phase
-closed_ends task state seen tally Reset asking goes = absurd (not_true asking)
-closed_ends task state seen tally Settling asking goes = absurd (not_true asking)
 closed_ends task state seen tally Walking asking goes = polled_ends task state (clock_of seen) (outstanding_if seen.answered state.rings.outstanding) goes
 closed_ends task state seen tally SettingUp asking goes = polled_ends task state (clock_of seen) (outstanding_if seen.answered state.rings.outstanding) goes
-closed_ends task state seen tally Ready asking goes = absurd (not_true asking)
-closed_ends task state seen tally Playing asking goes = absurd (not_true asking)
-closed_ends task state seen tally Drained asking goes = absurd (not_true asking)
-closed_ends task state seen tally NothingRouted asking goes = absurd (not_true asking)
-closed_ends task state seen tally (Unanswered codec command issued noticed) asking goes = absurd (not_true asking)
-closed_ends task state seen tally (Late from to limit) asking goes = absurd (not_true asking)
-closed_ends task state seen tally (Malformed codec fault) asking goes = absurd (not_true asking)
-closed_ends task state seen tally Failed asking goes = absurd (not_true asking)
+closed_ends task state seen tally phase asking goes = absurd (not_true asking)
 
 -- to Ready only where the outstanding command is answered, and all were sent
 pub record IsReadyBy (task : Task) (sent : ℕ) (outstanding : Option Outstanding) : Type 0 where
@@ -172,32 +156,14 @@ polled_ready task state clock (Some command) asking is = absurd (by (nat_le (com
 
 pub closed_ready : (task : Task) (state : State) (seen : Seen) (tally : Tally) (phase : Phase) → is_asking phase ≡ true → is_asking state.phase ≡ true → (closed task state seen tally phase).phase ≡ Ready
     → IsReadyBy task state.sent (outstanding_if seen.answered state.rings.outstanding)
-closed_ready task state seen tally Reset asking asks is = absurd (not_true asking)
-closed_ready task state seen tally Settling asking asks is = absurd (not_true asking)
 closed_ready task state seen tally Walking asking asks is = polled_ready task state (clock_of seen) (outstanding_if seen.answered state.rings.outstanding) asks is
 closed_ready task state seen tally SettingUp asking asks is = polled_ready task state (clock_of seen) (outstanding_if seen.answered state.rings.outstanding) asks is
-closed_ready task state seen tally Ready asking asks is = absurd (not_true asking)
-closed_ready task state seen tally Playing asking asks is = absurd (not_true asking)
-closed_ready task state seen tally Drained asking asks is = absurd (not_true asking)
-closed_ready task state seen tally NothingRouted asking asks is = absurd (not_true asking)
-closed_ready task state seen tally (Unanswered codec command issued noticed) asking asks is = absurd (not_true asking)
-closed_ready task state seen tally (Late from to limit) asking asks is = absurd (not_true asking)
-closed_ready task state seen tally (Malformed codec fault) asking asks is = absurd (not_true asking)
-closed_ready task state seen tally Failed asking asks is = absurd (not_true asking)
+closed_ready task state seen tally phase asking asks is = absurd (not_true asking)
 
 pub asking_goes : (phase : Phase) → is_asking phase ≡ true → goes_on phase ≡ true
-asking_goes Reset is = absurd (not_true is)
-asking_goes Settling is = absurd (not_true is)
 asking_goes Walking is = refl
 asking_goes SettingUp is = refl
-asking_goes Ready is = absurd (not_true is)
-asking_goes Playing is = absurd (not_true is)
-asking_goes Drained is = absurd (not_true is)
-asking_goes NothingRouted is = absurd (not_true is)
-asking_goes (Unanswered codec command issued noticed) is = absurd (not_true is)
-asking_goes (Late from to limit) is = absurd (not_true is)
-asking_goes (Malformed codec fault) is = absurd (not_true is)
-asking_goes Failed is = absurd (not_true is)
+asking_goes phase is = absurd (not_true is)
 
 -- ---- the call
 
@@ -303,12 +269,8 @@ module _ (IsPlanBy : RawCodec → Plan → Type 0) (verbs_by : RawCodec → Plan
   end_told lines left old new before after Ready was opened blocks ends graphs_are stage =
       ended_on lines left old new after (quiet_ends lines left old new before after opened blocks ends (ap is_asking was))
       (walked_by IsPlanBy verbs_by verbs graphs task of old.sent old.engine.rings.outstanding old.agenda stage.follows) (ended_in old stage.follows (inl (ap goes_on was)))
-  end_told lines left old new before after Playing was opened blocks ends graphs_are stage = absurd stage
-  end_told lines left old new before after Drained was opened blocks ends graphs_are stage = absurd stage
-  end_told lines left old new before after NothingRouted was opened blocks ends graphs_are stage = absurd stage
   end_told lines left old new before after (Unanswered codec command issued noticed) was opened blocks ends graphs_are stage =
       ended_on lines left old new after (quiet_ends lines left old new before after opened blocks ends (ap is_asking was)) stage (subst (λ (phase : Phase). WalkedIn phase (old.agenda.graphs.items ≡ graphs)) (sym was) (tt {0}))
-  end_told lines left old new before after (Late from to limit) was opened blocks ends graphs_are stage = absurd stage
-  end_told lines left old new before after (Malformed codec fault) was opened blocks ends graphs_are stage = absurd stage
   end_told lines left old new before after Failed was opened blocks ends graphs_are stage =
       ended_on lines left old new after (quiet_ends lines left old new before after opened blocks ends (ap is_asking was)) stage (subst (λ (phase : Phase). WalkedIn phase (old.agenda.graphs.items ≡ graphs)) (sym was) (tt {0}))
+  end_told lines left old new before after phase was opened blocks ends graphs_are stage = absurd stage

@@ -8,7 +8,7 @@ use Rattle.hda_world.specs.Worlds.{World}
 use Rattle.hda_world.specs.Events.{Event, Stepped, Begin, End, Read, Write, DmaRead, DmaWrite, happens, after}
 use Rattle.hda_world.specs.Tellings.{Telling, world_of, Went, Accessed, MakesBy}
 use Rattle.driver_progress.specs.declared.phase.Phase.{Phase}
-use Rattle.driver_progress.specs.declared.phase.Phase.TheVariants.{Reset, Settling, Walking, SettingUp, Ready, Playing, Drained, NothingRouted, Unanswered, Late, Malformed, Failed}
+use Rattle.driver_progress.specs.declared.phase.Phase.TheVariants.{Reset, Settling, Walking}
 use Rattle.driver_progress.specs.Phases.{goes_on}
 use Rattle.driver_progress.specs.Tasks.{Task, DriverLine}
 use Rattle.driver_progress.specs.States.{State}
@@ -104,13 +104,4 @@ settle_finds task state line seen was leads some =
 pub going_finds : (phase : Phase) (state : State) (seen : Seen) → goes_on phase ≡ true → FindsIn phase state seen
 going_finds Reset state seen goes = absurd (not_true goes)
 going_finds Settling state seen goes = absurd (not_true goes)
-going_finds Walking state seen goes = tt {0}
-going_finds SettingUp state seen goes = tt {0}
-going_finds Ready state seen goes = tt {0}
-going_finds Playing state seen goes = tt {0}
-going_finds Drained state seen goes = tt {0}
-going_finds NothingRouted state seen goes = tt {0}
-going_finds (Unanswered codec command issued noticed) state seen goes = tt {0}
-going_finds (Late from to limit) state seen goes = tt {0}
-going_finds (Malformed codec fault) state seen goes = tt {0}
-going_finds Failed state seen goes = tt {0}
+going_finds phase state seen goes = tt {0}

@@ -24,7 +24,7 @@ use Rattle.driver_agenda.specs.Following.{commands_of, Follows, CanReply}
 use Rattle.laws_settings.specs.Histories.{Remembers, words_of}
 use Rattle.laws_settings.proofs.Callers.{events_remember}
 use Rattle.driver_progress.specs.declared.phase.Phase.{Phase}
-use Rattle.driver_progress.specs.declared.phase.Phase.TheVariants.{Reset, Settling, Walking, SettingUp, Ready, Playing, Drained, NothingRouted, Unanswered, Late, Malformed, Failed}
+use Rattle.driver_progress.specs.declared.phase.Phase.TheVariants.{NothingRouted, Malformed}
 use Rattle.driver_progress.specs.Phases.{goes_on}
 use Rattle.driver_progress.specs.Tasks.{Task, Order, IsTaskFor}
 use Rattle.driver_bring_up.specs.Standing.{Agrees, EndsBy, LeadsOn, answers_of, next_on}
@@ -134,18 +134,9 @@ module _ (IsPlanBy : RawCodec → Plan → Type 0) (verbs_by : RawCodec → Plan
 
   -- so it leads on
   ends_on : (word : ℕ) (old new : Agenda) (phase : Phase) → EndsBy IsPlanBy word old new phase → ((fault : WalkFault) → TellsFault old.walk word fault → ⊥) → (TellsNoRoute IsPlanBy old.walk word old.addresses.items old.graphs.items new → ⊥) → goes_on phase ≡ true
-  ends_on word old new Reset ends no_fault some_route = absurd ends
-  ends_on word old new Settling ends no_fault some_route = absurd ends
-  ends_on word old new Walking ends no_fault some_route = refl
-  ends_on word old new SettingUp ends no_fault some_route = refl
-  ends_on word old new Ready ends no_fault some_route = refl
-  ends_on word old new Playing ends no_fault some_route = absurd ends
-  ends_on word old new Drained ends no_fault some_route = absurd ends
   ends_on word old new NothingRouted ends no_fault some_route = absurd (some_route ends)
-  ends_on word old new (Unanswered codec command issued noticed) ends no_fault some_route = absurd ends
-  ends_on word old new (Late from to limit) ends no_fault some_route = absurd ends
   ends_on word old new (Malformed codec fault) ends no_fault some_route = absurd (no_fault fault ends.1)
-  ends_on word old new Failed ends no_fault some_route = absurd ends
+  ends_on word old new phase ends no_fault some_route = ends
 
   -- ---- the look
 

@@ -10,15 +10,15 @@ use Rattle.hda_world.specs.Steps.{after_steps}
 use Rattle.hda_world.specs.Events.{Event, Stepped, Begin, End, Read, Write, DmaRead, DmaWrite, happens}
 use Rattle.hda_world.specs.Tellings.{Telling, world_of, Accessed, MakesBy}
 use Rattle.driver_progress.specs.declared.phase.Phase.{Phase}
-use Rattle.driver_progress.specs.declared.phase.Phase.TheVariants.{Reset, Settling, Walking, SettingUp, Ready, Playing, Drained, NothingRouted, Unanswered, Late, Malformed, Failed}
-use Rattle.driver_progress.specs.Phases.{is_asking, is_early}
+use Rattle.driver_progress.specs.declared.phase.Phase.TheVariants.{Ready, Playing, Drained, Late}
+use Rattle.driver_progress.specs.Phases.{is_asking, is_early, are_set_up}
 use Rattle.driver_progress.specs.Requests.{requests_in, requests_of}
 use Rattle.driver_progress.specs.Noting.{IsPlain, ArePlain}
 use Rattle.driver_progress.specs.States.{State}
 use Rattle.driver_progress.specs.Tasks.{Task, DriverLine}
 use Rattle.driver_progress.specs.Progress.{Course, course_of, is_answered, noted}
 use Rattle.driver_progress.specs.Unread.{IsUnread, AreUnread}
-use Rattle.laws_bring_up.specs.SettingUp.{are_set_up, are_answered, AreSetUpForGood, SetUpAt, StaysSetUp}
+use Rattle.laws_bring_up.specs.SettingUp.{are_answered, AreSetUpForGood, SetUpAt, StaysSetUp}
 use Rattle.laws_bring_up.proofs.Calm.{AreCalm, IsLast, calm_front, calm_back}
 use Rattle.laws_bring_up.proofs.Same.{steps_for_good, write_for_good}
 use Rattle.laws_bring_up.proofs.Always.{access_always, at_access, course_there}
@@ -29,32 +29,17 @@ not_true : false ≡ true → ⊥
 not_true is = cc
 
 pub ready_phase : (phase : Phase) → is_early phase ≡ true → are_set_up phase ≡ true → phase ≡ Ready
-ready_phase Reset early is = absurd (not_true is)
-ready_phase Settling early is = absurd (not_true is)
-ready_phase Walking early is = absurd (not_true is)
-ready_phase SettingUp early is = absurd (not_true is)
 ready_phase Ready early is = refl
 ready_phase Playing early is = absurd (not_true early)
 ready_phase Drained early is = absurd (not_true early)
-ready_phase NothingRouted early is = absurd (not_true is)
-ready_phase (Unanswered codec command issued noticed) early is = absurd (not_true is)
 ready_phase (Late from to limit) early is = absurd (not_true early)
-ready_phase (Malformed codec fault) early is = absurd (not_true is)
-ready_phase Failed early is = absurd (not_true is)
+ready_phase phase early is = absurd (not_true is)
 
 asking_early : (phase : Phase) → is_asking phase ≡ true → is_early phase ≡ true
-asking_early Reset is = refl
-asking_early Settling is = refl
-asking_early Walking is = refl
-asking_early SettingUp is = refl
-asking_early Ready is = refl
 asking_early Playing is = absurd (not_true is)
 asking_early Drained is = absurd (not_true is)
-asking_early NothingRouted is = refl
-asking_early (Unanswered codec command issued noticed) is = refl
 asking_early (Late from to limit) is = absurd (not_true is)
-asking_early (Malformed codec fault) is = refl
-asking_early Failed is = refl
+asking_early phase is = refl
 
 -- of a state that is another
 pub early_as : (state other : State) → state ≡ other → is_early other.phase ≡ true → is_early state.phase ≡ true

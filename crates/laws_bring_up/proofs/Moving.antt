@@ -19,7 +19,8 @@ use Rattle.laws_settings.specs.Histories.{words_of}
 use Rattle.laws_settings.specs.Readings.{IsReading, KeepsDefaults}
 use Rattle.laws_settings.proofs.Callers.{remembers_itself, steps_remember, only_asked}
 use Rattle.driver_progress.specs.declared.phase.Phase.{Phase}
-use Rattle.driver_progress.specs.declared.phase.Phase.TheVariants.{Reset, Settling, Walking, SettingUp, Ready, Playing, Drained, NothingRouted, Unanswered, Late, Malformed, Failed}
+use Rattle.driver_progress.specs.declared.phase.Phase.TheVariants.{Reset, Settling, Walking, SettingUp, Ready}
+use Rattle.driver_progress.specs.declared.phase.Phase.TheVariants.{Unanswered, Failed}
 use Rattle.driver_progress.specs.Tasks.{Task, IsTaskFor}
 use Rattle.driver_progress.specs.Answers.{AnswersAgree}
 use Rattle.driver_progress.specs.Beginning.{CanReset, IsSettling}
@@ -95,10 +96,6 @@ module _ (IsPlanBy : RawCodec → Plan → Type 0) (verbs_by : RawCodec → Plan
   stage_stays Walking written bring_up steps world stage = asking_stays written bring_up steps world stage
   stage_stays SettingUp written bring_up steps world stage = asking_stays written bring_up steps world stage
   stage_stays Ready written bring_up steps world stage = asking_stays written bring_up steps world stage
-  stage_stays Playing written bring_up steps world stage = absurd stage
-  stage_stays Drained written bring_up steps world stage = absurd stage
-  stage_stays NothingRouted written bring_up steps world stage = absurd stage
   stage_stays (Unanswered codec command issued noticed) written bring_up steps world stage = stage
-  stage_stays (Late from to limit) written bring_up steps world stage = absurd stage
-  stage_stays (Malformed codec fault) written bring_up steps world stage = absurd stage
   stage_stays Failed written bring_up steps world stage = stage
+  stage_stays phase written bring_up steps world stage = absurd stage

@@ -22,8 +22,9 @@ use Rattle.command_engine.specs.Polling.{PollReads, entry_reads, batch_accesses,
 use Rattle.command_engine.proofs.Callers.{responses_apart, keeps_standing}
 use Rattle.laws_settings.proofs.Callers.{steps_remember}
 use Rattle.driver_progress.specs.declared.phase.Phase.{Phase}
-use Rattle.driver_progress.specs.declared.phase.Phase.TheVariants.{Reset, Settling, Walking, SettingUp, Ready, Playing, Drained, NothingRouted, Unanswered, Late, Malformed, Failed}
-use Rattle.driver_progress.specs.Phases.{is_asking, is_early}
+use Rattle.driver_progress.specs.declared.phase.Phase.TheVariants.{Walking, SettingUp, Ready, Playing, Drained}
+use Rattle.driver_progress.specs.declared.phase.Phase.TheVariants.{NothingRouted, Late, Malformed}
+use Rattle.driver_progress.specs.Phases.{is_asking, is_early, are_set_up}
 use Rattle.driver_progress.specs.Requests.{requests_in, requests_of}
 use Rattle.driver_progress.specs.States.{State}
 use Rattle.driver_progress.specs.Tasks.{Task, Order, DriverLine}
@@ -42,7 +43,7 @@ use Rattle.driver_bring_up.specs.Calls.{state_of, Leads, Ends}
 use Rattle.driver_bring_up.specs.Told.{Looked, LooksOn, IsStill}
 use Rattle.laws_bring_up.specs.Stretches.{IsOpen, IsDone}
 use Rattle.laws_bring_up.specs.Standing.{IsTaskOfCodecs, IsLastSent, IsAsking, StandsIn, IsBroughtUp}
-use Rattle.laws_bring_up.specs.SettingUp.{are_set_up, are_answered, StaysSetUp, AreSetUpForGood}
+use Rattle.laws_bring_up.specs.SettingUp.{are_answered, StaysSetUp, AreSetUpForGood}
 use Rattle.laws_bring_up.proofs.Accesses.{shut_are, looked_accesses}
 use Rattle.laws_bring_up.proofs.Rows.{accesses_row}
 use Rattle.laws_bring_up.proofs.Grows.{row_on, both_on, steps_on, world_after}
@@ -204,18 +205,14 @@ module _ (IsPlanBy : RawCodec → Plan → Type 0) (verbs_by : RawCodec → Plan
   -- ---- by phase
 
   pub asking_in : (phase : Phase) (written : ℕ) (bring_up : BringUp) (world : World) → is_asking phase ≡ true → StandsIn phase IsPlanBy verbs graphs task written bring_up world → IsAsking IsPlanBy verbs graphs task written bring_up world
-  asking_in Reset written bring_up world is stage = absurd (not_true is)
-  asking_in Settling written bring_up world is stage = absurd (not_true is)
   asking_in Walking written bring_up world is stage = stage
   asking_in SettingUp written bring_up world is stage = stage
-  asking_in Ready written bring_up world is stage = absurd (not_true is)
   asking_in Playing written bring_up world is stage = absurd stage
   asking_in Drained written bring_up world is stage = absurd stage
   asking_in NothingRouted written bring_up world is stage = absurd stage
-  asking_in (Unanswered codec command issued noticed) written bring_up world is stage = absurd (not_true is)
   asking_in (Late from to limit) written bring_up world is stage = absurd stage
   asking_in (Malformed codec fault) written bring_up world is stage = absurd stage
-  asking_in Failed written bring_up world is stage = absurd (not_true is)
+  asking_in phase written bring_up world is stage = absurd (not_true is)
 
   -- at its beginning
   pub called_fine : (left : List DriverLine) (turn : Option DriverLine) (old : BringUp) (before : Telling) → IsOpen task lines left turn (state_of old) before → IsBroughtUp IsPlanBy verbs graphs task (course_of task lines before).written old (world_of before)

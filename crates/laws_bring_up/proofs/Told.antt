@@ -23,7 +23,8 @@ use Rattle.driver_agenda.specs.Following.{Follows}
 use Rattle.laws_settings.specs.Readings.{KeepsDefaults}
 use Rattle.laws_settings.proofs.Callers.{remembers_itself}
 use Rattle.driver_progress.specs.declared.phase.Phase.{Phase}
-use Rattle.driver_progress.specs.declared.phase.Phase.TheVariants.{Reset, Settling, Walking, SettingUp, Ready, Playing, Drained, NothingRouted, Unanswered, Late, Malformed, Failed}
+use Rattle.driver_progress.specs.declared.phase.Phase.TheVariants.{Reset, Settling, Walking, SettingUp, Ready}
+use Rattle.driver_progress.specs.declared.phase.Phase.TheVariants.{Unanswered, Failed}
 use Rattle.driver_progress.specs.Phases.{is_asking, goes_on}
 use Rattle.driver_progress.specs.Tasks.{Task, DriverLine}
 use Rattle.driver_progress.specs.Seen.{Seen, seen_by, values_of}
@@ -312,11 +313,7 @@ module _ (IsPlanBy : RawCodec → Plan → Type 0) (verbs_by : RawCodec → Plan
   call_told lines left budget irq old new before after Walking was call stage = asking_told lines left budget irq old new before after call (ap goes_on was) stage
   call_told lines left budget irq old new before after SettingUp was call stage = asking_told lines left budget irq old new before after call (ap goes_on was) stage
   call_told lines left budget irq old new before after Ready was call stage = asking_told lines left budget irq old new before after call (ap goes_on was) stage
-  call_told lines left budget irq old new before after Playing was call stage = absurd stage
-  call_told lines left budget irq old new before after Drained was call stage = absurd stage
-  call_told lines left budget irq old new before after NothingRouted was call stage = absurd stage
   call_told lines left budget irq old new before after (Unanswered codec command issued noticed) was call stage =
       over_told lines left budget irq old new before after (Unanswered codec command issued noticed) call was refl (λ seen tally. refl) (λ is. no_unanswered codec command issued noticed is) (λ seen. tt {0}) (λ same sent outstanding. walked_on graphs task old new same sent outstanding stage)
-  call_told lines left budget irq old new before after (Late from to limit) was call stage = absurd stage
-  call_told lines left budget irq old new before after (Malformed codec fault) was call stage = absurd stage
   call_told lines left budget irq old new before after Failed was call stage = over_told lines left budget irq old new before after Failed call was refl (λ seen tally. refl) (λ is. no_failed is) (λ seen. tt {0}) (λ same sent outstanding. walked_on graphs task old new same sent outstanding stage)
+  call_told lines left budget irq old new before after phase was call stage = absurd stage

@@ -12,7 +12,7 @@ use Rattle.command_engine.specs.declared.answers.Outstanding.{Outstanding}
 use Rattle.driver_agenda.specs.declared.agenda.Agenda.{Agenda}
 use Rattle.driver_agenda.specs.Following.{commands_of, Follows, FollowsBy}
 use Rattle.driver_progress.specs.declared.phase.Phase.{Phase}
-use Rattle.driver_progress.specs.declared.phase.Phase.TheVariants.{Reset, Settling, Walking, SettingUp, Ready, Playing, Drained, NothingRouted, Unanswered, Late, Malformed, Failed}
+use Rattle.driver_progress.specs.declared.phase.Phase.TheVariants.{Walking, SettingUp, Ready}
 use Rattle.driver_progress.specs.Phases.{goes_on}
 use Rattle.driver_progress.specs.Next.{phase_of_answers}
 use Rattle.driver_progress.specs.Tasks.{Task, Order, walks_over}
@@ -117,8 +117,6 @@ module _ (IsPlanBy : RawCodec → Plan → Type 0) (verbs_by : RawCodec → Plan
 
   -- by the phase that goes with so many answers
   pub walked_in : (count : ℕ) (agenda : Agenda) (phase : Phase) → Follows IsPlanBy verbs graphs count agenda → phase ≡ phase_of_answers task count → goes_on phase ≡ true → WalkedIn phase (agenda.graphs.items ≡ graphs)
-  walked_in count agenda Reset follows is goes = absurd (not_true goes)
-  walked_in count agenda Settling follows is goes = absurd (not_true goes)
   walked_in count agenda Walking follows is goes = tt {0}
   walked_in count agenda SettingUp follows is goes =
       walked_all count agenda agenda.walk follows.stands (at_most task.walks count (walks_answered (nat_le (length task.orders) count) (nat_le task.walks count) (sym is)))
@@ -126,10 +124,4 @@ module _ (IsPlanBy : RawCodec → Plan → Type 0) (verbs_by : RawCodec → Plan
       let all = at_most (length task.orders) count (all_answered (nat_le (length task.orders) count) (nat_le task.walks count) (sym is)) in
       let few = few_walks in
       walked_all count agenda agenda.walk follows.stands (omega (arith, all, few))
-  walked_in count agenda Playing follows is goes = absurd (not_true goes)
-  walked_in count agenda Drained follows is goes = absurd (not_true goes)
-  walked_in count agenda NothingRouted follows is goes = absurd (not_true goes)
-  walked_in count agenda (Unanswered codec command issued noticed) follows is goes = absurd (not_true goes)
-  walked_in count agenda (Late from to limit) follows is goes = absurd (not_true goes)
-  walked_in count agenda (Malformed codec fault) follows is goes = absurd (not_true goes)
-  walked_in count agenda Failed follows is goes = absurd (not_true goes)
+  walked_in count agenda phase follows is goes = absurd (not_true goes)

@@ -6,13 +6,13 @@ use Rattle.hda_world.specs.Events.{Event, Stepped}
 use Rattle.hda_world.specs.Tellings.{Went, Accessed}
 use Rattle.hda_world.proofs.Callers.{world_of-went}
 use Rattle.driver_progress.specs.declared.phase.Phase.TheVariants.{Ready}
-use Rattle.driver_progress.specs.Phases.{is_asking, is_early}
+use Rattle.driver_progress.specs.Phases.{is_asking, is_early, are_set_up}
 use Rattle.driver_progress.specs.States.{State, state_opened}
 use Rattle.driver_progress.specs.Progress.{course_after, course_opened, begun, ended}
 use Rattle.driver_progress.proofs.Callers.{course_went, steps_leave_course}
 use Rattle.driver_bring_up.specs.Calls.{state_of, IsKept, Leads, Ends}
 use Rattle.laws_bring_up.specs.Stretches.{IsAtRest, IsDone}
-use Rattle.laws_bring_up.specs.SettingUp.{are_set_up, are_answered, Always, SetUpAt, StaysSetUp, RemainSetUp}
+use Rattle.laws_bring_up.specs.SettingUp.{are_answered, Always, SetUpAt, StaysSetUp, RemainSetUp}
 use Rattle.laws_bring_up.proofs.Looking.{steps_are}
 use Rattle.laws_bring_up.proofs.Ready.{SetterLaws, ready_for_good}
 use Rattle.laws_bring_up.proofs.Same.{steps_for_good}

@@ -7,29 +7,12 @@ use Rattle.route_planner.specs.declared.routes.Plan.{Plan}
 use Rattle.hda_world.specs.Worlds.{World, codec_at}
 use Rattle.hda_world.specs.Events.{Event, happens}
 use Rattle.hda_world.specs.Tellings.{Telling, world_of}
-use Rattle.driver_progress.specs.declared.phase.Phase.{Phase}
-use Rattle.driver_progress.specs.declared.phase.Phase.TheVariants.{Reset, Settling, Walking, SettingUp, Ready, Playing, Drained, NothingRouted, Unanswered, Late, Malformed, Failed}
-use Rattle.driver_progress.specs.Phases.{is_asking}
+use Rattle.driver_progress.specs.Phases.{is_asking, are_set_up}
 use Rattle.driver_progress.specs.Tasks.{Task, DriverLine}
 use Rattle.driver_progress.specs.Progress.{Course, course_of, course_opened, noted}
 use Rattle.driver_bring_up.specs.declared.bringing.BringUp.{BringUp}
 
 -- ---- the moments
-
--- whether all codecs are set up in a phase: sound may be played from then on
-abbrev pub are_set_up : Phase → Bool
-are_set_up Reset = false
-are_set_up Settling = false
-are_set_up Walking = false
-are_set_up SettingUp = false
-are_set_up Ready = true
-are_set_up Playing = true
-are_set_up Drained = true
-are_set_up NothingRouted = false
-are_set_up (Unanswered codec command issued noticed) = false
-are_set_up (Late from to limit) = true
-are_set_up (Malformed codec fault) = false
-are_set_up Failed = false
 
 -- whether all commands were sent, and the look of a stretch that is open found the answer to the last of them
 abbrev pub found_last : Task → Course → Bool

@@ -12,7 +12,9 @@ use Rattle.driver_agenda.specs.Following.{AreRight, Follows}
 use Rattle.laws_settings.specs.Histories.{Remembers, words_of}
 use Rattle.laws_settings.specs.Readings.{KeepsDefaults}
 use Rattle.driver_progress.specs.declared.phase.Phase.{Phase}
-use Rattle.driver_progress.specs.declared.phase.Phase.TheVariants.{Reset, Settling, Walking, SettingUp, Ready, Playing, Drained, NothingRouted, Unanswered, Late, Malformed, Failed}
+use Rattle.driver_progress.specs.declared.phase.Phase.TheVariants.{Reset, Settling, Walking, SettingUp, Ready, Playing}
+use Rattle.driver_progress.specs.declared.phase.Phase.TheVariants.{Drained, NothingRouted, Unanswered, Late, Malformed}
+use Rattle.driver_progress.specs.declared.phase.Phase.TheVariants.{Failed}
 use Rattle.codec_walk.specs.Commands.{walk_commands}
 use Rattle.driver_progress.specs.Tasks.{Task, Order, IsTaskFor, walks_over}
 use Rattle.driver_progress.specs.Answers.{AnswersAgree}
@@ -100,13 +102,9 @@ StandsIn Settling IsPlanBy verbs graphs task written bring_up world = Announce b
 StandsIn Walking IsPlanBy verbs graphs task written bring_up world = IsAsking IsPlanBy verbs graphs task written bring_up world
 StandsIn SettingUp IsPlanBy verbs graphs task written bring_up world = IsAsking IsPlanBy verbs graphs task written bring_up world
 StandsIn Ready IsPlanBy verbs graphs task written bring_up world = IsAsking IsPlanBy verbs graphs task written bring_up world
-StandsIn Playing IsPlanBy verbs graphs task written bring_up world = ⊥
-StandsIn Drained IsPlanBy verbs graphs task written bring_up world = ⊥
-StandsIn NothingRouted IsPlanBy verbs graphs task written bring_up world = ⊥
 StandsIn (Unanswered codec command issued noticed) IsPlanBy verbs graphs task written bring_up world = HasWalked graphs task bring_up
-StandsIn (Late from to limit) IsPlanBy verbs graphs task written bring_up world = ⊥
-StandsIn (Malformed codec fault) IsPlanBy verbs graphs task written bring_up world = ⊥
 StandsIn Failed IsPlanBy verbs graphs task written bring_up world = HasWalked graphs task bring_up
+StandsIn phase IsPlanBy verbs graphs task written bring_up world = ⊥
 
 -- a bring-up for a task over the codecs with these graphs, as it stands to the world
 pub record IsBroughtUp (IsPlanBy : RawCodec → Plan → Type 0) (verbs : RawCodec → List Command) (graphs : List RawCodec) (task : Task) (written : ℕ) (bring_up : BringUp) (world : World) : Type 0 where
@@ -118,18 +116,14 @@ pub record IsBroughtUp (IsPlanBy : RawCodec → Plan → Type 0) (verbs : RawCod
 
 -- by phase: once the walks are over, all are walked
 abbrev pub WalkedIn : Phase → (all : Type 0) → Type 0
-WalkedIn Reset all = Unit {0}
-WalkedIn Settling all = Unit {0}
-WalkedIn Walking all = Unit {0}
 WalkedIn SettingUp all = all
 WalkedIn Ready all = all
 WalkedIn Playing all = ⊥
 WalkedIn Drained all = ⊥
 WalkedIn NothingRouted all = ⊥
-WalkedIn (Unanswered codec command issued noticed) all = Unit {0}
 WalkedIn (Late from to limit) all = ⊥
 WalkedIn (Malformed codec fault) all = ⊥
-WalkedIn Failed all = Unit {0}
+WalkedIn phase all = Unit {0}
 
 -- what a bring-up leaves: which graphs were walked, by how many commands were sent and by the phase
 pub record IsEnded (graphs : List RawCodec) (task : Task) (bring_up : BringUp) : Type 0 where

@@ -7,7 +7,7 @@ use Rattle.hda_world.specs.Worlds.{World}
 use Rattle.hda_world.specs.Events.{Event, Stepped, Begin, End, Read, Write, DmaRead, DmaWrite, happens}
 use Rattle.hda_world.specs.Tellings.{Telling}
 use Rattle.driver_progress.specs.declared.phase.Phase.{Phase}
-use Rattle.driver_progress.specs.declared.phase.Phase.TheVariants.{Reset, Settling, Walking, SettingUp, Ready, Playing, Drained, NothingRouted, Unanswered, Late, Malformed, Failed}
+use Rattle.driver_progress.specs.declared.phase.Phase.TheVariants.{Reset, Settling}
 use Rattle.driver_progress.specs.Tasks.{Task, DriverLine}
 use Rattle.driver_progress.specs.States.{State}
 use Rattle.driver_progress.specs.Seen.{Seen, clock_of}
@@ -18,20 +18,11 @@ use Rattle.driver_progress.specs.Progress.{Course, course_of, course_opened, not
 -- ---- what a stretch is to find
 
 -- by phase: GCTL says that the controller is out of reset, and once the codecs had their time, one announced itself and both sizes of the
--- rings are named
+-- rings are named; from the walk on nothing
 abbrev pub FindsIn : Phase → State → Seen → Type 0
 FindsIn Reset state seen = has_bit seen.control 0 ≡ true
 FindsIn Settling state seen = has_settled state.kept (clock_of seen) ≡ true → is_some (rings_seen seen) ≡ true
-FindsIn Walking state seen = Unit {0}
-FindsIn SettingUp state seen = Unit {0}
-FindsIn Ready state seen = Unit {0}
-FindsIn Playing state seen = Unit {0}
-FindsIn Drained state seen = Unit {0}
-FindsIn NothingRouted state seen = Unit {0}
-FindsIn (Unanswered codec command issued noticed) state seen = Unit {0}
-FindsIn (Late from to limit) state seen = Unit {0}
-FindsIn (Malformed codec fault) state seen = Unit {0}
-FindsIn Failed state seen = Unit {0}
+FindsIn phase state seen = Unit {0}
 
 -- a stretch of a line finds it, but one for an interrupt that found none; the closing one is to find nothing
 abbrev pub FindsBy : Option DriverLine → State → Seen → Type 0

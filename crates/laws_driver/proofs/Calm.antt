@@ -15,15 +15,14 @@ use Rattle.period_writer.specs.Starting.{entry_write, entry_writes, run_accesses
 use Rattle.period_writer.specs.Playing.{stop_accesses, writes_by}
 use Rattle.period_writer.specs.Runs.{Tally, measures, run_reach, run_start, run_sound}
 use Rattle.driver_progress.specs.declared.phase.Phase.{Phase}
-use Rattle.driver_progress.specs.declared.phase.Phase.TheVariants.{Reset, Settling, Walking, SettingUp, Ready, Playing, Drained, NothingRouted, Unanswered, Late, Malformed, Failed}
-use Rattle.driver_progress.specs.Phases.{is_active}
+use Rattle.driver_progress.specs.declared.phase.Phase.TheVariants.{Ready, Playing, Drained, Late}
+use Rattle.driver_progress.specs.Phases.{is_active, are_set_up}
 use Rattle.driver_progress.specs.Requests.{Request, Gets, requests_in, requests_of}
 use Rattle.driver_progress.specs.Seen.{Seen}
 use Rattle.driver_progress.specs.States.{State}
 use Rattle.driver_progress.specs.Tasks.{Task, DriverLine}
 use Rattle.driver_progress.specs.Expected.{polls, facts_seen, appends, starts, plays_on, stops, runs, closes}
 use Rattle.driver_progress.specs.Next.{tally_next, expected}
-use Rattle.laws_bring_up.specs.SettingUp.{are_set_up}
 use Rattle.laws_bring_up.proofs.Callers.{AreCalm, calm_both, polls_calm, shuts_calm, interrupted_calm}
 
 not_true : false ≡ true → ⊥
@@ -111,32 +110,18 @@ ready_calm task state budget seen true = starts_calm task state budget seen
 ready_calm task state budget seen false = tt {0}
 
 runs_calm : (task : Task) (state : State) (budget : ℕ) (seen : Seen) (tally : Tally) (phase : Phase) → are_set_up phase ≡ true → AreCalm (runs task state budget seen tally phase)
-runs_calm task state budget seen tally Reset up = absurd (not_true up)
-runs_calm task state budget seen tally Settling up = absurd (not_true up)
-runs_calm task state budget seen tally Walking up = absurd (not_true up)
-runs_calm task state budget seen tally SettingUp up = absurd (not_true up)
 runs_calm task state budget seen tally Ready up = ready_calm task state budget seen task.plays
 runs_calm task state budget seen tally Playing up = plays_calm task state budget seen (stops tally) (stop_calm tally.course.ran)
 runs_calm task state budget seen tally Drained up = tt {0}
-runs_calm task state budget seen tally NothingRouted up = absurd (not_true up)
-runs_calm task state budget seen tally (Unanswered codec command issued noticed) up = absurd (not_true up)
 runs_calm task state budget seen tally (Late from to limit) up = tt {0}
-runs_calm task state budget seen tally (Malformed codec fault) up = absurd (not_true up)
-runs_calm task state budget seen tally Failed up = absurd (not_true up)
+runs_calm task state budget seen tally phase up = absurd (not_true up)
 
 closes_calm : (task : Task) (state : State) (seen : Seen) (phase : Phase) → are_set_up phase ≡ true → AreCalm (closes task state seen phase)
-closes_calm task state seen Reset up = absurd (not_true up)
-closes_calm task state seen Settling up = absurd (not_true up)
-closes_calm task state seen Walking up = absurd (not_true up)
-closes_calm task state seen SettingUp up = absurd (not_true up)
 closes_calm task state seen Ready up = shuts_calm
 closes_calm task state seen Playing up = plays_calm task state 0 seen _ (inl (record { control = refl; pointers = refl }), shuts_calm)
 closes_calm task state seen Drained up = shuts_calm
-closes_calm task state seen NothingRouted up = absurd (not_true up)
-closes_calm task state seen (Unanswered codec command issued noticed) up = absurd (not_true up)
 closes_calm task state seen (Late from to limit) up = shuts_calm
-closes_calm task state seen (Malformed codec fault) up = absurd (not_true up)
-closes_calm task state seen Failed up = absurd (not_true up)
+closes_calm task state seen phase up = absurd (not_true up)
 
 pub expected_calm : (task : Task) (state : State) (turn : Option DriverLine) (seen : Seen) → are_set_up state.phase ≡ true → AreCalm (expected task state turn seen)
 expected_calm task state None seen up = closes_calm task state seen state.phase up

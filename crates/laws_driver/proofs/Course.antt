@@ -13,7 +13,7 @@ use Rattle.command_engine.specs.declared.answers.Outstanding.{Outstanding}
 use Rattle.command_engine.specs.Entries.{answers_it, responses_in}
 use Rattle.command_engine.specs.Polling.{asked_of}
 use Rattle.driver_progress.specs.declared.phase.Phase.{Phase}
-use Rattle.driver_progress.specs.declared.phase.Phase.TheVariants.{Reset, Settling, Walking, SettingUp, Ready, Playing, Drained, NothingRouted, Unanswered, Late, Malformed, Failed}
+use Rattle.driver_progress.specs.declared.phase.Phase.TheVariants.{Reset, Settling}
 use Rattle.driver_progress.specs.Tasks.{Task, DriverLine}
 use Rattle.driver_progress.specs.Seen.{Seen, seen_by, values_of}
 use Rattle.driver_progress.specs.States.{State}
@@ -21,9 +21,9 @@ use Rattle.driver_progress.specs.Progress.{Course, course_of, is_answered, noted
 use Rattle.driver_progress.specs.Noting.{with_accesses}
 use Rattle.driver_progress.proofs.Callers.{ConformsTo}
 use Rattle.driver_progress.specs.Unread.{IsAccess, AreAccesses}
+use Rattle.driver_progress.specs.Phases.{are_set_up}
 use Rattle.driver_bring_up.specs.Commanding.{IsStretch, answer_in, entries_in}
 use Rattle.laws_bring_up.specs.Stretches.{FindsIn, FindsBy, IsOpen, IsDone}
-use Rattle.laws_bring_up.specs.SettingUp.{are_set_up}
 use Rattle.laws_bring_up.proofs.Callers.{course_access, conforms_access, stretch_done}
 
 not_true : false ≡ true → ⊥
@@ -112,16 +112,7 @@ idle_row task lines (event ∷ made) old new makes are none unanswered =
 finds_none : (phase : Phase) (state : State) (seen : Seen) → are_set_up phase ≡ true → FindsIn phase state seen
 finds_none Reset state seen up = absurd (not_true up)
 finds_none Settling state seen up = absurd (not_true up)
-finds_none Walking state seen up = tt {0}
-finds_none SettingUp state seen up = tt {0}
-finds_none Ready state seen up = tt {0}
-finds_none Playing state seen up = tt {0}
-finds_none Drained state seen up = tt {0}
-finds_none NothingRouted state seen up = tt {0}
-finds_none (Unanswered codec command issued noticed) state seen up = tt {0}
-finds_none (Late from to limit) state seen up = tt {0}
-finds_none (Malformed codec fault) state seen up = tt {0}
-finds_none Failed state seen up = tt {0}
+finds_none phase state seen up = tt {0}
 
 finds_by : (turn : Option DriverLine) (state : State) (seen : Seen) → are_set_up state.phase ≡ true → FindsBy turn state seen
 finds_by None state seen up = tt {0}

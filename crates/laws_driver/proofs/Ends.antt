@@ -17,12 +17,12 @@ use Rattle.driver_progress.specs.declared.phase.Phase.TheVariants.{Ready}
 use Rattle.driver_progress.specs.States.{State}
 use Rattle.driver_progress.specs.Tasks.{Task, DriverLine, walks_over}
 use Rattle.driver_progress.specs.Progress.{course_of}
+use Rattle.driver_progress.specs.Phases.{are_set_up}
 use Rattle.driver_agenda.specs.declared.agenda.Agenda.{Agenda}
 use Rattle.driver_bring_up.specs.declared.bringing.BringUp.{BringUp}
 use Rattle.driver_bring_up.specs.Calls as bringing
 use Rattle.laws_bring_up.specs.Stretches.{IsOpen}
 use Rattle.laws_bring_up.specs.Standing.{IsEnded}
-use Rattle.laws_bring_up.specs.SettingUp.{are_set_up}
 use Rattle.laws_bring_up.specs.Keeping as told
 use Rattle.laws_bring_up.proofs.Callers.{opens, closes, rest_progress}
 use Rattle.audio_driver.specs.States.{is_open, plays_now, state_with, IsTaskOf}

@@ -16,13 +16,13 @@ use Rattle.driver_progress.specs.declared.phase.Phase.TheVariants.{Ready}
 use Rattle.driver_progress.specs.States.{State}
 use Rattle.driver_progress.specs.Tasks.{Task, DriverLine, walks_over}
 use Rattle.driver_progress.specs.Progress.{course_of}
+use Rattle.driver_progress.specs.Phases.{are_set_up}
 use Rattle.driver_bring_up.specs.Commanding.{IsStretch, answer_in}
 use Rattle.driver_agenda.specs.declared.agenda.Agenda.{Agenda}
 use Rattle.driver_bring_up.specs.declared.bringing.BringUp.{BringUp}
 use Rattle.driver_bring_up.specs.Calls as bringing
 use Rattle.laws_bring_up.specs.Stretches.{IsOpen, IsDone}
 use Rattle.laws_bring_up.specs.Standing.{IsBroughtUp}
-use Rattle.laws_bring_up.specs.SettingUp.{are_set_up}
 use Rattle.laws_bring_up.specs.Keeping as told
 use Rattle.laws_bring_up.proofs.Callers.{closes}
 use Rattle.audio_driver.specs.States.{plays_now, was_late, IsTaskOf}

@@ -12,13 +12,12 @@ use Rattle.command_engine.specs.Polling.{found_by}
 use Rattle.period_writer.specs.Outcomes.{HasNotWrapped}
 use Rattle.period_writer.specs.Runs.{Tally}
 use Rattle.period_writer.specs.Writers.{WriterState}
-use Rattle.driver_progress.specs.Phases.{is_asking}
+use Rattle.driver_progress.specs.Phases.{is_asking, are_set_up}
 use Rattle.driver_progress.specs.States.{State}
 use Rattle.driver_progress.specs.Tasks.{Task, DriverLine, walks_over}
 use Rattle.driver_progress.specs.Progress.{course_of}
 use Rattle.driver_agenda.specs.declared.agenda.Agenda.{Agenda}
 use Rattle.driver_bring_up.specs.declared.bringing.BringUp.{BringUp}
-use Rattle.laws_bring_up.specs.SettingUp.{are_set_up}
 use Rattle.laws_bring_up.proofs.Callers.{opens, closes, rest_stays}
 use Rattle.audio_driver.specs.Sounding as sounding
 use Rattle.laws_driver.specs.Sounding.{Parts, state_in, ring_in, tally_in}

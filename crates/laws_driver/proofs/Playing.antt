@@ -10,8 +10,8 @@ use Rattle.driver_progress.specs.Seen.{seen_by, values_of}
 use Rattle.driver_progress.specs.States.{State}
 use Rattle.driver_progress.specs.Tasks.{Task, DriverLine}
 use Rattle.driver_progress.specs.Unread.{AreAccesses}
+use Rattle.driver_progress.specs.Phases.{are_set_up}
 use Rattle.driver_bring_up.specs.Commanding.{IsStretch, answer_in}
-use Rattle.laws_bring_up.specs.SettingUp.{are_set_up}
 use Rattle.laws_bring_up.specs.Stretches.{IsOpen, IsDone}
 use Rattle.laws_bring_up.proofs.Callers.{AreCalm}
 use Rattle.laws_driver.proofs.Calm.{expected_calm}

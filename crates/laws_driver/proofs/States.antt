@@ -10,12 +10,11 @@ use Rattle.period_writer.specs.Runs.{Tally, tally_opened}
 use Rattle.period_writer.specs.Writers.{WriterState, tally_of}
 use Rattle.period_writer.specs.Blocks.{addresses_of}
 use Rattle.driver_progress.specs.declared.phase.Phase.{Phase}
-use Rattle.driver_progress.specs.declared.phase.Phase.TheVariants.{Reset, Settling, Walking, SettingUp, Ready, Playing, Drained, NothingRouted, Unanswered, Late, Malformed, Failed}
-use Rattle.driver_progress.specs.Phases.{is_early, is_ready}
+use Rattle.driver_progress.specs.declared.phase.Phase.TheVariants.{Ready, Playing}
+use Rattle.driver_progress.specs.Phases.{is_early, is_ready, are_set_up}
 use Rattle.driver_progress.specs.Tasks.{Task, DriverLine}
 use Rattle.driver_bring_up.specs.declared.bringing.BringUp.{BringUp}
 use Rattle.driver_bring_up.specs.Calls as bringing
-use Rattle.laws_bring_up.specs.SettingUp.{are_set_up}
 use Rattle.audio_driver.specs.States.{played_as, phase_if, phase_with, state_with, state_of, plays_now, IsTaskOf}
 use Rattle.audio_driver.specs.Sounding.{Sounds}
 use Rattle.laws_stream.specs.Silent.{plays_in}
@@ -52,18 +51,8 @@ plays_not false bring_up none ready = refl
 plays_not true bring_up none ready = absurd (not_ready bring_up.phase none ready)
 
 only_ready : (phase : Phase) → is_ready phase ≡ true → phase ≡ Ready
-only_ready Reset is = absurd (not_true is)
-only_ready Settling is = absurd (not_true is)
-only_ready Walking is = absurd (not_true is)
-only_ready SettingUp is = absurd (not_true is)
 only_ready Ready is = refl
-only_ready Playing is = absurd (not_true is)
-only_ready Drained is = absurd (not_true is)
-only_ready NothingRouted is = absurd (not_true is)
-only_ready (Unanswered codec command issued noticed) is = absurd (not_true is)
-only_ready (Late from to limit) is = absurd (not_true is)
-only_ready (Malformed codec fault) is = absurd (not_true is)
-only_ready Failed is = absurd (not_true is)
+only_ready phase is = absurd (not_true is)
 
 pub plays_then : (play : Bool) (bring_up : BringUp) → plays_now play bring_up ≡ true → (play ≡ true) × (bring_up.phase ≡ Ready)
 plays_then true bring_up is = (refl, only_ready bring_up.phase is)
@@ -78,18 +67,9 @@ no_turn false = refl
 
 -- a stretch that begins early plays only in the phase `Ready`
 plays_none : (task : Task) (turn : Option DriverLine) (phase : Phase) → is_early phase ≡ true → (phase ≡ Ready → (task.plays && is_some turn) ≡ false) → plays_in task turn phase ≡ false
-plays_none task turn Reset early none = refl
-plays_none task turn Settling early none = refl
-plays_none task turn Walking early none = refl
-plays_none task turn SettingUp early none = refl
 plays_none task turn Ready early none = none refl
 plays_none task turn Playing early none = absurd (not_true early)
-plays_none task turn Drained early none = refl
-plays_none task turn NothingRouted early none = refl
-plays_none task turn (Unanswered codec command issued noticed) early none = refl
-plays_none task turn (Late from to limit) early none = refl
-plays_none task turn (Malformed codec fault) early none = refl
-plays_none task turn Failed early none = refl
+plays_none task turn phase early none = refl
 
 pub call_silent : (task : Task) (line : DriverLine) (bring_up : BringUp) → plays_now task.plays bring_up ≡ false → plays_in task (Some line) bring_up.phase ≡ false
 call_silent task line bring_up none =

@@ -24,7 +24,7 @@ use Rattle.command_engine.specs.Belonging.{from_after, as_held}
 use Rattle.command_engine.proofs.Callers.{steps_keep_standing, responses_apart}
 use Rattle.period_writer.specs.Runs.{Tally, tally_opened, taken_up, measures}
 use Rattle.driver_progress.specs.declared.phase.Phase.{Phase}
-use Rattle.driver_progress.specs.declared.phase.Phase.TheVariants.{Reset, Settling, Walking, SettingUp, Ready, Playing, Drained, NothingRouted, Unanswered, Late, Malformed, Failed}
+use Rattle.driver_progress.specs.declared.phase.Phase.TheVariants.{Walking, SettingUp, Ready}
 use Rattle.driver_progress.specs.Phases.{is_asking, is_active}
 use Rattle.driver_progress.specs.Tasks.{Task, Order, Blocks, DriverLine}
 use Rattle.driver_progress.specs.Seen.{Seen, clock_of, values_of, interrupts_at}
@@ -49,60 +49,24 @@ use Rattle.laws_serving.proofs.Polls.{LooksServe, SubmissionsCome, polled as pol
 
 pub asking_runs : (task : Task) (state : State) (budget : ℕ) (seen : Seen) (tally : Tally) (phase : Phase) → is_asking phase ≡ true
     → runs task state budget seen tally phase ≡ expected.asks task state seen (submits task.blocks state.rings (next_order task state seen))
-asking_runs task state budget seen tally Reset is = cc
-asking_runs task state budget seen tally Settling is = cc
 asking_runs task state budget seen tally Walking is = refl
 asking_runs task state budget seen tally SettingUp is = refl
-asking_runs task state budget seen tally Ready is = cc
-asking_runs task state budget seen tally Playing is = cc
-asking_runs task state budget seen tally Drained is = cc
-asking_runs task state budget seen tally NothingRouted is = cc
-asking_runs task state budget seen tally (Unanswered codec command issued noticed) is = cc
-asking_runs task state budget seen tally (Late from to limit) is = cc
-asking_runs task state budget seen tally (Malformed codec fault) is = cc
-asking_runs task state budget seen tally Failed is = cc
+asking_runs task state budget seen tally phase is = cc
 
 pub asking_led : (task : Task) (state : State) (seen : Seen) (tally : Tally) (phase : Phase) → is_asking phase ≡ true → led task state seen tally phase ≡ after_commands task state seen
-asking_led task state seen tally Reset is = cc
-asking_led task state seen tally Settling is = cc
 asking_led task state seen tally Walking is = refl
 asking_led task state seen tally SettingUp is = refl
-asking_led task state seen tally Ready is = cc
-asking_led task state seen tally Playing is = cc
-asking_led task state seen tally Drained is = cc
-asking_led task state seen tally NothingRouted is = cc
-asking_led task state seen tally (Unanswered codec command issued noticed) is = cc
-asking_led task state seen tally (Late from to limit) is = cc
-asking_led task state seen tally (Malformed codec fault) is = cc
-asking_led task state seen tally Failed is = cc
+asking_led task state seen tally phase is = cc
 
 pub asking_closes : (task : Task) (state : State) (seen : Seen) (phase : Phase) → is_asking phase ≡ true → expected.closes task state seen phase ≡ expected.asks task state seen expected.shuts
-asking_closes task state seen Reset is = cc
-asking_closes task state seen Settling is = cc
 asking_closes task state seen Walking is = refl
 asking_closes task state seen SettingUp is = refl
-asking_closes task state seen Ready is = cc
-asking_closes task state seen Playing is = cc
-asking_closes task state seen Drained is = cc
-asking_closes task state seen NothingRouted is = cc
-asking_closes task state seen (Unanswered codec command issued noticed) is = cc
-asking_closes task state seen (Late from to limit) is = cc
-asking_closes task state seen (Malformed codec fault) is = cc
-asking_closes task state seen Failed is = cc
+asking_closes task state seen phase is = cc
 
 pub asking_closed : (task : Task) (state : State) (seen : Seen) (tally : Tally) (phase : Phase) → is_asking phase ≡ true → closed task state seen tally phase ≡ after_poll task state seen
-asking_closed task state seen tally Reset is = cc
-asking_closed task state seen tally Settling is = cc
 asking_closed task state seen tally Walking is = refl
 asking_closed task state seen tally SettingUp is = refl
-asking_closed task state seen tally Ready is = cc
-asking_closed task state seen tally Playing is = cc
-asking_closed task state seen tally Drained is = cc
-asking_closed task state seen tally NothingRouted is = cc
-asking_closed task state seen tally (Unanswered codec command issued noticed) is = cc
-asking_closed task state seen tally (Late from to limit) is = cc
-asking_closed task state seen tally (Malformed codec fault) is = cc
-asking_closed task state seen tally Failed is = cc
+asking_closed task state seen tally phase is = cc
 
 -- ---- what is found
 

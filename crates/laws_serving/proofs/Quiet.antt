@@ -18,8 +18,8 @@ use Rattle.command_engine.specs.Polling.{new_entries}
 use Rattle.period_writer.specs.declared.registers.TheConstants.{CONTROL}
 use Rattle.period_writer.specs.Runs.{Tally}
 use Rattle.driver_progress.specs.declared.phase.Phase.{Phase}
-use Rattle.driver_progress.specs.declared.phase.Phase.TheVariants.{Reset, Settling, Walking, SettingUp, Ready, Playing, Drained, NothingRouted, Unanswered, Late, Malformed, Failed}
-use Rattle.driver_progress.specs.Phases.{is_asking}
+use Rattle.driver_progress.specs.declared.phase.Phase.TheVariants.{Reset, Settling, Walking, SettingUp}
+use Rattle.driver_progress.specs.Phases.{is_asking, has_commands_left}
 use Rattle.driver_progress.specs.Tasks.{Task, Order, Blocks, DriverLine}
 use Rattle.driver_progress.specs.Seen.{Seen, clock_of}
 use Rattle.driver_progress.specs.States.{State}
@@ -62,34 +62,10 @@ no_rise (DmaWrite at bytes ∷ accesses) are elsewhere =
 
 -- ---- by phase
 
--- no sound is played yet, nor is one begun next
-abbrev pub is_before_sound : Phase → Bool
-is_before_sound Reset = true
-is_before_sound Settling = true
-is_before_sound Walking = true
-is_before_sound SettingUp = true
-is_before_sound Ready = false
-is_before_sound Playing = false
-is_before_sound Drained = false
-is_before_sound NothingRouted = false
-is_before_sound (Unanswered codec command issued noticed) = false
-is_before_sound (Late from to limit) = false
-is_before_sound (Malformed codec fault) = false
-is_before_sound Failed = false
-
-pub asking_before : (phase : Phase) → is_asking phase ≡ true → is_before_sound phase ≡ true
-asking_before Reset is = refl
-asking_before Settling is = refl
-asking_before Walking is = refl
-asking_before SettingUp is = refl
-asking_before Ready is = is
-asking_before Playing is = is
-asking_before Drained is = is
-asking_before NothingRouted is = is
-asking_before (Unanswered codec command issued noticed) is = is
-asking_before (Late from to limit) is = is
-asking_before (Malformed codec fault) is = is
-asking_before Failed is = is
+pub asking_left : (phase : Phase) → is_asking phase ≡ true → has_commands_left phase ≡ true
+asking_left Reset is = refl
+asking_left Settling is = refl
+asking_left phase is = is
 
 nothing : All IsElsewhere []
 nothing = All-nil IsElsewhere
@@ -152,22 +128,15 @@ submit_elsewhere blocks rings (Some order) = All-cons IsElsewhere _ (Puts CORBWP
 ask_elsewhere : (task : Task) (state : State) (seen : Seen) (later : List Request) → All IsElsewhere later → All IsElsewhere (asks task state seen later)
 ask_elsewhere task state seen later all = gets_first WALCLK Four (polls task.blocks.rirb state.rings seen ++ later) (All-append IsElsewhere (polls task.blocks.rirb state.rings seen) later (poll_elsewhere task.blocks.rirb state.rings seen) all)
 
-run_elsewhere : (task : Task) (state : State) (budget : ℕ) (seen : Seen) (tally : Tally) (phase : Phase) → is_before_sound phase ≡ true → All IsElsewhere (runs task state budget seen tally phase)
+run_elsewhere : (task : Task) (state : State) (budget : ℕ) (seen : Seen) (tally : Tally) (phase : Phase) → has_commands_left phase ≡ true → All IsElsewhere (runs task state budget seen tally phase)
 run_elsewhere task state budget seen tally Reset is = reset_elsewhere
 run_elsewhere task state budget seen tally Settling is = settle_elsewhere task state seen
 run_elsewhere task state budget seen tally Walking is = ask_elsewhere task state seen _ (submit_elsewhere task.blocks state.rings (next_order task state seen))
 run_elsewhere task state budget seen tally SettingUp is = ask_elsewhere task state seen _ (submit_elsewhere task.blocks state.rings (next_order task state seen))
-run_elsewhere task state budget seen tally Ready is = cc
-run_elsewhere task state budget seen tally Playing is = cc
-run_elsewhere task state budget seen tally Drained is = cc
-run_elsewhere task state budget seen tally NothingRouted is = cc
-run_elsewhere task state budget seen tally (Unanswered codec command issued noticed) is = cc
-run_elsewhere task state budget seen tally (Late from to limit) is = cc
-run_elsewhere task state budget seen tally (Malformed codec fault) is = cc
-run_elsewhere task state budget seen tally Failed is = cc
+run_elsewhere task state budget seen tally phase is = cc
 
 pub call_sets_none : (task : Task) (world : World) (course course' : Course) (line : DriverLine) (accesses : List Event) → AreAccesses accesses → IsNoted task world course accesses course' → slice_get course.left 0 ≡ Some line → line.irq ≡ false
-    → is_before_sound course.state.phase ≡ true → All IsNoRise accesses
+    → has_commands_left course.state.phase ≡ true → All IsNoRise accesses
 call_sets_none task world course course' line accesses are noted turn calm before =
     let seen = seen_in (course_made world course accesses) in
     let tally = tally_next task course.state (Some line) seen in

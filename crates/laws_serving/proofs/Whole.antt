@@ -23,7 +23,7 @@ use Rattle.driver_progress.specs.declared.phase.Phase.{Phase}
 use Rattle.driver_progress.specs.declared.phase.Phase.TheVariants.{Settling, Walking, SettingUp, Ready, Playing}
 use Rattle.driver_progress.specs.Tasks.{Task, Order, DriverLine}
 use Rattle.driver_progress.specs.States.{State, state_opened}
-use Rattle.driver_progress.specs.Phases.{is_asking}
+use Rattle.driver_progress.specs.Phases.{is_asking, has_commands_left}
 use Rattle.driver_progress.specs.Expected.{is_free}
 use Rattle.driver_progress.specs.Seen.{Seen}
 use Rattle.driver_progress.specs.Next.{phase_of_answers, closed, led, tally_next}
@@ -34,10 +34,10 @@ use Rattle.rig.specs.Stretches.{stretch}
 use Rattle.laws_serving.specs.ServingDevices.{NamesItsCodec, KeepAnswers, ComeInOrder, round_trip, StandsServed, IsComing, HasItsCodec}
 use Rattle.laws_serving.specs.Rounds.{frames_of_line, frames_of_steps}
 use Rattle.laws_serving.specs.ServingSchedules.{HasStreamsAlone, IsCalmRound}
-use Rattle.laws_serving.specs.Coming.{has_commands_left, HasComeTo}
+use Rattle.laws_serving.specs.Coming.{HasComeTo}
 use Rattle.laws_serving.specs.Runs.{IsOrderTo, IsTaskTo, line_called}
 use Rattle.laws_serving.proofs.Polls.{LooksServe, SubmissionsCome}
-use Rattle.laws_serving.proofs.Quiet.{IsNoRise, is_before_sound, asking_before, call_sets_none}
+use Rattle.laws_serving.proofs.Quiet.{IsNoRise, asking_left, call_sets_none}
 use Rattle.laws_serving.proofs.Asking.{ServesOn, leads_so, plainly_led, FindsAnswers, IsFree, IsSent, IsReady, answers_since, call_sends, call_readies, last_call_finds}
 use Rattle.laws_serving.proofs.Counting.{steps_count, timed_steps, events_graphs, steps_graphs}
 use Rattle.laws_serving.proofs.Laid.{RanRound, HasAccesses, rest_events, IsRest, rest_front, rest_steps, IsCalled, called, after_call, world_called, course_called, stretch_is, steps_after, ends_there, honest_alone}
@@ -307,7 +307,7 @@ answers_later codecs sent commands one ran answers index other less there = answ
 module _ (laws : Laws) (task : Task) (codecs : List ℕ) (graphs : List RawCodec) (to : IsTaskTo codecs task) (are_there : AreThere codecs graphs) (closing : List Event) (total : ℕ)
     (Left : ℕ → List RanRound → World → Type 0) (Ends : State → Type 0) (onward : Onward task graphs closing total Left Ends) where
   -- what is asked of the rounds behind the next one
-  left_on : (count next : ℕ) (one : RanRound) (ran : List RanRound) (world : World) (course : Course) → (on : IsNext task graphs one ran closing world course) → count < 3 + length task.orders → is_before_sound course.state.phase ≡ true → next ≡ count + 1
+  left_on : (count next : ℕ) (one : RanRound) (ran : List RanRound) (world : World) (course : Course) → (on : IsNext task graphs one ran closing world course) → count < 3 + length task.orders → has_commands_left course.state.phase ≡ true → next ≡ count + 1
       → Left count (one ∷ ran) world → Left next ran (after_steps one.round.steps on.new)
   left_on count next one ran world course on few before same kept =
       subst (λ (now : World). Left next ran (after_steps one.round.steps now)) (sym on.new_is)
@@ -352,13 +352,13 @@ module _ (laws : Laws) (task : Task) (codecs : List ℕ) (graphs : List RawCodec
           let behind = steps_free laws task codecs (sent + 1) least order.0 one.round.steps next.course' next.new asks there next.calm.steps (answers zero one (omega (arith, less)) refl) sends in
           subst Ends (sym next.over)
           (later (after_steps one.round.steps next.new) next.course' (omega (arith, less)) (omega (arith, counted)) (answers_later codecs sent (length task.orders) one ran answers)
-          (left_on (2 + sent) (2 + (sent + 1)) one ran world course next (omega (arith, less)) (asking_before course.state.phase free.phase) (omega arith) kept) next.later behind)
+          (left_on (2 + sent) (2 + (sent + 1)) one ran world course next (omega (arith, less)) (asking_left course.state.phase free.phase) (omega arith) kept) next.later behind)
       by false is next later =
           let most : length task.orders ≤ sent = search (rules, tests, is) in
           let all : sent ≡ length task.orders = omega (arith, most, few) in
           let readies = call_readies laws.looks laws.finds task sent least laws.steps course next.course' (line_in one) one.accesses world next.new free next.are next.is_called.row next.is_called.noted next.turn next.calm.line.no_interrupt (slice_get_past task.orders sent most) most in
           subst Ends (sym next.over)
-          (onward.ready ran least (after_steps one.round.steps next.new) next.course' (omega (arith, counted, all)) (left_on (2 + sent) (3 + length task.orders) one ran world course next (omega (arith, all)) (asking_before course.state.phase free.phase) (omega (arith, all)) kept) next.later
+          (onward.ready ran least (after_steps one.round.steps next.new) next.course' (omega (arith, counted, all)) (left_on (2 + sent) (3 + length task.orders) one ran world course next (omega (arith, all)) (asking_left course.state.phase free.phase) (omega (arith, all)) kept) next.later
           (subst (λ (sent : ℕ). IsReady task sent least next.course' (after_steps one.round.steps next.new)) all (ready_on sent least one.round.steps next.course' next.new next.calm.steps readies)))
 
   -- once both rings run
@@ -414,7 +414,7 @@ module _ (laws : Laws) (task : Task) (codecs : List ℕ) (graphs : List RawCodec
       next.are next.is_called.row next.is_called.noted next.turn next.calm.line.no_interrupt next.few in
       subst Ends (sym next.over)
       (starts_over ran least one.round.steps next.new next.course' next.calm.steps (omega (arith, counted)) answers
-      (left_on 1 2 one ran (after_steps steps world) course next (omega arith) (ap is_before_sound begun.phase) (omega arith) kept) next.later started)
+      (left_on 1 2 one ran (after_steps steps world) course next (omega arith) (ap has_commands_left begun.phase) (omega arith) kept) next.later started)
 
   -- before the first call
   pub comes_over : (ran : List RanRound) (world : World) (course : Course) → length ran ≡ total → ((one two : RanRound) (rest : List RanRound) → ran ≡ one ∷ two ∷ rest → 25 ≤ frames_of_steps one.round.steps)
@@ -434,7 +434,7 @@ module _ (laws : Laws) (task : Task) (codecs : List ℕ) (graphs : List RawCodec
       let begun = first_call task course next.course' (line_in one) one.accesses world next.new opened can next.are next.is_called.row next.is_called.noted next.turn next.calm.line.no_interrupt in
       subst Ends (sym next.over)
       (begins_over ran one.round.steps next.new next.course' next.calm.steps (omega (arith, counted)) (second_there one ran announces) (drop_again (one ∷ ran) answers)
-      (left_on 0 1 one ran world course next (omega arith) (ap (λ (state : State). is_before_sound state.phase) opened) (omega arith) kept) next.later begun)
+      (left_on 0 1 one ran world course next (omega arith) (ap (λ (state : State). has_commands_left state.phase) opened) (omega arith) kept) next.later begun)
     where
       second_there : (one : RanRound) (ran : List RanRound) → ((one' two : RanRound) (rest : List RanRound) → one ∷ ran ≡ one' ∷ two ∷ rest → 25 ≤ frames_of_steps one'.round.steps) → 1 ≤ length ran → 25 ≤ frames_of_steps one.round.steps
       second_there one [] announces some = absurd (omega (arith, some))

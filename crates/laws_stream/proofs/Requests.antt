@@ -18,7 +18,7 @@ use Rattle.command_engine.specs.declared.ring_places.RingPlaces.{RingPlaces}
 use Rattle.period_writer.specs.Runs.{Tally}
 use Rattle.period_writer.specs.Beside.{IsBesideStreaming, IsStatusWrite}
 use Rattle.driver_progress.specs.declared.phase.Phase.{Phase}
-use Rattle.driver_progress.specs.declared.phase.Phase.TheVariants.{Reset, Settling, Walking, SettingUp, Ready, Playing, Drained, NothingRouted, Unanswered, Late, Malformed, Failed}
+use Rattle.driver_progress.specs.declared.phase.Phase.TheVariants.{Reset, Settling, Walking, SettingUp, Ready, Playing}
 use Rattle.driver_progress.specs.Phases.{is_active}
 use Rattle.driver_progress.specs.Tasks.{Task, DriverLine, Order, Blocks}
 use Rattle.driver_progress.specs.States.{State}
@@ -163,26 +163,14 @@ runs_rest task state line seen tally SettingUp silent =
     asks_rest task state seen (submits task.blocks state.rings (next_order task state seen)) (submits_rest task.blocks state.rings (next_order task state seen))
 runs_rest task state line seen tally Ready silent = silent_if task state line.budget seen task.plays silent
 runs_rest task state line seen tally Playing silent = absurd (not_true (sym silent))
-runs_rest task state line seen tally Drained silent = tt {0}
-runs_rest task state line seen tally NothingRouted silent = tt {0}
-runs_rest task state line seen tally (Unanswered codec command issued noticed) silent = tt {0}
-runs_rest task state line seen tally (Late from to limit) silent = tt {0}
-runs_rest task state line seen tally (Malformed codec fault) silent = tt {0}
-runs_rest task state line seen tally Failed silent = tt {0}
+runs_rest task state line seen tally phase silent = tt {0}
 
 closes_rest : (task : Task) (state : State) (seen : Seen) (phase : Phase) → plays_in task None phase ≡ false → AreRestful (closes task state seen phase)
 closes_rest task state seen Reset silent = tt {0}
-closes_rest task state seen Settling silent = shuts_rest
 closes_rest task state seen Walking silent = asks_rest task state seen shuts shuts_rest
 closes_rest task state seen SettingUp silent = asks_rest task state seen shuts shuts_rest
-closes_rest task state seen Ready silent = shuts_rest
 closes_rest task state seen Playing silent = absurd (not_true (sym silent))
-closes_rest task state seen Drained silent = shuts_rest
-closes_rest task state seen NothingRouted silent = shuts_rest
-closes_rest task state seen (Unanswered codec command issued noticed) silent = shuts_rest
-closes_rest task state seen (Late from to limit) silent = shuts_rest
-closes_rest task state seen (Malformed codec fault) silent = shuts_rest
-closes_rest task state seen Failed silent = shuts_rest
+closes_rest task state seen phase silent = shuts_rest
 
 expected_rests : (task : Task) (state : State) (turn : Option DriverLine) (seen : Seen) (tally : Tally) → plays_in task turn state.phase ≡ false → AreRestful (expected_by task state turn seen tally)
 expected_rests task state None seen tally silent = closes_rest task state seen state.phase silent

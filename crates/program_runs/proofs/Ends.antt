@@ -3,13 +3,15 @@ use Rattle.std.proofs.Common.{◌≡◌, ◌≤◌, ◌<◌, ◌⊎◌, inl, inr
 use Rattle.period_writer.specs.declared.course.Run.{Run}
 use Rattle.period_writer.specs.declared.course.Span.{Span}
 use Rattle.driver_progress.specs.declared.phase.Phase.{Phase}
-use Rattle.driver_progress.specs.declared.phase.Phase.TheVariants.{Reset, Settling, Walking, SettingUp, Ready, Playing, Drained, NothingRouted, Unanswered, Late, Malformed, Failed}
+use Rattle.driver_progress.specs.declared.phase.Phase.TheVariants.{Reset, Settling, Walking, SettingUp, Playing}
+use Rattle.driver_progress.specs.declared.phase.Phase.TheVariants.{Drained}
 use Rattle.driver_progress.specs.States.{State}
+use Rattle.driver_progress.specs.Phases.{has_commands_left}
 use Rattle.sound_report.specs.declared.played.PlayFault.{PlayFault}
 use Rattle.sound_report.specs.declared.played.PlayFault.TheVariants.{CommandsLeft}
 use Rattle.program_runs.specs.Walks.{IsWalkFault}
 use Rattle.program_runs.specs.Plays.{IsPlayFault}
-use Rattle.laws_serving.specs.Coming.{sent_by, has_commands_left, HasComeTo}
+use Rattle.laws_serving.specs.Coming.{sent_by, HasComeTo}
 use Rattle.program_runs.specs.Served.{ServedWalkEnds, IsStillPlaying, ServedPlayEnds}
 
 walk_left : (phase : Phase) (sent of : ℕ) (fault : Option PlayFault) → has_commands_left phase ≡ true → IsWalkFault phase sent of fault → fault ≡ Some (CommandsLeft sent of)
@@ -17,14 +19,7 @@ walk_left Reset sent of fault left is = is
 walk_left Settling sent of fault left is = is
 walk_left Walking sent of fault left is = is
 walk_left SettingUp sent of fault left is = is
-walk_left Ready sent of fault left is = cc
-walk_left Playing sent of fault left is = cc
-walk_left Drained sent of fault left is = cc
-walk_left NothingRouted sent of fault left is = cc
-walk_left (Unanswered codec command issued noticed) sent of fault left is = cc
-walk_left (Late from to limit) sent of fault left is = cc
-walk_left (Malformed codec cause) sent of fault left is = cc
-walk_left Failed sent of fault left is = cc
+walk_left phase sent of fault left is = cc
 
 play_left : (phase : Phase) (sent of block total : ℕ) (runs : List Run) (silences : List Span) (fault : Option PlayFault) → has_commands_left phase ≡ true → IsPlayFault phase sent of block total runs silences fault
     → fault ≡ Some (CommandsLeft sent of)
@@ -32,14 +27,7 @@ play_left Reset sent of block total runs silences fault left is = is
 play_left Settling sent of block total runs silences fault left is = is
 play_left Walking sent of block total runs silences fault left is = is
 play_left SettingUp sent of block total runs silences fault left is = is
-play_left Ready sent of block total runs silences fault left is = cc
-play_left Playing sent of block total runs silences fault left is = cc
-play_left Drained sent of block total runs silences fault left is = cc
-play_left NothingRouted sent of block total runs silences fault left is = cc
-play_left (Unanswered codec command issued noticed) sent of block total runs silences fault left is = cc
-play_left (Late from to limit) sent of block total runs silences fault left is = cc
-play_left (Malformed codec cause) sent of block total runs silences fault left is = cc
-play_left Failed sent of block total runs silences fault left is = cc
+play_left phase sent of block total runs silences fault left is = cc
 
 pub walk_ends : (commands lines of : ℕ) (state : State) (fault : Option PlayFault) → HasComeTo commands lines false state → of ≡ commands → IsWalkFault state.phase state.sent of fault → ServedWalkEnds commands lines fault
 walk_ends commands lines of state fault come of_is ended = record {

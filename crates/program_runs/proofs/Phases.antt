@@ -9,7 +9,9 @@ use Rattle.period_writer.specs.Runs.{Tally}
 use Rattle.period_writer.specs.declared.course.Ran.{Ran}
 use Rattle.period_writer.specs.declared.course.Ran.TheVariants as ran
 use Rattle.driver_progress.specs.declared.phase.Phase.{Phase}
-use Rattle.driver_progress.specs.declared.phase.Phase.TheVariants.{Reset, Settling, Walking, SettingUp, Ready, Playing, Drained, NothingRouted, Unanswered, Late, Malformed, Failed}
+use Rattle.driver_progress.specs.declared.phase.Phase.TheVariants.{Reset, Settling, Walking, SettingUp, Ready, Playing}
+use Rattle.driver_progress.specs.declared.phase.Phase.TheVariants.{Drained, NothingRouted, Unanswered, Late, Malformed}
+use Rattle.driver_progress.specs.declared.phase.Phase.TheVariants.{Failed}
 use Rattle.driver_progress.specs.Tasks.{Task, Order, DriverLine}
 use Rattle.driver_progress.specs.Seen.{Seen, clock_of}
 use Rattle.driver_progress.specs.States.{State}
@@ -20,18 +22,8 @@ use Rattle.laws_bring_up.specs.Standing.{WalkedIn}
 use Rattle.program_runs.specs.Ends.{can_end}
 
 abbrev pub is_failed : Phase → Bool
-is_failed Reset = false
-is_failed Settling = false
-is_failed Walking = false
-is_failed SettingUp = false
-is_failed Ready = false
-is_failed Playing = false
-is_failed Drained = false
-is_failed NothingRouted = false
-is_failed (Unanswered codec command issued noticed) = false
-is_failed (Late from to limit) = false
-is_failed (Malformed codec fault) = false
 is_failed Failed = true
+is_failed phase = false
 
 abbrev IsWell : State → Type 0
 IsWell state = is_failed state.phase ≡ false
@@ -83,26 +75,13 @@ led_well task state seen tally Walking well = submitted_well (next_order task st
 led_well task state seen tally SettingUp well = submitted_well (next_order task state seen) (clock_of seen) (after_poll task state seen) (poll_well task state seen well)
 led_well task state seen tally Ready well = plays_well task.plays state well
 led_well task state seen tally Playing well = played_well task tally.course.ran
-led_well task state seen tally Drained well = well
-led_well task state seen tally NothingRouted well = well
-led_well task state seen tally (Unanswered codec command issued noticed) well = well
-led_well task state seen tally (Late from to limit) well = well
-led_well task state seen tally (Malformed codec fault) well = well
-led_well task state seen tally Failed well = well
+led_well task state seen tally phase well = well
 
 closed_well : (task : Task) (state : State) (seen : Seen) (tally : Tally) (phase : Phase) → IsWell state → IsWell (closed task state seen tally phase)
-closed_well task state seen tally Reset well = well
-closed_well task state seen tally Settling well = well
 closed_well task state seen tally Walking well = poll_well task state seen well
 closed_well task state seen tally SettingUp well = poll_well task state seen well
-closed_well task state seen tally Ready well = well
 closed_well task state seen tally Playing well = played_well task tally.course.ran
-closed_well task state seen tally Drained well = well
-closed_well task state seen tally NothingRouted well = well
-closed_well task state seen tally (Unanswered codec command issued noticed) well = well
-closed_well task state seen tally (Late from to limit) well = well
-closed_well task state seen tally (Malformed codec fault) well = well
-closed_well task state seen tally Failed well = well
+closed_well task state seen tally phase well = well
 
 unless_well : (none : Bool) (state other : State) → IsWell state → IsWell other → IsWell (if none then state else other)
 unless_well true state other well led = well
@@ -133,15 +112,10 @@ ended_well false task course well = well
 
 -- in a phase in which the walked graphs are known runs can end
 pub ends : (walk : Bool) (phase : Phase) (all : Type 0) → is_failed phase ≡ false → WalkedIn phase all → can_end walk phase ≡ true
-ends walk Reset all well walked = refl
-ends walk Settling all well walked = refl
-ends walk Walking all well walked = refl
-ends walk SettingUp all well walked = refl
-ends walk Ready all well walked = refl
 ends walk Playing all well walked = absurd walked
 ends walk Drained all well walked = absurd walked
 ends walk NothingRouted all well walked = absurd walked
-ends walk (Unanswered codec command issued noticed) all well walked = refl
 ends walk (Late from to limit) all well walked = absurd walked
 ends walk (Malformed codec fault) all well walked = absurd walked
 ends walk Failed all well walked = cc
+ends walk phase all well walked = refl

@@ -25,8 +25,9 @@ use Rattle.period_writer.specs.Runs.{Tally, tally_opened, measures, tally_of_str
 use Rattle.audio_driver.specs.States.{phase_if, played_as, state_with}
 use Rattle.audio_driver.specs.declared.driver.closing.Closed.{Closed}
 use Rattle.driver_progress.specs.declared.phase.Phase.{Phase}
-use Rattle.driver_progress.specs.declared.phase.Phase.TheVariants.{Reset, Settling, Walking, SettingUp, Ready, Playing, Drained, NothingRouted, Unanswered, Late, Malformed, Failed}
+use Rattle.driver_progress.specs.declared.phase.Phase.TheVariants.{Ready, Playing, Drained, Late}
 use Rattle.driver_progress.specs.Tasks.{Task, Blocks}
+use Rattle.driver_progress.specs.Phases.{walked_all}
 use Rattle.laws_stream.specs.Ending.{HearTheLine}
 use Rattle.driver_bring_up.specs.Standing.{answers_of}
 use Rattle.laws_bring_up.specs.Standing.{AreWalked, WalkedIn}
@@ -39,7 +40,7 @@ use Rattle.laws_start.specs.Tasks.{HavePlans}
 use Rattle.program_runs.specs.Lines.{lines_of}
 use Rattle.program_runs.specs.Going.{plan_by, open_by}
 use Rattle.program_runs.specs.Ends.{can_end}
-use Rattle.program_runs.specs.Histories.{MakesProgress, StaysOpen, journal_of, told_by, walked_all}
+use Rattle.program_runs.specs.Histories.{MakesProgress, StaysOpen, journal_of, told_by}
 use Rattle.program_runs.specs.FrameCounts.{written_by}
 use Rattle.program_runs.specs.Hearing.{HasPlayedAll, HearTheirs, lists_heard}
 use Rattle.program_runs.specs.Stretches.{stretches_of}
@@ -80,18 +81,10 @@ has_run_as course (ran.Late from to limit) is started = (started, is)
 
 -- or that there was none
 has_no_run : (course : Course) → course.started ≡ false → (phase : Phase) (all : Type 0) → WalkedIn phase all → HasRunUpTo phase course
-has_no_run course none Reset all walked = none
-has_no_run course none Settling all walked = none
-has_no_run course none Walking all walked = none
-has_no_run course none SettingUp all walked = none
-has_no_run course none Ready all walked = none
 has_no_run course none Playing all walked = absurd walked
 has_no_run course none Drained all walked = absurd walked
-has_no_run course none NothingRouted all walked = none
-has_no_run course none (Unanswered codec command issued noticed) all walked = none
 has_no_run course none (Late from to limit) all walked = absurd walked
-has_no_run course none (Malformed codec fault) all walked = none
-has_no_run course none Failed all walked = none
+has_no_run course none phase all walked = none
 
 has_run : (course : Course) (started : Bool) → course.started ≡ started → (phase : Phase) (all : Type 0) → WalkedIn phase all → HasRunUpTo (phase_if started phase course.ran) course
 has_run course true is phase all walked = has_run_as course course.ran refl is

@@ -13,8 +13,6 @@ use Rattle.wav_reader.specs.Wavs.{ring_bytes}
 use Rattle.period_writer.specs.declared.course.Course.{Course}
 use Rattle.period_writer.specs.Accounts.{unrecorded}
 use Rattle.period_writer.specs.Runs.{Measures}
-use Rattle.driver_progress.specs.declared.phase.Phase.{Phase}
-use Rattle.driver_progress.specs.declared.phase.Phase.TheVariants as phases
 
 -- what a shelf tells and has counted under each name
 abbrev pub Shelves : Type 0
@@ -112,21 +110,6 @@ pub record IsFedSo (m : Measures) (now : Shelves) (cut : Option Cut) (supply : S
 -- as much is held as a ring takes, or all that is left
 abbrev pub IsFilledUp : (ring : ℕ) → Supplied → Type 0
 IsFilledUp ring supply = min ring supply.left ≤ length supply.held
-
--- whether the next call may play, by the phase
-abbrev pub may_play : Phase → Bool
-may_play phases.Ready = true
-may_play phases.Playing = true
-may_play phases.Reset = false
-may_play phases.Settling = false
-may_play phases.Walking = false
-may_play phases.SettingUp = false
-may_play phases.Drained = false
-may_play phases.NothingRouted = false
-may_play (phases.Unanswered codec command issued noticed) = false
-may_play (phases.Late from to limit) = false
-may_play (phases.Malformed codec fault) = false
-may_play phases.Failed = false
 
 -- how the reading was cut, after one more fill
 abbrev pub cut_after : Option Cut → Result (Unit {0}) Cut → Option Cut

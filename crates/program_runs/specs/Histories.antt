@@ -13,10 +13,7 @@ use Rattle.hda_world.specs.declared.world.TheConstants.{REGION_BYTES}
 use Rattle.hda_world.specs.Events.{Event, AreHonest}
 use Rattle.hda_world.specs.JournalEvents.{events_of}
 use Rattle.hda_world.specs.Tellings.{Telling}
-use Rattle.driver_progress.specs.declared.phase.Phase.{Phase}
-use Rattle.driver_progress.specs.declared.phase.Phase.TheVariants.{Reset, Settling, Walking, SettingUp, Ready, Playing}
-use Rattle.driver_progress.specs.declared.phase.Phase.TheVariants.{Drained, NothingRouted, Unanswered, Late, Malformed}
-use Rattle.driver_progress.specs.declared.phase.Phase.TheVariants.{Failed}
+use Rattle.driver_progress.specs.Phases.{walked_all}
 use Rattle.driver_progress.specs.Tasks.{Task}
 use Rattle.driver_progress.specs.States.{State}
 use Rattle.driver_progress.specs.Progress.{state_of, IsProgress}
@@ -54,21 +51,6 @@ pub record HasInput (walk : Bool) (format : Format) (frames : ℕ) (machine : Ma
 pub record IsHistory (machine : Machine) (schedule : Schedule) (journal : List Event) : Type 0 where
   pub replays : AreHonest journal (start_of REGION_BYTES machine)
   pub follows : Follows schedule journal
-
--- whether all codecs were walked in a phase
-abbrev pub walked_all : Phase → Bool
-walked_all Reset = false
-walked_all Settling = false
-walked_all Walking = false
-walked_all SettingUp = true
-walked_all Ready = true
-walked_all Playing = true
-walked_all Drained = true
-walked_all NothingRouted = false
-walked_all (Unanswered codec command issued noticed) = false
-walked_all (Late from to limit) = true
-walked_all (Malformed codec fault) = false
-walked_all Failed = false
 
 -- progress: in each call the driver made the accesses that are to be made, and no others, and they lead to this state
 -- of its task. The graphs that it was told are the first of the machine's, as many as the answers that came told, and

@@ -29,9 +29,8 @@ use Rattle.period_writer.specs.Runs.{Tally, measures, tally_of_stretches}
 use Rattle.period_writer.specs.Owning.{IsWritten}
 use Rattle.period_writer.specs.Rings as rings
 use Rattle.driver_progress.specs.declared.phase.Phase.{Phase}
-use Rattle.driver_progress.specs.declared.phase.Phase.TheVariants.{Reset, Settling, Walking, SettingUp, Ready, Playing}
-use Rattle.driver_progress.specs.declared.phase.Phase.TheVariants.{Drained, NothingRouted, Unanswered, Late, Malformed}
-use Rattle.driver_progress.specs.declared.phase.Phase.TheVariants.{Failed}
+use Rattle.driver_progress.specs.declared.phase.Phase.TheVariants.{Playing, Drained, NothingRouted, Unanswered, Late}
+use Rattle.driver_progress.specs.declared.phase.Phase.TheVariants.{Malformed, Failed}
 use Rattle.driver_progress.specs.Tasks.{Task, Blocks}
 use Rattle.driver_progress.specs.States.{State}
 use Rattle.driver_bring_up.specs.Jacks.{Counts}
@@ -55,11 +54,6 @@ use Rattle.program_runs.specs.Hearing.{HasPlayedAll, HearTheirs, WasSilent, list
 -- why it ended before all was played, by how far the driver came: so many commands were sent of how many, and with
 -- these runs and silences so many of the frames were written and heard
 abbrev pub IsPlayFault : Phase → (sent of block total : ℕ) → List Run → List Span → Option PlayFault → Type 0
-IsPlayFault Reset sent of block total runs silences fault = fault ≡ Some (faults.CommandsLeft sent of)
-IsPlayFault Settling sent of block total runs silences fault = fault ≡ Some (faults.CommandsLeft sent of)
-IsPlayFault Walking sent of block total runs silences fault = fault ≡ Some (faults.CommandsLeft sent of)
-IsPlayFault SettingUp sent of block total runs silences fault = fault ≡ Some (faults.CommandsLeft sent of)
-IsPlayFault Ready sent of block total runs silences fault = fault ≡ Some (faults.CommandsLeft sent of)
 IsPlayFault Playing sent of block total runs silences fault =
     fault ≡ Some (faults.FramesLeft (frames_written block runs) (frames_below block silences (last_at runs)) total)
 IsPlayFault Drained sent of block total runs silences fault = fault ≡ None
@@ -69,6 +63,7 @@ IsPlayFault (Unanswered codec command issued noticed) sent of block total runs s
 IsPlayFault (Late from to limit) sent of block total runs silences fault = fault ≡ Some (faults.Late from to limit)
 IsPlayFault (Malformed codec fault') sent of block total runs silences fault = ⊥
 IsPlayFault Failed sent of block total runs silences fault = ⊥
+IsPlayFault phase sent of block total runs silences fault = fault ≡ Some (faults.CommandsLeft sent of)
 
 -- ---- the run
 
@@ -78,18 +73,10 @@ played_task machine plans wav geometry blocks = task_of wav.format machine plans
 
 -- by its phase the driver made no run, or this is how its last one ended
 abbrev pub HasRunUpTo : Phase → Course → Type 0
-HasRunUpTo Reset course = course.started ≡ false
-HasRunUpTo Settling course = course.started ≡ false
-HasRunUpTo Walking course = course.started ≡ false
-HasRunUpTo SettingUp course = course.started ≡ false
-HasRunUpTo Ready course = course.started ≡ false
 HasRunUpTo Playing course = (course.started ≡ true) × (course.ran ≡ ran.Playing)
 HasRunUpTo Drained course = (course.started ≡ true) × (course.ran ≡ ran.Drained)
-HasRunUpTo NothingRouted course = course.started ≡ false
-HasRunUpTo (Unanswered codec command issued noticed) course = course.started ≡ false
 HasRunUpTo (Late from to limit) course = (course.started ≡ true) × (course.ran ≡ ran.Late from to limit)
-HasRunUpTo (Malformed codec fault) course = course.started ≡ false
-HasRunUpTo Failed course = course.started ≡ false
+HasRunUpTo phase course = course.started ≡ false
 
 -- without a run the stream was never set going; else it was once, and ran without an error until it was stopped once
 abbrev pub Lived : (started : Bool) → Tally → Telling → Type 0

@@ -9,9 +9,8 @@ use Rattle.schedule_reader.specs.declared.schedule.Schedule.{Schedule}
 use Rattle.hda_files.specs.declared.machine.Machine.{Machine}
 use Rattle.period_writer.specs.declared.geometry.Geometry.{Geometry}
 use Rattle.driver_progress.specs.declared.phase.Phase.{Phase}
-use Rattle.driver_progress.specs.declared.phase.Phase.TheVariants.{Reset, Settling, Walking, SettingUp, Ready, Playing}
-use Rattle.driver_progress.specs.declared.phase.Phase.TheVariants.{Drained, NothingRouted, Unanswered, Late, Malformed}
-use Rattle.driver_progress.specs.declared.phase.Phase.TheVariants.{Failed}
+use Rattle.driver_progress.specs.declared.phase.Phase.TheVariants.{Reset, Settling, Walking, SettingUp, Ready}
+use Rattle.driver_progress.specs.declared.phase.Phase.TheVariants.{Unanswered}
 use Rattle.driver_progress.specs.Tasks.{Blocks}
 use Rattle.driver_progress.specs.States.{State}
 use Rattle.driver_bring_up.specs.Jacks.{Counts}
@@ -36,14 +35,9 @@ IsWalkFault Settling sent of fault = fault ≡ Some (faults.CommandsLeft sent of
 IsWalkFault Walking sent of fault = fault ≡ Some (faults.CommandsLeft sent of)
 IsWalkFault SettingUp sent of fault = fault ≡ Some (faults.CommandsLeft sent of)
 IsWalkFault Ready sent of fault = fault ≡ None
-IsWalkFault Playing sent of fault = ⊥
-IsWalkFault Drained sent of fault = ⊥
-IsWalkFault NothingRouted sent of fault = ⊥
 IsWalkFault (Unanswered codec command issued noticed) sent of fault =
     fault ≡ Some (faults.Unanswered codec command issued noticed)
-IsWalkFault (Late from to limit) sent of fault = ⊥
-IsWalkFault (Malformed codec fault') sent of fault = ⊥
-IsWalkFault Failed sent of fault = ⊥
+IsWalkFault phase sent of fault = ⊥
 
 -- the ring with which a walk opens its driver, though it plays nothing: four periods of eight units
 abbrev pub IsWalkRing : (fifo : ℕ) → Geometry → Type 0

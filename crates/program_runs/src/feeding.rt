@@ -4,21 +4,14 @@ ghost use Rattle.hda_outside.specs.declared.pieces.Cut.TheVariants.{OutOfMemory}
 ghost use Rattle.wav_reader.specs.Supplies.{Source};
 ghost use Rattle.wav_reader.specs.Fills.{IsBeside};
 ghost use Rattle.period_writer.specs.Writers.{measures_of};
+ghost use Rattle.driver_progress.specs.Phases.{may_play};
 ghost use Rattle.audio_driver.specs.States.{phase_of};
 ghost use Rattle.program_runs.specs.Feeding as spec;
 
 use audio_driver::Driver;
-use driver_progress::Phase;
 use hda_outside::{Cut, Shelf};
 use route_setup::Setter;
 use std::alloc::{AllocError, Global};
-
-/// Whether the next call of a driver may play, which has come so far.
-fn may_play(phase: Phase) -> bool
-    ensures { result ≡ spec.may_play phase }
-{
-    matches!(phase, Phase::Ready | Phase::Playing)
-}
 
 /// Keeps how a fill was cut, if it was.
 ///
@@ -64,7 +57,7 @@ pub(crate) fn feed<T: Setter, S: Shelf>(
         cut.new driver.new.supply driver.old.writer.course) }
     ensures took { OnOk result (spec.Took [] (spec.shelves_of (S.told shelf.old) (S.faults shelf.old)
         (S.empties shelf.old) (S.given shelf.old)) driver.old.supply driver.new.supply) }
-    ensures up { OnOk result (spec.may_play (phase_of driver.old.bring_up driver.old.writer) ≡ true
+    ensures up { OnOk result (may_play (phase_of driver.old.bring_up driver.old.writer) ≡ true
         → spec.IsFilledUp (measures_of driver.old.writer).ring driver.new.supply) }
     ensures told { S.told shelf.new ≡ S.told shelf.old }
     ensures asked { (other : List ℕ) → IsBeside driver.old.supply.source other
@@ -78,7 +71,7 @@ pub(crate) fn feed<T: Setter, S: Shelf>(
     ensures runs { driver.new.runs ≡ driver.old.runs }
     ensures calls { driver.new.calls ≡ driver.old.calls }
 {
-    if !may_play(driver.phase()) {
+    if !driver.phase().may_play() {
         return Ok(());
     }
     let filled = driver.fill(alloc, shelf);

@@ -34,7 +34,7 @@ pub(super) fn phase_of(bring_up: &BringUp, writer: &Writer) -> Phase
 pub(super) fn plays_now(play: bool, bring_up: &BringUp) -> bool
     ensures { result ≡ states.plays_now play bring_up.now }
 {
-    play && matches!(bring_up.phase(), Phase::Ready)
+    play && bring_up.phase().is_ready()
 }
 
 /// Whether a run of a writer comes next: none was late, and the sound was not all played.

@@ -7,7 +7,6 @@ ghost use Rattle.driver_bring_up.specs.Told.{IsShut};
 ghost use Rattle.driver_bring_up.specs.Failing.{Fails, FailsLast};
 
 use super::BringUp;
-use super::phases::{is_active, is_asking, is_reset};
 use crate::answers::TAG;
 use crate::jack_laws::events_are_of_pins;
 use driver_progress::{Phase, has_interrupt, shut};
@@ -43,7 +42,7 @@ impl BringUp {
         ensures accesses { P.spare_accesses platform.old ≤ P.spare_accesses platform.new + 261 }
         ensures bytes { P.spare_bytes platform.old ≤ P.spare_bytes platform.new + 2044 }
     {
-        if is_asking(self.phase) {
+        if self.phase.is_asking() {
             return self.command(platform, setter);
         }
         match self.phase {
@@ -82,7 +81,7 @@ impl BringUp {
         ensures accesses { P.spare_accesses platform.old ≤ P.spare_accesses platform.new + 264 }
         ensures bytes { P.spare_bytes platform.old ≤ P.spare_bytes platform.new + 2044 }
     {
-        if !is_active(self.phase) {
+        if !self.phase.is_active() {
             return Ok(());
         }
         if has_interrupt(platform) {
@@ -137,10 +136,10 @@ impl BringUp {
         ensures accesses { P.spare_accesses platform.old ≤ P.spare_accesses platform.new + 262 }
         ensures bytes { P.spare_bytes platform.old ≤ P.spare_bytes platform.new + 2040 }
     {
-        if is_asking(self.phase) {
+        if self.phase.is_asking() {
             return self.end_commands(platform, setter);
         }
-        if is_reset(self.phase) {
+        if self.phase.is_reset() {
             return Ok(());
         }
         shut(platform);

@@ -1,9 +1,9 @@
-use Rattle.std.proofs.Common.{◌≡◌, ◌+◌, ℕ, Bool, true, false, nat_le, if◌then◌else◌, List, length, Option, None, Some, arith, rules, refl, sym, ap, subst, ◌∙◌}
+use Rattle.std.proofs.Common.{◌≡◌, ◌+◌, ℕ, Bool, true, false, nat_le, if◌then◌else◌, List, length, Option, None, Some, arith, rules, refl, sym, ap, ◌∙◌}
 use Rattle.std.specs.Option.{is_some}
 use Rattle.command_engine.specs.declared.answers.Outstanding.{Outstanding}
 use Rattle.command_engine.specs.declared.answers.Poll.{Poll}
 use Rattle.command_engine.specs.declared.answers.Poll.TheVariants as polls
-use Rattle.command_engine.specs.Polling.{answer_limit, found_by, poll_of, without_answer}
+use Rattle.command_engine.specs.Polling.{answer_limit, found_by, poll_of}
 use Rattle.driver_progress.specs.Commands.{ask_accesses}
 use Rattle.driver_bring_up.specs.Commanding.{is_answer}
 use Rattle.driver_bring_up.proofs.CommandCallers.{on_err}

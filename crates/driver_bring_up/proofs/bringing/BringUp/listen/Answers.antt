@@ -1,7 +1,5 @@
 use Rattle.std.proofs.Common.{List, length, arith, ap, refl, sym, subst, ◌++◌, ◌∙◌}
 use Rattle.command_engine.specs.declared.answers.Event.{Event}
-use Rattle.command_engine.specs.declared.ring_places.RingPlaces.{RingPlaces}
-use Rattle.command_engine.specs.Entries.{responses_in, events_of}
 use Rattle.driver_bring_up.specs.Counted.{IsCount}
 use Rattle.driver_bring_up.proofs.CommandCallers.{few_events, told_same}
 use Rattle.driver_progress.specs.Phases.{is_asking}
