@@ -21,7 +21,7 @@ use Rattle.driver_progress.specs.Interrupts.{clear_accesses, interrupt_accesses}
 use Rattle.driver_progress.specs.Shutting.{shut_accesses}
 use Rattle.driver_progress.proofs.StretchCallers.{interrupt_fits}
 use Rattle.driver_bring_up.specs.Commanding.{IsStretch, IsLastLook, run_of}
-use Rattle.driver_progress.specs.Phases.{Group, Over, group_of, acts, is_active, is_asking, is_early, is_reset, is_settling}
+use Rattle.driver_progress.specs.Phases.{PhaseGroup, Over, group_of, acts, is_active, is_asking, is_early, is_reset, is_settling}
 
 -- ---- nothing is left to do
 
@@ -133,7 +133,7 @@ pub not_settling : (phase : Phase) → (phase ≡ Settling → ⊥) → is_settl
 not_settling Settling not = absurd (not refl)
 not_settling phase not = refl
 
-inactive_in : (task : Task) (state : State) (budget : ℕ) (seen : Seen) (tally : Tally) (phase : Phase) (group : Group) → acts group ≡ false → runs_in task state budget seen tally phase group ≡ []
+inactive_in : (task : Task) (state : State) (budget : ℕ) (seen : Seen) (tally : Tally) (phase : Phase) (group : PhaseGroup) → acts group ≡ false → runs_in task state budget seen tally phase group ≡ []
 inactive_in task state budget seen tally phase Over inactive = refl
 inactive_in task state budget seen tally phase group inactive = cc
 

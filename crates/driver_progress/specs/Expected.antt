@@ -23,7 +23,7 @@ use Rattle.driver_progress.specs.Requests.{Request, Gets, Puts, Fetches, Stores,
 use Rattle.driver_progress.specs.Tasks.{Order, Blocks, Task, DriverLine}
 use Rattle.driver_progress.specs.Seen.{Seen, clock_of, interrupts_at, stream_interrupts_at}
 use Rattle.driver_progress.specs.States.{State}
-use Rattle.driver_progress.specs.Phases.{Group, BeforeWalk, Asking, BeforeSound, Sounding, Over, group_of, is_reset, is_active}
+use Rattle.driver_progress.specs.Phases.{PhaseGroup, BeforeWalk, Asking, BeforeSound, Sounding, Over, group_of, is_reset, is_active}
 
 -- ---- the reset
 
@@ -121,13 +121,9 @@ stops tally = requests_of (stop_accesses tally.course.ran)
 
 -- ---- a call
 
--- before the walk
-abbrev pub begins : Task → State → Seen → Phase → List Request
-begins task state seen phase = if is_reset phase then resets else settles task state seen
-
 -- by the group of the phase, where the tally after the call is this one. Once it is over nothing is done
-abbrev pub runs_in : Task → State → (budget : ℕ) → Seen → Tally → Phase → Group → List Request
-runs_in task state budget seen tally phase BeforeWalk = begins task state seen phase
+abbrev pub runs_in : Task → State → (budget : ℕ) → Seen → Tally → Phase → PhaseGroup → List Request
+runs_in task state budget seen tally phase BeforeWalk = if is_reset phase then resets else settles task state seen
 runs_in task state budget seen tally phase Asking =
     asks task state seen (submits task.blocks state.rings (next_order task state seen))
 runs_in task state budget seen tally phase BeforeSound = if task.plays then starts task state budget seen else []
@@ -156,7 +152,7 @@ abbrev pub shuts : List Request
 shuts = Puts CORBCTL One 0 ∷ Puts RIRBCTL One 0 ∷ Puts GCTL Four 0 ∷ []
 
 -- by the group of the phase: no command is submitted, no sound is written, and a stream that runs is stopped
-abbrev pub closes_in : Task → State → Seen → Phase → Group → List Request
+abbrev pub closes_in : Task → State → Seen → Phase → PhaseGroup → List Request
 closes_in task state seen phase BeforeWalk = if is_reset phase then [] else shuts
 closes_in task state seen phase Asking = asks task state seen shuts
 closes_in task state seen phase BeforeSound = shuts

@@ -12,7 +12,7 @@ use Rattle.period_writer.specs.Runs.{Tally, measures, taken_up}
 use Rattle.driver_progress.specs.declared.phase.Phase.{Phase}
 use Rattle.driver_progress.specs.declared.phase.Phase.TheVariants.{Settling, Walking, SettingUp, Ready, Playing}
 use Rattle.driver_progress.specs.declared.phase.Phase.TheVariants.{Drained, Unanswered, Late}
-use Rattle.driver_progress.specs.Phases.{Group, BeforeWalk, Asking, BeforeSound, Sounding, Over, group_of, is_reset}
+use Rattle.driver_progress.specs.Phases.{PhaseGroup, BeforeWalk, Asking, BeforeSound, Sounding, Over, group_of, is_reset}
 use Rattle.driver_progress.specs.Requests.{Request}
 use Rattle.driver_progress.specs.Tasks.{Order, Task, DriverLine}
 use Rattle.driver_progress.specs.Seen.{Seen, clock_of, interrupts_at}
@@ -88,16 +88,12 @@ after_run task state seen tally = record state { phase = phase_played task tally
 
 -- ---- a stretch
 
--- before the walk
-abbrev pub begun_by : State → Seen → Phase → State
-begun_by state seen phase =
+-- by the group of the phase, but for the tally. Once it is over nothing changes
+abbrev pub led_in : Task → State → Seen → Tally → Phase → PhaseGroup → State
+led_in task state seen tally phase BeforeWalk =
     if is_reset phase
     then reset_if (has_bit seen.control 0) (clock_of seen) state
     else settled_if (has_settled state.kept (clock_of seen)) (rings_seen seen) state
-
--- by the group of the phase, but for the tally. Once it is over nothing changes
-abbrev pub led_in : Task → State → Seen → Tally → Phase → Group → State
-led_in task state seen tally phase BeforeWalk = begun_by state seen phase
 led_in task state seen tally phase Asking = after_commands task state seen
 led_in task state seen tally phase BeforeSound = if task.plays then record state { phase = Playing } else state
 led_in task state seen tally phase Sounding = after_run task state seen tally
@@ -107,7 +103,7 @@ abbrev pub led : Task → State → Seen → Tally → Phase → State
 led task state seen tally phase = led_in task state seen tally phase (group_of phase)
 
 -- the closing stretch submits nothing
-abbrev pub closed_in : Task → State → Seen → Tally → Group → State
+abbrev pub closed_in : Task → State → Seen → Tally → PhaseGroup → State
 closed_in task state seen tally BeforeWalk = state
 closed_in task state seen tally Asking = after_poll task state seen
 closed_in task state seen tally BeforeSound = state

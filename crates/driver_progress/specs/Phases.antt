@@ -7,20 +7,20 @@ use Rattle.driver_progress.specs.declared.phase.Phase.TheVariants.{Failed}
 
 -- ---- the groups of phases
 
-pub data Group : Type 0 where
+pub data PhaseGroup : Type 0 where
   -- no command was sent yet
-  BeforeWalk : Group
+  BeforeWalk : PhaseGroup
   -- commands are sent: the codecs are walked and set up
-  Asking : Group
+  Asking : PhaseGroup
   -- all codecs are set up, and no sound was played yet
-  BeforeSound : Group
+  BeforeSound : PhaseGroup
   -- the stream runs
-  Sounding : Group
+  Sounding : PhaseGroup
   -- nothing is left to do
-  Over : Group
+  Over : PhaseGroup
 
 -- each phase is in one of them
-abbrev pub group_of : Phase → Group
+abbrev pub group_of : Phase → PhaseGroup
 group_of Reset = BeforeWalk
 group_of Settling = BeforeWalk
 group_of Walking = Asking
@@ -34,15 +34,15 @@ group_of (Late from to limit) = Over
 group_of (Malformed codec fault) = Over
 group_of Failed = Over
 
-abbrev pub precedes_walk : Group → Bool
+abbrev pub precedes_walk : PhaseGroup → Bool
 precedes_walk BeforeWalk = true
 precedes_walk group = false
 
-abbrev pub asks : Group → Bool
-asks Asking = true
-asks group = false
+abbrev pub sends_commands : PhaseGroup → Bool
+sends_commands Asking = true
+sends_commands group = false
 
-abbrev pub acts : Group → Bool
+abbrev pub acts : PhaseGroup → Bool
 acts Over = false
 acts group = true
 
@@ -52,7 +52,7 @@ is_before_walk phase = precedes_walk (group_of phase)
 
 -- whether commands are sent in a phase
 abbrev pub is_asking : Phase → Bool
-is_asking phase = asks (group_of phase)
+is_asking phase = sends_commands (group_of phase)
 
 -- whether anything is done in a phase
 abbrev pub is_active : Phase → Bool
