@@ -14,18 +14,14 @@ use Rattle.period_writer.specs.declared.course.Span.{Span}
 use Rattle.period_writer.specs.Runs.{Measures, RunFacts, Tally, run_of, is_late, tally_if, tally_after, course_opened, tally_opened}
 use Rattle.period_writer.specs.Writers.{WriterState, KeepsRing, tally_of}
 use Rattle.driver_progress.specs.declared.phase.Phase.{Phase}
-use Rattle.driver_progress.specs.declared.phase.Phase.TheVariants.{Ready}
 use Rattle.driver_progress.specs.Phases.{is_asking, is_ready}
+use Rattle.driver_progress.proofs.Callers.{ready_is}
 use Rattle.driver_bring_up.specs.declared.bringing.BringUp.{BringUp}
 use Rattle.driver_bring_up.specs.Calls.{IsKept}
 use Rattle.audio_driver.specs.Drivers.{IsDriver}
 use Rattle.audio_driver.specs.States.{is_open, phase_if, phase_of, plays_now}
 
 -- ---- the phase
-
-pub ready_is : (phase : Phase) → is_ready phase ≡ true → phase ≡ Ready
-ready_is Ready is = refl
-ready_is phase is = cc
 
 both_hold : (a b : Bool) → (a && b) ≡ true → b ≡ true
 both_hold true b is = is

@@ -9,7 +9,7 @@ use Rattle.command_engine.specs.declared.answers.Poll.TheVariants as polls
 use Rattle.command_engine.specs.Polling.{PollReads, AreNew, poll_of, found_by, rings_polled}
 use Rattle.driver_agenda.specs.declared.agenda.Agenda.{Agenda}
 use Rattle.driver_progress.specs.declared.phase.Phase.{Phase}
-use Rattle.driver_progress.specs.declared.phase.Phase.TheVariants.{Walking, SettingUp, Playing, Drained, Late, Failed}
+use Rattle.driver_progress.specs.declared.phase.Phase.TheVariants.{Playing, Drained, Late, Failed}
 use Rattle.driver_progress.specs.Tasks.{Task, Order}
 use Rattle.driver_progress.specs.States.{State}
 use Rattle.driver_progress.specs.Expected.{shuts}
@@ -20,20 +20,11 @@ use Rattle.driver_bring_up.specs.Standing.{Agrees, answers_of, phase_of, next_on
 use Rattle.driver_bring_up.specs.Commanding.{LedTo, poll_by, leaves_free, unanswered_if, order_if, submit_made, rings_with, sent_with, state_with, IsStretch, IsLastLook, run_of}
 use Rattle.driver_bring_up.proofs.CommandCallers.{comes, stretch, closing, last_look}
 use Rattle.driver_progress.specs.Phases.{is_asking, goes_on, can_follow, is_early}
+use Rattle.driver_progress.proofs.Callers.{asking_goes_on, asking_early}
 use Rattle.driver_bring_up.specs.Calls.{is_ended, sent_if}
 use Rattle.driver_bring_up.proofs.Leading.{outstanding_none}
 
 -- ---- phases
-
-pub asking_goes_on : (phase : Phase) → is_asking phase ≡ true → goes_on phase ≡ true
-asking_goes_on Walking is = refl
-asking_goes_on SettingUp is = refl
-asking_goes_on phase is = cc
-
-asking_early : (phase : Phase) → is_asking phase ≡ true → is_early phase ≡ true
-asking_early Walking is = refl
-asking_early SettingUp is = refl
-asking_early phase is = cc
 
 follows_early : (phase : Phase) → can_follow phase ≡ true → is_early phase ≡ true
 follows_early Playing is = cc

@@ -13,7 +13,7 @@ use Rattle.period_writer.specs.declared.course.Ran.{Ran}
 use Rattle.period_writer.specs.declared.course.Ran.TheVariants as ran
 use Rattle.period_writer.specs.Runs.{Tally, Measures, Stretch, taken_up_if}
 use Rattle.driver_progress.specs.declared.phase.Phase.{Phase}
-use Rattle.driver_progress.specs.declared.phase.Phase.TheVariants.{Walking, SettingUp, Unanswered}
+use Rattle.driver_progress.specs.declared.phase.Phase.TheVariants.{Unanswered}
 use Rattle.driver_progress.specs.Tasks.{Task, Order, DriverLine}
 use Rattle.driver_progress.specs.Seen.{Seen, seen_by, values_of}
 use Rattle.driver_progress.specs.Phases.{is_asking}
@@ -31,19 +31,9 @@ use Rattle.driver_progress.specs.Expected.{closes, shuts}
 use Rattle.driver_progress.specs.Next.{closed}
 use Rattle.driver_progress.specs.Seen.{values_of}
 use Rattle.driver_progress.specs.Requests.{Request, requests_of}
+use Rattle.driver_progress.proofs.Callers.{asking_runs, asking_led, asking_closes, asking_closed}
 
 -- ---- while commands are sent
-
-pub runs_asks : (task : Task) (state : State) (budget : ℕ) (seen : Seen) (tally : Tally) (phase : Phase) → is_asking phase ≡ true
-    → runs task state budget seen tally phase ≡ asks task state seen (submits task.blocks state.rings (next_order task state seen))
-runs_asks task state budget seen tally Walking is = refl
-runs_asks task state budget seen tally SettingUp is = refl
-runs_asks task state budget seen tally phase is = cc
-
-led_asks : (task : Task) (state : State) (seen : Seen) (tally : Tally) (phase : Phase) → is_asking phase ≡ true → led task state seen tally phase ≡ after_commands task state seen
-led_asks task state seen tally Walking is = refl
-led_asks task state seen tally SettingUp is = refl
-led_asks task state seen tally phase is = cc
 
 -- a stretch that reads the clock once is no run
 one_read : (was : Ran) (clock : ℕ) (m : Measures) (total : ℕ) (stretch : Stretch) (tally : Tally) → taken_up_if was (clock ∷ []) m total stretch tally ≡ tally
@@ -152,25 +142,15 @@ stretch task state budget clock reads phase' order asking new comes =
       fits = call_fits task.blocks.rirb clock state.rings reads rest found new
           ∙ ap (λ (later : List Request). asks task state seen later) (submit_fits task.blocks state.rings reads order)
           ∙ ap (λ (order : Option Order). asks task state seen (submits task.blocks state.rings order)) comes.order_is
-          ∙ sym (runs_asks task state budget seen tally state.phase asking);
+          ∙ sym (asking_runs task state budget seen tally state.phase asking);
       leads = state_same state phase' order clock (rings_polled state.rings reads)
           ∙ ap (λ (looked : State). record (submitted_if order clock looked) { tally = state.tally }) (looked_same task state clock reads phase' order rest comes)
           ∙ ap (λ (order : Option Order). record (submitted_if order clock (after_poll task state seen)) { tally = state.tally }) comes.order_is
           ∙ ap (λ (tally : Tally). record (after_commands task state seen) { tally = tally }) (sym kept)
-          ∙ ap (λ (state' : State). record state' { tally = tally }) (sym (led_asks task state seen tally state.phase asking));
+          ∙ ap (λ (state' : State). record state' { tally = tally }) (sym (asking_led task state seen tally state.phase asking));
     }
 
 -- ---- the closing stretch
-
-closes_asks : (task : Task) (state : State) (seen : Seen) (phase : Phase) → is_asking phase ≡ true → closes task state seen phase ≡ asks task state seen shuts
-closes_asks task state seen Walking is = refl
-closes_asks task state seen SettingUp is = refl
-closes_asks task state seen phase is = cc
-
-closed_asks : (task : Task) (state : State) (seen : Seen) (tally : Tally) (phase : Phase) → is_asking phase ≡ true → closed task state seen tally phase ≡ after_poll task state seen
-closed_asks task state seen tally Walking is = refl
-closed_asks task state seen tally SettingUp is = refl
-closed_asks task state seen tally phase is = cc
 
 pub closing : (task : Task) (state : State) (clock : ℕ) (reads : PollReads) (phase' : Phase) (order : Option Order)
     → is_asking state.phase ≡ true → AreNew state.rings reads → Comes task state clock state.rings.outstanding (found_by state.rings reads) phase' order
@@ -181,10 +161,10 @@ closing task state clock reads phase' order asking new comes =
     let seen = seen_by (values_of (call_made task.blocks.rirb clock state.rings reads shut_accesses)) found in
     let tally = tally_next task state None seen in
     let kept = once task state None seen clock (one_clock task.blocks.rirb clock state.rings reads shut_accesses refl) in record {
-      fits = call_fits task.blocks.rirb clock state.rings reads shut_accesses found new ∙ sym (closes_asks task state seen state.phase asking);
+      fits = call_fits task.blocks.rirb clock state.rings reads shut_accesses found new ∙ sym (asking_closes task state seen state.phase asking);
       leads = ap (λ (looked : State). record looked { tally = state.tally }) (looked_same task state clock reads phase' order shut_accesses comes)
           ∙ ap (λ (tally : Tally). record (after_poll task state seen) { tally = tally }) (sym kept)
-          ∙ ap (λ (state' : State). record state' { tally = tally }) (sym (closed_asks task state seen tally state.phase asking));
+          ∙ ap (λ (state' : State). record state' { tally = tally }) (sym (asking_closed task state seen tally state.phase asking));
     }
 
 -- ---- a look after which no command comes

@@ -212,8 +212,3 @@ pub interrupted_last : (task : Task) (state : State) (later : List Request) (mad
 interrupted_last task state later made state' interrupts stream on last =
     subst (λ (events : List Event). IsLastLook task state true later events state') (ap (λ (on : Bool). Read INTSTS Four interrupts ∷ ((if on then clear_accesses interrupts stream else []) ++ made)) (sym on))
     (last_first task state later made state' interrupts stream on last)
-
-pub asking_active : (phase : Phase) → is_asking phase ≡ true → is_active phase ≡ true
-asking_active Walking is = refl
-asking_active SettingUp is = refl
-asking_active phase is = cc

@@ -12,3 +12,7 @@ pub use Rattle.driver_progress.proofs.CourseRows.{course_went, conforms_went}
 pub use Rattle.driver_progress.proofs.CourseRows.{course_stepped, conforms_stepped}
 -- over a row of plain accesses
 pub use Rattle.driver_progress.proofs.CourseRows.{course_row}
+-- phases in which commands are sent, and the one before sound
+pub use Rattle.driver_progress.proofs.PhaseCases.{asking_goes_on, asking_early, asking_active, ready_is}
+-- the accesses of a call, and of the last one, while commands are sent, and where they lead
+pub use Rattle.driver_progress.proofs.PhaseCases.{asking_runs, asking_led, asking_closes, asking_closed}

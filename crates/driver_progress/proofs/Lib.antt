@@ -1,5 +1,6 @@
 pub mod CourseLaws
 pub mod CourseRows
+pub mod PhaseCases
 pub mod Callers
 pub mod StretchCallers
 pub mod Fitting

@@ -32,6 +32,5 @@ pub use Rattle.laws_bring_up.proofs.Grows.{row_on}
 pub use Rattle.laws_bring_up.proofs.Following.{Later, row_remembers, stage_on}
 -- how it stands while commands are sent, by its phase
 pub use Rattle.laws_bring_up.proofs.Staying.{asking_in}
-pub use Rattle.laws_bring_up.proofs.Closing.{asking_goes}
 -- rows of accesses
 pub use Rattle.laws_bring_up.proofs.Accesses.{unread_accesses, submit_are, shut_are, looked_accesses}

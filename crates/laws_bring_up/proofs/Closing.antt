@@ -29,7 +29,7 @@ use Rattle.laws_bring_up.proofs.Ready.{all_answered, at_most}
 use Rattle.laws_bring_up.proofs.Walked.{none_walked, walked_on, walked_by, walked_in}
 use Rattle.driver_progress.specs.Progress.{Course, course_of}
 use Rattle.driver_progress.specs.Noting.{with_accesses}
-use Rattle.driver_progress.proofs.Callers.{ConformsTo}
+use Rattle.driver_progress.proofs.Callers.{ConformsTo, asking_goes_on}
 use Rattle.driver_progress.specs.Answers.{AnswersAgree}
 use Rattle.driver_progress.specs.Commands.{ask_accesses}
 use Rattle.driver_progress.specs.Shutting.{shut_accesses}
@@ -160,11 +160,6 @@ closed_ready task state seen tally Walking asking asks is = polled_ready task st
 closed_ready task state seen tally SettingUp asking asks is = polled_ready task state (clock_of seen) (outstanding_if seen.answered state.rings.outstanding) asks is
 closed_ready task state seen tally phase asking asks is = absurd (not_true asking)
 
-pub asking_goes : (phase : Phase) → is_asking phase ≡ true → goes_on phase ≡ true
-asking_goes Walking is = refl
-asking_goes SettingUp is = refl
-asking_goes phase is = absurd (not_true is)
-
 -- ---- the call
 
 module _ (IsPlanBy : RawCodec → Plan → Type 0) (verbs_by : RawCodec → Plan → List Command) (verbs : RawCodec → List Command) (graphs : List RawCodec) (task : Task) (laws : AgendaLaws IsPlanBy verbs_by verbs graphs)
@@ -224,7 +219,7 @@ module _ (IsPlanBy : RawCodec → Plan → Type 0) (verbs_by : RawCodec → Plan
       let rings = old.engine.rings in
       let made = ends.made in
       let found = answer_in rings made in
-      let goes = asking_goes old.phase asking in
+      let goes = asking_goes_on old.phase asking in
       let ask = ask_accesses old.engine.rirb.address on.clock rings on.reads in
       let at = same_start looked.begins before looked.first_made in
       let look = subst (λ (telling : Telling). Makes ask telling looked.ends) at looked.look_made in

@@ -18,6 +18,7 @@ use Rattle.driver_progress.specs.States.{State}
 use Rattle.driver_progress.specs.Tasks.{Task, DriverLine}
 use Rattle.driver_progress.specs.Progress.{Course, course_of, is_answered, noted}
 use Rattle.driver_progress.specs.Unread.{IsUnread, AreUnread}
+use Rattle.driver_progress.proofs.Callers.{asking_early}
 use Rattle.laws_bring_up.specs.SettingUp.{are_answered, AreSetUpForGood, SetUpAt, StaysSetUp}
 use Rattle.laws_bring_up.proofs.Calm.{AreCalm, IsLast, calm_front, calm_back}
 use Rattle.laws_bring_up.proofs.Same.{steps_for_good, write_for_good}
@@ -34,12 +35,6 @@ ready_phase Playing early is = absurd (not_true early)
 ready_phase Drained early is = absurd (not_true early)
 ready_phase (Late from to limit) early is = absurd (not_true early)
 ready_phase phase early is = absurd (not_true is)
-
-asking_early : (phase : Phase) → is_asking phase ≡ true → is_early phase ≡ true
-asking_early Playing is = absurd (not_true is)
-asking_early Drained is = absurd (not_true is)
-asking_early (Late from to limit) is = absurd (not_true is)
-asking_early phase is = refl
 
 -- of a state that is another
 pub early_as : (state other : State) → state ≡ other → is_early other.phase ≡ true → is_early state.phase ≡ true

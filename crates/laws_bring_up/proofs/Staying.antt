@@ -30,14 +30,14 @@ use Rattle.driver_progress.specs.States.{State}
 use Rattle.driver_progress.specs.Tasks.{Task, Order, DriverLine}
 use Rattle.driver_progress.specs.Next.{next, closed, outstanding_if, tally_next, expected}
 use Rattle.driver_progress.specs.Progress.{Course, course_of, is_answered, seen_in, noted}
-use Rattle.driver_progress.proofs.Callers.{course_row}
+use Rattle.driver_progress.proofs.Callers.{course_row, asking_goes_on}
 use Rattle.driver_progress.specs.Commands.{ask_accesses}
 use Rattle.driver_progress.specs.Shutting.{shut_accesses}
 use Rattle.driver_progress.specs.Unread.{IsAccess, AreAccesses}
 use Rattle.driver_bring_up.specs.Standing.{answers_of}
 use Rattle.driver_bring_up.specs.Commanding.{submit_made}
 use Rattle.driver_agenda.specs.Following.{Follows}
-use Rattle.laws_bring_up.proofs.Closing.{closed_still, closed_ready, asking_goes}
+use Rattle.laws_bring_up.proofs.Closing.{closed_still, closed_ready}
 use Rattle.driver_bring_up.specs.declared.bringing.BringUp.{BringUp}
 use Rattle.driver_bring_up.specs.Calls.{state_of, Leads, Ends}
 use Rattle.driver_bring_up.specs.Told.{Looked, LooksOn, IsStill}
@@ -243,7 +243,7 @@ module _ (IsPlanBy : RawCodec → Plan → Type 0) (verbs_by : RawCodec → Plan
       by false not = unlooked_fine left (Some (record { irq = irq; budget = budget })) (state_of old) (state_of new) leads.made before after opened leads.by.is (unread_no_looks leads.made (leads.unread not)) old.early done silent fine
       by true asking =
           let a = asking_in old.phase (course_of task lines before).written old (world_of before) asking stands.stage in
-          asking_fine left budget irq old new before after opened stands.graphs_are a leads silent asking done fine ((leads.stays (asking_goes old.phase asking)).is a.from a.read a.stands)
+          asking_fine left budget irq old new before after opened stands.graphs_are a leads silent asking done fine ((leads.stays (asking_goes_on old.phase asking)).is a.from a.read a.stands)
 
   -- ---- the last call
 
@@ -289,7 +289,7 @@ module _ (IsPlanBy : RawCodec → Plan → Type 0) (verbs_by : RawCodec → Plan
   some_outstanding written old world asking a all none =
       let count = ap (λ (outstanding : Option Outstanding). answers_of old.sent outstanding) none in
       let agrees = laws.agrees old.sent old.agenda task (subst (λ (count : ℕ). Follows IsPlanBy verbs graphs count old.agenda) count a.follows) of.is_for in
-      let ready = old.led (asking_goes old.phase asking) ∙ agrees.phase ∙ ap (λ (all : Bool). if all then Ready else (if nat_le task.walks old.sent then SettingUp else Walking)) (is_at_most (length task.orders) old.sent all) in
+      let ready = old.led (asking_goes_on old.phase asking) ∙ agrees.phase ∙ ap (λ (all : Bool). if all then Ready else (if nat_le task.walks old.sent then SettingUp else Walking)) (is_at_most (length task.orders) old.sent all) in
       not_true (sym (ap is_asking ready) ∙ asking)
     where
       is_at_most : (a b : ℕ) → a ≤ b → nat_le a b ≡ true

@@ -17,13 +17,14 @@ use Rattle.driver_progress.specs.Next.{expected}
 use Rattle.driver_progress.specs.Progress.{course_of, seen_in, Fits}
 use Rattle.driver_progress.specs.Shutting.{shut_accesses}
 use Rattle.driver_progress.specs.Unread.{AreAccesses}
+use Rattle.driver_progress.proofs.Callers.{asking_goes_on}
 use Rattle.driver_bring_up.specs.Commanding.{submit_made}
 use Rattle.driver_bring_up.specs.declared.bringing.BringUp.{BringUp}
 use Rattle.driver_bring_up.specs.Calls.{Leads, Ends}
 use Rattle.driver_bring_up.specs.Told.{LooksOn, IsStill}
 use Rattle.laws_bring_up.specs.Stretches.{IsOpen}
 use Rattle.laws_bring_up.specs.Standing.{IsTaskOfCodecs, IsBroughtUp}
-use Rattle.laws_bring_up.proofs.Callers.{AgendaLaws, SetterLaws, Laws, accesses_row, asking_in, asking_goes, unread_accesses, looked_accesses, submit_are, shut_are}
+use Rattle.laws_bring_up.proofs.Callers.{AgendaLaws, SetterLaws, Laws, accesses_row, asking_in, unread_accesses, looked_accesses, submit_are, shut_are}
 use Rattle.laws_stream.specs.Resting.{LeavesRest}
 use Rattle.laws_stream.specs.Silent.{plays_in}
 
@@ -61,7 +62,7 @@ module _ (IsPlanBy : RawCodec → Plan → Type 0) (verbs_by : RawCodec → Plan
       by false not = unread_accesses leads.made (leads.unread not)
       by true asking =
           let a = asking_in IsPlanBy verbs_by verbs IsOpenBy graphs task laws of setter notes lines old.phase (course_of task lines before).written old (world_of before) asking stands.stage in
-          looks a.from a.read ((leads.stays (asking_goes old.phase asking)).is a.from a.read a.stands)
+          looks a.from a.read ((leads.stays (asking_goes_on old.phase asking)).is a.from a.read a.stands)
 
   pub ends_accesses : (old new : BringUp) (before after : Telling) → IsBroughtUp IsPlanBy verbs graphs task (course_of task lines before).written old (world_of before)
       → (ends : Ends IsPlanBy verbs_by old new (Some before) (Some after)) → AreAccesses ends.made

@@ -13,6 +13,7 @@ use Rattle.driver_progress.specs.declared.phase.Phase.{Phase}
 use Rattle.driver_progress.specs.declared.phase.Phase.TheVariants.{Ready, Playing}
 use Rattle.driver_progress.specs.Phases.{is_early, is_ready, are_set_up}
 use Rattle.driver_progress.specs.Tasks.{Task, DriverLine}
+use Rattle.driver_progress.proofs.Callers.{ready_is}
 use Rattle.driver_bring_up.specs.declared.bringing.BringUp.{BringUp}
 use Rattle.driver_bring_up.specs.Calls as bringing
 use Rattle.audio_driver.specs.States.{played_as, phase_if, phase_with, state_with, state_of, plays_now, IsTaskOf}
@@ -50,12 +51,8 @@ pub plays_not : (play : Bool) (bring_up : BringUp) → plays_now play bring_up �
 plays_not false bring_up none ready = refl
 plays_not true bring_up none ready = absurd (not_ready bring_up.phase none ready)
 
-only_ready : (phase : Phase) → is_ready phase ≡ true → phase ≡ Ready
-only_ready Ready is = refl
-only_ready phase is = absurd (not_true is)
-
 pub plays_then : (play : Bool) (bring_up : BringUp) → plays_now play bring_up ≡ true → (play ≡ true) × (bring_up.phase ≡ Ready)
-plays_then true bring_up is = (refl, only_ready bring_up.phase is)
+plays_then true bring_up is = (refl, ready_is bring_up.phase is)
 plays_then false bring_up is = absurd (not_true is)
 
 pub plays_so : (play : Bool) (bring_up : BringUp) → play ≡ true → bring_up.phase ≡ Ready → plays_now play bring_up ≡ true

@@ -34,6 +34,7 @@ use Rattle.driver_progress.specs.Expected as expected
 use Rattle.driver_progress.specs.Expected.{is_free, next_order, polls, submits, runs, interrupted_if}
 use Rattle.driver_progress.specs.Next.{outstanding_if, polled, phase_of_answers, phase_polled, after_poll, submitted_if, after_commands, led, closed, tally_next, next, budget_of}
 use Rattle.driver_progress.specs.Progress.{Course, seen_in, begun}
+use Rattle.driver_progress.proofs.Callers.{asking_runs, asking_led, asking_closes, asking_closed}
 use Rattle.rig.specs.Follows.{AreAccesses}
 use Rattle.world_steps.specs.declared.Step.TheVariants as step
 use Rattle.laws_serving.specs.ServingDevices.{keeps_answers, KeepAnswers, HasItsCodec, StandsServed, NamesItsCodec, IsComing}
@@ -46,27 +47,6 @@ use Rattle.laws_serving.proofs.Engines.{EnginesRun, RunsOn, at_first, runs_step}
 use Rattle.laws_serving.proofs.Polls.{LooksServe, SubmissionsCome, polled as poll_leads, submitted as submission_leads, serves_at}
 
 -- ---- by phase
-
-pub asking_runs : (task : Task) (state : State) (budget : ℕ) (seen : Seen) (tally : Tally) (phase : Phase) → is_asking phase ≡ true
-    → runs task state budget seen tally phase ≡ expected.asks task state seen (submits task.blocks state.rings (next_order task state seen))
-asking_runs task state budget seen tally Walking is = refl
-asking_runs task state budget seen tally SettingUp is = refl
-asking_runs task state budget seen tally phase is = cc
-
-pub asking_led : (task : Task) (state : State) (seen : Seen) (tally : Tally) (phase : Phase) → is_asking phase ≡ true → led task state seen tally phase ≡ after_commands task state seen
-asking_led task state seen tally Walking is = refl
-asking_led task state seen tally SettingUp is = refl
-asking_led task state seen tally phase is = cc
-
-pub asking_closes : (task : Task) (state : State) (seen : Seen) (phase : Phase) → is_asking phase ≡ true → expected.closes task state seen phase ≡ expected.asks task state seen expected.shuts
-asking_closes task state seen Walking is = refl
-asking_closes task state seen SettingUp is = refl
-asking_closes task state seen phase is = cc
-
-pub asking_closed : (task : Task) (state : State) (seen : Seen) (tally : Tally) (phase : Phase) → is_asking phase ≡ true → closed task state seen tally phase ≡ after_poll task state seen
-asking_closed task state seen tally Walking is = refl
-asking_closed task state seen tally SettingUp is = refl
-asking_closed task state seen tally phase is = cc
 
 -- ---- what is found
 

@@ -2,10 +2,11 @@ use Rattle.std.proofs.Common.{ap, sym, refl, ◌∙◌, ◌⊎◌, inl, inr, ◌
 use Rattle.period_writer.specs.declared.course.Course.{Course}
 use Rattle.period_writer.specs.Writers.{tally_of}
 use Rattle.audio_driver.specs.States.{is_open}
-use Rattle.audio_driver.proofs.Kept.{ready_is, was_not, was_so}
+use Rattle.audio_driver.proofs.Kept.{was_not, was_so}
 use Rattle.audio_driver.proofs.Ended.{ends_alone, ends_playing}
 use Rattle.audio_driver.proofs.driver.ending.end_sound.Goals as goal
 use Rattle.audio_driver.proofs.driver.ending.end_sound.Goals.{then-not-course-via-then-not-course, then-not-course-via-else-not-course+then-not-is_open}
+use Rattle.driver_progress.proofs.Callers.{ready_is}
 
 pub returns-clause-sounds : goal.returns-clause-sounds
 returns-clause-sounds g c sound may ends =

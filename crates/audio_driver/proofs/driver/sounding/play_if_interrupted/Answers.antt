@@ -4,9 +4,10 @@ use Rattle.wav_reader.proofs.Callers.{same_before, none_now}
 use Rattle.period_writer.specs.Writers.{measures_of}
 use Rattle.period_writer.proofs.Callers.{accounts_none}
 use Rattle.audio_driver.specs.Sounding.{Sounds}
-use Rattle.audio_driver.proofs.Kept.{ready_is, over_started}
+use Rattle.audio_driver.proofs.Kept.{over_started}
 use Rattle.audio_driver.proofs.Sounded.{over_sounds_irq, quiet_sounds, irq_sounds}
 use Rattle.audio_driver.proofs.driver.sounding.play_if_interrupted.Goals as goal
+use Rattle.driver_progress.proofs.Callers.{ready_is}
 
 pub returns-then-has_interrupt-clause-sounds : goal.returns-then-has_interrupt-clause-sounds
 returns-then-has_interrupt-clause-sounds g c later may ends =

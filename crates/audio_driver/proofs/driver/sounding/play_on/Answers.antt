@@ -7,9 +7,10 @@ use Rattle.audio_driver.specs.Sounding.{Sounds}
 use Rattle.period_writer.specs.declared.course.Course.{Course}
 use Rattle.period_writer.specs.Runs.{Tally}
 use Rattle.period_writer.specs.Writers.{measures_of}
-use Rattle.audio_driver.proofs.Kept.{ready_is, was_not, was_so}
+use Rattle.audio_driver.proofs.Kept.{was_not, was_so}
 use Rattle.audio_driver.proofs.Sounded.{over_sounds, start_sounds, play_sounds}
 use Rattle.audio_driver.proofs.driver.sounding.play_on.Goals as goal
+use Rattle.driver_progress.proofs.Callers.{ready_is}
 
 pub returns-then-not-course-clause-sounds : goal.returns-then-not-course-clause-sounds
 returns-then-not-course-clause-sounds g c later may ends =

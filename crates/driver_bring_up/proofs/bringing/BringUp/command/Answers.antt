@@ -6,10 +6,11 @@ use Rattle.driver_progress.specs.declared.phase.Phase.{Phase}
 use Rattle.driver_progress.specs.declared.phase.Phase.TheVariants as phases
 use Rattle.driver_progress.specs.Commands.{ask_accesses}
 use Rattle.driver_progress.specs.Phases.{is_asking}
+use Rattle.driver_progress.proofs.Callers.{asking_goes_on}
 use Rattle.driver_bring_up.specs.Standing.{next_on}
 use Rattle.driver_bring_up.specs.Commanding.{order_if, submit_made, poll_by, rings_with}
 use Rattle.driver_bring_up.specs.Calls.{state_of, sent_if}
-use Rattle.driver_bring_up.proofs.Asks.{asking_goes_on, led_stays, led_early, led_unfailed, started_with, command_with, command_last, ended_there, sent_same}
+use Rattle.driver_bring_up.proofs.Asks.{led_stays, led_early, led_unfailed, started_with, command_with, command_last, ended_there, sent_same}
 use Rattle.driver_bring_up.proofs.Leading.{submits_none, found_in, same_found, reads_look, waits_by}
 use Rattle.driver_bring_up.proofs.Staying.{command_stays, at_blocks, made_there}
 use Rattle.driver_bring_up.proofs.bringing.BringUp.command.Goals as goal

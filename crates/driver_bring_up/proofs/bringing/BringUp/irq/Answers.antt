@@ -8,10 +8,11 @@ use Rattle.driver_progress.specs.Interrupts.{interrupt_accesses}
 use Rattle.driver_progress.proofs.StretchCallers.{unread_both, interrupt_unread, looked_untaken}
 use Rattle.driver_bring_up.specs.Commanding.{IsStretch, answer_in}
 use Rattle.driver_progress.specs.Phases.{is_asking}
+use Rattle.driver_progress.proofs.Callers.{asking_active}
 use Rattle.hda_world.specs.Tellings.{Between, Makes}
 use Rattle.hda_world.specs.Events.{Event}
 use Rattle.driver_bring_up.specs.Calls.{state_of, Begins}
-use Rattle.driver_bring_up.proofs.Still.{irq_of, inactive_stretch, none_stretch_of, interrupted_stretch, interrupted_last, asking_active}
+use Rattle.driver_bring_up.proofs.Still.{irq_of, inactive_stretch, none_stretch_of, interrupted_stretch, interrupted_last}
 use Rattle.driver_bring_up.proofs.Leading.{not_true, none_found, reads_none, reads_after, found_after, same_answer, interrupt_entries, interrupt_values, no_entries_looked}
 use Rattle.driver_bring_up.proofs.Asks.{is_over, ended_there}
 use Rattle.driver_bring_up.proofs.Staying.{interrupts_stay, interrupted_stays, nothing_stays}
