@@ -8,6 +8,7 @@ mod engine;
 mod laws;
 mod memory;
 mod ring_places;
+mod room;
 
 pub use answers::{ANSWER_LIMIT, Event, Outstanding, Poll};
 pub use engine::{CORB_BYTES, Engine, MOST_EVENTS, RIRB_BYTES};
@@ -18,3 +19,7 @@ pub use laws::{
     the_world_stays_quiet,
 };
 pub use ring_places::RingPlaces;
+pub use room::{
+    MOST_RESPONSES, POLL_ACCESSES, POLL_BYTES, START_ACCESSES, SUBMIT_ACCESSES, SUBMIT_BYTES,
+    engine_room_is_fixed,
+};

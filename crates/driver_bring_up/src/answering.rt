@@ -1,5 +1,8 @@
 //! A look for the answer to the outstanding command, and where it leads.
 ghost use Rattle.std.specs.Prelude.{◌≡◌, ◌≤◌, ◌+◌, [], true, None, IfOk, OnErr, IsSome};
+ghost use Rattle.command_engine.specs.Blocks.{most_events};
+ghost use Rattle.command_engine.specs.declared.room.TheConstants.{POLL_BYTES};
+ghost use Rattle.driver_progress.specs.declared.room.TheConstants.{ASK_ACCESSES};
 ghost use Rattle.driver_bring_up.specs.Standing as standing;
 ghost use Rattle.driver_bring_up.specs.Commanding as spec;
 
@@ -39,9 +42,9 @@ pub fn look_for_answer<P: Platform, T: Setter>(
 ) -> Result<Answer, AllocError>
     requires asks { IsSome (standing.next_on agenda.old) }
     requires events { engine.old.events.items ≡ [] }
-    requires few { jacks.old.taken + 256 ≤ 4294967295 }
-    requires room { 259 ≤ P.spare_accesses platform.old }
-    requires bytes_room { 2040 ≤ P.spare_bytes platform.old }
+    requires few { jacks.old.taken + most_events ≤ 4294967295 }
+    requires room { ASK_ACCESSES ≤ P.spare_accesses platform.old }
+    requires bytes_room { POLL_BYTES ≤ P.spare_bytes platform.old }
     ensures looks { IfOk result (λ answer. spec.Looks (λ graph. T.IsPlanBy setter.now graph agenda.old.format)
         (λ graph plan. T.verbs_by setter.now graph plan agenda.old.format TAG) engine.old.corb.address
         engine.old.rirb.address engine.old.rings phase agenda.old jacks.old answer engine.new.rings agenda.new jacks.new
@@ -51,14 +54,14 @@ pub fn look_for_answer<P: Platform, T: Setter>(
     ensures idle { IfOk result (λ answer. answer.is_free ≡ true → engine.new.rings.outstanding ≡ None) }
     ensures started { engine.new.rings.started ≡ engine.old.rings.started }
     ensures events { engine.new.events.items ≡ [] }
-    ensures taken { jacks.new.taken ≤ jacks.old.taken + 256 }
+    ensures taken { jacks.new.taken ≤ jacks.old.taken + most_events }
     ensures corb { engine.new.corb ≡ engine.old.corb }
     ensures rirb { engine.new.rirb ≡ engine.old.rirb }
     ensures addresses { agenda.new.addresses ≡ agenda.old.addresses }
     ensures format { agenda.new.format ≡ agenda.old.format }
     ensures fixed { P.fixed platform.new ≡ P.fixed platform.old }
-    ensures accesses { P.spare_accesses platform.old ≤ P.spare_accesses platform.new + 259 }
-    ensures bytes { P.spare_bytes platform.old ≤ P.spare_bytes platform.new + 2040 }
+    ensures accesses { P.spare_accesses platform.old ≤ P.spare_accesses platform.new + ASK_ACCESSES }
+    ensures bytes { P.spare_bytes platform.old ≤ P.spare_bytes platform.new + POLL_BYTES }
 {
     let outstanding = engine.outstanding();
     let Asked { clock, poll } = ask(platform, engine);

@@ -1,5 +1,6 @@
 //! The bring-up.
 ghost use Rattle.std.specs.Prelude.{◌≡◌, ◌≤◌, ◌*◌, [], true, false, None};
+ghost use Rattle.command_engine.specs.Blocks.{most_events};
 ghost use Rattle.driver_progress.specs.Phases.{is_asking, is_ready, goes_on, is_early};
 ghost use Rattle.driver_bring_up.specs.Standing.{phase_of};
 
@@ -39,5 +40,5 @@ pub struct BringUp {
     pub ghost early: { is_early phase ≡ true },
     pub ghost sent_within: { sent ≤ looks },
     pub ghost few_looks: { looks ≤ 1000001 },
-    pub ghost few_jacks: { jacks.taken ≤ 256 * looks },
+    pub ghost few_jacks: { jacks.taken ≤ most_events * looks },
 }

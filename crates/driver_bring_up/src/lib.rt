@@ -11,6 +11,7 @@ mod command_laws;
 mod jack_laws;
 mod jacks;
 mod listing;
+mod room;
 mod submitting;
 
 pub use addresses::addresses_in;
@@ -20,4 +21,8 @@ pub use bringing::{BringUp, BroughtUp};
 pub use command_laws::{agendas_agree, commands_are_expected};
 pub use jack_laws::events_are_of_pins;
 pub use jacks::{CODECS, Jacks, TAGS};
+pub use room::{
+    BRING_UP_ACCESSES, BRING_UP_BYTES, BRING_UP_END_ACCESSES, BRING_UP_INTERRUPT_ACCESSES,
+    bring_up_room_is_fixed,
+};
 pub use submitting::submit_next;

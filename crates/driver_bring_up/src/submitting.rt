@@ -2,10 +2,10 @@
 ghost use Rattle.std.specs.Prelude.{◌≡◌, ◌≤◌, ◌+◌, true, None};
 ghost use Rattle.std.specs.Option.{is_some};
 ghost use Rattle.hda_world.specs.Tellings.{Between, Makes};
+ghost use Rattle.command_engine.specs.declared.room.TheConstants.{SUBMIT_ACCESSES, SUBMIT_BYTES};
 ghost use Rattle.command_engine.specs.Told as told;
 ghost use Rattle.driver_bring_up.specs.Standing as standing;
 ghost use Rattle.driver_bring_up.specs.Commanding as spec;
-ghost use Rattle.world_rings.specs.declared.entries.TheConstants.{COMMAND_BYTES};
 
 use command_engine::Engine;
 use driver_agenda::Agenda;
@@ -23,8 +23,8 @@ pub fn submit_next<P: Platform>(
 ) -> bool
     requires started { engine.old.rings.started ≡ true }
     requires idle { is_free ≡ true → engine.old.rings.outstanding ≡ None }
-    requires room { 2 ≤ P.spare_accesses platform.old }
-    requires bytes_room { COMMAND_BYTES ≤ P.spare_bytes platform.old }
+    requires room { SUBMIT_ACCESSES ≤ P.spare_accesses platform.old }
+    requires bytes_room { SUBMIT_BYTES ≤ P.spare_bytes platform.old }
     ensures made { Between (Makes (spec.submit_made engine.old.corb.address engine.old.rings
         (spec.order_if is_free (standing.next_on agenda.now)))) (P.told platform.old) (P.told platform.new) }
     ensures rings { engine.new.rings ≡ spec.rings_with (spec.order_if is_free (standing.next_on agenda.now)) clock
@@ -36,8 +36,8 @@ pub fn submit_next<P: Platform>(
     ensures rirb { engine.new.rirb ≡ engine.old.rirb }
     ensures events { engine.new.events.items ≡ engine.old.events.items }
     ensures fixed { P.fixed platform.new ≡ P.fixed platform.old }
-    ensures accesses { P.spare_accesses platform.old ≤ P.spare_accesses platform.new + 2 }
-    ensures bytes { P.spare_bytes platform.old ≤ P.spare_bytes platform.new + COMMAND_BYTES }
+    ensures accesses { P.spare_accesses platform.old ≤ P.spare_accesses platform.new + SUBMIT_ACCESSES }
+    ensures bytes { P.spare_bytes platform.old ≤ P.spare_bytes platform.new + SUBMIT_BYTES }
 {
     if !is_free {
         return false;

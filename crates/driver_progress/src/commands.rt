@@ -1,7 +1,9 @@
 //! A command's answer.
 ghost use Rattle.std.specs.Prelude.{◌≡◌, ◌≤◌, ◌+◌, []};
 ghost use Rattle.hda_world.specs.Tellings.{Between};
+ghost use Rattle.command_engine.specs.declared.room.TheConstants.{POLL_BYTES};
 ghost use Rattle.command_engine.specs.Told as told;
+ghost use Rattle.driver_progress.specs.declared.room.TheConstants.{ASK_ACCESSES};
 ghost use Rattle.driver_progress.specs.Commands as spec;
 
 use command_engine::{Engine, Poll};
@@ -25,8 +27,8 @@ pub struct Asked {
 /// command.
 pub fn ask<P: Platform>(platform: &mut P, engine: &mut Engine) -> Asked
     requires events { engine.old.events.items ≡ [] }
-    requires room { 259 ≤ P.spare_accesses platform.old }
-    requires bytes_room { 2040 ≤ P.spare_bytes platform.old }
+    requires room { ASK_ACCESSES ≤ P.spare_accesses platform.old }
+    requires bytes_room { POLL_BYTES ≤ P.spare_bytes platform.old }
     ensures asks { spec.Asks engine.old.rirb.address engine.old.rings result engine.new.rings engine.new.events.items
         (P.told platform.old) (P.told platform.new) }
     ensures tells { Between (told.PollTellsOf result.clock engine.old.corb.address engine.old.rirb.address
@@ -35,8 +37,8 @@ pub fn ask<P: Platform>(platform: &mut P, engine: &mut Engine) -> Asked
     ensures corb { engine.new.corb ≡ engine.old.corb }
     ensures rirb { engine.new.rirb ≡ engine.old.rirb }
     ensures fixed { P.fixed platform.new ≡ P.fixed platform.old }
-    ensures accesses { P.spare_accesses platform.old ≤ P.spare_accesses platform.new + 259 }
-    ensures bytes { P.spare_bytes platform.old ≤ P.spare_bytes platform.new + 2040 }
+    ensures accesses { P.spare_accesses platform.old ≤ P.spare_accesses platform.new + ASK_ACCESSES }
+    ensures bytes { P.spare_bytes platform.old ≤ P.spare_bytes platform.new + POLL_BYTES }
 {
     let clock = platform.read(places::WALCLK, Width::Four);
     let poll = engine.poll(platform, clock);

@@ -10,6 +10,7 @@ mod laws;
 mod phase;
 mod registers;
 mod resetting;
+mod room;
 mod settling;
 mod shutting;
 mod stretch_laws;
@@ -24,6 +25,10 @@ pub use laws::{
 pub use phase::Phase;
 pub use registers::STREAM_STATUS;
 pub use resetting::reset;
+pub use room::{
+    ASK_ACCESSES, INTERRUPT_ACCESSES, RESET_ACCESSES, SETTLE_ACCESSES, SHUT_ACCESSES,
+    stretch_room_is_fixed,
+};
 pub use settling::{SETTLING_TICKS, Settled, settle};
 pub use shutting::shut;
 pub use stretch_laws::{a_reset_stays, answers_agree, polls_are_noted, stretches_are_expected};

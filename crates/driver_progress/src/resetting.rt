@@ -1,6 +1,7 @@
 //! The reset of the controller.
 ghost use Rattle.std.specs.Prelude.{◌≡◌, ◌≤◌, ◌+◌};
 ghost use Rattle.hda_world.specs.Tellings.{Between};
+ghost use Rattle.driver_progress.specs.declared.room.TheConstants.{RESET_ACCESSES};
 ghost use Rattle.driver_progress.specs.Resetting as spec;
 ghost use Rattle.driver_progress.specs.Beginning as beginning;
 
@@ -18,12 +19,12 @@ const OUT_OF_RESET: u32 = 0x101;
 /// the rings can be started then, and the wall clock goes by the link frames since. Where CORB's engine does not run
 /// before, no command is taken meanwhile.
 pub fn reset<P: Platform>(platform: &mut P) -> Option<u32>
-    requires { 5 ≤ P.spare_accesses platform.old }
+    requires { RESET_ACCESSES ≤ P.spare_accesses platform.old }
     ensures resets { spec.Resets result (P.told platform.old) (P.told platform.new) }
     ensures tells { Between (beginning.LeadsToSettling result) (P.told platform.old) (P.told platform.new) }
     ensures untaken { Between beginning.LeavesUntaken (P.told platform.old) (P.told platform.new) }
     ensures fixed { P.fixed platform.new ≡ P.fixed platform.old }
-    ensures accesses { P.spare_accesses platform.new + 5 ≡ P.spare_accesses platform.old }
+    ensures accesses { P.spare_accesses platform.new + RESET_ACCESSES ≡ P.spare_accesses platform.old }
     ensures bytes { P.spare_bytes platform.new ≡ P.spare_bytes platform.old }
 {
     make_reset(platform)
@@ -31,10 +32,10 @@ pub fn reset<P: Platform>(platform: &mut P) -> Option<u32>
 
 /// Makes the accesses of a reset.
 fn make_reset<P: Platform>(platform: &mut P) -> Option<u32>
-    requires { 5 ≤ P.spare_accesses platform.old }
+    requires { RESET_ACCESSES ≤ P.spare_accesses platform.old }
     ensures resets { spec.Resets result (P.told platform.old) (P.told platform.new) }
     ensures fixed { P.fixed platform.new ≡ P.fixed platform.old }
-    ensures accesses { P.spare_accesses platform.new + 5 ≡ P.spare_accesses platform.old }
+    ensures accesses { P.spare_accesses platform.new + RESET_ACCESSES ≡ P.spare_accesses platform.old }
     ensures bytes { P.spare_bytes platform.new ≡ P.spare_bytes platform.old }
 {
     platform.write(places::GCTL, Width::Four, 0);

@@ -2,6 +2,8 @@
 ghost use Rattle.std.specs.Prelude.{◌≡◌, ◌≤◌, ◌+◌};
 ghost use Rattle.driver_progress.specs.Expected.{has_settled};
 ghost use Rattle.hda_world.specs.Tellings.{Between};
+ghost use Rattle.command_engine.specs.declared.room.TheConstants.{START_ACCESSES};
+ghost use Rattle.driver_progress.specs.declared.room.TheConstants.{SETTLE_ACCESSES};
 ghost use Rattle.driver_progress.specs.Settling as spec;
 ghost use Rattle.driver_progress.specs.Announcing as announcing;
 
@@ -37,7 +39,7 @@ fn has_settled(kept: u32, clock: u32) -> bool
 /// Else just the codecs on the link are found, where there is one, and the engine stands to the world as a start leaves
 /// it. No codec takes a command meanwhile.
 pub fn settle<P: Platform>(platform: &mut P, engine: &mut Engine, kept: u32) -> Settled
-    requires { 17 ≤ P.spare_accesses platform.old }
+    requires { SETTLE_ACCESSES ≤ P.spare_accesses platform.old }
     ensures settles { spec.Settles kept engine.old.corb.address engine.old.rirb.address engine.old.rings result
         engine.new.rings (P.told platform.old) (P.told platform.new) }
     ensures tells { Between (announcing.LeadsToRings engine.old.corb.address engine.old.rirb.address engine.new.rings
@@ -46,7 +48,7 @@ pub fn settle<P: Platform>(platform: &mut P, engine: &mut Engine, kept: u32) -> 
     ensures rirb { engine.new.rirb ≡ engine.old.rirb }
     ensures events { engine.new.events.items ≡ engine.old.events.items }
     ensures fixed { P.fixed platform.new ≡ P.fixed platform.old }
-    ensures accesses { P.spare_accesses platform.old ≤ P.spare_accesses platform.new + 17 }
+    ensures accesses { P.spare_accesses platform.old ≤ P.spare_accesses platform.new + SETTLE_ACCESSES }
     ensures bytes { P.spare_bytes platform.new ≡ P.spare_bytes platform.old }
 {
     let clock = platform.read(places::WALCLK, Width::Four);
@@ -55,7 +57,7 @@ pub fn settle<P: Platform>(platform: &mut P, engine: &mut Engine, kept: u32) -> 
 
 /// Sets the rings going, once the codecs had their time.
 fn start_if<P: Platform>(platform: &mut P, engine: &mut Engine, settled: bool) -> Settled
-    requires { 16 ≤ P.spare_accesses platform.old }
+    requires { START_ACCESSES ≤ P.spare_accesses platform.old }
     ensures starts { spec.StartsIf settled engine.old.corb.address engine.old.rirb.address engine.old.rings result
         engine.new.rings (P.told platform.old) (P.told platform.new) }
     ensures tells { Between (announcing.StartLeads engine.old.corb.address engine.old.rirb.address engine.new.rings
@@ -64,7 +66,7 @@ fn start_if<P: Platform>(platform: &mut P, engine: &mut Engine, settled: bool) -
     ensures rirb { engine.new.rirb ≡ engine.old.rirb }
     ensures events { engine.new.events.items ≡ engine.old.events.items }
     ensures fixed { P.fixed platform.new ≡ P.fixed platform.old }
-    ensures accesses { P.spare_accesses platform.old ≤ P.spare_accesses platform.new + 16 }
+    ensures accesses { P.spare_accesses platform.old ≤ P.spare_accesses platform.new + START_ACCESSES }
     ensures bytes { P.spare_bytes platform.new ≡ P.spare_bytes platform.old }
 {
     if settled {

@@ -9,6 +9,9 @@ use stream_format::Format;
 /// the bytes of every block of samples. This project's own.
 pub const PERIOD_UNIT: u32 = 384;
 
+/// How many periods a ring has at most. This project's own.
+pub(crate) const MOST_PERIODS: u32 = 32;
+
 /// Why there is no geometry.
 #[derive(Clone, Copy, Debug, PartialEq, Eq)]
 pub enum GeometryFault {

@@ -8,13 +8,14 @@ ghost use Rattle.period_writer.specs.Rings.{ring_bytes};
 ghost use Rattle.period_writer.specs.Writers.{measures_of};
 ghost use Rattle.driver_bring_up.specs.Calls.{IsKept};
 ghost use Rattle.audio_driver.specs.States.{plays_now, is_open};
+ghost use Rattle.audio_driver.specs.declared.room.TheConstants.{ROOM_ACCESSES, ROOM_BYTES};
 ghost use Rattle.program_runs.specs.Feeding.{IsFedSo, IsFilledUp, shelves_of};
 ghost use Rattle.laws_driver.specs.Keeping.{Calls};
 ghost use Rattle.rig.specs.Rigs.{telling_of, setting_of};
 ghost use Rattle.program_runs.specs.Going as spec;
 
 use crate::feeding::feed;
-use audio_driver::{Closed, Driver};
+use audio_driver::{Closed, Driver, ROOM_ACCESSES};
 use driver_bring_up::{TAG, events_are_of_pins};
 use driver_progress::Phase;
 use hda_outside::{Cut, Shelf};
@@ -24,9 +25,6 @@ use rig::{Rig, runs_follow};
 use route_setup::Setter;
 use schedule_reader::DriverLine;
 use std::alloc::{AllocError, Global};
-
-/// The accesses for which a call asks room.
-const CALL_ACCESSES: u32 = 400;
 
 /// Calls a driver as a line says: for an interrupt or not, and with its budget.
 ///
@@ -41,9 +39,9 @@ fn call<T: Setter, P: Platform>(
     requires up { plays_now driver.old.play driver.old.bring_up ≡ true → is_open driver.old.writer.course.ran ≡ true
         → IsFilledUp (measures_of driver.old.writer).ring driver.old.supply }
     requires few { driver.old.calls < driver.old.runs }
-    requires room { 400 ≤ P.spare_accesses platform.old }
+    requires room { ROOM_ACCESSES ≤ P.spare_accesses platform.old }
     requires bytes_room { ring_bytes driver.old.writer.geometry.periods
-        driver.old.writer.geometry.period + 8192 ≤ P.spare_bytes platform.old }
+        driver.old.writer.geometry.period + ROOM_BYTES ≤ P.spare_bytes platform.old }
     ensures taken { IsTaken driver.old.supply driver.new.supply }
     ensures accounts { Accounts (measures_of driver.old.writer) driver.old.supply driver.new.supply
         driver.old.writer.course driver.new.writer.course }
@@ -84,7 +82,8 @@ fn run_filled<T: Setter>(
     requires up { plays_now driver.old.play driver.old.bring_up ≡ true → is_open driver.old.writer.course.ran ≡ true
         → IsFilledUp (measures_of driver.old.writer).ring driver.old.supply }
     requires few { driver.old.calls < driver.old.runs }
-    requires room { ring_bytes driver.old.writer.geometry.periods driver.old.writer.geometry.period + 8192 ≤ bytes }
+    requires room { ring_bytes driver.old.writer.geometry.periods
+        driver.old.writer.geometry.period + ROOM_BYTES ≤ bytes }
     ensures ran { OnOk result (spec.RanLine
         (record {
           IsPlanBy = T.IsPlanBy driver.old.setter;
@@ -102,7 +101,7 @@ fn run_filled<T: Setter>(
 {
     drivers_keep_to_progress::<T>();
     runs_follow();
-    rig.begin(line.groups.as_slice(), CALL_ACCESSES, bytes)?;
+    rig.begin(line.groups.as_slice(), ROOM_ACCESSES, bytes)?;
     call(rig, driver, line)?;
     rig.end();
     Ok(())
@@ -126,7 +125,8 @@ pub(crate) fn run_line<T: Setter, S: Shelf>(
         (S.empties shelf.old) (S.given shelf.old)) cut.old driver.old.supply driver.old.writer.course }
     requires between { (setting_of rig.old).in_run ≡ false }
     requires few { driver.old.calls < driver.old.runs }
-    requires room { ring_bytes driver.old.writer.geometry.periods driver.old.writer.geometry.period + 8192 ≤ bytes }
+    requires room { ring_bytes driver.old.writer.geometry.periods
+        driver.old.writer.geometry.period + ROOM_BYTES ≤ bytes }
     ensures ran { OnOk result (spec.Ran
         (record {
           IsPlanBy = T.IsPlanBy driver.old.setter;
@@ -164,7 +164,7 @@ pub(crate) fn run_last<T: Setter + Drop>(
     bytes: u32,
 ) -> Result<Closed, AllocError>
     requires between { (setting_of rig.old).in_run ≡ false }
-    requires room { ring_bytes driver.writer.geometry.periods driver.writer.geometry.period + 8192 ≤ bytes }
+    requires room { ring_bytes driver.writer.geometry.periods driver.writer.geometry.period + ROOM_BYTES ≤ bytes }
     ensures closed { IfOk result (λ closed. (sound : List ℕ) → MayGive driver.supply sound
         → EndsWith driver.supply sound
         → spec.IsClosed (record {
@@ -179,7 +179,7 @@ pub(crate) fn run_last<T: Setter + Drop>(
     drivers_keep_to_progress::<T>();
     runs_follow();
     events_are_of_pins();
-    match rig.begin(&[], CALL_ACCESSES, bytes) {
+    match rig.begin(&[], ROOM_ACCESSES, bytes) {
         Ok(()) => {}
         Err(failed) => {
             let _ = driver.abandon();

@@ -6,6 +6,7 @@ ghost use Rattle.period_writer.specs.Writers.{measures_of};
 ghost use Rattle.program_runs.specs.Feeding.{IsFedSo, shelves_of};
 ghost use Rattle.rig.specs.Rigs.{telling_of, setting_of};
 ghost use Rattle.program_runs.specs.Lines.{lines_of};
+ghost use Rattle.audio_driver.specs.declared.room.TheConstants.{ROOM_BYTES};
 ghost use Rattle.program_runs.specs.Going as spec;
 
 use crate::calls::run_last;
@@ -16,9 +17,6 @@ use rig::Rig;
 use route_setup::Setter;
 use schedule_reader::Schedule;
 use std::alloc::{AllocError, Global};
-
-/// For how many bytes of memory a call of the driver asks room beside its ring.
-pub(crate) const BYTES_BESIDE_RING: u32 = 8192;
 
 /// What came of a schedule that was run: what is left of the driver, and how many bytes of the sound were read.
 #[derive(Drop)]
@@ -47,7 +45,7 @@ pub(crate) fn drive<T: Setter + Drop, S: Shelf>(
         (S.empties shelf.old) (S.given shelf.old)) cut.old driver.supply driver.writer.course }
     requires between { (setting_of rig.old).in_run ≡ false }
     requires few { driver.calls + length (lines_of schedule.now) ≤ driver.runs }
-    requires room { ring_bytes driver.writer.geometry.periods driver.writer.geometry.period + 8192 ≤ bytes }
+    requires room { ring_bytes driver.writer.geometry.periods driver.writer.geometry.period + ROOM_BYTES ≤ bytes }
     ensures driven { IfOk result (λ driven. spec.HasDriven
         (record {
           IsPlanBy = T.IsPlanBy driver.setter;

@@ -4,6 +4,7 @@ ghost use Rattle.schedule_reader.specs.Counts.{items_in, items_of};
 ghost use Rattle.wav_reader.specs.Fills.{IsBeside};
 ghost use Rattle.period_writer.specs.Rings.{ring_bytes};
 ghost use Rattle.period_writer.specs.Writers.{measures_of};
+ghost use Rattle.audio_driver.specs.declared.room.TheConstants.{ROOM_BYTES};
 ghost use Rattle.program_runs.specs.Feeding.{IsFedSo, shelves_of};
 ghost use Rattle.rig.specs.Rigs.{setting_of};
 ghost use Rattle.program_runs.specs.Lines.{lines_in, lines_of};
@@ -36,7 +37,8 @@ fn run_item<T: Setter, S: Shelf>(
         (S.empties shelf.old) (S.given shelf.old)) cut.old driver.old.supply driver.old.writer.course }
     requires between { (setting_of rig.old).in_run ≡ false }
     requires few { driver.old.calls + length (lines_in (item.now ∷ [])) ≤ driver.old.runs }
-    requires room { ring_bytes driver.old.writer.geometry.periods driver.old.writer.geometry.period + 8192 ≤ bytes }
+    requires room { ring_bytes driver.old.writer.geometry.periods
+        driver.old.writer.geometry.period + ROOM_BYTES ≤ bytes }
     ensures ran { OnOk result (spec.Ran
         (record {
           IsPlanBy = T.IsPlanBy driver.old.setter;
@@ -85,7 +87,8 @@ fn run_items<T: Setter, S: Shelf>(
         (S.empties shelf.old) (S.given shelf.old)) cut.old driver.old.supply driver.old.writer.course }
     requires between { (setting_of rig.old).in_run ≡ false }
     requires few { driver.old.calls + length (lines_in items.now) ≤ driver.old.runs }
-    requires room { ring_bytes driver.old.writer.geometry.periods driver.old.writer.geometry.period + 8192 ≤ bytes }
+    requires room { ring_bytes driver.old.writer.geometry.periods
+        driver.old.writer.geometry.period + ROOM_BYTES ≤ bytes }
     ensures ran { OnOk result (spec.Ran
         (record {
           IsPlanBy = T.IsPlanBy driver.old.setter;
@@ -133,7 +136,8 @@ fn run_part<T: Setter, S: Shelf>(
         (S.empties shelf.old) (S.given shelf.old)) cut.old driver.old.supply driver.old.writer.course }
     requires between { (setting_of rig.old).in_run ≡ false }
     requires few { driver.old.calls + length (lines_in (items_in part.now)) ≤ driver.old.runs }
-    requires room { ring_bytes driver.old.writer.geometry.periods driver.old.writer.geometry.period + 8192 ≤ bytes }
+    requires room { ring_bytes driver.old.writer.geometry.periods
+        driver.old.writer.geometry.period + ROOM_BYTES ≤ bytes }
     ensures ran { OnOk result (spec.Ran
         (record {
           IsPlanBy = T.IsPlanBy driver.old.setter;
@@ -181,7 +185,8 @@ pub(crate) fn run_schedule<T: Setter, S: Shelf>(
         (S.empties shelf.old) (S.given shelf.old)) cut.old driver.old.supply driver.old.writer.course }
     requires between { (setting_of rig.old).in_run ≡ false }
     requires few { driver.old.calls + length (lines_of schedule.now) ≤ driver.old.runs }
-    requires room { ring_bytes driver.old.writer.geometry.periods driver.old.writer.geometry.period + 8192 ≤ bytes }
+    requires room { ring_bytes driver.old.writer.geometry.periods
+        driver.old.writer.geometry.period + ROOM_BYTES ≤ bytes }
     ensures ran { OnOk result (spec.Ran
         (record {
           IsPlanBy = T.IsPlanBy driver.old.setter;

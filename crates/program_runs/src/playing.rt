@@ -15,12 +15,12 @@ ghost use Rattle.program_runs.specs.Plays as spec;
 ghost use Rattle.program_runs.specs.FrameCounts as counts;
 
 use crate::commands::command_count;
-use crate::driving::{BYTES_BESIDE_RING, drive};
+use crate::driving::drive;
 use crate::frame_counts::{frames_below, frames_written, last_at};
 use crate::lines::line_count;
 use crate::opening::open_driver;
 use crate::walking::walk_fault;
-use audio_driver::Closed;
+use audio_driver::{Closed, ROOM_BYTES};
 use driver_progress::Phase;
 use hda_files::Machine;
 use hda_items::Items;
@@ -169,7 +169,7 @@ pub fn play<S: Shelf>(
         &mut rig,
         driver,
         schedule,
-        geometry.ring() + BYTES_BESIDE_RING,
+        geometry.ring() + ROOM_BYTES,
     )?;
     let closed = driven.closed;
     let read = frames_read(&cut, driven.read, format.block_bytes(), total);

@@ -11,10 +11,10 @@ ghost use Rattle.program_runs.specs.Openings.{IsFresh};
 ghost use Rattle.program_runs.specs.Walks as spec;
 
 use crate::commands::command_count;
-use crate::driving::{BYTES_BESIDE_RING, drive};
+use crate::driving::drive;
 use crate::lines::line_count;
 use crate::opening::open_driver;
-use audio_driver::Driver;
+use audio_driver::{Driver, ROOM_BYTES};
 use driver_progress::Phase;
 use hda_files::Machine;
 use hda_items::Items;
@@ -157,7 +157,7 @@ pub fn walk(
         &mut rig,
         driver,
         schedule,
-        RING_BYTES + BYTES_BESIDE_RING,
+        RING_BYTES + ROOM_BYTES,
     )?;
     let closed = driven.closed;
     let (machine, _, journal) = rig.parts();

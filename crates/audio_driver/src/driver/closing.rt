@@ -8,6 +8,8 @@ ghost use Rattle.period_writer.specs.Writers.{OwnsBlocks, periods_of, ring_size}
 ghost use Rattle.driver_progress.specs.Phases.{is_asking};
 ghost use Rattle.driver_bring_up.specs.Told.{IsShut};
 ghost use Rattle.driver_bring_up.specs.Failing.{FailsWith};
+ghost use Rattle.command_engine.specs.declared.room.TheConstants.{POLL_BYTES};
+ghost use Rattle.audio_driver.specs.declared.room.TheConstants.{PLAY_END_ACCESSES, ROOM_ACCESSES, ROOM_BYTES};
 ghost use Rattle.audio_driver.specs.States as states;
 ghost use Rattle.audio_driver.specs.Closing as spec;
 ghost use Rattle.audio_driver.specs.Drivers.{TakesBlocks, GivesBlocks};
@@ -71,8 +73,8 @@ impl<T: Setter + Drop> Driver<T> {
     /// Want of memory, while commands are sent, and so in no phase from `Ready` on. The controller is left in reset
     /// also then, and the pool is let go.
     pub fn close<P: Platform>(self, platform: &mut P) -> Result<Closed, AllocError>
-        requires room { 400 ≤ P.spare_accesses platform.old }
-        requires bytes_room { ring_size self.writer + 8192 ≤ P.spare_bytes platform.old }
+        requires room { ROOM_ACCESSES ≤ P.spare_accesses platform.old }
+        requires bytes_room { ring_size self.writer + ROOM_BYTES ≤ P.spare_bytes platform.old }
         ensures closes { (sound : List ℕ) → MayGive self.supply sound → EndsWith self.supply sound
             → IfOk result (λ closed. ClosesBy T.IsPlanBy T.verbs_by self sound closed
             (P.told platform.old) (P.told platform.new)) }
@@ -83,8 +85,8 @@ impl<T: Setter + Drop> Driver<T> {
         ensures shut { OnErr result (IsShut (P.told platform.new)) }
         ensures wanting { OnErr result (FailsWith self.bring_up (P.told platform.old) (P.told platform.new)) }
         ensures fixed { P.fixed platform.new ≡ P.fixed platform.old }
-        ensures accesses { P.spare_accesses platform.old ≤ P.spare_accesses platform.new + 299 }
-        ensures bytes { P.spare_bytes platform.old ≤ P.spare_bytes platform.new + (ring_size self.writer + 2040) }
+        ensures accesses { P.spare_accesses platform.old ≤ P.spare_accesses platform.new + PLAY_END_ACCESSES }
+        ensures bytes { P.spare_bytes platform.old ≤ P.spare_bytes platform.new + (ring_size self.writer + POLL_BYTES) }
     {
         let Driver {
             mut bring_up,

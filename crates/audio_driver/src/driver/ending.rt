@@ -5,6 +5,8 @@ ghost use Rattle.period_writer.specs.Writers.{KeepsRing, tally_of, ring_size};
 ghost use Rattle.driver_bring_up.specs.Calls.{IsKept};
 ghost use Rattle.driver_bring_up.specs.Told.{IsShut};
 ghost use Rattle.driver_bring_up.specs.Failing.{FailsLast};
+ghost use Rattle.command_engine.specs.declared.room.TheConstants.{POLL_BYTES};
+ghost use Rattle.audio_driver.specs.declared.room.TheConstants.{PLAY_END_ACCESSES};
 ghost use Rattle.audio_driver.specs.States as states;
 ghost use Rattle.audio_driver.specs.Calls.{EndsAny, FinishesBy};
 
@@ -31,8 +33,8 @@ pub(super) fn end_call<P: Platform, T: Setter>(
 ) -> Result<(), AllocError>
     requires few { bring_up.old.looks ≤ 1000000 }
     requires free { length writer.old.runs < writer.old.records }
-    requires room { 299 ≤ P.spare_accesses platform.old }
-    requires bytes_room { ring_size writer.old + 2040 ≤ P.spare_bytes platform.old }
+    requires room { PLAY_END_ACCESSES ≤ P.spare_accesses platform.old }
+    requires bytes_room { ring_size writer.old + POLL_BYTES ≤ P.spare_bytes platform.old }
     ensures ends { states.plays_now play bring_up.old ≡ false → OnOk result (FinishesBy T.IsPlanBy T.verbs_by
         setter.now bring_up.old bring_up.new (P.told platform.old) (P.told platform.new)) }
     ensures recorded { states.plays_now play bring_up.old ≡ false → tally_of writer.new ≡ tally_of writer.old }
@@ -45,8 +47,8 @@ pub(super) fn end_call<P: Platform, T: Setter>(
     ensures shut { OnErr result (IsShut (P.told platform.new)) }
     ensures wanting { OnErr result (FailsLast bring_up.old bring_up.new (P.told platform.old) (P.told platform.new)) }
     ensures fixed { P.fixed platform.new ≡ P.fixed platform.old }
-    ensures accesses { P.spare_accesses platform.old ≤ P.spare_accesses platform.new + 299 }
-    ensures bytes { P.spare_bytes platform.old ≤ P.spare_bytes platform.new + (ring_size writer.old + 2040) }
+    ensures accesses { P.spare_accesses platform.old ≤ P.spare_accesses platform.new + PLAY_END_ACCESSES }
+    ensures bytes { P.spare_bytes platform.old ≤ P.spare_bytes platform.new + (ring_size writer.old + POLL_BYTES) }
 {
     if plays_now(play, bring_up) {
         end_sound(platform, bring_up, writer, supply);
@@ -66,16 +68,16 @@ fn end_sound<P: Platform>(
     requires ready { is_ready bring_up.old.phase ≡ true }
     requires few { bring_up.old.looks ≤ 1000000 }
     requires free { length writer.old.runs < writer.old.records }
-    requires room { 299 ≤ P.spare_accesses platform.old }
-    requires bytes_room { ring_size writer.old + 2040 ≤ P.spare_bytes platform.old }
+    requires room { PLAY_END_ACCESSES ≤ P.spare_accesses platform.old }
+    requires bytes_room { ring_size writer.old + POLL_BYTES ≤ P.spare_bytes platform.old }
     ensures sounds { EndsAny bring_up.old bring_up.new
         writer.old (tally_of writer.new) supply.old (P.told platform.old) (P.told platform.new) }
     ensures grows { writer.old.course.used ≤ writer.new.course.used }
     ensures kept { IsKept bring_up.old bring_up.new }
     ensures keeps { KeepsRing writer.old writer.new }
     ensures fixed { P.fixed platform.new ≡ P.fixed platform.old }
-    ensures accesses { P.spare_accesses platform.old ≤ P.spare_accesses platform.new + 299 }
-    ensures bytes { P.spare_bytes platform.old ≤ P.spare_bytes platform.new + (ring_size writer.old + 2040) }
+    ensures accesses { P.spare_accesses platform.old ≤ P.spare_accesses platform.new + PLAY_END_ACCESSES }
+    ensures bytes { P.spare_bytes platform.old ≤ P.spare_bytes platform.new + (ring_size writer.old + POLL_BYTES) }
 {
     if !writer.course().started || !is_open(writer) {
         shut(platform);

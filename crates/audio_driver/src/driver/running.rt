@@ -6,6 +6,8 @@ ghost use Rattle.period_writer.specs.Accounts.{Accounts};
 ghost use Rattle.period_writer.specs.Writers.{measures_of, ring_size};
 ghost use Rattle.driver_bring_up.specs.Calls as calls;
 ghost use Rattle.driver_bring_up.specs.Failing.{Fails};
+ghost use Rattle.audio_driver.specs.declared.room.TheConstants.{CALL_BYTES, PLAY_ACCESSES, PLAY_INTERRUPT_ACCESSES};
+ghost use Rattle.audio_driver.specs.declared.room.TheConstants.{ROOM_ACCESSES, ROOM_BYTES};
 ghost use Rattle.audio_driver.specs.States as states;
 ghost use Rattle.audio_driver.specs.Drivers.{IsDriver, KeepsTerms};
 ghost use Rattle.audio_driver.specs.Calls.{SufficesIfOpen, SoundsAny, LeadsBy};
@@ -30,8 +32,8 @@ impl<T: Setter> Driver<T> {
         requires enough { states.plays_now self.old.play self.old.bring_up ≡ true
             → SufficesIfOpen budget self.old.writer self.old.supply }
         requires few { self.old.calls < self.old.runs }
-        requires room { 400 ≤ P.spare_accesses platform.old }
-        requires bytes_room { ring_size self.old.writer + 8192 ≤ P.spare_bytes platform.old }
+        requires room { ROOM_ACCESSES ≤ P.spare_accesses platform.old }
+        requires bytes_room { ring_size self.old.writer + ROOM_BYTES ≤ P.spare_bytes platform.old }
         ensures leads { states.plays_now self.old.play self.old.bring_up ≡ false
             → OnOk result (LeadsBy T.IsPlanBy T.verbs_by false self.old self.new
             (P.told platform.old) (P.told platform.new)) }
@@ -56,8 +58,9 @@ impl<T: Setter> Driver<T> {
         ensures keeps { KeepsTerms self.old self.new }
         ensures calls { self.new.calls ≡ self.old.calls + 1 }
         ensures fixed { P.fixed platform.new ≡ P.fixed platform.old }
-        ensures accesses { P.spare_accesses platform.old ≤ P.spare_accesses platform.new + 296 }
-        ensures bytes { P.spare_bytes platform.old ≤ P.spare_bytes platform.new + (ring_size self.old.writer + 2044) }
+        ensures accesses { P.spare_accesses platform.old ≤ P.spare_accesses platform.new + PLAY_ACCESSES }
+        ensures bytes { P.spare_bytes platform.old ≤ P.spare_bytes
+            platform.new + (ring_size self.old.writer + CALL_BYTES) }
     {
         self.calls += 1;
         if plays_now(self.play, &self.bring_up) {
@@ -84,8 +87,8 @@ impl<T: Setter> Driver<T> {
         requires enough { states.plays_now self.old.play self.old.bring_up ≡ true
             → SufficesIfOpen budget self.old.writer self.old.supply }
         requires few { self.old.calls < self.old.runs }
-        requires room { 400 ≤ P.spare_accesses platform.old }
-        requires bytes_room { ring_size self.old.writer + 8192 ≤ P.spare_bytes platform.old }
+        requires room { ROOM_ACCESSES ≤ P.spare_accesses platform.old }
+        requires bytes_room { ring_size self.old.writer + ROOM_BYTES ≤ P.spare_bytes platform.old }
         ensures leads { states.plays_now self.old.play self.old.bring_up ≡ false
             → OnOk result (LeadsBy T.IsPlanBy T.verbs_by true self.old self.new
             (P.told platform.old) (P.told platform.new)) }
@@ -110,8 +113,9 @@ impl<T: Setter> Driver<T> {
         ensures keeps { KeepsTerms self.old self.new }
         ensures calls { self.new.calls ≡ self.old.calls + 1 }
         ensures fixed { P.fixed platform.new ≡ P.fixed platform.old }
-        ensures accesses { P.spare_accesses platform.old ≤ P.spare_accesses platform.new + 299 }
-        ensures bytes { P.spare_bytes platform.old ≤ P.spare_bytes platform.new + (ring_size self.old.writer + 2044) }
+        ensures accesses { P.spare_accesses platform.old ≤ P.spare_accesses platform.new + PLAY_INTERRUPT_ACCESSES }
+        ensures bytes { P.spare_bytes platform.old ≤ P.spare_bytes
+            platform.new + (ring_size self.old.writer + CALL_BYTES) }
     {
         self.calls += 1;
         if plays_now(self.play, &self.bring_up) {

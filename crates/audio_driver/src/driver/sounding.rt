@@ -6,6 +6,7 @@ ghost use Rattle.period_writer.specs.Runs.{tally_opened};
 ghost use Rattle.period_writer.specs.Writers.{KeepsRing, measures_of, tally_of, ring_size};
 ghost use Rattle.driver_progress.specs.Phases.{is_ready};
 ghost use Rattle.driver_bring_up.specs.Calls.{IsKept};
+ghost use Rattle.audio_driver.specs.declared.room.TheConstants.{CALL_BYTES, PLAY_ACCESSES, PLAY_INTERRUPT_ACCESSES};
 ghost use Rattle.audio_driver.specs.States as states;
 ghost use Rattle.audio_driver.specs.Calls.{SufficesIfOpen, SoundsAny};
 
@@ -58,8 +59,8 @@ pub(super) fn play_on<P: Platform>(
     requires fresh { writer.old.course.started ≡ false → tally_of writer.old ≡ tally_opened }
     requires few { bring_up.old.looks ≤ 1000000 }
     requires free { length writer.old.runs < writer.old.records }
-    requires room { 296 ≤ P.spare_accesses platform.old }
-    requires bytes_room { ring_size writer.old + 2044 ≤ P.spare_bytes platform.old }
+    requires room { PLAY_ACCESSES ≤ P.spare_accesses platform.old }
+    requires bytes_room { ring_size writer.old + CALL_BYTES ≤ P.spare_bytes platform.old }
     ensures sounds { SoundsAny false budget bring_up.old bring_up.new writer.old writer.new
         supply.old supply.new (P.told platform.old) (P.told platform.new) }
     ensures taken { IsTaken supply.old supply.new }
@@ -71,8 +72,8 @@ pub(super) fn play_on<P: Platform>(
     ensures recorded { length writer.new.runs ≤ length writer.old.runs + 1 }
     ensures fresh { writer.new.course.started ≡ false → tally_of writer.new ≡ tally_opened }
     ensures fixed { P.fixed platform.new ≡ P.fixed platform.old }
-    ensures accesses { P.spare_accesses platform.old ≤ P.spare_accesses platform.new + 296 }
-    ensures bytes { P.spare_bytes platform.old ≤ P.spare_bytes platform.new + (ring_size writer.old + 2044) }
+    ensures accesses { P.spare_accesses platform.old ≤ P.spare_accesses platform.new + PLAY_ACCESSES }
+    ensures bytes { P.spare_bytes platform.old ≤ P.spare_bytes platform.new + (ring_size writer.old + CALL_BYTES) }
 {
     if !writer.course().started {
         writer.start(platform, supply, budget);
@@ -98,8 +99,8 @@ pub(super) fn play_if_interrupted<P: Platform>(
     requires fresh { writer.old.course.started ≡ false → tally_of writer.old ≡ tally_opened }
     requires few { bring_up.old.looks ≤ 1000000 }
     requires free { length writer.old.runs < writer.old.records }
-    requires room { 299 ≤ P.spare_accesses platform.old }
-    requires bytes_room { ring_size writer.old + 2044 ≤ P.spare_bytes platform.old }
+    requires room { PLAY_INTERRUPT_ACCESSES ≤ P.spare_accesses platform.old }
+    requires bytes_room { ring_size writer.old + CALL_BYTES ≤ P.spare_bytes platform.old }
     ensures sounds { SoundsAny true budget bring_up.old bring_up.new writer.old writer.new
         supply.old supply.new (P.told platform.old) (P.told platform.new) }
     ensures taken { IsTaken supply.old supply.new }
@@ -111,8 +112,8 @@ pub(super) fn play_if_interrupted<P: Platform>(
     ensures recorded { length writer.new.runs ≤ length writer.old.runs + 1 }
     ensures fresh { writer.new.course.started ≡ false → tally_of writer.new ≡ tally_opened }
     ensures fixed { P.fixed platform.new ≡ P.fixed platform.old }
-    ensures accesses { P.spare_accesses platform.old ≤ P.spare_accesses platform.new + 299 }
-    ensures bytes { P.spare_bytes platform.old ≤ P.spare_bytes platform.new + (ring_size writer.old + 2044) }
+    ensures accesses { P.spare_accesses platform.old ≤ P.spare_accesses platform.new + PLAY_INTERRUPT_ACCESSES }
+    ensures bytes { P.spare_bytes platform.old ≤ P.spare_bytes platform.new + (ring_size writer.old + CALL_BYTES) }
 {
     if !is_open(writer) {
         return;

@@ -7,6 +7,7 @@ ghost use Rattle.command_engine.specs.Reading as reading;
 ghost use Rattle.command_engine.specs.Told as told;
 ghost use Rattle.hda_world.specs.Tellings.{Between};
 ghost use Rattle.command_engine.specs.Blocks.{rirb_bytes};
+ghost use Rattle.command_engine.specs.declared.room.TheConstants.{BATCH_ACCESSES, POLL_ACCESSES, POLL_BYTES};
 
 use super::Engine;
 use crate::answers::{
@@ -34,13 +35,13 @@ impl Engine {
     /// by the codec that it asks, with the settings and the presence at the moment at which it took it. Then no other
     /// answer is on its way.
     ///
-    /// A write pointer names fewer new entries than RIRB has, whatever it reads, so at most 255; the queue holds 256
-    /// events.
+    /// A write pointer names fewer new entries than RIRB has, whatever it reads, so at most [`crate::MOST_RESPONSES`];
+    /// the queue holds 256 events.
     #[tactic(auto, using(hda_world::proofs::Callers::rows))]
     pub fn poll<P: Platform>(&mut self, platform: &mut P, clock: u32) -> Poll
         requires events { self.old.events.items ≡ [] }
-        requires room { 258 ≤ P.spare_accesses platform.old }
-        requires bytes_room { 2040 ≤ P.spare_bytes platform.old }
+        requires room { POLL_ACCESSES ≤ P.spare_accesses platform.old }
+        requires bytes_room { POLL_BYTES ≤ P.spare_bytes platform.old }
         ensures polls { spec.Polls self.old.rirb.address clock self.old.rings result self.new.rings
             self.new.events.items (P.told platform.old) (P.told platform.new) }
         ensures tells { Between (told.PollTellsOf clock self.old.corb.address self.old.rirb.address self.old.rings
@@ -48,8 +49,8 @@ impl Engine {
         ensures corb { self.new.corb ≡ self.old.corb }
         ensures rirb { self.new.rirb ≡ self.old.rirb }
         ensures fixed { P.fixed platform.new ≡ P.fixed platform.old }
-        ensures accesses { P.spare_accesses platform.old ≤ P.spare_accesses platform.new + 258 }
-        ensures bytes { P.spare_bytes platform.old ≤ P.spare_bytes platform.new + 2040 }
+        ensures accesses { P.spare_accesses platform.old ≤ P.spare_accesses platform.new + POLL_ACCESSES }
+        ensures bytes { P.spare_bytes platform.old ≤ P.spare_bytes platform.new + POLL_BYTES }
     {
         let flag = platform.read(places::RIRBSTS, Width::One);
         let found = self.read_new(platform, flag);
@@ -72,15 +73,15 @@ impl Engine {
     /// Reads the new entries where the flag says that responses were written, and gives the answer among them.
     fn read_new<P: Platform>(&mut self, platform: &mut P, flag: u32) -> Option<u32>
         requires events { self.old.events.items ≡ [] }
-        requires room { 257 ≤ P.spare_accesses platform.old }
-        requires bytes_room { 2040 ≤ P.spare_bytes platform.old }
+        requires room { BATCH_ACCESSES ≤ P.spare_accesses platform.old }
+        requires bytes_room { POLL_BYTES ≤ P.spare_bytes platform.old }
         ensures reads { reading.ReadsNew self.old.rirb.address self.old.rings flag result self.new.rings
             self.new.events.items (P.told platform.old) (P.told platform.new) }
         ensures corb { self.new.corb ≡ self.old.corb }
         ensures rirb { self.new.rirb ≡ self.old.rirb }
         ensures fixed { P.fixed platform.new ≡ P.fixed platform.old }
-        ensures accesses { P.spare_accesses platform.old ≤ P.spare_accesses platform.new + 257 }
-        ensures bytes { P.spare_bytes platform.old ≤ P.spare_bytes platform.new + 2040 }
+        ensures accesses { P.spare_accesses platform.old ≤ P.spare_accesses platform.new + BATCH_ACCESSES }
+        ensures bytes { P.spare_bytes platform.old ≤ P.spare_bytes platform.new + POLL_BYTES }
     {
         if has_bit(flag, 0) {
             self.read_batch(platform)
@@ -92,15 +93,15 @@ impl Engine {
     /// Reads the new entries, and gives the answer among them.
     fn read_batch<P: Platform>(&mut self, platform: &mut P) -> Option<u32>
         requires events { self.old.events.items ≡ [] }
-        requires room { 257 ≤ P.spare_accesses platform.old }
-        requires bytes_room { 2040 ≤ P.spare_bytes platform.old }
+        requires room { BATCH_ACCESSES ≤ P.spare_accesses platform.old }
+        requires bytes_room { POLL_BYTES ≤ P.spare_bytes platform.old }
         ensures reads { reading.ReadsBatch self.old.rirb.address self.old.rings result self.new.rings
             self.new.events.items (P.told platform.old) (P.told platform.new) }
         ensures corb { self.new.corb ≡ self.old.corb }
         ensures rirb { self.new.rirb ≡ self.old.rirb }
         ensures fixed { P.fixed platform.new ≡ P.fixed platform.old }
-        ensures accesses { P.spare_accesses platform.old ≤ P.spare_accesses platform.new + 257 }
-        ensures bytes { P.spare_bytes platform.old ≤ P.spare_bytes platform.new + 2040 }
+        ensures accesses { P.spare_accesses platform.old ≤ P.spare_accesses platform.new + BATCH_ACCESSES }
+        ensures bytes { P.spare_bytes platform.old ≤ P.spare_bytes platform.new + POLL_BYTES }
     {
         let pointer = platform.read(places::RIRBWP, Width::Two);
         let count = new_entries(self.rings, pointer);

@@ -3,6 +3,7 @@ ghost use Rattle.std.specs.Prelude.{◌≡◌, ◌≤◌, ◌+◌};
 ghost use Rattle.hda_world.specs.Tellings.{Between, Makes};
 ghost use Rattle.command_engine.specs.Starting as spec;
 ghost use Rattle.command_engine.specs.Told as told;
+ghost use Rattle.command_engine.specs.declared.room.TheConstants.{CORB_ACCESSES, RIRB_ACCESSES, START_ACCESSES};
 
 use super::Engine;
 use crate::ring_places::{codecs_in, half_of, rings_found};
@@ -29,7 +30,7 @@ impl Engine {
     /// [`crate::a_reset_leads_to_a_start`] says what brings that about. On any other world the accesses are the same,
     /// and nothing is said of answers.
     pub fn start<P: Platform>(&mut self, platform: &mut P) -> u16
-        requires room { 16 ≤ P.spare_accesses platform.old }
+        requires room { START_ACCESSES ≤ P.spare_accesses platform.old }
         ensures starts { spec.Starts self.old.corb.address self.old.rirb.address self.old.rings result self.new.rings
             (P.told platform.old) (P.told platform.new) }
         ensures tells { Between (told.Begins self.old.corb.address self.old.rirb.address result self.new.rings)
@@ -38,7 +39,7 @@ impl Engine {
         ensures rirb { self.new.rirb ≡ self.old.rirb }
         ensures events { self.new.events ≡ self.old.events }
         ensures fixed { P.fixed platform.new ≡ P.fixed platform.old }
-        ensures accesses { P.spare_accesses platform.old ≤ P.spare_accesses platform.new + 16 }
+        ensures accesses { P.spare_accesses platform.old ≤ P.spare_accesses platform.new + START_ACCESSES }
         ensures bytes { P.spare_bytes platform.new ≡ P.spare_bytes platform.old }
     {
         let status = platform.read(places::STATESTS, Width::Two);
@@ -56,10 +57,10 @@ impl Engine {
 
 /// Clears the state change status, and sets CORB going (HDA 1.0a, 4.4.1.3).
 fn set_corb<P: Platform>(platform: &mut P, corb: u32, status: u32)
-    requires { 8 ≤ P.spare_accesses platform.old }
+    requires { CORB_ACCESSES ≤ P.spare_accesses platform.old }
     ensures made { spec.SetsCorb corb status (P.told platform.old) (P.told platform.new) }
     ensures fixed { P.fixed platform.new ≡ P.fixed platform.old }
-    ensures accesses { P.spare_accesses platform.new + 8 ≡ P.spare_accesses platform.old }
+    ensures accesses { P.spare_accesses platform.new + CORB_ACCESSES ≡ P.spare_accesses platform.old }
     ensures bytes { P.spare_bytes platform.new ≡ P.spare_bytes platform.old }
 {
     platform.write(places::STATESTS, Width::Two, status);
@@ -75,10 +76,10 @@ fn set_corb<P: Platform>(platform: &mut P, corb: u32, status: u32)
 /// Sets RIRB going, which is served where it is half full, and lets the controller interrupt (HDA 1.0a, 4.4.2.2).
 #[tactic(auto, using(hda_world::proofs::Callers::rows))]
 fn set_rirb<P: Platform>(platform: &mut P, rirb: u32, size: RingSize)
-    requires { 5 ≤ P.spare_accesses platform.old }
+    requires { RIRB_ACCESSES ≤ P.spare_accesses platform.old }
     ensures made { Between (Makes (spec.rirb_accesses rirb size)) (P.told platform.old) (P.told platform.new) }
     ensures fixed { P.fixed platform.new ≡ P.fixed platform.old }
-    ensures accesses { P.spare_accesses platform.new + 5 ≡ P.spare_accesses platform.old }
+    ensures accesses { P.spare_accesses platform.new + RIRB_ACCESSES ≡ P.spare_accesses platform.old }
     ensures bytes { P.spare_bytes platform.new ≡ P.spare_bytes platform.old }
 {
     platform.write(places::RIRBLBASE, Width::Four, rirb);

@@ -2,9 +2,9 @@
 ghost use Rattle.std.specs.Prelude.{◌≡◌, ◌≤◌, ◌+◌, true, None};
 ghost use Rattle.verb_codes.specs.Verbs.{IsInRange, word_of};
 ghost use Rattle.hda_world.specs.Tellings.{Between, Makes};
-ghost use Rattle.world_rings.specs.declared.entries.TheConstants.{COMMAND_BYTES};
 ghost use Rattle.command_engine.specs.Submitting as spec;
 ghost use Rattle.command_engine.specs.Told as told;
+ghost use Rattle.command_engine.specs.declared.room.TheConstants.{SUBMIT_ACCESSES, SUBMIT_BYTES};
 
 use super::Engine;
 use crate::answers::Outstanding;
@@ -25,8 +25,8 @@ impl Engine {
         requires started { self.old.rings.started ≡ true }
         requires idle { self.old.rings.outstanding ≡ None }
         requires in_range { IsInRange command }
-        requires room { 2 ≤ P.spare_accesses platform.old }
-        requires bytes_room { COMMAND_BYTES ≤ P.spare_bytes platform.old }
+        requires room { SUBMIT_ACCESSES ≤ P.spare_accesses platform.old }
+        requires bytes_room { SUBMIT_BYTES ≤ P.spare_bytes platform.old }
         ensures made { Between (Makes (spec.submit_accesses self.old.corb.address self.old.rings (word_of command)))
             (P.told platform.old) (P.told platform.new) }
         ensures rings { self.new.rings ≡ spec.rings_submitted self.old.rings
@@ -37,8 +37,8 @@ impl Engine {
         ensures rirb { self.new.rirb ≡ self.old.rirb }
         ensures events { self.new.events ≡ self.old.events }
         ensures fixed { P.fixed platform.new ≡ P.fixed platform.old }
-        ensures accesses { P.spare_accesses platform.new + 2 ≡ P.spare_accesses platform.old }
-        ensures bytes { P.spare_bytes platform.new + COMMAND_BYTES ≡ P.spare_bytes platform.old }
+        ensures accesses { P.spare_accesses platform.new + SUBMIT_ACCESSES ≡ P.spare_accesses platform.old }
+        ensures bytes { P.spare_bytes platform.new + SUBMIT_BYTES ≡ P.spare_bytes platform.old }
     {
         let word = encode(&command);
         let place = command_place(self.rings);

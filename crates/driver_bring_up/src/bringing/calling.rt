@@ -1,7 +1,11 @@
 //! Calls.
 ghost use Rattle.std.specs.Prelude.{◌≡◌, ◌≢◌, ◌≤◌, ◌<◌, ◌+◌, ◌*◌, true, false, OnOk, OnErr};
+ghost use Rattle.command_engine.specs.declared.room.TheConstants.{POLL_BYTES};
+ghost use Rattle.driver_progress.specs.declared.room.TheConstants.{RESET_ACCESSES, SETTLE_ACCESSES};
 ghost use Rattle.driver_progress.specs.declared.phase.Phase.TheVariants as phases;
 ghost use Rattle.driver_progress.specs.Phases.{is_asking};
+ghost use Rattle.driver_bring_up.specs.declared.room.TheConstants.{BRING_UP_ACCESSES, BRING_UP_BYTES};
+ghost use Rattle.driver_bring_up.specs.declared.room.TheConstants.{BRING_UP_END_ACCESSES};
 ghost use Rattle.driver_bring_up.specs.Calls as spec;
 ghost use Rattle.driver_bring_up.specs.Told.{IsShut};
 ghost use Rattle.driver_bring_up.specs.Failing.{Fails, FailsLast};
@@ -21,12 +25,12 @@ impl BringUp {
     /// Resets the controller.
     pub(crate) fn reset<P: Platform>(&mut self, platform: &mut P)
         requires phase { self.old.phase ≡ phases.Reset }
-        requires room { 5 ≤ P.spare_accesses platform.old }
+        requires room { RESET_ACCESSES ≤ P.spare_accesses platform.old }
         ensures unfailed { self.new.phase ≢ phases.Failed }
         ensures leads { spec.LeadsUnread self.old self.new (P.told platform.old) (P.told platform.new) }
         ensures kept { spec.IsKept self.old self.new }
         ensures fixed { P.fixed platform.new ≡ P.fixed platform.old }
-        ensures accesses { P.spare_accesses platform.old ≤ P.spare_accesses platform.new + 5 }
+        ensures accesses { P.spare_accesses platform.old ≤ P.spare_accesses platform.new + RESET_ACCESSES }
         ensures bytes { P.spare_bytes platform.new ≡ P.spare_bytes platform.old }
     {
         if let Some(clock) = reset(platform) {
@@ -41,14 +45,14 @@ impl BringUp {
     /// Want of memory.
     pub(crate) fn settle<P: Platform>(&mut self, platform: &mut P) -> Result<(), AllocError>
         requires phase { self.old.phase ≡ phases.Settling }
-        requires room { 17 ≤ P.spare_accesses platform.old }
+        requires room { SETTLE_ACCESSES ≤ P.spare_accesses platform.old }
         ensures leads { OnOk result (spec.LeadsUnread self.old self.new (P.told platform.old) (P.told platform.new)) }
         ensures kept { spec.IsKept self.old self.new }
         ensures failed { OnErr result (self.new.phase ≡ phases.Failed) }
         ensures unfailed { OnOk result (self.old.phase ≢ phases.Failed → self.new.phase ≢ phases.Failed) }
         ensures wanting { OnErr result (Fails false self.old self.new (P.told platform.old) (P.told platform.new)) }
         ensures fixed { P.fixed platform.new ≡ P.fixed platform.old }
-        ensures accesses { P.spare_accesses platform.old ≤ P.spare_accesses platform.new + 17 }
+        ensures accesses { P.spare_accesses platform.old ≤ P.spare_accesses platform.new + SETTLE_ACCESSES }
         ensures bytes { P.spare_bytes platform.new ≡ P.spare_bytes platform.old }
     {
         match settle(platform, &mut self.engine, self.kept) {
@@ -75,8 +79,8 @@ impl BringUp {
     ) -> Result<(), AllocError>
         requires phase { is_asking self.old.phase ≡ true }
         requires few { self.old.looks < 1000000 }
-        requires room { 261 ≤ P.spare_accesses platform.old }
-        requires bytes_room { 2044 ≤ P.spare_bytes platform.old }
+        requires room { BRING_UP_ACCESSES ≤ P.spare_accesses platform.old }
+        requires bytes_room { BRING_UP_BYTES ≤ P.spare_bytes platform.old }
         ensures leads { OnOk result (spec.Leads (λ graph. T.IsPlanBy setter.now graph self.old.agenda.format)
             (λ graph plan. T.verbs_by setter.now graph plan self.old.agenda.format TAG) false self.old self.new
             (P.told platform.old) (P.told platform.new)) }
@@ -85,8 +89,8 @@ impl BringUp {
         ensures unfailed { OnOk result (self.old.phase ≢ phases.Failed → self.new.phase ≢ phases.Failed) }
         ensures wanting { OnErr result (Fails false self.old self.new (P.told platform.old) (P.told platform.new)) }
         ensures fixed { P.fixed platform.new ≡ P.fixed platform.old }
-        ensures accesses { P.spare_accesses platform.old ≤ P.spare_accesses platform.new + 261 }
-        ensures bytes { P.spare_bytes platform.old ≤ P.spare_bytes platform.new + 2044 }
+        ensures accesses { P.spare_accesses platform.old ≤ P.spare_accesses platform.new + BRING_UP_ACCESSES }
+        ensures bytes { P.spare_bytes platform.old ≤ P.spare_bytes platform.new + BRING_UP_BYTES }
     {
         let phase = self.phase;
         self.phase = Phase::Failed;
@@ -122,8 +126,8 @@ impl BringUp {
     ) -> Result<(), AllocError>
         requires phase { is_asking self.old.phase ≡ true }
         requires few { self.old.looks ≤ 1000000 }
-        requires room { 262 ≤ P.spare_accesses platform.old }
-        requires bytes_room { 2040 ≤ P.spare_bytes platform.old }
+        requires room { BRING_UP_END_ACCESSES ≤ P.spare_accesses platform.old }
+        requires bytes_room { POLL_BYTES ≤ P.spare_bytes platform.old }
         ensures ends { OnOk result (spec.Ends (λ graph. T.IsPlanBy setter.now graph self.old.agenda.format)
             (λ graph plan. T.verbs_by setter.now graph plan self.old.agenda.format TAG) self.old self.new
             (P.told platform.old) (P.told platform.new)) }
@@ -133,8 +137,8 @@ impl BringUp {
         ensures wanting { OnErr result (FailsLast self.old self.new (P.told platform.old) (P.told platform.new)) }
         ensures shut { OnErr result (IsShut (P.told platform.new)) }
         ensures fixed { P.fixed platform.new ≡ P.fixed platform.old }
-        ensures accesses { P.spare_accesses platform.old ≤ P.spare_accesses platform.new + 262 }
-        ensures bytes { P.spare_bytes platform.old ≤ P.spare_bytes platform.new + 2040 }
+        ensures accesses { P.spare_accesses platform.old ≤ P.spare_accesses platform.new + BRING_UP_END_ACCESSES }
+        ensures bytes { P.spare_bytes platform.old ≤ P.spare_bytes platform.new + POLL_BYTES }
     {
         let phase = self.phase;
         self.phase = Phase::Failed;

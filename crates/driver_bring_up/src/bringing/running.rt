@@ -1,7 +1,10 @@
 //! A call, a call for an interrupt, and the last one.
 ghost use Rattle.std.specs.Prelude.{◌≡◌, ◌≢◌, ◌≤◌, ◌<◌, ◌+◌, true, false, OnOk, OnErr};
+ghost use Rattle.command_engine.specs.declared.room.TheConstants.{POLL_ACCESSES, POLL_BYTES};
 ghost use Rattle.driver_progress.specs.declared.phase.Phase.TheVariants as phases;
 ghost use Rattle.driver_progress.specs.Phases as progress;
+ghost use Rattle.driver_bring_up.specs.declared.room.TheConstants.{BRING_UP_ACCESSES, BRING_UP_BYTES};
+ghost use Rattle.driver_bring_up.specs.declared.room.TheConstants.{BRING_UP_END_ACCESSES, BRING_UP_INTERRUPT_ACCESSES};
 ghost use Rattle.driver_bring_up.specs.Calls as spec;
 ghost use Rattle.driver_bring_up.specs.Told.{IsShut};
 ghost use Rattle.driver_bring_up.specs.Failing.{Fails, FailsLast};
@@ -28,8 +31,8 @@ impl BringUp {
         setter: &T,
     ) -> Result<(), AllocError>
         requires few { self.old.looks < 1000000 }
-        requires room { 261 ≤ P.spare_accesses platform.old }
-        requires bytes_room { 2044 ≤ P.spare_bytes platform.old }
+        requires room { BRING_UP_ACCESSES ≤ P.spare_accesses platform.old }
+        requires bytes_room { BRING_UP_BYTES ≤ P.spare_bytes platform.old }
         ensures leads { OnOk result (spec.Leads (λ graph. T.IsPlanBy setter.now graph self.old.agenda.format)
             (λ graph plan. T.verbs_by setter.now graph plan self.old.agenda.format TAG) false self.old self.new
             (P.told platform.old) (P.told platform.new)) }
@@ -39,8 +42,8 @@ impl BringUp {
         ensures wanting { OnErr result (Fails false self.old self.new (P.told platform.old) (P.told platform.new)) }
         ensures cause { OnErr result (spec.takes_memory self.old.phase ≡ true) }
         ensures fixed { P.fixed platform.new ≡ P.fixed platform.old }
-        ensures accesses { P.spare_accesses platform.old ≤ P.spare_accesses platform.new + 261 }
-        ensures bytes { P.spare_bytes platform.old ≤ P.spare_bytes platform.new + 2044 }
+        ensures accesses { P.spare_accesses platform.old ≤ P.spare_accesses platform.new + BRING_UP_ACCESSES }
+        ensures bytes { P.spare_bytes platform.old ≤ P.spare_bytes platform.new + BRING_UP_BYTES }
     {
         if self.phase.is_asking() {
             return self.command(platform, setter);
@@ -67,8 +70,8 @@ impl BringUp {
         setter: &T,
     ) -> Result<(), AllocError>
         requires few { self.old.looks < 1000000 }
-        requires room { 264 ≤ P.spare_accesses platform.old }
-        requires bytes_room { 2044 ≤ P.spare_bytes platform.old }
+        requires room { BRING_UP_INTERRUPT_ACCESSES ≤ P.spare_accesses platform.old }
+        requires bytes_room { BRING_UP_BYTES ≤ P.spare_bytes platform.old }
         ensures leads { OnOk result (spec.Leads (λ graph. T.IsPlanBy setter.now graph self.old.agenda.format)
             (λ graph plan. T.verbs_by setter.now graph plan self.old.agenda.format TAG) true self.old self.new
             (P.told platform.old) (P.told platform.new)) }
@@ -78,8 +81,8 @@ impl BringUp {
         ensures wanting { OnErr result (Fails true self.old self.new (P.told platform.old) (P.told platform.new)) }
         ensures cause { OnErr result (spec.takes_memory self.old.phase ≡ true) }
         ensures fixed { P.fixed platform.new ≡ P.fixed platform.old }
-        ensures accesses { P.spare_accesses platform.old ≤ P.spare_accesses platform.new + 264 }
-        ensures bytes { P.spare_bytes platform.old ≤ P.spare_bytes platform.new + 2044 }
+        ensures accesses { P.spare_accesses platform.old ≤ P.spare_accesses platform.new + BRING_UP_INTERRUPT_ACCESSES }
+        ensures bytes { P.spare_bytes platform.old ≤ P.spare_bytes platform.new + BRING_UP_BYTES }
     {
         if !self.phase.is_active() {
             return Ok(());
@@ -95,13 +98,13 @@ impl BringUp {
     pub fn listen<P: Platform>(&mut self, platform: &mut P)
         requires ready { self.old.phase ≡ phases.Ready }
         requires few { self.old.looks ≤ 1000000 }
-        requires room { 258 ≤ P.spare_accesses platform.old }
-        requires bytes_room { 2040 ≤ P.spare_bytes platform.old }
+        requires room { POLL_ACCESSES ≤ P.spare_accesses platform.old }
+        requires bytes_room { POLL_BYTES ≤ P.spare_bytes platform.old }
         ensures listens { spec.Listens self.old self.new (P.told platform.old) (P.told platform.new) }
         ensures kept { spec.IsKept self.old self.new }
         ensures fixed { P.fixed platform.new ≡ P.fixed platform.old }
-        ensures accesses { P.spare_accesses platform.old ≤ P.spare_accesses platform.new + 258 }
-        ensures bytes { P.spare_bytes platform.old ≤ P.spare_bytes platform.new + 2040 }
+        ensures accesses { P.spare_accesses platform.old ≤ P.spare_accesses platform.new + POLL_ACCESSES }
+        ensures bytes { P.spare_bytes platform.old ≤ P.spare_bytes platform.new + POLL_BYTES }
     {
         self.looks += 1;
         let _nothing_asked = self.engine.poll(platform, self.kept);
@@ -121,8 +124,8 @@ impl BringUp {
         setter: &T,
     ) -> Result<(), AllocError>
         requires few { self.old.looks ≤ 1000000 }
-        requires room { 262 ≤ P.spare_accesses platform.old }
-        requires bytes_room { 2040 ≤ P.spare_bytes platform.old }
+        requires room { BRING_UP_END_ACCESSES ≤ P.spare_accesses platform.old }
+        requires bytes_room { POLL_BYTES ≤ P.spare_bytes platform.old }
         ensures ends { OnOk result (spec.Ends (λ graph. T.IsPlanBy setter.now graph self.old.agenda.format)
             (λ graph plan. T.verbs_by setter.now graph plan self.old.agenda.format TAG) self.old self.new
             (P.told platform.old) (P.told platform.new)) }
@@ -133,8 +136,8 @@ impl BringUp {
         ensures cause { OnErr result (progress.is_asking self.old.phase ≡ true) }
         ensures shut { OnErr result (IsShut (P.told platform.new)) }
         ensures fixed { P.fixed platform.new ≡ P.fixed platform.old }
-        ensures accesses { P.spare_accesses platform.old ≤ P.spare_accesses platform.new + 262 }
-        ensures bytes { P.spare_bytes platform.old ≤ P.spare_bytes platform.new + 2040 }
+        ensures accesses { P.spare_accesses platform.old ≤ P.spare_accesses platform.new + BRING_UP_END_ACCESSES }
+        ensures bytes { P.spare_bytes platform.old ≤ P.spare_bytes platform.new + POLL_BYTES }
     {
         if self.phase.is_asking() {
             return self.end_commands(platform, setter);

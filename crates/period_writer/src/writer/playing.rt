@@ -6,6 +6,7 @@ ghost use Rattle.period_writer.specs.Playing.{stop_accesses};
 ghost use Rattle.period_writer.specs.Accounts.{Accounts};
 ghost use Rattle.period_writer.specs.Writers.{IsWriter, KeepsRing, measures_of, ring_size};
 ghost use Rattle.period_writer.specs.Calls as calls;
+ghost use Rattle.period_writer.specs.declared.room.TheConstants.{RUN_ACCESSES, TURN_ACCESSES};
 
 use super::Writer;
 use crate::course::Ran;
@@ -54,7 +55,7 @@ impl Writer {
         requires playing { self.old.course.ran ≡ Ran.Playing }
         requires enough { Suffices (ring_size self.old) budget supply.old }
         requires free { length self.old.runs < self.old.records }
-        requires room { 6 + self.old.geometry.periods ≤ P.spare_accesses platform.old }
+        requires room { RUN_ACCESSES + self.old.geometry.periods ≤ P.spare_accesses platform.old }
         requires bytes_room { ring_size self.old ≤ P.spare_bytes platform.old }
         ensures plays { calls.PlaysAny budget self.old self.new supply.old supply.new result
             (P.told platform.old) (P.told platform.new) }
@@ -67,7 +68,7 @@ impl Writer {
         ensures keeps { KeepsRing self.old self.new }
         ensures fixed { P.fixed platform.new ≡ P.fixed platform.old }
         ensures accesses { P.spare_accesses platform.old
-            ≤ P.spare_accesses platform.new + (6 + self.old.geometry.periods) }
+            ≤ P.spare_accesses platform.new + (RUN_ACCESSES + self.old.geometry.periods) }
         ensures bytes { P.spare_bytes platform.old ≤ P.spare_bytes platform.new + ring_size self.old }
     {
         let ran = self.take_turn(platform, supply, budget);
@@ -93,7 +94,7 @@ impl Writer {
         requires started { self.old.course.started ≡ true }
         requires playing { self.old.course.ran ≡ Ran.Playing }
         requires free { length self.old.runs < self.old.records }
-        requires room { 6 + self.old.geometry.periods ≤ P.spare_accesses platform.old }
+        requires room { RUN_ACCESSES + self.old.geometry.periods ≤ P.spare_accesses platform.old }
         requires bytes_room { ring_size self.old ≤ P.spare_bytes platform.old }
         ensures finishes { calls.FinishesAny self.old self.new supply.old result
             (P.told platform.old) (P.told platform.new) }
@@ -104,7 +105,7 @@ impl Writer {
         ensures keeps { KeepsRing self.old self.new }
         ensures fixed { P.fixed platform.new ≡ P.fixed platform.old }
         ensures accesses { P.spare_accesses platform.old
-            ≤ P.spare_accesses platform.new + (6 + self.old.geometry.periods) }
+            ≤ P.spare_accesses platform.new + (RUN_ACCESSES + self.old.geometry.periods) }
         ensures bytes { P.spare_bytes platform.old ≤ P.spare_bytes platform.new + ring_size self.old }
     {
         let ran = self.take_turn(platform, supply, 0);
@@ -118,7 +119,7 @@ impl Writer {
         requires playing { self.old.course.ran ≡ Ran.Playing }
         requires enough { Suffices (ring_size self.old) budget supply.old }
         requires free { length self.old.runs < self.old.records }
-        requires room { 5 + self.old.geometry.periods ≤ P.spare_accesses platform.old }
+        requires room { TURN_ACCESSES + self.old.geometry.periods ≤ P.spare_accesses platform.old }
         requires bytes_room { ring_size self.old ≤ P.spare_bytes platform.old }
         ensures turn { calls.TakesAnyTurn budget self.old self.new supply.old supply.new result
             (P.told platform.old) (P.told platform.new) }
@@ -131,7 +132,7 @@ impl Writer {
         ensures writer { IsWriter self.old }
         ensures fixed { P.fixed platform.new ≡ P.fixed platform.old }
         ensures accesses { P.spare_accesses platform.old
-            ≤ P.spare_accesses platform.new + (5 + self.old.geometry.periods) }
+            ≤ P.spare_accesses platform.new + (TURN_ACCESSES + self.old.geometry.periods) }
         ensures bytes { P.spare_bytes platform.old ≤ P.spare_bytes platform.new + ring_size self.old }
     {
         let from = platform.read(places::WALCLK, Width::Four);
