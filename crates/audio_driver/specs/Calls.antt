@@ -1,9 +1,6 @@
 -- What the calls of a driver do, by its setter, and whichever sound its supply may yet give. This project's own.
 use Rattle.std.specs.Prelude.{◌≡◌, ℕ, List, true, Bool, Option}
-use Rattle.verb_codes.specs.declared.verbs.Command.{Command}
-use Rattle.codec_graph.specs.declared.raw.RawCodec.{RawCodec}
-use Rattle.stream_format.specs.declared.format.Format.{Format}
-use Rattle.route_planner.specs.declared.routes.Plan.{Plan}
+use Rattle.route_setup.specs.Means.{Meaning}
 use Rattle.hda_world.specs.Tellings.{Telling}
 use Rattle.wav_reader.specs.Supplies.{Supplied, Suffices, MayGive, EndsWith, sound_before}
 use Rattle.period_writer.specs.Runs.{Tally}
@@ -34,22 +31,21 @@ abbrev pub EndsAny : (old ended : BringUp) → WriterState → Tally → Supplie
 EndsAny old ended writer tally' supply before after =
     (sound : List ℕ) → MayGive supply sound → EndsWith supply sound → EndsSound old ended writer tally' sound before after
 
--- ---- the codecs, which a setter sets up by its plans and their verbs
+-- ---- the codecs, which a setter sets up by what it means
 
-module _ {T : Type 0} (IsPlanBy : T → RawCodec → Format → Plan → Type 0) (verbs_by : T → RawCodec → Plan → Format → ℕ → List Command) where
+module _ {T : Type 0} (means : T → Meaning) where
   -- a call that does not play
   abbrev pub LeadsBy : (irq : Bool) → (old new : DriverState T) → (before after : Option Telling) → Type 0
   LeadsBy irq old new before after =
-      Leads (λ graph. IsPlanBy old.setter graph old.bring_up.agenda.format) (λ graph plan. verbs_by old.setter graph plan old.bring_up.agenda.format TAG)
-      irq old.bring_up new.bring_up before after
+      Leads (means old.setter old.bring_up.agenda.format TAG) irq old.bring_up new.bring_up before after
 
   -- the last call of a bring-up with this setter
   abbrev pub FinishesBy : T → (old new : BringUp) → (before after : Option Telling) → Type 0
   FinishesBy setter old new before after =
-      Ends (λ graph. IsPlanBy setter graph old.agenda.format) (λ graph plan. verbs_by setter graph plan old.agenda.format TAG) old new before after
+      Ends (means setter old.agenda.format TAG) old new before after
 
   -- what is left after the last call of a driver, with this sound to come
   abbrev pub ClosesBy : DriverState T → (sound : List ℕ) → Closed → (before after : Option Telling) → Type 0
   ClosesBy driver sound closed before after =
-      Closes (λ graph. IsPlanBy driver.setter graph driver.bring_up.agenda.format) (λ graph plan. verbs_by driver.setter graph plan driver.bring_up.agenda.format TAG)
-      driver.play driver.bring_up driver.writer sound closed before after
+      Closes (means driver.setter driver.bring_up.agenda.format TAG) driver.play driver.bring_up driver.writer sound closed
+      before after

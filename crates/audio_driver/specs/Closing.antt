@@ -3,6 +3,7 @@ use Rattle.std.specs.Prelude.{◌≡◌, ◌≤◌, true, false, ℕ, Bool, List
 use Rattle.verb_codes.specs.declared.verbs.Command.{Command}
 use Rattle.codec_graph.specs.declared.raw.RawCodec.{RawCodec}
 use Rattle.route_planner.specs.declared.routes.Plan.{Plan}
+use Rattle.route_setup.specs.Means.{Means}
 use Rattle.dma_pool.specs.Pools.{PoolState}
 use Rattle.hda_world.specs.Tellings.{Telling}
 use Rattle.command_engine.specs.declared.answers.Event as told
@@ -27,10 +28,10 @@ pub record GivesBack (geometry : Geometry) (pool : PoolState) (corb rirb list : 
 
 -- what is left: the bring-up as the last call leaves it, and what the writer recorded. Where calls play that is one for the sound, else it
 -- is the last call of the bring-up, and nothing more is recorded
-pub record Closes (IsPlanBy : RawCodec → Plan → Type 0) (verbs_by : RawCodec → Plan → List Command) (play : Bool) (bring_up : BringUp) (writer : WriterState) (supply : List ℕ) (closed : Closed) (before after : Option Telling) : Type 0 where
+pub record Closes (means : Means) (play : Bool) (bring_up : BringUp) (writer : WriterState) (supply : List ℕ) (closed : Closed) (before after : Option Telling) : Type 0 where
   pub ended : BringUp
   pub tally : Tally
-  pub ends : plays_now play bring_up ≡ false → Ends IsPlanBy verbs_by bring_up ended before after
+  pub ends : plays_now play bring_up ≡ false → Ends means bring_up ended before after
   pub recorded : plays_now play bring_up ≡ false → tally ≡ tally_of writer
   pub sounds : plays_now play bring_up ≡ true → EndsSound bring_up ended writer tally supply before after
   pub grows : writer.course.used ≤ tally.course.used

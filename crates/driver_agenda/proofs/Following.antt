@@ -13,6 +13,7 @@ use Rattle.verb_codes.specs.declared.verbs.Command.{Command}
 use Rattle.codec_graph.specs.declared.raw.RawCodec.{RawCodec}
 use Rattle.codec_graph.specs.Cycles.{IsWellFormed}
 use Rattle.route_planner.specs.declared.routes.Plan.{Plan}
+use Rattle.route_setup.specs.Means.{Means}
 use Rattle.codec_walk.specs.declared.walk.Walk.{Walk}
 use Rattle.codec_walk.specs.declared.fault.WalkError.{WalkError}
 use Rattle.codec_walk.specs.declared.fault.WalkError.TheVariants.{Malformed, OutOfMemory}
@@ -90,49 +91,49 @@ next_walked asks verbs graphs count agenda under_way all stands =
     ∙ asks stands.current stands.words (current_well graphs stands.done stands.rest stands.current stands.split all) stands.replies
     ∙ sym (place_among verbs graphs stands.done stands.rest stands.current (length stands.words) count stands.split stands.few stands.count_is)
 
-next_by : Asks → (P : RawCodec → Plan → Type 0) (verbs : RawCodec → List Command) (graphs : List RawCodec) (count : ℕ) (agenda : Agenda) (walks : Option Walk) → All IsWellFormed graphs
-    → FollowsBy P verbs graphs count agenda walks → next_of walks agenda.verbs.items agenda.answered ≡ slice_get (commands_of verbs graphs) count
-next_by asks P verbs graphs count agenda (Some under_way) all stands = next_walked asks verbs graphs count agenda under_way all stands
-next_by asks P verbs graphs count agenda None all stands =
+next_by : Asks → (means : Means) (verbs : RawCodec → List Command) (graphs : List RawCodec) (count : ℕ) (agenda : Agenda) (walks : Option Walk) → All IsWellFormed graphs
+    → FollowsBy means verbs graphs count agenda walks → next_of walks agenda.verbs.items agenda.answered ≡ slice_get (commands_of verbs graphs) count
+next_by asks means verbs graphs count agenda (Some under_way) all stands = next_walked asks verbs graphs count agenda under_way all stands
+next_by asks means verbs graphs count agenda None all stands =
     ap (λ (all : List Command). slice_get all agenda.answered) stands.verbs_are
     ∙ sym (get_back (walked graphs) (flat_map verbs graphs) agenda.answered count stands.count_is)
 
-pub next_follows : Asks → (P : RawCodec → Plan → Type 0) (verbs : RawCodec → List Command) (graphs : List RawCodec) (count : ℕ) (agenda : Agenda) → All IsWellFormed graphs
-    → Follows P verbs graphs count agenda → next_of agenda.walk agenda.verbs.items agenda.answered ≡ slice_get (commands_of verbs graphs) count
-next_follows asks P verbs graphs count agenda all follows = next_by asks P verbs graphs count agenda agenda.walk all follows.stands
+pub next_follows : Asks → (means : Means) (verbs : RawCodec → List Command) (graphs : List RawCodec) (count : ℕ) (agenda : Agenda) → All IsWellFormed graphs
+    → Follows means verbs graphs count agenda → next_of agenda.walk agenda.verbs.items agenda.answered ≡ slice_get (commands_of verbs graphs) count
+next_follows asks means verbs graphs count agenda all follows = next_by asks means verbs graphs count agenda agenda.walk all follows.stands
 
 -- ---- where an answer leads
 
 -- a dialogue that asks leads on
-asks_lead : (P : RawCodec → Plan → Type 0) (v : RawCodec → Plan → List Command) (dialogue : Dialogue) (command : Command) (addresses : List ℕ) (graphs : List RawCodec) (new : Agenda)
-    → question dialogue ≡ Some command → LedByDialogue P v dialogue addresses graphs new → WalksOn dialogue graphs new
-asks_lead P v (Ask asked rest) command addresses graphs new is led = led
-asks_lead P v (Told codec) command addresses graphs new is led = absurd (no_question command is)
+asks_lead : (means : Means) (dialogue : Dialogue) (command : Command) (addresses : List ℕ) (graphs : List RawCodec) (new : Agenda)
+    → question dialogue ≡ Some command → LedByDialogue means dialogue addresses graphs new → WalksOn dialogue graphs new
+asks_lead means (Ask asked rest) command addresses graphs new is led = led
+asks_lead means (Told codec) command addresses graphs new is led = absurd (no_question command is)
   where
     no_question : (command : Command) → None ≡ Some command → ⊥
     no_question command is = cc
 
 -- the verbs of graphs by their plans are the graphs'
-verbs_same : (P : RawCodec → Plan → Type 0) (v : RawCodec → Plan → List Command) (verbs : RawCodec → List Command) (graphs : List RawCodec) (plans : List Plan)
-    → All (λ (graph : RawCodec). (plan : Plan) → P graph plan → verbs graph ≡ v graph plan) graphs → ArePlansBy P graphs plans → verbs_for v graphs plans ≡ flat_map verbs graphs
-verbs_same P v verbs [] [] are plans_are = refl
-verbs_same P v verbs [] (plan ∷ plans) are plans_are = absurd plans_are
-verbs_same P v verbs (graph ∷ graphs) [] are plans_are = absurd plans_are
-verbs_same P v verbs (graph ∷ graphs) (plan ∷ plans) are plans_are =
-    let Is : RawCodec → Type 0 = λ graph. (plan : Plan) → P graph plan → verbs graph ≡ v graph plan in
-    ap (λ (first : List Command). first ++ verbs_for v graphs plans) (sym (All-head Is graph graphs are plan plans_are.0))
-    ∙ ap (λ (rest : List Command). verbs graph ++ rest) (verbs_same P v verbs graphs plans (All-tail Is graph graphs are) plans_are.1)
+verbs_same : (means : Means) (verbs : RawCodec → List Command) (graphs : List RawCodec) (plans : List Plan)
+    → All (λ (graph : RawCodec). (plan : Plan) → means.IsPlanBy graph plan → verbs graph ≡ means.verbs_by graph plan) graphs → ArePlansBy means.IsPlanBy graphs plans → verbs_for means.verbs_by graphs plans ≡ flat_map verbs graphs
+verbs_same means verbs [] [] are plans_are = refl
+verbs_same means verbs [] (plan ∷ plans) are plans_are = absurd plans_are
+verbs_same means verbs (graph ∷ graphs) [] are plans_are = absurd plans_are
+verbs_same means verbs (graph ∷ graphs) (plan ∷ plans) are plans_are =
+    let Is : RawCodec → Type 0 = λ graph. (plan : Plan) → means.IsPlanBy graph plan → verbs graph ≡ means.verbs_by graph plan in
+    ap (λ (first : List Command). first ++ verbs_for means.verbs_by graphs plans) (sym (All-head Is graph graphs are plan plans_are.0))
+    ∙ ap (λ (rest : List Command). verbs graph ++ rest) (verbs_same means verbs graphs plans (All-tail Is graph graphs are) plans_are.1)
 
 -- the walk over the next codec
-begins_next : Counts → (P : RawCodec → Plan → Type 0) (verbs : RawCodec → List Command) (graphs done rest : List RawCodec) (next : RawCodec) (addresses : List ℕ) (count : ℕ) (new : Agenda)
-    → graphs ≡ done ++ next ∷ rest → addresses ≡ map (λ (graph : RawCodec). graph.address) graphs → count ≡ length (walked done) → BeginsWalk addresses done new → FollowsBy P verbs graphs count new new.walk
-begins_next counts P verbs graphs done rest next addresses count new split are is begins =
+begins_next : Counts → (means : Means) (verbs : RawCodec → List Command) (graphs done rest : List RawCodec) (next : RawCodec) (addresses : List ℕ) (count : ℕ) (new : Agenda)
+    → graphs ≡ done ++ next ∷ rest → addresses ≡ map (λ (graph : RawCodec). graph.address) graphs → count ≡ length (walked done) → BeginsWalk addresses done new → FollowsBy means verbs graphs count new new.walk
+begins_next counts means verbs graphs done rest next addresses count new split are is begins =
     let placed : slice_index addresses (length done) ≡ next.address =
     ap (λ (all : List ℕ). slice_index all (length done)) (are ∙ ap (map (λ (graph : RawCodec). graph.address)) split ∙ map-append (λ (graph : RawCodec). graph.address) done (next ∷ rest))
     ∙ ap (slice_index (map (λ (graph : RawCodec). graph.address) done ++ next.address ∷ map (λ (graph : RawCodec). graph.address) rest)) (sym (length-map done (λ (graph : RawCodec). graph.address)))
     ∙ get_or-append_seam (map (λ (graph : RawCodec). graph.address) done) next.address (map (λ (graph : RawCodec). graph.address) rest) 0 in
     let some = counts next in
-    subst (FollowsBy P verbs graphs count new) (sym begins.is) (record {
+    subst (FollowsBy means verbs graphs count new) (sym begins.is) (record {
       done = done;
       current = next;
       rest = rest;
@@ -145,34 +146,34 @@ begins_next counts P verbs graphs done rest next addresses count new split are i
       count_is = omega (arith, is);
     })
 
-begins_verbs : (P : RawCodec → Plan → Type 0) (v : RawCodec → Plan → List Command) (verbs : RawCodec → List Command) (graphs : List RawCodec) (count : ℕ) (new : Agenda) → AreRight P v verbs graphs
-    → count ≡ length (walked graphs) → BeginsVerbs P v graphs new → FollowsBy P verbs graphs count new new.walk
-begins_verbs P v verbs graphs count new right is begins =
-    subst (FollowsBy P verbs graphs count new) (sym begins.no_walk) (record {
+begins_verbs : (means : Means) (verbs : RawCodec → List Command) (graphs : List RawCodec) (count : ℕ) (new : Agenda) → AreRight means verbs graphs
+    → count ≡ length (walked graphs) → BeginsVerbs means graphs new → FollowsBy means verbs graphs count new new.walk
+begins_verbs means verbs graphs count new right is begins =
+    subst (FollowsBy means verbs graphs count new) (sym begins.no_walk) (record {
       graphs_are = begins.graphs_are;
       plans = begins.plans;
-      verbs_are = begins.verbs ∙ verbs_same P v verbs graphs new.plans.items right.verbs_are begins.plans;
+      verbs_are = begins.verbs ∙ verbs_same means verbs graphs new.plans.items right.verbs_are begins.plans;
       count_is = let none = begins.none in omega (arith, is, none);
     })
 
 -- what comes after the walk over a codec
-goes_on_by : Counts → (P : RawCodec → Plan → Type 0) (v : RawCodec → Plan → List Command) (verbs : RawCodec → List Command) (graphs done rest : List RawCodec) (addresses : List ℕ) (count : ℕ) (new : Agenda)
-    → AreRight P v verbs graphs → graphs ≡ done ++ rest → addresses ≡ map (λ (graph : RawCodec). graph.address) graphs → count ≡ length (walked done) → GoesOn P v addresses done new
-    → FollowsBy P verbs graphs count new new.walk
-goes_on_by counts P v verbs graphs done [] addresses count new right split are is goes =
+goes_on_by : Counts → (means : Means) (verbs : RawCodec → List Command) (graphs done rest : List RawCodec) (addresses : List ℕ) (count : ℕ) (new : Agenda)
+    → AreRight means verbs graphs → graphs ≡ done ++ rest → addresses ≡ map (λ (graph : RawCodec). graph.address) graphs → count ≡ length (walked done) → GoesOn means addresses done new
+    → FollowsBy means verbs graphs count new new.walk
+goes_on_by counts means verbs graphs done [] addresses count new right split are is goes =
     let all : graphs ≡ done = split ∙ append-nil done in
     let same : length addresses ≡ length done = ap length are ∙ length-map graphs (λ (graph : RawCodec). graph.address) ∙ ap length all in
-    let begins : BeginsVerbs P v done new = goes.1 (omega (arith, same)) in
-    begins_verbs P v verbs graphs count new right (is ∙ ap (λ (graphs : List RawCodec). length (walked graphs)) (sym all)) (subst (λ (graphs : List RawCodec). BeginsVerbs P v graphs new) (sym all) begins)
-goes_on_by counts P v verbs graphs done (next ∷ rest) addresses count new right split are is goes =
+    let begins : BeginsVerbs means done new = goes.1 (omega (arith, same)) in
+    begins_verbs means verbs graphs count new right (is ∙ ap (λ (graphs : List RawCodec). length (walked graphs)) (sym all)) (subst (λ (graphs : List RawCodec). BeginsVerbs means graphs new) (sym all) begins)
+goes_on_by counts means verbs graphs done (next ∷ rest) addresses count new right split are is goes =
     let long = length-append done (next ∷ rest) in
     let same : length addresses ≡ length (done ++ next ∷ rest) = ap length are ∙ length-map graphs (λ (graph : RawCodec). graph.address) ∙ ap length split in
-    begins_next counts P verbs graphs done rest next addresses count new split are is (goes.0 (omega (arith, long, same)))
+    begins_next counts means verbs graphs done rest next addresses count new split are is (goes.0 (omega (arith, long, same)))
 
 -- ---- an answer to the current walk
 
-module _ (asks : Asks) (tells : Tells) (counts : Counts) (P : RawCodec → Plan → Type 0) (v : RawCodec → Plan → List Command) (verbs : RawCodec → List Command) (graphs : List RawCodec)
-    (right : AreRight P v verbs graphs) (count answer : ℕ) (old : Agenda) (under_way : Walk) (stands : FollowsWalk graphs count old under_way)
+module _ (asks : Asks) (tells : Tells) (counts : Counts) (means : Means) (verbs : RawCodec → List Command) (graphs : List RawCodec)
+    (right : AreRight means verbs graphs) (count answer : ℕ) (old : Agenda) (under_way : Walk) (stands : FollowsWalk graphs count old under_way)
     (reply : (command : Command) → slice_get (commands_of verbs graphs) count ≡ Some command → CanReply graphs command answer) where
   well : IsWellFormed stands.current
   well = current_well graphs stands.done stands.rest stands.current stands.split right.well_formed
@@ -209,7 +210,7 @@ module _ (asks : Asks) (tells : Tells) (counts : Counts) (P : RawCodec → Plan 
       ∙ slice_get-get_or (walk_commands stands.current) (length stands.words + 1) (codec_command stands.current Vendor) more
 
   pub led_walk : (addresses : List ℕ) (new : Agenda) → addresses ≡ map (λ (graph : RawCodec). graph.address) graphs
-      → LedByDialogue P v (answered (remaining under_way) answer) addresses old.graphs.items new → FollowsBy P verbs graphs (count + 1) new new.walk
+      → LedByDialogue means (answered (remaining under_way) answer) addresses old.graphs.items new → FollowsBy means verbs graphs (count + 1) new new.walk
   led_walk addresses new are led = by (cases_lt (length stands.words + 1) (length (walk_commands stands.current)))
     where
       whole : length (walked (stands.done ++ stands.current ∷ [])) ≡ length (walked stands.done) + length (walk_commands stands.current)
@@ -217,12 +218,12 @@ module _ (asks : Asks) (tells : Tells) (counts : Counts) (P : RawCodec → Plan 
           let long = length-append (walked stands.done) (walk_commands stands.current) in
           ap length (flat_map-append walk_commands stands.done (stands.current ∷ []) ∙ ap (λ (last : List Command). walked stands.done ++ last) (append-nil (walk_commands stands.current))) ∙ long
 
-      by : (length stands.words + 1 < length (walk_commands stands.current)) ⊎ (length (walk_commands stands.current) ≤ length stands.words + 1) → FollowsBy P verbs graphs (count + 1) new new.walk
+      by : (length stands.words + 1 < length (walk_commands stands.current)) ⊎ (length (walk_commands stands.current) ≤ length stands.words + 1) → FollowsBy means verbs graphs (count + 1) new new.walk
       by (inl more) =
-          let on = asks_lead P v (answered (remaining under_way) answer) _ addresses old.graphs.items new (asks_next more) led in
+          let on = asks_lead means (answered (remaining under_way) answer) _ addresses old.graphs.items new (asks_next more) led in
           let long = long_after in
           let is = stands.count_is in
-          subst (FollowsBy P verbs graphs (count + 1) new) (sym on.is) (record {
+          subst (FollowsBy means verbs graphs (count + 1) new) (sym on.is) (record {
             done = stands.done;
             current = stands.current;
             rest = stands.rest;
@@ -236,14 +237,14 @@ module _ (asks : Asks) (tells : Tells) (counts : Counts) (P : RawCodec → Plan 
           })
       by (inr last) =
           let (codec, told, good) = told_current last in
-          let ends : WalkEnds P v codec addresses old.graphs.items new = subst (λ (dialogue : Dialogue). LedByDialogue P v dialogue addresses old.graphs.items new) told led in
+          let ends : WalkEnds means codec addresses old.graphs.items new = subst (λ (dialogue : Dialogue). LedByDialogue means dialogue addresses old.graphs.items new) told led in
           let same : ends.graph ≡ stands.current = ends.good.value ∙ sym good.value in
-          let goes : GoesOn P v addresses (stands.done ++ stands.current ∷ []) new =
-          subst (λ (graphs : List RawCodec). GoesOn P v addresses graphs new) (ap (λ (done : List RawCodec). done ++ ends.graph ∷ []) stands.graphs_are ∙ ap (λ (graph : RawCodec). stands.done ++ graph ∷ []) same) ends.goes_on in
+          let goes : GoesOn means addresses (stands.done ++ stands.current ∷ []) new =
+          subst (λ (graphs : List RawCodec). GoesOn means addresses graphs new) (ap (λ (done : List RawCodec). done ++ ends.graph ∷ []) stands.graphs_are ∙ ap (λ (graph : RawCodec). stands.done ++ graph ∷ []) same) ends.goes_on in
           let is = stands.count_is in
           let few = stands.few in
           let all = whole in
-          goes_on_by counts P v verbs graphs (stands.done ++ stands.current ∷ []) stands.rest addresses (count + 1) new right
+          goes_on_by counts means verbs graphs (stands.done ++ stands.current ∷ []) stands.rest addresses (count + 1) new right
           (stands.split ∙ sym (append_assoc stands.done (stands.current ∷ []) stands.rest)) are (omega (arith, is, few, last, all)) goes
 
   -- where words were told, they are all of them
@@ -274,7 +275,7 @@ module _ (asks : Asks) (tells : Tells) (counts : Counts) (P : RawCodec → Plan 
 
   -- and where they are the last codec's, some plan has a route
   pub has_route_left : (addresses : List ℕ) (new : Agenda) → addresses ≡ map (λ (graph : RawCodec). graph.address) graphs
-      → EndsLast P (answered (remaining under_way) answer) addresses old.graphs.items new → ⊥
+      → EndsLast means (answered (remaining under_way) answer) addresses old.graphs.items new → ⊥
   has_route_left addresses new are ends =
       let (codec, told, good) = ends.gives in
       let (codec', told', good') = told_current (all_told codec told) in
@@ -289,7 +290,7 @@ module _ (asks : Asks) (tells : Tells) (counts : Counts) (P : RawCodec → Plan 
       let all : old.graphs.items ++ ends.graph ∷ [] ≡ graphs =
       ap (λ (done : List RawCodec). done ++ ends.graph ∷ []) stands.graphs_are ∙ ap (λ (graph : RawCodec). stands.done ++ graph ∷ []) one
       ∙ ap (λ (rest : List RawCodec). stands.done ++ stands.current ∷ rest) (sym none_left) ∙ sym stands.split in
-      both (right.routed new.plans.items (subst (λ (graphs : List RawCodec). ArePlansBy P graphs new.plans.items) all ends.nothing.plans)) ends.nothing.none
+      both (right.routed new.plans.items (subst (λ (graphs : List RawCodec). ArePlansBy means.IsPlanBy graphs new.plans.items) all ends.nothing.plans)) ends.nothing.none
     where
       no_rest : (rest : List RawCodec) → length rest ≡ 0 → rest ≡ []
       no_rest [] is = refl
@@ -311,58 +312,58 @@ walks_on graphs count agenda under_way stands =
     let is = stands.count_is in
     omega (arith, all, later, few, is)
 
-led_by : Asks → Tells → Counts → (P : RawCodec → Plan → Type 0) (v : RawCodec → Plan → List Command) (verbs : RawCodec → List Command) (graphs : List RawCodec) → AreRight P v verbs graphs
-    → (count answer : ℕ) (old new : Agenda) (walks : Option Walk) → FollowsBy P verbs graphs count old walks → old.addresses.items ≡ map (λ (graph : RawCodec). graph.address) graphs
-    → (count < length (flat_map walk_commands graphs) → (command : Command) → slice_get (commands_of verbs graphs) count ≡ Some command → CanReply graphs command answer) → LedBy P v walks answer old new → FollowsBy P verbs graphs (count + 1) new new.walk
-led_by asks tells counts P v verbs graphs right count answer old new (Some under_way) stands are reply led =
-    led_walk asks tells counts P v verbs graphs right count answer old under_way stands (reply (walks_on graphs count old under_way stands)) old.addresses.items new are led
-led_by asks tells counts P v verbs graphs right count answer old new None stands are reply led =
-    subst (FollowsBy P verbs graphs (count + 1) new) (sym led.no_walk) (record {
+led_by : Asks → Tells → Counts → (means : Means) (verbs : RawCodec → List Command) (graphs : List RawCodec) → AreRight means verbs graphs
+    → (count answer : ℕ) (old new : Agenda) (walks : Option Walk) → FollowsBy means verbs graphs count old walks → old.addresses.items ≡ map (λ (graph : RawCodec). graph.address) graphs
+    → (count < length (flat_map walk_commands graphs) → (command : Command) → slice_get (commands_of verbs graphs) count ≡ Some command → CanReply graphs command answer) → LedBy means walks answer old new → FollowsBy means verbs graphs (count + 1) new new.walk
+led_by asks tells counts means verbs graphs right count answer old new (Some under_way) stands are reply led =
+    led_walk asks tells counts means verbs graphs right count answer old under_way stands (reply (walks_on graphs count old under_way stands)) old.addresses.items new are led
+led_by asks tells counts means verbs graphs right count answer old new None stands are reply led =
+    subst (FollowsBy means verbs graphs (count + 1) new) (sym led.no_walk) (record {
       graphs_are = led.graphs ∙ stands.graphs_are;
-      plans = subst (λ (plans : List Plan). ArePlansBy P graphs plans) (sym led.plans) stands.plans;
+      plans = subst (λ (plans : List Plan). ArePlansBy means.IsPlanBy graphs plans) (sym led.plans) stands.plans;
       verbs_are = led.verbs ∙ stands.verbs_are;
       count_is = let is = stands.count_is in let more = led.one_more in omega (arith, is, more);
     })
 
-pub leads_follow : Asks → Tells → Counts → (P : RawCodec → Plan → Type 0) (v : RawCodec → Plan → List Command) (verbs : RawCodec → List Command) (graphs : List RawCodec) → AreRight P v verbs graphs
-    → (count answer : ℕ) (old new : Agenda) → Follows P verbs graphs count old → (count < length (flat_map walk_commands graphs) → (command : Command) → slice_get (commands_of verbs graphs) count ≡ Some command → CanReply graphs command answer)
-    → LedBy P v old.walk answer old new → new.addresses ≡ old.addresses → Follows P verbs graphs (count + 1) new
-leads_follow asks tells counts P v verbs graphs right count answer old new follows reply led same = record {
+pub leads_follow : Asks → Tells → Counts → (means : Means) (verbs : RawCodec → List Command) (graphs : List RawCodec) → AreRight means verbs graphs
+    → (count answer : ℕ) (old new : Agenda) → Follows means verbs graphs count old → (count < length (flat_map walk_commands graphs) → (command : Command) → slice_get (commands_of verbs graphs) count ≡ Some command → CanReply graphs command answer)
+    → LedBy means old.walk answer old new → new.addresses ≡ old.addresses → Follows means verbs graphs (count + 1) new
+leads_follow asks tells counts means verbs graphs right count answer old new follows reply led same = record {
   addresses = ap (λ addresses. addresses.items) same ∙ follows.addresses;
-  stands = led_by asks tells counts P v verbs graphs right count answer old new old.walk follows.stands follows.addresses reply led;
+  stands = led_by asks tells counts means verbs graphs right count answer old new old.walk follows.stands follows.addresses reply led;
 }
 
-pub begins_follow : Counts → (P : RawCodec → Plan → Type 0) (verbs : RawCodec → List Command) (first : RawCodec) (rest : List RawCodec) (agenda : Agenda)
-    → agenda.addresses.items ≡ map (λ (graph : RawCodec). graph.address) (first ∷ rest) → BeginsWalk agenda.addresses.items [] agenda → Follows P verbs (first ∷ rest) 0 agenda
-begins_follow counts P verbs first rest agenda are begins = record {
+pub begins_follow : Counts → (means : Means) (verbs : RawCodec → List Command) (first : RawCodec) (rest : List RawCodec) (agenda : Agenda)
+    → agenda.addresses.items ≡ map (λ (graph : RawCodec). graph.address) (first ∷ rest) → BeginsWalk agenda.addresses.items [] agenda → Follows means verbs (first ∷ rest) 0 agenda
+begins_follow counts means verbs first rest agenda are begins = record {
   addresses = are;
-  stands = begins_next counts P verbs (first ∷ rest) [] rest first agenda.addresses.items 0 agenda refl are refl begins;
+  stands = begins_next counts means verbs (first ∷ rest) [] rest first agenda.addresses.items 0 agenda refl are refl begins;
 }
 
-fault_by : Asks → Tells → Counts → AreOne → (P : RawCodec → Plan → Type 0) (v : RawCodec → Plan → List Command) (verbs : RawCodec → List Command) (graphs : List RawCodec) → AreRight P v verbs graphs
-    → (count answer : ℕ) (old : Agenda) (walks : Option Walk) (fault : WalkFault) → FollowsBy P verbs graphs count old walks
+fault_by : Asks → Tells → Counts → AreOne → (means : Means) (verbs : RawCodec → List Command) (graphs : List RawCodec) → AreRight means verbs graphs
+    → (count answer : ℕ) (old : Agenda) (walks : Option Walk) (fault : WalkFault) → FollowsBy means verbs graphs count old walks
     → (count < length (flat_map walk_commands graphs) → (command : Command) → slice_get (commands_of verbs graphs) count ≡ Some command → CanReply graphs command answer) → TellsFault walks answer fault → ⊥
-fault_by asks tells counts one P v verbs graphs right count answer old (Some under_way) fault stands reply faulty =
-    no_fault asks tells counts P v verbs graphs right count answer old under_way stands (reply (walks_on graphs count old under_way stands)) fault one faulty
-fault_by asks tells counts one P v verbs graphs right count answer old None fault stands reply faulty = faulty
+fault_by asks tells counts one means verbs graphs right count answer old (Some under_way) fault stands reply faulty =
+    no_fault asks tells counts means verbs graphs right count answer old under_way stands (reply (walks_on graphs count old under_way stands)) fault one faulty
+fault_by asks tells counts one means verbs graphs right count answer old None fault stands reply faulty = faulty
 
-pub fault_never : Asks → Tells → Counts → AreOne → (P : RawCodec → Plan → Type 0) (v : RawCodec → Plan → List Command) (verbs : RawCodec → List Command) (graphs : List RawCodec) → AreRight P v verbs graphs
-    → (count answer : ℕ) (old : Agenda) (fault : WalkFault) → Follows P verbs graphs count old
+pub fault_never : Asks → Tells → Counts → AreOne → (means : Means) (verbs : RawCodec → List Command) (graphs : List RawCodec) → AreRight means verbs graphs
+    → (count answer : ℕ) (old : Agenda) (fault : WalkFault) → Follows means verbs graphs count old
     → (count < length (flat_map walk_commands graphs) → (command : Command) → slice_get (commands_of verbs graphs) count ≡ Some command → CanReply graphs command answer) → TellsFault old.walk answer fault → ⊥
-fault_never asks tells counts one P v verbs graphs right count answer old fault follows reply faulty =
-    fault_by asks tells counts one P v verbs graphs right count answer old old.walk fault follows.stands reply faulty
+fault_never asks tells counts one means verbs graphs right count answer old fault follows reply faulty =
+    fault_by asks tells counts one means verbs graphs right count answer old old.walk fault follows.stands reply faulty
 
-route_by : Asks → Tells → Counts → (P : RawCodec → Plan → Type 0) (v : RawCodec → Plan → List Command) (verbs : RawCodec → List Command) (graphs : List RawCodec) → AreRight P v verbs graphs
-    → (count answer : ℕ) (old new : Agenda) (walks : Option Walk) → FollowsBy P verbs graphs count old walks → old.addresses.items ≡ map (λ (graph : RawCodec). graph.address) graphs
+route_by : Asks → Tells → Counts → (means : Means) (verbs : RawCodec → List Command) (graphs : List RawCodec) → AreRight means verbs graphs
+    → (count answer : ℕ) (old new : Agenda) (walks : Option Walk) → FollowsBy means verbs graphs count old walks → old.addresses.items ≡ map (λ (graph : RawCodec). graph.address) graphs
     → (count < length (flat_map walk_commands graphs) → (command : Command) → slice_get (commands_of verbs graphs) count ≡ Some command → CanReply graphs command answer)
-    → TellsNoRoute P walks answer old.addresses.items old.graphs.items new → ⊥
-route_by asks tells counts P v verbs graphs right count answer old new (Some under_way) stands are reply nothing =
-    has_route_left asks tells counts P v verbs graphs right count answer old under_way stands (reply (walks_on graphs count old under_way stands)) old.addresses.items new are nothing
-route_by asks tells counts P v verbs graphs right count answer old new None stands are reply nothing = nothing
+    → TellsNoRoute means walks answer old.addresses.items old.graphs.items new → ⊥
+route_by asks tells counts means verbs graphs right count answer old new (Some under_way) stands are reply nothing =
+    has_route_left asks tells counts means verbs graphs right count answer old under_way stands (reply (walks_on graphs count old under_way stands)) old.addresses.items new are nothing
+route_by asks tells counts means verbs graphs right count answer old new None stands are reply nothing = nothing
 
-pub route_there : Asks → Tells → Counts → (P : RawCodec → Plan → Type 0) (v : RawCodec → Plan → List Command) (verbs : RawCodec → List Command) (graphs : List RawCodec) → AreRight P v verbs graphs
-    → (count answer : ℕ) (old new : Agenda) → Follows P verbs graphs count old
+pub route_there : Asks → Tells → Counts → (means : Means) (verbs : RawCodec → List Command) (graphs : List RawCodec) → AreRight means verbs graphs
+    → (count answer : ℕ) (old new : Agenda) → Follows means verbs graphs count old
     → (count < length (flat_map walk_commands graphs) → (command : Command) → slice_get (commands_of verbs graphs) count ≡ Some command → CanReply graphs command answer)
-    → TellsNoRoute P old.walk answer old.addresses.items old.graphs.items new → ⊥
-route_there asks tells counts P v verbs graphs right count answer old new follows reply nothing =
-    route_by asks tells counts P v verbs graphs right count answer old new old.walk follows.stands follows.addresses reply nothing
+    → TellsNoRoute means old.walk answer old.addresses.items old.graphs.items new → ⊥
+route_there asks tells counts means verbs graphs right count answer old new follows reply nothing =
+    route_by asks tells counts means verbs graphs right count answer old new old.walk follows.stands follows.addresses reply nothing

@@ -5,23 +5,24 @@ use Rattle.std.proofs.lemmas.List.Elements.{All-append, All-cons, All-nil}
 use Rattle.verb_codes.specs.declared.verbs.Command.{Command}
 use Rattle.codec_graph.specs.declared.raw.RawCodec.{RawCodec}
 use Rattle.route_planner.specs.declared.routes.Plan.{Plan}
+use Rattle.route_setup.specs.Means.{Means}
 use Rattle.codec_walk.specs.Dialogues.{Dialogue, Ask, Told, question}
 use Rattle.codec_walk.specs.Walks.{unknown}
 use Rattle.driver_agenda.specs.declared.agenda.Agenda.{Agenda}
 use Rattle.driver_agenda.specs.Agendas.{GoesOn, WalksOn, LedByDialogue, GivesGraph}
 
-pub walk_ends : (P : RawCodec → Plan → Type 0) (v : RawCodec → Plan → List Command) (dialogue : Dialogue) (graph : RawCodec) (addresses : List ℕ) (graphs : List RawCodec) (new : Agenda)
-    → GivesGraph dialogue graph → GoesOn P v addresses (graphs ++ graph ∷ []) new → LedByDialogue P v dialogue addresses graphs new
-walk_ends P v dialogue graph addresses graphs new (codec, told, good) goes =
-    subst (λ (dialogue : Dialogue). LedByDialogue P v dialogue addresses graphs new) (sym told) (record { graph = graph; good = good; goes_on = goes })
+pub walk_ends : (means : Means) (dialogue : Dialogue) (graph : RawCodec) (addresses : List ℕ) (graphs : List RawCodec) (new : Agenda)
+    → GivesGraph dialogue graph → GoesOn means addresses (graphs ++ graph ∷ []) new → LedByDialogue means dialogue addresses graphs new
+walk_ends means dialogue graph addresses graphs new (codec, told, good) goes =
+    subst (λ (dialogue : Dialogue). LedByDialogue means dialogue addresses graphs new) (sym told) (record { graph = graph; good = good; goes_on = goes })
 
 no_question : IsSome (question (Told (unknown 0))) → ⊥
 no_question asks = cc
 
-pub walks_on : (P : RawCodec → Plan → Type 0) (v : RawCodec → Plan → List Command) (dialogue : Dialogue) (addresses : List ℕ) (graphs : List RawCodec) (new : Agenda)
-    → IsSome (question dialogue) → WalksOn dialogue graphs new → LedByDialogue P v dialogue addresses graphs new
-walks_on P v (Ask command rest) addresses graphs new asks on = on
-walks_on P v (Told codec) addresses graphs new asks on = absurd (no_question asks)
+pub walks_on : (means : Means) (dialogue : Dialogue) (addresses : List ℕ) (graphs : List RawCodec) (new : Agenda)
+    → IsSome (question dialogue) → WalksOn dialogue graphs new → LedByDialogue means dialogue addresses graphs new
+walks_on means (Ask command rest) addresses graphs new asks on = on
+walks_on means (Told codec) addresses graphs new asks on = absurd (no_question asks)
 
 pub all_if : (P : RawCodec → Type 0) (pushed : Bool) (graphs : List RawCodec) (graph : RawCodec) → All P graphs → P graph → All P (if pushed then graphs ++ graph ∷ [] else graphs)
 all_if P true graphs graph all one = All-append P graphs (graph ∷ []) all (All-cons P graph [] one (All-nil P))

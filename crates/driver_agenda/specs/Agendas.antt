@@ -3,6 +3,7 @@ use Rattle.std.specs.Prelude.{◌≡◌, ◌<◌, ◌≤◌, ℕ, ◌+◌, true,
 use Rattle.verb_codes.specs.declared.verbs.Command.{Command}
 use Rattle.codec_graph.specs.declared.raw.RawCodec.{RawCodec}
 use Rattle.route_planner.specs.declared.routes.Plan.{Plan}
+use Rattle.route_setup.specs.Means.{Means}
 use Rattle.codec_walk.specs.declared.walk.Walk.{Walk}
 use Rattle.codec_walk.specs.declared.fault.WalkFault.{WalkFault}
 use Rattle.codec_walk.specs.Dialogues.{Dialogue, Ask, Told, question, answered}
@@ -25,24 +26,24 @@ pub record BeginsWalk (addresses : List ℕ) (graphs : List RawCodec) (agenda : 
   pub graphs_are : agenda.graphs.items ≡ graphs
 
 -- all codecs were walked, some pin of their plans has a route, and their verbs come
-pub record BeginsVerbs (IsPlanBy : RawCodec → Plan → Type 0) (verbs_by : RawCodec → Plan → List Command) (graphs : List RawCodec) (agenda : Agenda) : Type 0 where
+pub record BeginsVerbs (means : Means) (graphs : List RawCodec) (agenda : Agenda) : Type 0 where
   pub no_walk : agenda.walk ≡ None
   pub graphs_are : agenda.graphs.items ≡ graphs
-  pub plans : ArePlansBy IsPlanBy graphs agenda.plans.items
+  pub plans : ArePlansBy means.IsPlanBy graphs agenda.plans.items
   pub routed : have_route agenda.plans.items ≡ true
-  pub verbs : agenda.verbs.items ≡ verbs_for verbs_by graphs agenda.plans.items
+  pub verbs : agenda.verbs.items ≡ verbs_for means.verbs_by graphs agenda.plans.items
   pub none : agenda.answered ≡ 0
 
 -- no pin of any plan has a route
-pub record RoutesNothing (IsPlanBy : RawCodec → Plan → Type 0) (graphs : List RawCodec) (agenda : Agenda) : Type 0 where
+pub record RoutesNothing (means : Means) (graphs : List RawCodec) (agenda : Agenda) : Type 0 where
   pub graphs_are : agenda.graphs.items ≡ graphs
-  pub plans : ArePlansBy IsPlanBy graphs agenda.plans.items
+  pub plans : ArePlansBy means.IsPlanBy graphs agenda.plans.items
   pub none : have_route agenda.plans.items ≡ false
 
 -- what comes once these codecs were walked: the walk over the next codec, or where none is left the verbs
-abbrev pub GoesOn : (RawCodec → Plan → Type 0) → (RawCodec → Plan → List Command) → (addresses : List ℕ) → List RawCodec → Agenda → Type 0
-GoesOn IsPlanBy verbs_by addresses graphs agenda =
-    (length graphs < length addresses → BeginsWalk addresses graphs agenda) × (length addresses ≤ length graphs → BeginsVerbs IsPlanBy verbs_by graphs agenda)
+abbrev pub GoesOn : Means → (addresses : List ℕ) → List RawCodec → Agenda → Type 0
+GoesOn means addresses graphs agenda =
+    (length graphs < length addresses → BeginsWalk addresses graphs agenda) × (length addresses ≤ length graphs → BeginsVerbs means graphs agenda)
 
 -- a walk goes on after an answer
 pub record WalksOn (dialogue : Dialogue) (graphs : List RawCodec) (new : Agenda) : Type 0 where
@@ -52,15 +53,15 @@ pub record WalksOn (dialogue : Dialogue) (graphs : List RawCodec) (new : Agenda)
   pub graphs_are : new.graphs.items ≡ graphs
 
 -- it told these words, which are those of a well-formed graph, and what comes after it goes on
-pub record WalkEnds (IsPlanBy : RawCodec → Plan → Type 0) (verbs_by : RawCodec → Plan → List Command) (codec : RawCodec) (addresses : List ℕ) (graphs : List RawCodec) (new : Agenda) : Type 0 where
+pub record WalkEnds (means : Means) (codec : RawCodec) (addresses : List ℕ) (graphs : List RawCodec) (new : Agenda) : Type 0 where
   pub graph : RawCodec
   pub good : IsGood codec graph
-  pub goes_on : GoesOn IsPlanBy verbs_by addresses (graphs ++ graph ∷ []) new
+  pub goes_on : GoesOn means addresses (graphs ++ graph ∷ []) new
 
 -- where an answer leads, by what the walk is after it
-abbrev pub LedByDialogue : (RawCodec → Plan → Type 0) → (RawCodec → Plan → List Command) → Dialogue → (addresses : List ℕ) → (graphs : List RawCodec) → (new : Agenda) → Type 0
-LedByDialogue IsPlanBy verbs_by (Ask command rest) addresses graphs new = WalksOn (Ask command rest) graphs new
-LedByDialogue IsPlanBy verbs_by (Told codec) addresses graphs new = WalkEnds IsPlanBy verbs_by codec addresses graphs new
+abbrev pub LedByDialogue : Means → Dialogue → (addresses : List ℕ) → (graphs : List RawCodec) → (new : Agenda) → Type 0
+LedByDialogue means (Ask command rest) addresses graphs new = WalksOn (Ask command rest) graphs new
+LedByDialogue means (Told codec) addresses graphs new = WalkEnds means codec addresses graphs new
 
 -- one verb more was answered
 pub record VerbAnswered (old new : Agenda) : Type 0 where
@@ -70,10 +71,10 @@ pub record VerbAnswered (old new : Agenda) : Type 0 where
   pub verbs : new.verbs.items ≡ old.verbs.items
   pub one_more : new.answered ≡ old.answered + 1
 
-abbrev pub LedBy : (RawCodec → Plan → Type 0) → (RawCodec → Plan → List Command) → Option Walk → (answer : ℕ) → (old new : Agenda) → Type 0
-LedBy IsPlanBy verbs_by (Some under_way) answer old new =
-    LedByDialogue IsPlanBy verbs_by (answered (remaining under_way) answer) old.addresses.items old.graphs.items new
-LedBy IsPlanBy verbs_by None answer old new = VerbAnswered old new
+abbrev pub LedBy : Means → Option Walk → (answer : ℕ) → (old new : Agenda) → Type 0
+LedBy means (Some under_way) answer old new =
+    LedByDialogue means (answered (remaining under_way) answer) old.addresses.items old.graphs.items new
+LedBy means None answer old new = VerbAnswered old new
 
 -- ---- why it ends
 
@@ -91,14 +92,14 @@ abbrev pub GivesGraph : Dialogue → RawCodec → Type 0
 GivesGraph dialogue graph = (codec : RawCodec) × (dialogue ≡ Told codec) × IsGood codec graph
 
 -- a dialogue told the last codec's words, and no plan has a route
-pub record EndsLast (IsPlanBy : RawCodec → Plan → Type 0) (dialogue : Dialogue) (addresses : List ℕ) (graphs : List RawCodec) (new : Agenda) : Type 0 where
+pub record EndsLast (means : Means) (dialogue : Dialogue) (addresses : List ℕ) (graphs : List RawCodec) (new : Agenda) : Type 0 where
   pub graph : RawCodec
   pub gives : GivesGraph dialogue graph
   pub last : length addresses ≤ length (graphs ++ graph ∷ [])
-  pub nothing : RoutesNothing IsPlanBy (graphs ++ graph ∷ []) new
+  pub nothing : RoutesNothing means (graphs ++ graph ∷ []) new
 
 -- the walk that is under way did, by this answer
-abbrev pub TellsNoRoute : (RawCodec → Plan → Type 0) → Option Walk → (answer : ℕ) → (addresses : List ℕ) → (graphs : List RawCodec) → (new : Agenda) → Type 0
-TellsNoRoute IsPlanBy None answer addresses graphs new = ⊥
-TellsNoRoute IsPlanBy (Some under_way) answer addresses graphs new =
-    EndsLast IsPlanBy (answered (remaining under_way) answer) addresses graphs new
+abbrev pub TellsNoRoute : Means → Option Walk → (answer : ℕ) → (addresses : List ℕ) → (graphs : List RawCodec) → (new : Agenda) → Type 0
+TellsNoRoute means None answer addresses graphs new = ⊥
+TellsNoRoute means (Some under_way) answer addresses graphs new =
+    EndsLast means (answered (remaining under_way) answer) addresses graphs new

@@ -6,6 +6,7 @@ use Rattle.verb_codes.specs.declared.verbs.Command.{Command}
 use Rattle.codec_graph.specs.declared.raw.RawCodec.{RawCodec}
 use Rattle.codec_graph.specs.Cycles.{IsWellFormed}
 use Rattle.route_planner.specs.declared.routes.Plan.{Plan}
+use Rattle.route_setup.specs.Means.{Means}
 use Rattle.codec_walk.specs.declared.walk.Walk.{Walk}
 use Rattle.codec_walk.specs.Dialogues.{after}
 use Rattle.codec_walk.specs.Walks.{walk}
@@ -20,10 +21,10 @@ abbrev pub commands_of : (verbs : RawCodec → List Command) → List RawCodec �
 commands_of verbs graphs = flat_map walk_commands graphs ++ flat_map verbs graphs
 
 -- the graphs are well-formed, each has these verbs by its plan, and some pin of some plan has a route
-pub record AreRight (IsPlanBy : RawCodec → Plan → Type 0) (verbs_by : RawCodec → Plan → List Command) (verbs : RawCodec → List Command) (graphs : List RawCodec) : Type 0 where
+pub record AreRight (means : Means) (verbs : RawCodec → List Command) (graphs : List RawCodec) : Type 0 where
   pub well_formed : All IsWellFormed graphs
-  pub verbs_are : All (λ (graph : RawCodec). (plan : Plan) → IsPlanBy graph plan → verbs graph ≡ verbs_by graph plan) graphs
-  pub routed : (plans : List Plan) → ArePlansBy IsPlanBy graphs plans → have_route plans ≡ true
+  pub verbs_are : All (λ (graph : RawCodec). (plan : Plan) → means.IsPlanBy graph plan → verbs graph ≡ means.verbs_by graph plan) graphs
+  pub routed : (plans : List Plan) → ArePlansBy means.IsPlanBy graphs plans → have_route plans ≡ true
 
 -- so many commands were answered, the last of them in the walk over a codec, which is not at its end
 pub record FollowsWalk (graphs : List RawCodec) (count : ℕ) (agenda : Agenda) (under_way : Walk) : Type 0 where
@@ -40,20 +41,20 @@ pub record FollowsWalk (graphs : List RawCodec) (count : ℕ) (agenda : Agenda) 
   pub count_is : count ≡ length (flat_map walk_commands done) + length words
 
 -- or all walks and some verbs
-pub record FollowsVerbs (IsPlanBy : RawCodec → Plan → Type 0) (verbs : RawCodec → List Command) (graphs : List RawCodec) (count : ℕ) (agenda : Agenda) : Type 0 where
+pub record FollowsVerbs (means : Means) (verbs : RawCodec → List Command) (graphs : List RawCodec) (count : ℕ) (agenda : Agenda) : Type 0 where
   pub graphs_are : agenda.graphs.items ≡ graphs
-  pub plans : ArePlansBy IsPlanBy graphs agenda.plans.items
+  pub plans : ArePlansBy means.IsPlanBy graphs agenda.plans.items
   pub verbs_are : agenda.verbs.items ≡ flat_map verbs graphs
   pub count_is : count ≡ length (flat_map walk_commands graphs) + agenda.answered
 
-abbrev pub FollowsBy : (RawCodec → Plan → Type 0) → (RawCodec → List Command) → List RawCodec → ℕ → Agenda → Option Walk → Type 0
-FollowsBy IsPlanBy verbs graphs count agenda (Some under_way) = FollowsWalk graphs count agenda under_way
-FollowsBy IsPlanBy verbs graphs count agenda None = FollowsVerbs IsPlanBy verbs graphs count agenda
+abbrev pub FollowsBy : Means → (RawCodec → List Command) → List RawCodec → ℕ → Agenda → Option Walk → Type 0
+FollowsBy means verbs graphs count agenda (Some under_way) = FollowsWalk graphs count agenda under_way
+FollowsBy means verbs graphs count agenda None = FollowsVerbs means verbs graphs count agenda
 
 -- an agenda for codecs with these graphs, of whose commands so many were answered
-pub record Follows (IsPlanBy : RawCodec → Plan → Type 0) (verbs : RawCodec → List Command) (graphs : List RawCodec) (count : ℕ) (agenda : Agenda) : Type 0 where
+pub record Follows (means : Means) (verbs : RawCodec → List Command) (graphs : List RawCodec) (count : ℕ) (agenda : Agenda) : Type 0 where
   pub addresses : agenda.addresses.items ≡ map (λ (graph : RawCodec). graph.address) graphs
-  pub stands : FollowsBy IsPlanBy verbs graphs count agenda agenda.walk
+  pub stands : FollowsBy means verbs graphs count agenda agenda.walk
 
 -- the codec that is asked can give this answer
 abbrev pub CanReply : List RawCodec → Command → ℕ → Type 0

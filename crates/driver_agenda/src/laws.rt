@@ -21,7 +21,7 @@ use route_setup::Setter;
 pub fn agendas_ask_in_order<T: Setter>()
     ensures { (setter : T) (format : Format) (verbs : RawCodec → List Command) (graphs : List RawCodec) (count : ℕ)
         (agenda : Agenda) → All IsWellFormed graphs
-        → Follows (λ graph. T.IsPlanBy setter graph format) verbs graphs count agenda
+        → Follows (T.means setter format TAG) verbs graphs count agenda
         → next_of agenda.walk agenda.verbs.items agenda.answered ≡ slice_get (commands_of verbs graphs) count }
 {
     asks_what_the_graph_has();
@@ -35,33 +35,33 @@ pub fn agendas_follow<T: Setter>()
         (rest : List RawCodec) (agenda : Agenda)
         → agenda.addresses.items ≡ map (λ graph. graph.address) (first ∷ rest)
         → BeginsWalk agenda.addresses.items [] agenda
-        → Follows (λ graph. T.IsPlanBy setter graph format) verbs (first ∷ rest) 0 agenda }
+        → Follows (T.means setter format TAG) verbs (first ∷ rest) 0 agenda }
     ensures leads { (setter : T) (format : Format) (verbs : RawCodec → List Command) (graphs : List RawCodec)
         (count answer : ℕ) (old new : Agenda)
-        → AreRight (λ graph. T.IsPlanBy setter graph format) (λ graph plan. T.verbs_by setter graph plan format TAG)
+        → AreRight (T.means setter format TAG)
         verbs graphs
-        → Follows (λ graph. T.IsPlanBy setter graph format) verbs graphs count old
+        → Follows (T.means setter format TAG) verbs graphs count old
         → (count < length (flat_map walk_commands graphs) → (command : Command)
         → slice_get (commands_of verbs graphs) count ≡ Some command → CanReply graphs command answer)
-        → LedBy (λ graph. T.IsPlanBy setter graph format) (λ graph plan. T.verbs_by setter graph plan format TAG)
+        → LedBy (T.means setter format TAG)
         old.walk answer old new → new.addresses ≡ old.addresses
-        → Follows (λ graph. T.IsPlanBy setter graph format) verbs graphs (count + 1) new }
+        → Follows (T.means setter format TAG) verbs graphs (count + 1) new }
     ensures well_formed { (setter : T) (format : Format) (verbs : RawCodec → List Command) (graphs : List RawCodec)
         (count answer : ℕ) (old : Agenda) (fault : WalkFault)
-        → AreRight (λ graph. T.IsPlanBy setter graph format) (λ graph plan. T.verbs_by setter graph plan format TAG)
+        → AreRight (T.means setter format TAG)
         verbs graphs
-        → Follows (λ graph. T.IsPlanBy setter graph format) verbs graphs count old
+        → Follows (T.means setter format TAG) verbs graphs count old
         → (count < length (flat_map walk_commands graphs) → (command : Command)
         → slice_get (commands_of verbs graphs) count ≡ Some command → CanReply graphs command answer)
         → TellsFault old.walk answer fault → ⊥ }
     ensures routed { (setter : T) (format : Format) (verbs : RawCodec → List Command) (graphs : List RawCodec)
         (count answer : ℕ) (old new : Agenda)
-        → AreRight (λ graph. T.IsPlanBy setter graph format) (λ graph plan. T.verbs_by setter graph plan format TAG)
+        → AreRight (T.means setter format TAG)
         verbs graphs
-        → Follows (λ graph. T.IsPlanBy setter graph format) verbs graphs count old
+        → Follows (T.means setter format TAG) verbs graphs count old
         → (count < length (flat_map walk_commands graphs) → (command : Command)
         → slice_get (commands_of verbs graphs) count ≡ Some command → CanReply graphs command answer)
-        → TellsNoRoute (λ graph. T.IsPlanBy setter graph format) old.walk answer old.addresses.items old.graphs.items
+        → TellsNoRoute (T.means setter format TAG) old.walk answer old.addresses.items old.graphs.items
         new → ⊥ }
 {
     asks_what_the_graph_has();

@@ -20,7 +20,7 @@ pub(crate) fn plans_of<T: Setter>(
     graphs: &[Graph],
     format: Format,
 ) -> Result<Vec<Plan>, AllocError>
-    ensures { IfOk result (λ plans. ArePlansBy (λ graph. T.IsPlanBy setter.now graph format) graphs.now plans.items) }
+    ensures { IfOk result (λ plans. ArePlansBy (T.means setter.now format TAG).IsPlanBy graphs.now plans.items) }
 {
     let mut plans = Vec::with_capacity(alloc, graphs.len())?;
     for graph in graphs {
@@ -38,9 +38,9 @@ fn verbs_of_one<T: Setter>(
     plan: &Plan,
     format: Format,
 ) -> Result<Vec<Command>, AllocError>
-    requires plan { T.IsPlanBy setter.now graph.now format plan.now }
+    requires plan { (T.means setter.now format TAG).IsPlanBy graph.now plan.now }
     requires of_it { graph.now.address ≤ 14 }
-    ensures value { IfOk result (λ verbs. verbs.items ≡ T.verbs_by setter.now graph.now plan.now format TAG) }
+    ensures value { IfOk result (λ verbs. verbs.items ≡ (T.means setter.now format TAG).verbs_by graph.now plan.now) }
     ensures in_range { IfOk result (λ verbs. All IsInRange verbs.items) }
 {
     let _raw = graph.raw();
@@ -56,11 +56,11 @@ pub(crate) fn verbs_of<T: Setter>(
     plans: &[Plan],
     format: Format,
 ) -> Result<Vec<Command>, AllocError>
-    requires plans { ArePlansBy (λ graph. T.IsPlanBy setter.now graph format) graphs.now plans.now }
+    requires plans { ArePlansBy (T.means setter.now format TAG).IsPlanBy graphs.now plans.now }
     requires of_them { All (λ graph. graph.address ≤ 14) graphs.now }
     ensures in_range { IfOk result (λ verbs. All IsInRange verbs.items) }
-    ensures value { IfOk result (λ verbs. verbs.items ≡ verbs_for (λ graph plan. T.verbs_by setter.now graph plan format
-        TAG) graphs.now plans.now) }
+    ensures value { IfOk result (λ verbs. verbs.items ≡ verbs_for (T.means setter.now format TAG).verbs_by graphs.now
+        plans.now) }
 {
     let mut all = Vec::new(alloc);
     for index in 0..graphs.len() {

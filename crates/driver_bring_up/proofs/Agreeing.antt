@@ -10,6 +10,7 @@ use Rattle.std.proofs.lemmas.Grind.{flat_map-append}
 use Rattle.verb_codes.specs.declared.verbs.Command.{Command}
 use Rattle.codec_graph.specs.declared.raw.RawCodec.{RawCodec}
 use Rattle.route_planner.specs.declared.routes.Plan.{Plan}
+use Rattle.route_setup.specs.Means.{Means}
 use Rattle.codec_walk.specs.declared.walk.Walk.{Walk}
 use Rattle.codec_walk.specs.Commands.{walk_commands}
 use Rattle.driver_agenda.specs.declared.agenda.Agenda.{Agenda}
@@ -74,25 +75,25 @@ verbs_phase verbs all walks count answered true is whole at =
 verbs_phase verbs all walks count answered false is whole at =
     ap (λ (asks : Bool). phase_at asks false) (none_left verbs answered (ltb-false answered (length verbs) is)) ∙ sym (phase_ready all walks count (let past = ltb-false answered (length verbs) is in omega arith))
 
-phase_by : (IsPlanBy : RawCodec → Plan → Type 0) (verbs : RawCodec → List Command) (graphs : List RawCodec) (count : ℕ) (agenda : Agenda) (task : Task) (walk : Option Walk)
-    → next_of walk agenda.verbs.items agenda.answered ≡ slice_get (commands_of verbs graphs) count → FollowsBy IsPlanBy verbs graphs count agenda walk → IsTaskFor verbs graphs task
+phase_by : (means : Means) (verbs : RawCodec → List Command) (graphs : List RawCodec) (count : ℕ) (agenda : Agenda) (task : Task) (walk : Option Walk)
+    → next_of walk agenda.verbs.items agenda.answered ≡ slice_get (commands_of verbs graphs) count → FollowsBy means verbs graphs count agenda walk → IsTaskFor verbs graphs task
     → phase_at (is_some (next_of walk agenda.verbs.items agenda.answered)) (is_some walk) ≡ phase_of_answers task count
-phase_by IsPlanBy verbs graphs count agenda task (Some walk) asks follows for =
+phase_by means verbs graphs count agenda task (Some walk) asks follows for =
     let all = all_orders verbs graphs task for in
     let walks = for.walks in
     let within = within_walks graphs follows.done follows.rest follows.current (length follows.words) count follows.split follows.few follows.count_is in
     let cmds = length-append (flat_map walk_commands graphs) (flat_map verbs graphs) in
     ap (λ (asks : Bool). phase_at asks true) (ap is_some asks ∙ some_left (commands_of verbs graphs) count (omega arith))
     ∙ sym (phase_walking (length task.orders) task.walks count (omega arith) (omega arith))
-phase_by IsPlanBy verbs graphs count agenda task None asks follows for =
+phase_by means verbs graphs count agenda task None asks follows for =
     let all = all_orders verbs graphs task for in
     let walks = for.walks in
     ap (λ (verbs : List Command). phase_at (is_some (slice_get verbs agenda.answered)) false) follows.verbs_are
     ∙ verbs_phase (flat_map verbs graphs) (length task.orders) task.walks count agenda.answered (nat_lt agenda.answered (length (flat_map verbs graphs))) refl (omega arith) (let at = follows.count_is in omega arith)
 
-pub agree : (IsPlanBy : RawCodec → Plan → Type 0) (verbs : RawCodec → List Command) (graphs : List RawCodec) (count : ℕ) (agenda : Agenda) (task : Task)
-    → next_of agenda.walk agenda.verbs.items agenda.answered ≡ slice_get (commands_of verbs graphs) count → Follows IsPlanBy verbs graphs count agenda → IsTaskFor verbs graphs task → Agrees task count agenda
-agree IsPlanBy verbs graphs count agenda task asks follows for = record {
+pub agree : (means : Means) (verbs : RawCodec → List Command) (graphs : List RawCodec) (count : ℕ) (agenda : Agenda) (task : Task)
+    → next_of agenda.walk agenda.verbs.items agenda.answered ≡ slice_get (commands_of verbs graphs) count → Follows means verbs graphs count agenda → IsTaskFor verbs graphs task → Agrees task count agenda
+agree means verbs graphs count agenda task asks follows for = record {
   order = ap order_in asks ∙ order_same task.orders (commands_of verbs graphs) count for.orders;
-  phase = phase_by IsPlanBy verbs graphs count agenda task agenda.walk asks follows.stands for;
+  phase = phase_by means verbs graphs count agenda task agenda.walk asks follows.stands for;
 }

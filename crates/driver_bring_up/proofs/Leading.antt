@@ -8,6 +8,7 @@ use Rattle.verb_codes.specs.Words.{has_bit, bits_of}
 use Rattle.verb_codes.specs.declared.verbs.Command.{Command}
 use Rattle.codec_graph.specs.declared.raw.RawCodec.{RawCodec}
 use Rattle.route_planner.specs.declared.routes.Plan.{Plan}
+use Rattle.route_setup.specs.Means.{Means}
 use Rattle.hda_registers.specs.declared.shapes.Width.TheVariants.{One, Four}
 use Rattle.hda_registers.specs.declared.places.TheConstants.{INTSTS, STATESTS}
 use Rattle.world_rings.specs.declared.response.Response.{Response}
@@ -66,9 +67,9 @@ not_some : (word : ℕ) → None ≡ Some word → ⊥
 not_some word is = cc
 
 -- a call that reads no entry, and leaves the agenda but where the first walk begins
-pub reads_none : (IsPlanBy : RawCodec → Plan → Type 0) (verbs_by : RawCodec → Plan → List Command) (made : List Event) (old new : BringUp) → entries_in made ≡ [] → ((old.phase ≡ Settling → new.phase ≡ Walking → ⊥) → new.agenda ≡ old.agenda) → new.jacks ≡ old.jacks
-    → ReadsOn IsPlanBy verbs_by made old new
-reads_none IsPlanBy verbs_by made old new none agenda jacks = record {
+pub reads_none : (means : Means) (made : List Event) (old new : BringUp) → entries_in made ≡ [] → ((old.phase ≡ Settling → new.phase ≡ Walking → ⊥) → new.agenda ≡ old.agenda) → new.jacks ≡ old.jacks
+    → ReadsOn means made old new
+reads_none means made old new none agenda jacks = record {
   taken = λ word is. absurd (not_some word (sym (answer_none old.engine.rings made none) ∙ is));
   left = λ answered still. agenda still;
   addresses = λ still. ap (λ (agenda : Agenda). agenda.addresses) (agenda still);
@@ -88,12 +89,12 @@ pub none_asked : (responses : List Response) → answer_among None responses ≡
 none_asked [] = refl
 none_asked (response ∷ responses) = ap (λ (is : Bool). option_map (λ (response : Response). response.answer) (if is then Some response else find (answers_it None) responses)) (never_theirs response.unsolicited) ∙ none_asked responses
 
-taken_by : (IsPlanBy : RawCodec → Plan → Type 0) (verbs_by : RawCodec → Plan → List Command) (outstanding : Option Outstanding) (found : Option ℕ) (clock word : ℕ) (old new : Agenda) (phase' : Phase) → (outstanding ≡ None → found ≡ None)
-    → Taken IsPlanBy verbs_by (poll_of outstanding found clock) old phase' new → found ≡ Some word → LeadsOn IsPlanBy verbs_by word old new phase' × EndsBy IsPlanBy word old new phase'
-taken_by IsPlanBy verbs_by None found clock word old new phase' none taken is = absurd (not_some word (sym (none refl) ∙ is))
-taken_by IsPlanBy verbs_by (Some command) None clock word old new phase' none taken is = absurd (not_some word is)
-taken_by IsPlanBy verbs_by (Some command) (Some value) clock word old new phase' none taken is =
-    subst (λ (value : ℕ). LeadsOn IsPlanBy verbs_by value old new phase' × EndsBy IsPlanBy value old new phase') (let same : value ≡ word = cc in same) taken
+taken_by : (means : Means) (outstanding : Option Outstanding) (found : Option ℕ) (clock word : ℕ) (old new : Agenda) (phase' : Phase) → (outstanding ≡ None → found ≡ None)
+    → Taken means (poll_of outstanding found clock) old phase' new → found ≡ Some word → LeadsOn means word old new phase' × EndsBy means word old new phase'
+taken_by means None found clock word old new phase' none taken is = absurd (not_some word (sym (none refl) ∙ is))
+taken_by means (Some command) None clock word old new phase' none taken is = absurd (not_some word is)
+taken_by means (Some command) (Some value) clock word old new phase' none taken is =
+    subst (λ (value : ℕ). LeadsOn means value old new phase' × EndsBy means value old new phase') (let same : value ≡ word = cc in same) taken
 
 waits : (command : Outstanding) (clock : ℕ) (late : Bool) (phase phase' : Phase) (old new : Agenda) → LedTo (if late then polls.Unanswered command.issued clock else polls.Waiting) (Some command) phase old phase' new → new ≡ old
 waits command clock true phase phase' old new led = led.1
@@ -124,14 +125,14 @@ pub submits_none : (corb : ℕ) (rings : RingPlaces) (order : Option Order) → 
 submits_none corb rings None = refl
 submits_none corb rings (Some order) = refl
 
-pub reads_look : (IsPlanBy : RawCodec → Plan → Type 0) (verbs_by : RawCodec → Plan → List Command) (rirb clock : ℕ) (reads : PollReads) (rest : List Event) (old new : BringUp) → is_asking old.phase ≡ true → AreNew old.engine.rings reads → entries_in rest ≡ []
+pub reads_look : (means : Means) (rirb clock : ℕ) (reads : PollReads) (rest : List Event) (old new : BringUp) → is_asking old.phase ≡ true → AreNew old.engine.rings reads → entries_in rest ≡ []
     → LedTo (poll_by old.engine.rings reads clock) old.engine.rings.outstanding old.phase old.agenda new.phase new.agenda
-    → Taken IsPlanBy verbs_by (poll_by old.engine.rings reads clock) old.agenda new.phase new.agenda
+    → Taken means (poll_by old.engine.rings reads clock) old.agenda new.phase new.agenda
     → ((events : List told.Event) → IsCount events old.jacks → IsCount (with_told events reads.entries) new.jacks) → new.agenda.addresses ≡ old.agenda.addresses
-    → ReadsOn IsPlanBy verbs_by (ask_accesses rirb clock old.engine.rings reads ++ rest) old new
-reads_look IsPlanBy verbs_by rirb clock reads rest old new asking fresh none led taken counted addresses =
+    → ReadsOn means (ask_accesses rirb clock old.engine.rings reads ++ rest) old new
+reads_look means rirb clock reads rest old new asking fresh none led taken counted addresses =
     let found = found_in rirb clock old.engine.rings reads rest fresh none in record {
-      taken = λ word is. taken_by IsPlanBy verbs_by old.engine.rings.outstanding (found_by old.engine.rings reads) clock word old.agenda new.agenda new.phase (outstanding_none old.engine.rings reads) taken (found ∙ is);
+      taken = λ word is. taken_by means old.engine.rings.outstanding (found_by old.engine.rings reads) clock word old.agenda new.agenda new.phase (outstanding_none old.engine.rings reads) taken (found ∙ is);
       left = λ answered still. left_by old.engine.rings.outstanding (found_by old.engine.rings reads) clock old.phase new.phase old.agenda new.agenda led (found ∙ answered asking);
       addresses = λ still. addresses;
       counted = λ events counts. subst (λ (entries : List (List ℕ)). IsCount (with_told events entries) new.jacks) (sym (asked_entries rirb clock old.engine.rings reads rest fresh none)) (counted events counts);
@@ -160,8 +161,8 @@ no_entries_looked interrupts stream = unread_none (interrupt_accesses interrupts
 pub interrupt_values : (interrupts stream : ℕ) (made : List Event) → values_of (interrupt_accesses interrupts stream ++ made) STATESTS ≡ values_of made STATESTS
 interrupt_values interrupts stream made = values_after (has_bit interrupts 31) (has_bit interrupts 1) interrupts stream made
 
-pub reads_after : (IsPlanBy : RawCodec → Plan → Type 0) (verbs_by : RawCodec → Plan → List Command) (made made' : List Event) (old new : BringUp) → entries_in made' ≡ entries_in made → ReadsOn IsPlanBy verbs_by made old new → ReadsOn IsPlanBy verbs_by made' old new
-reads_after IsPlanBy verbs_by made made' old new same reads =
+pub reads_after : (means : Means) (made made' : List Event) (old new : BringUp) → entries_in made' ≡ entries_in made → ReadsOn means made old new → ReadsOn means made' old new
+reads_after means made made' old new same reads =
     let found = ap (λ (entries : List (List ℕ)). answer_among (asked_of old.engine.rings.outstanding) (responses_in entries)) (sym same) in record {
       taken = λ word is. reads.taken word (found ∙ is);
       addresses = reads.addresses;

@@ -6,6 +6,7 @@ use Rattle.verb_codes.specs.Words.{has_bit, bits_of}
 use Rattle.verb_codes.specs.declared.verbs.Command.{Command}
 use Rattle.codec_graph.specs.declared.raw.RawCodec.{RawCodec}
 use Rattle.route_planner.specs.declared.routes.Plan.{Plan}
+use Rattle.route_setup.specs.Means.{Means}
 use Rattle.hda_registers.specs.declared.places.TheConstants.{STATESTS, INTSTS, WALCLK}
 use Rattle.hda_registers.specs.declared.shapes.Width.TheVariants.{One, Four}
 use Rattle.hda_world.specs.Worlds.{World, TakenCommand}
@@ -31,15 +32,15 @@ use Rattle.driver_bring_up.proofs.Asks.{is_over}
 use Rattle.driver_bring_up.proofs.Leading.{not_true, unread_none, answer_none, reads_none, same_found, interrupt_values}
 
 -- one is a call
-pub leads_unread : {IsPlanBy : RawCodec → Plan → Type 0} {verbs_by : RawCodec → Plan → List Command} {old new : BringUp} {before after : Option Telling} → is_asking old.phase ≡ false → LeadsUnread old new before after → Leads IsPlanBy verbs_by false old new before after
-leads_unread {IsPlanBy} {verbs_by} {old} {new} {before} {after} asks leads =
+pub leads_unread : {means : Means} {old new : BringUp} {before after : Option Telling} → is_asking old.phase ≡ false → LeadsUnread old new before after → Leads means false old new before after
+leads_unread {means} {old} {new} {before} {after} asks leads =
     let none = unread_none leads.made leads.unread in record {
       made = leads.made;
       by = leads.by;
       is = λ task budget of silent ended agrees. same_found (sym (answer_none old.engine.rings leads.made none)) (leads.is task budget of);
       ended = λ task of ended. absurd (not_true (sym asks ∙ (is_over old.phase (is_some (answer_in old.engine.rings leads.made)) new.phase ended).0));
       unread = λ asking. leads.unread;
-      reads = reads_none IsPlanBy verbs_by leads.made old new none leads.agenda leads.jacks;
+      reads = reads_none means leads.made old new none leads.agenda leads.jacks;
       begun = leads.begun;
       resets = leads.resets;
       untaken = leads.untaken;

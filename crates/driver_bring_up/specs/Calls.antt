@@ -4,6 +4,7 @@ use Rattle.std.specs.Option.{is_some}
 use Rattle.verb_codes.specs.declared.verbs.Command.{Command}
 use Rattle.codec_graph.specs.declared.raw.RawCodec.{RawCodec}
 use Rattle.route_planner.specs.declared.routes.Plan.{Plan}
+use Rattle.route_setup.specs.Means.{Means}
 use Rattle.hda_registers.specs.declared.places.TheConstants.{STATESTS}
 use Rattle.hda_world.specs.Events.{Event}
 use Rattle.hda_world.specs.Tellings.{Telling, Between, Makes}
@@ -61,10 +62,10 @@ pub record Begins (status : ℕ) (agenda : Agenda) : Type 0 where
   pub begins : BeginsWalk (addresses_in (codecs_in status)) [] agenda
 
 -- what a call read leads its agenda and its counts on
-pub record ReadsOn (IsPlanBy : RawCodec → Plan → Type 0) (verbs_by : RawCodec → Plan → List Command) (made : List Event) (old new : BringUp) : Type 0 where
+pub record ReadsOn (means : Means) (made : List Event) (old new : BringUp) : Type 0 where
   -- an answer leads the agenda
   pub taken : (word : ℕ) → answer_in old.engine.rings made ≡ Some word
-      → LeadsOn IsPlanBy verbs_by word old.agenda new.agenda new.phase × EndsBy IsPlanBy word old.agenda new.agenda new.phase
+      → LeadsOn means word old.agenda new.agenda new.phase × EndsBy means word old.agenda new.agenda new.phase
   -- and without one it stays, but where the first walk begins
   pub left : (is_asking old.phase ≡ true → answer_in old.engine.rings made ≡ None) → (old.phase ≡ Settling → new.phase ≡ Walking → ⊥) → new.agenda ≡ old.agenda
   pub addresses : (old.phase ≡ Settling → new.phase ≡ Walking → ⊥) → new.agenda.addresses ≡ old.agenda.addresses
@@ -87,7 +88,7 @@ pub record LeadsUnread (old new : BringUp) (before after : Option Telling) : Typ
 
 -- a call, for an interrupt or not: it makes just the accesses that are to be made, and leads where it is to lead, for every task with its
 -- blocks that plays nothing once all is set up, and agrees with the agenda after the call where commands are sent
-pub record Leads (IsPlanBy : RawCodec → Plan → Type 0) (verbs_by : RawCodec → Plan → List Command) (irq : Bool) (old new : BringUp) (before after : Option Telling) : Type 0 where
+pub record Leads (means : Means) (irq : Bool) (old new : BringUp) (before after : Option Telling) : Type 0 where
   pub made : List Event
   pub by : Between (Makes made) before after
   pub is : (task : Task) (budget : ℕ) → IsTaskOf old task → (old.phase ≡ Ready → task.plays ≡ false)
@@ -98,7 +99,7 @@ pub record Leads (IsPlanBy : RawCodec → Plan → Type 0) (verbs_by : RawCodec 
       → IsLastLook task (state_of old) irq [] made (state_of new)
   -- before commands are sent, and after them, no answer is looked for
   pub unread : is_asking old.phase ≡ false → AreUnread made
-  pub reads : ReadsOn IsPlanBy verbs_by made old new
+  pub reads : ReadsOn means made old new
   pub begun : old.phase ≡ Settling → new.phase ≡ Walking → Begins (slice_index (values_of made STATESTS) 0) new.agenda
   -- and on a platform that tells: from a world that can be reset, to the rings that run, and on from there
   pub resets : old.phase ≡ Reset → Between (ResetsTo irq made new) before after
@@ -114,7 +115,7 @@ pub record IsKept (old new : BringUp) : Type 0 where
   pub looks : new.looks ≤ old.looks + 1
 
 -- the last call, with or without one more look for an answer
-pub record Ends (IsPlanBy : RawCodec → Plan → Type 0) (verbs_by : RawCodec → Plan → List Command) (old new : BringUp) (before after : Option Telling) : Type 0 where
+pub record Ends (means : Means) (old new : BringUp) (before after : Option Telling) : Type 0 where
   pub made : List Event
   pub by : Between (Makes made) before after
   pub is : (task : Task) → IsTaskOf old task → is_ended old.phase (is_some (answer_in old.engine.rings made)) new.phase ≡ false → AgreesAfter old new task
@@ -122,7 +123,7 @@ pub record Ends (IsPlanBy : RawCodec → Plan → Type 0) (verbs_by : RawCodec �
   pub ended : (task : Task) → IsTaskOf old task → is_ended old.phase (is_some (answer_in old.engine.rings made)) new.phase ≡ true
       → IsLastLook task (state_of old) false shuts made (state_of new)
   pub unread : is_asking old.phase ≡ false → AreUnread made
-  pub reads : ReadsOn IsPlanBy verbs_by made old new
+  pub reads : ReadsOn means made old new
   pub looks : is_asking old.phase ≡ true → Between (EndLooks old new made) before after
 
 -- once all codecs are set up: what they told unasked since is read and counted, and all else stays

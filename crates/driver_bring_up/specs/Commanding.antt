@@ -5,6 +5,7 @@ use Rattle.std.specs.List.{flat_map}
 use Rattle.std.specs.Option.{is_some}
 use Rattle.codec_graph.specs.declared.raw.RawCodec.{RawCodec}
 use Rattle.route_planner.specs.declared.routes.Plan.{Plan}
+use Rattle.route_setup.specs.Means.{Means}
 use Rattle.hda_world.specs.Events.{Event, Stepped, Begin, End, Read, Write, DmaRead, DmaWrite}
 use Rattle.hda_world.specs.Tellings.{Telling, Between, Makes}
 use Rattle.command_engine.specs.declared.ring_places.RingPlaces.{RingPlaces}
@@ -85,16 +86,16 @@ is_answer polls.Waiting = false
 is_answer (polls.Unanswered issued noticed) = false
 
 -- and where an answer led the agenda
-abbrev pub Taken : (IsPlanBy : RawCodec → Plan → Type 0) (verbs_by : RawCodec → Plan → List Command) → Poll → (old : Agenda) → (phase' : Phase) → (new : Agenda) → Type 0
-Taken IsPlanBy verbs_by polls.Idle old phase' new = Unit {0}
-Taken IsPlanBy verbs_by (polls.Answered word) old phase' new = LeadsOn IsPlanBy verbs_by word old new phase' × EndsBy IsPlanBy word old new phase'
-Taken IsPlanBy verbs_by polls.Waiting old phase' new = Unit {0}
-Taken IsPlanBy verbs_by (polls.Unanswered issued noticed) old phase' new = Unit {0}
+abbrev pub Taken : (means : Means) → Poll → (old : Agenda) → (phase' : Phase) → (new : Agenda) → Type 0
+Taken means polls.Idle old phase' new = Unit {0}
+Taken means (polls.Answered word) old phase' new = LeadsOn means word old new phase' × EndsBy means word old new phase'
+Taken means polls.Waiting old phase' new = Unit {0}
+Taken means (polls.Unanswered issued noticed) old phase' new = Unit {0}
 
 abbrev pub poll_by : RingPlaces → PollReads → (clock : ℕ) → Poll
 poll_by rings reads clock = poll_of rings.outstanding (found_by rings reads) clock
 
-pub record Looks (IsPlanBy : RawCodec → Plan → Type 0) (verbs_by : RawCodec → Plan → List Command) (corb rirb : ℕ) (rings : RingPlaces) (phase : Phase) (old : Agenda) (jacks : Jacks) (answer : Answer) (rings' : RingPlaces) (new : Agenda) (jacks' : Jacks) (before after : Option Telling) : Type 0 where
+pub record Looks (means : Means) (corb rirb : ℕ) (rings : RingPlaces) (phase : Phase) (old : Agenda) (jacks : Jacks) (answer : Answer) (rings' : RingPlaces) (new : Agenda) (jacks' : Jacks) (before after : Option Telling) : Type 0 where
   pub reads : PollReads
   pub new_ones : AreNew rings reads
   pub made : Between (Makes (ask_accesses rirb answer.clock rings reads)) before after
@@ -104,7 +105,7 @@ pub record Looks (IsPlanBy : RawCodec → Plan → Type 0) (verbs_by : RawCodec 
   pub led : LedTo (poll_by rings reads answer.clock) rings.outstanding phase old answer.phase new
   -- of all that was told unasked until now
   pub counted : (events : List told.Event) → IsCount events jacks → IsCount (with_told events reads.entries) jacks'
-  pub taken : Taken IsPlanBy verbs_by (poll_by rings reads answer.clock) old answer.phase new
+  pub taken : Taken means (poll_by rings reads answer.clock) old answer.phase new
   pub free : answer.is_free ≡ leaves_free (poll_by rings reads answer.clock) answer.phase
 
 -- a look that found an answer which memory was wanting to take: RIRB was read and what was told unasked counted, and nothing else was done

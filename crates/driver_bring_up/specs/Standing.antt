@@ -4,6 +4,7 @@ use Rattle.std.specs.Option.{is_some}
 use Rattle.verb_codes.specs.declared.verbs.Command.{Command}
 use Rattle.codec_graph.specs.declared.raw.RawCodec.{RawCodec}
 use Rattle.route_planner.specs.declared.routes.Plan.{Plan}
+use Rattle.route_setup.specs.Means.{Means}
 use Rattle.command_engine.specs.declared.answers.Outstanding.{Outstanding}
 use Rattle.driver_progress.specs.declared.phase.Phase.{Phase}
 use Rattle.driver_progress.specs.declared.phase.Phase.TheVariants.{Walking, SettingUp, Ready, NothingRouted, Malformed}
@@ -26,18 +27,18 @@ abbrev pub phase_of : Agenda → Phase
 phase_of agenda = phase_at (is_some (next_on agenda)) (is_some agenda.walk)
 
 -- an answer led to this phase
-pub record LeadsOn (IsPlanBy : RawCodec → Plan → Type 0) (verbs_by : RawCodec → Plan → List Command) (answer : ℕ) (old new : Agenda) (phase : Phase) : Type 0 where
-  pub led : goes_on phase ≡ true → LedBy IsPlanBy verbs_by old.walk answer old new
+pub record LeadsOn (means : Means) (answer : ℕ) (old new : Agenda) (phase : Phase) : Type 0 where
+  pub led : goes_on phase ≡ true → LedBy means old.walk answer old new
   pub phase_is : goes_on phase ≡ true → phase ≡ phase_of new
 
 -- where the answer that led to it does not lead on, it tells why
-abbrev pub EndsBy : (IsPlanBy : RawCodec → Plan → Type 0) (answer : ℕ) (old new : Agenda) → Phase → Type 0
-EndsBy IsPlanBy answer old new NothingRouted =
-    TellsNoRoute IsPlanBy old.walk answer old.addresses.items old.graphs.items new
-EndsBy IsPlanBy answer old new (Malformed codec fault) =
+abbrev pub EndsBy : (means : Means) (answer : ℕ) (old new : Agenda) → Phase → Type 0
+EndsBy means answer old new NothingRouted =
+    TellsNoRoute means old.walk answer old.addresses.items old.graphs.items new
+EndsBy means answer old new (Malformed codec fault) =
     (codec ≡ slice_index old.addresses.items (length old.graphs.items)) × TellsFault old.walk answer fault
     × (new.graphs ≡ old.graphs) × (new.plans ≡ old.plans)
-EndsBy IsPlanBy answer old new phase = goes_on phase ≡ true
+EndsBy means answer old new phase = goes_on phase ≡ true
 
 -- how many commands were answered, where so many were sent
 abbrev pub answers_of : (sent : ℕ) → Option Outstanding → ℕ

@@ -45,8 +45,7 @@ pub fn look_for_answer<P: Platform, T: Setter>(
     requires few { jacks.old.taken + most_events ≤ 4294967295 }
     requires room { ASK_ACCESSES ≤ P.spare_accesses platform.old }
     requires bytes_room { POLL_BYTES ≤ P.spare_bytes platform.old }
-    ensures looks { IfOk result (λ answer. spec.Looks (λ graph. T.IsPlanBy setter.now graph agenda.old.format)
-        (λ graph plan. T.verbs_by setter.now graph plan agenda.old.format TAG) engine.old.corb.address
+    ensures looks { IfOk result (λ answer. spec.Looks (T.means setter.now agenda.old.format TAG) engine.old.corb.address
         engine.old.rirb.address engine.old.rings phase agenda.old jacks.old answer engine.new.rings agenda.new jacks.new
         (P.told platform.old) (P.told platform.new)) }
     ensures wanting { OnErr result (spec.FindsAlone engine.old.rirb.address engine.old.rings jacks.old engine.new.rings
@@ -87,8 +86,8 @@ fn phase_after<T: Setter>(
     requires asks { IsSome (standing.next_on agenda.old) }
     ensures wanting { OnErr result (spec.is_answer poll ≡ true) }
     ensures led { IfOk result (λ after. spec.LedTo poll outstanding phase agenda.old after agenda.new) }
-    ensures taken { IfOk result (λ after. spec.Taken (λ graph. T.IsPlanBy setter.now graph agenda.old.format)
-        (λ graph plan. T.verbs_by setter.now graph plan agenda.old.format TAG) poll agenda.old after agenda.new) }
+    ensures taken { IfOk result (λ after. spec.Taken (T.means setter.now agenda.old.format TAG) poll agenda.old after
+        agenda.new) }
     ensures addresses { agenda.new.addresses ≡ agenda.old.addresses }
     ensures format { agenda.new.format ≡ agenda.old.format }
 {

@@ -34,10 +34,10 @@ pub(crate) fn take_answer<T: Setter>(
     word: u32,
 ) -> Result<Phase, AllocError>
     requires { IsSome (spec.next_on agenda.old) }
-    ensures leads_on { IfOk result (spec.LeadsOn (λ graph. T.IsPlanBy setter.now graph agenda.old.format)
-        (λ graph plan. T.verbs_by setter.now graph plan agenda.old.format TAG) word agenda.old agenda.new) }
+    ensures leads_on { IfOk result (spec.LeadsOn (T.means setter.now agenda.old.format TAG) word agenda.old
+        agenda.new) }
     ensures follows { IfOk result (λ phase. can_follow phase ≡ true) }
-    ensures ends { IfOk result (spec.EndsBy (λ graph. T.IsPlanBy setter.now graph agenda.old.format) word agenda.old
+    ensures ends { IfOk result (spec.EndsBy (T.means setter.now agenda.old.format TAG) word agenda.old
         agenda.new) }
     ensures addresses { agenda.new.addresses ≡ agenda.old.addresses }
     ensures format { agenda.new.format ≡ agenda.old.format }

@@ -20,6 +20,7 @@ ghost use Rattle.driver_bring_up.specs.Standing.{Agrees, phase_of, next_on};
 ghost use Rattle.driver_bring_up.specs.Commanding.{LedTo, poll_by, leaves_free, order_if, submit_made, IsStretch};
 ghost use Rattle.driver_bring_up.specs.Commanding.{IsLastLook, state_with, run_of};
 
+use crate::answers::TAG;
 use driver_agenda::agendas_ask_in_order;
 use route_setup::Setter;
 
@@ -62,7 +63,7 @@ pub fn commands_are_expected()
 pub fn agendas_agree<T: Setter>()
     ensures { (setter : T) (format : Format) (verbs : RawCodec → List Command) (graphs : List RawCodec) (count : ℕ)
         (agenda : Agenda) (task : Task) → All IsWellFormed graphs
-        → Follows (λ graph. T.IsPlanBy setter graph format) verbs graphs count agenda → IsTaskFor verbs graphs task
+        → Follows (T.means setter format TAG) verbs graphs count agenda → IsTaskFor verbs graphs task
         → Agrees task count agenda }
 {
     agendas_ask_in_order::<T>();

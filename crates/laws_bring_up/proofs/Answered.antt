@@ -8,6 +8,7 @@ use Rattle.verb_codes.specs.declared.verbs.Command.{Command}
 use Rattle.codec_graph.specs.declared.raw.RawCodec.{RawCodec}
 use Rattle.codec_graph.specs.Settings.{Entries}
 use Rattle.route_planner.specs.declared.routes.Plan.{Plan}
+use Rattle.route_setup.specs.Means.{Means}
 use Rattle.world_rings.specs.declared.response.Response.{Response}
 use Rattle.world_rings.specs.declared.entries.TheConstants.{COMMAND_BYTES}
 use Rattle.world_rings.specs.Memory.{word_at}
@@ -77,11 +78,11 @@ was_fetched outstanding part word gained (inr next) some = absurd (some next.non
 
 -- ---- of the last command
 
-module _ (IsPlanBy : RawCodec → Plan → Type 0) (verbs_by : RawCodec → Plan → List Command) (verbs : RawCodec → List Command) (IsOpenBy : RawCodec → Entries → Plan → Type 0) (graphs : List RawCodec) (task : Task)
-    (laws : AgendaLaws IsPlanBy verbs_by verbs graphs) (of : IsTaskOfCodecs IsPlanBy verbs_by verbs graphs task) (setter : SetterLaws IsPlanBy verbs_by IsOpenBy) (notes : Laws) where
-  pub answered_for_good : (old : BringUp) (written : ℕ) (begun there : World) (course : Course) → graphs_in begun.codecs ≡ graphs → (a : IsAsking IsPlanBy verbs graphs task written old begun) → Later begun there
+module _ (means : Means) (verbs : RawCodec → List Command) (graphs : List RawCodec) (task : Task)
+    (laws : AgendaLaws means verbs graphs) (of : IsTaskOfCodecs means verbs graphs task) (setter : SetterLaws means) (notes : Laws) where
+  pub answered_for_good : (old : BringUp) (written : ℕ) (begun there : World) (course : Course) → graphs_in begun.codecs ≡ graphs → (a : IsAsking means verbs graphs task written old begun) → Later begun there
       → Stands a.from a.read old.engine.corb.address old.engine.rirb.address old.engine.rings there → old.sent ≡ length task.orders → course.state ≡ state_of old → course.written ≡ written → is_answered course there ≡ true
-      → AreSetUpForGood IsPlanBy IsOpenBy graphs there
+      → AreSetUpForGood means graphs there
   answered_for_good old written begun there course graphs_are a later stands all state_is written_is answered =
       let outstanding = old.engine.rings.outstanding in
       let asked = asked_of outstanding in
@@ -95,16 +96,16 @@ module _ (IsPlanBy : RawCodec → Plan → Type 0) (verbs_by : RawCodec → Plan
       let gained = drop a.from there.commands in
       let some = λ (none : gained ≡ []). not_true (sym (none_answers asked unread (subst (λ (gained : List TakenCommand). All (ResponseCanCome gained) unread) none stands.on_its_way.in_ring)) ∙ has) in
       let fetched = was_fetched outstanding (part_of there.registers) (word_at there.memory (old.engine.corb.address + COMMAND_BYTES * old.engine.rings.submitted)) gained stands.course some in
-      let stage = stage_on IsPlanBy verbs_by verbs graphs task laws of.is_for of.right.well_formed old.sent outstanding old.agenda a.from begun there a.stands.from_within later (record { last = a.last; follows = a.follows; taken = a.taken }) in
+      let stage = stage_on means verbs graphs task laws of.is_for of.right.well_formed old.sent outstanding old.agenda a.from begun there a.stands.from_within later (record { last = a.last; follows = a.follows; taken = a.taken }) in
       let last = subst (λ (outstanding : Option Outstanding). IsLastSent task.orders old.sent outstanding) fetched.is a.last in
       let count = last.0 in
       let sent_is = last.1 in
       let answers : answers_of old.sent outstanding ≡ count = ap (λ (outstanding : Option Outstanding). answers_of old.sent outstanding) fetched.is ∙ omega (arith, sent_is) in
-      let taken = taken_one IsPlanBy verbs_by verbs graphs task laws of.is_for of.right.well_formed count a.from there fetched.command fetched.last last.2
+      let taken = taken_one means verbs graphs task laws of.is_for of.right.well_formed count a.from there fetched.command fetched.last last.2
       (subst (λ (answers : ℕ). HaveTaken task.orders answers a.from there) answers stage.taken) stands.from_within fetched.only fetched.word_is in
       let known = later.remembers a.taken.start a.taken.begun a.taken.remembers in
       let graphs_there = known.graphs ∙ sym a.taken.remembers.graphs ∙ graphs_are in
-      let whole : AllTaken IsPlanBy verbs_by verbs IsOpenBy graphs task laws of setter there = record {
+      let whole : AllTaken means verbs graphs task laws of setter there = record {
         answers = count + 1;
         from = length there.commands;
         taken = taken;
@@ -113,8 +114,8 @@ module _ (IsPlanBy : RawCodec → Plan → Type 0) (verbs_by : RawCodec → Plan
         none = drop_all (length there.commands) there.commands (omega arith);
         graphs_are = graphs_there;
         ascend = subst (AscendFrom 0) graphs_there stands.ascend;
-        commands_are = can_be_sent IsPlanBy verbs_by verbs IsOpenBy graphs task laws of setter (answers_of old.sent outstanding) old.agenda old.agenda.walk a.follows.stands (omega (arith, answers, sent_is, all));
+        commands_are = can_be_sent means verbs graphs task laws of setter (answers_of old.sent outstanding) old.agenda old.agenda.walk a.follows.stands (omega (arith, answers, sent_is, all));
       } in record {
         idle = fetched.pointers;
-        set_up = taken_set_up IsPlanBy verbs_by verbs IsOpenBy graphs task laws of setter there whole;
+        set_up = taken_set_up means verbs graphs task laws of setter there whole;
       }

@@ -5,6 +5,7 @@ use Rattle.std.specs.Option.{is_some}
 use Rattle.verb_codes.specs.declared.verbs.Command.{Command}
 use Rattle.codec_graph.specs.declared.raw.RawCodec.{RawCodec}
 use Rattle.route_planner.specs.declared.routes.Plan.{Plan}
+use Rattle.route_setup.specs.Means.{Means}
 use Rattle.hda_world.specs.Worlds.{World, TakenCommand}
 use Rattle.hda_world.specs.Events.{Event}
 use Rattle.hda_world.specs.Tellings.{Telling, world_of, Makes}
@@ -74,23 +75,23 @@ outstanding_with : (order : Option Order) (clock : ℕ) (rings : RingPlaces) →
 outstanding_with None clock rings = refl
 outstanding_with (Some order) clock rings = refl
 
-module _ (IsPlanBy : RawCodec → Plan → Type 0) (verbs_by : RawCodec → Plan → List Command) (verbs : RawCodec → List Command) (graphs : List RawCodec) (task : Task) (laws : AgendaLaws IsPlanBy verbs_by verbs graphs)
-    (of : IsTaskOfCodecs IsPlanBy verbs_by verbs graphs task) where
-  pub stands_in : (phase : Phase) (written : ℕ) (bring_up : BringUp) (world : World) → goes_on phase ≡ true → IsAsking IsPlanBy verbs graphs task written bring_up world → StandsIn phase IsPlanBy verbs graphs task written bring_up world
+module _ (means : Means) (verbs : RawCodec → List Command) (graphs : List RawCodec) (task : Task) (laws : AgendaLaws means verbs graphs)
+    (of : IsTaskOfCodecs means verbs graphs task) where
+  pub stands_in : (phase : Phase) (written : ℕ) (bring_up : BringUp) (world : World) → goes_on phase ≡ true → IsAsking means verbs graphs task written bring_up world → StandsIn phase means verbs graphs task written bring_up world
   stands_in Walking written bring_up world goes asking = asking
   stands_in SettingUp written bring_up world goes asking = asking
   stands_in Ready written bring_up world goes asking = asking
   stands_in phase written bring_up world goes asking = absurd (not_true goes)
 
-  stands_then : (outstanding : Option Outstanding) (clock written : ℕ) (bring_up : BringUp) (world : World) → (goes_on bring_up.phase ≡ true) ⊎ IsGivenUp outstanding clock bring_up.phase → IsAsking IsPlanBy verbs graphs task written bring_up world
-      → StandsIn bring_up.phase IsPlanBy verbs graphs task written bring_up world
+  stands_then : (outstanding : Option Outstanding) (clock written : ℕ) (bring_up : BringUp) (world : World) → (goes_on bring_up.phase ≡ true) ⊎ IsGivenUp outstanding clock bring_up.phase → IsAsking means verbs graphs task written bring_up world
+      → StandsIn bring_up.phase means verbs graphs task written bring_up world
   stands_then outstanding clock written bring_up world (inl goes) asking = stands_in bring_up.phase written bring_up world goes asking
   stands_then outstanding clock written bring_up world (inr given_up) asking =
-      subst (λ (phase : Phase). StandsIn phase IsPlanBy verbs graphs task written bring_up world) (sym given_up.is) (walked_by IsPlanBy verbs_by verbs graphs task of bring_up.sent bring_up.engine.rings.outstanding bring_up.agenda asking.follows)
+      subst (λ (phase : Phase). StandsIn phase means verbs graphs task written bring_up world) (sym given_up.is) (walked_by means verbs graphs task of bring_up.sent bring_up.engine.rings.outstanding bring_up.agenda asking.follows)
 
   -- how the agenda was led
-  pub led_of : (made : List Event) (old new : BringUp) (found : Option ℕ) → goes_on old.phase ≡ true → answer_in old.engine.rings made ≡ found → ReadsOn IsPlanBy verbs_by made old new
-      → IsLed IsPlanBy verbs_by verbs graphs task laws of.is_for of.right.well_formed found old.agenda new.agenda new.phase
+  pub led_of : (made : List Event) (old new : BringUp) (found : Option ℕ) → goes_on old.phase ≡ true → answer_in old.engine.rings made ≡ found → ReadsOn means made old new
+      → IsLed means verbs graphs task laws of.is_for of.right.well_formed found old.agenda new.agenda new.phase
   led_of made old new None goes is reads = reads.left (λ asking. is) (not_settles old.phase new.phase goes)
   led_of made old new (Some word) goes is reads =
       let taken = reads.taken word is in (taken.0, taken.1, reads.addresses (not_settles old.phase new.phase goes))
@@ -104,10 +105,10 @@ module _ (IsPlanBy : RawCodec → Plan → Type 0) (verbs_by : RawCodec → Plan
   pub record Kept (lines left : List DriverLine) (new : BringUp) (after : Telling) : Type 0 where
     pub done : IsDone task lines left (state_of new) after
     pub graphs_are : graphs_in (world_of after).codecs ≡ graphs
-    pub stage : StandsIn new.phase IsPlanBy verbs graphs task (course_of task lines after).written new (world_of after)
+    pub stage : StandsIn new.phase means verbs graphs task (course_of task lines after).written new (world_of after)
 
   pub looks_on : Laws → (lines left : List DriverLine) (budget : ℕ) (irq : Bool) (old new : BringUp) (made : List Event) (before after : Telling) → IsOpen task lines left (Some (record { irq = irq; budget = budget })) (state_of old) before
-      → goes_on old.phase ≡ true → graphs_in (world_of before).codecs ≡ graphs → (a : IsAsking IsPlanBy verbs graphs task (course_of task lines before).written old (world_of before)) → ReadsOn IsPlanBy verbs_by made old new
+      → goes_on old.phase ≡ true → graphs_in (world_of before).codecs ≡ graphs → (a : IsAsking means verbs graphs task (course_of task lines before).written old (world_of before)) → ReadsOn means made old new
       → (is_ended old.phase (is_some (answer_in old.engine.rings made)) new.phase ≡ false → AgreesAfter old new task → IsStretch task (state_of old) (Some (record { irq = irq; budget = budget })) made (is_some (answer_in old.engine.rings made)) (state_of new))
       → IsKept old new → Makes made before after → LooksOn irq old new made a.from a.read before after → Kept lines left new after
   looks_on notes lines left budget irq old new made before after opened goes graphs_are a reads is kept makes on =
@@ -131,17 +132,17 @@ module _ (IsPlanBy : RawCodec → Plan → Type 0) (verbs_by : RawCodec → Plan
       let from_within = a.stands.from_within in
       let long = ap (λ (commands : List TakenCommand). length commands) to_ends.on.taken ∙ length-append started.commands to_ends.on.more_taken in
       let within : a.from ≤ length ends.commands = omega (arith, from_within, long) in
-      let stage = stage_on IsPlanBy verbs_by verbs graphs task laws of.is_for of.right.well_formed old.sent rings.outstanding old.agenda a.from started ends from_within to_ends (record { last = a.last; follows = a.follows; taken = a.taken }) in
-      let looks = looks_by IsPlanBy verbs_by verbs graphs task laws of.is_for of.right.well_formed old.sent rings.outstanding found old.agenda new.agenda a.from new.phase ends ascend graphs_ends within stage looked.belongs (led_of made old new found goes refl reads) in
+      let stage = stage_on means verbs graphs task laws of.is_for of.right.well_formed old.sent rings.outstanding old.agenda a.from started ends from_within to_ends (record { last = a.last; follows = a.follows; taken = a.taken }) in
+      let looks = looks_by means verbs graphs task laws of.is_for of.right.well_formed old.sent rings.outstanding found old.agenda new.agenda a.from new.phase ends ascend graphs_ends within stage looked.belongs (led_of made old new found goes refl reads) in
       let polled : (rings_polled rings on.reads).outstanding ≡ still_outstanding rings.outstanding found = ap (λ (found : Option ℕ). still_outstanding rings.outstanding found) looked.found_is in
       let idle = λ (free : on.free ≡ true). sym polled ∙ on.idle free in
-      let idle_then = λ (one : Order) (some : on.order ≡ Some one). polled ∙ idle_ordered IsPlanBy verbs_by verbs graphs task laws of.is_for of.right.well_formed on.free old.sent (still_outstanding rings.outstanding found) new.agenda on.order on.order_is idle looks.stage.follows one some in
+      let idle_then = λ (one : Order) (some : on.order ≡ Some one). polled ∙ idle_ordered means verbs graphs task laws of.is_for of.right.well_formed on.free old.sent (still_outstanding rings.outstanding found) new.agenda on.order on.order_is idle looks.stage.follows one some in
       let from' = from_after found a.from ends.commands in
-      let next = stage_on IsPlanBy verbs_by verbs graphs task laws of.is_for of.right.well_formed _ _ new.agenda from' ends finish looks.within to_after
-      (ordered IsPlanBy verbs_by verbs graphs task laws of.is_for of.right.well_formed on.free old.sent (still_outstanding rings.outstanding found) new.agenda from' on.clock on.order ends on.order_is idle looks.stage) in
+      let next = stage_on means verbs graphs task laws of.is_for of.right.well_formed _ _ new.agenda from' ends finish looks.within to_after
+      (ordered means verbs graphs task laws of.is_for of.right.well_formed on.free old.sent (still_outstanding rings.outstanding found) new.agenda from' on.clock on.order ends on.order_is idle looks.stage) in
       let outstanding = ap (λ (rings : RingPlaces). rings.outstanding) on.rings ∙ outstanding_with on.order on.clock (rings_polled rings on.reads) ∙ ap (λ (outstanding : Option Outstanding). with_order on.order on.clock outstanding) polled in
-      let stood = subst (λ (sent : ℕ). Stage IsPlanBy verbs_by verbs graphs task laws of.is_for of.right.well_formed sent new.engine.rings.outstanding new.agenda from' finish) (sym on.sent)
-      (subst (λ (outstanding : Option Outstanding). Stage IsPlanBy verbs_by verbs graphs task laws of.is_for of.right.well_formed (sent_with on.order old.sent) outstanding new.agenda from' finish) (sym outstanding) next) in
+      let stood = subst (λ (sent : ℕ). Stage means verbs graphs task laws of.is_for of.right.well_formed sent new.engine.rings.outstanding new.agenda from' finish) (sym on.sent)
+      (subst (λ (outstanding : Option Outstanding). Stage means verbs graphs task laws of.is_for of.right.well_formed (sent_with on.order old.sent) outstanding new.agenda from' finish) (sym outstanding) next) in
       let noted = call_noted notes task lines left line irq old new made a.from a.read before after opened a.agree on idle_then in
       let stretch = is (not_over old.phase new.phase found looks.goes) (λ asking goes. laws.agrees _ new.agenda task stood.follows of.is_for) in
       let written = sym (ap (λ (course : Course). course.written) noted.course) in record {

@@ -4,6 +4,7 @@ use Rattle.std.specs.Option.{is_some}
 use Rattle.verb_codes.specs.declared.verbs.Command.{Command}
 use Rattle.codec_graph.specs.declared.raw.RawCodec.{RawCodec}
 use Rattle.route_planner.specs.declared.routes.Plan.{Plan}
+use Rattle.route_setup.specs.Means.{Means}
 use Rattle.world_rings.specs.declared.response.Response.{Response}
 use Rattle.hda_world.specs.Worlds.{TakenCommand}
 use Rattle.hda_world.specs.Events.{Event}
@@ -162,8 +163,8 @@ closed_ready task state seen tally phase asking asks is = absurd (not_true askin
 
 -- ---- the call
 
-module _ (IsPlanBy : RawCodec → Plan → Type 0) (verbs_by : RawCodec → Plan → List Command) (verbs : RawCodec → List Command) (graphs : List RawCodec) (task : Task) (laws : AgendaLaws IsPlanBy verbs_by verbs graphs)
-    (of : IsTaskOfCodecs IsPlanBy verbs_by verbs graphs task) (notes : Laws) where
+module _ (means : Means) (verbs : RawCodec → List Command) (graphs : List RawCodec) (task : Task) (laws : AgendaLaws means verbs graphs)
+    (of : IsTaskOfCodecs means verbs graphs task) (notes : Laws) where
   pub record Shut (lines left : List DriverLine) (new : BringUp) (after : Telling) : Type 0 where
     pub done : IsDone task lines left (state_of new) after
     pub ended : IsEnded graphs task new
@@ -176,7 +177,7 @@ module _ (IsPlanBy : RawCodec → Plan → Type 0) (verbs_by : RawCodec → Plan
     agenda_is : new.agenda ≡ old.agenda
     outstanding_is : new.engine.rings.outstanding ≡ old.engine.rings.outstanding
 
-  quiet_ends : (lines left : List DriverLine) (old new : BringUp) (before after : Telling) → IsOpen task lines left None (state_of old) before → IsTaskOf old task → Ends IsPlanBy verbs_by old new (Some before) (Some after) → is_asking old.phase ≡ false
+  quiet_ends : (lines left : List DriverLine) (old new : BringUp) (before after : Telling) → IsOpen task lines left None (state_of old) before → IsTaskOf old task → Ends means old new (Some before) (Some after) → is_asking old.phase ≡ false
       → Stayed lines left old new after
   quiet_ends lines left old new before after opened blocks ends not =
       let unread = ends.unread not in
@@ -203,16 +204,16 @@ module _ (IsPlanBy : RawCodec → Plan → Type 0) (verbs_by : RawCodec → Plan
     };
   }
 
-  ended_in : (bring_up : BringUp) → Follows IsPlanBy verbs graphs (answers_of bring_up.sent bring_up.engine.rings.outstanding) bring_up.agenda → EndsIn bring_up.phase → WalkedIn bring_up.phase (bring_up.agenda.graphs.items ≡ graphs)
+  ended_in : (bring_up : BringUp) → Follows means verbs graphs (answers_of bring_up.sent bring_up.engine.rings.outstanding) bring_up.agenda → EndsIn bring_up.phase → WalkedIn bring_up.phase (bring_up.agenda.graphs.items ≡ graphs)
   ended_in bring_up follows (inl goes) =
       let count = answers_of bring_up.sent bring_up.engine.rings.outstanding in
       let agrees = laws.agrees count bring_up.agenda task follows of.is_for in
-      walked_in IsPlanBy verbs_by verbs graphs task of count bring_up.agenda bring_up.phase follows (bring_up.led goes ∙ agrees.phase) goes
+      walked_in means verbs graphs task of count bring_up.agenda bring_up.phase follows (bring_up.led goes ∙ agrees.phase) goes
   ended_in bring_up follows (inr given_up) = subst (λ (phase : Phase). WalkedIn phase (bring_up.agenda.graphs.items ≡ graphs)) (sym given_up.is) (tt {0})
 
   -- where a command is
-  last_look : (lines left : List DriverLine) (old new : BringUp) (before after : Telling) → IsOpen task lines left None (state_of old) before → IsTaskOf old task → (ends : Ends IsPlanBy verbs_by old new (Some before) (Some after)) → is_asking old.phase ≡ true
-      → graphs_in (world_of before).codecs ≡ graphs → (a : IsAsking IsPlanBy verbs graphs task (course_of task lines before).written old (world_of before)) → Shut lines left new after
+  last_look : (lines left : List DriverLine) (old new : BringUp) (before after : Telling) → IsOpen task lines left None (state_of old) before → IsTaskOf old task → (ends : Ends means old new (Some before) (Some after)) → is_asking old.phase ≡ true
+      → graphs_in (world_of before).codecs ≡ graphs → (a : IsAsking means verbs graphs task (course_of task lines before).written old (world_of before)) → Shut lines left new after
   last_look lines left old new before after opened blocks ends asking graphs_are a =
       let on = (ends.looks asking).is a.from a.read a.stands in
       let looked = on.looked in
@@ -230,14 +231,14 @@ module _ (IsPlanBy : RawCodec → Plan → Type 0) (verbs_by : RawCodec → Plan
       let from_within = a.stands.from_within in
       let long = ap (λ (commands : List TakenCommand). length commands) later.on.taken ∙ length-append (world_of before).commands later.on.more_taken in
       let within : a.from ≤ length (world_of looked.ends).commands = omega (arith, from_within, long) in
-      let stage = stage_on IsPlanBy verbs_by verbs graphs task laws of.is_for of.right.well_formed old.sent rings.outstanding old.agenda a.from (world_of before) (world_of looked.ends) from_within later (record { last = a.last; follows = a.follows; taken = a.taken }) in
-      let looks = looks_by IsPlanBy verbs_by verbs graphs task laws of.is_for of.right.well_formed old.sent rings.outstanding found old.agenda new.agenda a.from new.phase (world_of looked.ends) ascend graphs_ends within stage looked.belongs
-      (led_of IsPlanBy verbs_by verbs graphs task laws of made old new found goes refl ends.reads) in
+      let stage = stage_on means verbs graphs task laws of.is_for of.right.well_formed old.sent rings.outstanding old.agenda a.from (world_of before) (world_of looked.ends) from_within later (record { last = a.last; follows = a.follows; taken = a.taken }) in
+      let looks = looks_by means verbs graphs task laws of.is_for of.right.well_formed old.sent rings.outstanding found old.agenda new.agenda a.from new.phase (world_of looked.ends) ascend graphs_ends within stage looked.belongs
+      (led_of means verbs graphs task laws of made old new found goes refl ends.reads) in
       let outstanding : new.engine.rings.outstanding ≡ still_outstanding rings.outstanding found =
       ap (λ (rings : RingPlaces). rings.outstanding) on.rings ∙ ap (λ (found : Option ℕ). still_outstanding rings.outstanding found) looked.found_is in
       let count : answers_of old.sent (still_outstanding rings.outstanding found) ≡ answers_of new.sent new.engine.rings.outstanding =
       ap (λ (outstanding : Option Outstanding). answers_of old.sent outstanding) (sym outstanding) ∙ ap (λ (sent : ℕ). answers_of sent new.engine.rings.outstanding) (sym on.sent) in
-      let follows = subst (λ (count : ℕ). Follows IsPlanBy verbs graphs count new.agenda) count looks.stage.follows in
+      let follows = subst (λ (count : ℕ). Follows means verbs graphs count new.agenda) count looks.stage.follows in
       let agrees = λ (asking : is_asking old.phase ≡ true) (goes : goes_on new.phase ≡ true). laws.agrees _ new.agenda task follows of.is_for in
       let stretch = ends.is task blocks (not_over old.phase new.phase found looks.goes) agrees in
       let seen = seen_by (values_of made) (is_some found) in
@@ -246,13 +247,13 @@ module _ (IsPlanBy : RawCodec → Plan → Type 0) (verbs_by : RawCodec → Plan
         done = stretch_done task lines left None (state_of old) (state_of new) made (is_some found) noted.written before after opened ends.by.is.by
             (looked_accesses old made [] on.clock on.reads shut_accesses a.from a.read before after looked shut_are) noted.course (noted.conforms opened.conforms) stretch (tt {0});
         ended = record {
-          walked = walked_by IsPlanBy verbs_by verbs graphs task of new.sent new.engine.rings.outstanding new.agenda follows;
+          walked = walked_by means verbs graphs task of new.sent new.engine.rings.outstanding new.agenda follows;
           by_phase = ended_in new follows (subst EndsIn (sym phase) (closed_ends task (state_of old) seen (tally_next task (state_of old) None seen) old.phase asking goes));
         };
       }
 
-  pub end_told : (lines left : List DriverLine) (old new : BringUp) (before after : Telling) (phase : Phase) → old.phase ≡ phase → IsOpen task lines left None (state_of old) before → IsTaskOf old task → Ends IsPlanBy verbs_by old new (Some before) (Some after)
-      → graphs_in (world_of before).codecs ≡ graphs → StandsIn phase IsPlanBy verbs graphs task (course_of task lines before).written old (world_of before) → Shut lines left new after
+  pub end_told : (lines left : List DriverLine) (old new : BringUp) (before after : Telling) (phase : Phase) → old.phase ≡ phase → IsOpen task lines left None (state_of old) before → IsTaskOf old task → Ends means old new (Some before) (Some after)
+      → graphs_in (world_of before).codecs ≡ graphs → StandsIn phase means verbs graphs task (course_of task lines before).written old (world_of before) → Shut lines left new after
   end_told lines left old new before after Reset was opened blocks ends graphs_are stage =
       ended_on lines left old new after (quiet_ends lines left old new before after opened blocks ends (ap is_asking was)) (none_walked graphs old.agenda.graphs.items task.walks old.sent old.engine.rings.outstanding stage.none_walked stage.none_sent)
       (subst (λ (phase : Phase). WalkedIn phase (old.agenda.graphs.items ≡ graphs)) (sym was) (tt {0}))
@@ -263,7 +264,7 @@ module _ (IsPlanBy : RawCodec → Plan → Type 0) (verbs_by : RawCodec → Plan
   end_told lines left old new before after SettingUp was opened blocks ends graphs_are stage = last_look lines left old new before after opened blocks ends (ap is_asking was) graphs_are stage
   end_told lines left old new before after Ready was opened blocks ends graphs_are stage =
       ended_on lines left old new after (quiet_ends lines left old new before after opened blocks ends (ap is_asking was))
-      (walked_by IsPlanBy verbs_by verbs graphs task of old.sent old.engine.rings.outstanding old.agenda stage.follows) (ended_in old stage.follows (inl (ap goes_on was)))
+      (walked_by means verbs graphs task of old.sent old.engine.rings.outstanding old.agenda stage.follows) (ended_in old stage.follows (inl (ap goes_on was)))
   end_told lines left old new before after (Unanswered codec command issued noticed) was opened blocks ends graphs_are stage =
       ended_on lines left old new after (quiet_ends lines left old new before after opened blocks ends (ap is_asking was)) stage (subst (λ (phase : Phase). WalkedIn phase (old.agenda.graphs.items ≡ graphs)) (sym was) (tt {0}))
   end_told lines left old new before after Failed was opened blocks ends graphs_are stage =

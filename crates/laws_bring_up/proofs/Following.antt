@@ -8,6 +8,7 @@ use Rattle.codec_graph.specs.declared.raw.RawCodec.{RawCodec}
 use Rattle.codec_graph.specs.Cycles.{IsWellFormed}
 use Rattle.codec_graph.specs.CodecStates.{CodecState}
 use Rattle.route_planner.specs.declared.routes.Plan.{Plan}
+use Rattle.route_setup.specs.Means.{Means}
 use Rattle.codec_walk.specs.Commands.{walk_commands}
 use Rattle.codec_walk.specs.declared.fault.WalkFault.{WalkFault}
 use Rattle.hda_world.specs.Worlds.{World, TakenCommand}
@@ -51,17 +52,17 @@ pub record Later (old new : World) : Type 0 where
 
 -- ---- laws of agendas, as they are handed in
 
-pub record AgendaLaws (IsPlanBy : RawCodec → Plan → Type 0) (verbs_by : RawCodec → Plan → List Command) (verbs : RawCodec → List Command) (graphs : List RawCodec) : Type 0 where
-  pub leads : (count answer : ℕ) (old new : Agenda) → Follows IsPlanBy verbs graphs count old
+pub record AgendaLaws (means : Means) (verbs : RawCodec → List Command) (graphs : List RawCodec) : Type 0 where
+  pub leads : (count answer : ℕ) (old new : Agenda) → Follows means verbs graphs count old
       → (count < length (flat_map walk_commands graphs) → (command : Command) → slice_get (commands_of verbs graphs) count ≡ Some command → CanReply graphs command answer)
-      → LedBy IsPlanBy verbs_by old.walk answer old new → new.addresses ≡ old.addresses → Follows IsPlanBy verbs graphs (count + 1) new
-  pub well_formed : (count answer : ℕ) (old : Agenda) (fault : WalkFault) → Follows IsPlanBy verbs graphs count old
+      → LedBy means old.walk answer old new → new.addresses ≡ old.addresses → Follows means verbs graphs (count + 1) new
+  pub well_formed : (count answer : ℕ) (old : Agenda) (fault : WalkFault) → Follows means verbs graphs count old
       → (count < length (flat_map walk_commands graphs) → (command : Command) → slice_get (commands_of verbs graphs) count ≡ Some command → CanReply graphs command answer)
       → TellsFault old.walk answer fault → ⊥
-  pub routed : (count answer : ℕ) (old new : Agenda) → Follows IsPlanBy verbs graphs count old
+  pub routed : (count answer : ℕ) (old new : Agenda) → Follows means verbs graphs count old
       → (count < length (flat_map walk_commands graphs) → (command : Command) → slice_get (commands_of verbs graphs) count ≡ Some command → CanReply graphs command answer)
-      → TellsNoRoute IsPlanBy old.walk answer old.addresses.items old.graphs.items new → ⊥
-  pub agrees : (count : ℕ) (agenda : Agenda) (task : Task) → Follows IsPlanBy verbs graphs count agenda → IsTaskFor verbs graphs task → Agrees task count agenda
+      → TellsNoRoute means old.walk answer old.addresses.items old.graphs.items new → ⊥
+  pub agrees : (count : ℕ) (agenda : Agenda) (task : Task) → Follows means verbs graphs count agenda → IsTaskFor verbs graphs task → Agrees task count agenda
 
 -- what is outstanding once an order is submitted, if there is one
 abbrev pub with_order : Option Order → (clock : ℕ) → Option Outstanding → Option Outstanding
@@ -70,11 +71,11 @@ with_order (Some order) clock outstanding = Some (record { codec = order.codec; 
 
 -- ---- where commands stand: what was sent, answered and taken
 
-module _ (IsPlanBy : RawCodec → Plan → Type 0) (verbs_by : RawCodec → Plan → List Command) (verbs : RawCodec → List Command) (graphs : List RawCodec) (task : Task) (laws : AgendaLaws IsPlanBy verbs_by verbs graphs)
+module _ (means : Means) (verbs : RawCodec → List Command) (graphs : List RawCodec) (task : Task) (laws : AgendaLaws means verbs graphs)
     (is_for : IsTaskFor verbs graphs task) (well : All IsWellFormed graphs) where
   pub record Stage (sent : ℕ) (outstanding : Option Outstanding) (agenda : Agenda) (from : ℕ) (world : World) : Type 0 where
     pub last : IsLastSent task.orders sent outstanding
-    pub follows : Follows IsPlanBy verbs graphs (answers_of sent outstanding) agenda
+    pub follows : Follows means verbs graphs (answers_of sent outstanding) agenda
     pub taken : HaveTaken task.orders (answers_of sent outstanding) from world
 
   taken_on : (answers from : ℕ) (old new : World) → from ≤ length old.commands → Later old new → HaveTaken task.orders answers from old → HaveTaken task.orders answers from new
@@ -133,7 +134,7 @@ module _ (IsPlanBy : RawCodec → Plan → Type 0) (verbs_by : RawCodec → Plan
       there (subst (λ (from : ℕ). IsAnswered from command world.codecs world.commands value) taken.from_is is)
 
   -- so it leads on
-  ends_on : (word : ℕ) (old new : Agenda) (phase : Phase) → EndsBy IsPlanBy word old new phase → ((fault : WalkFault) → TellsFault old.walk word fault → ⊥) → (TellsNoRoute IsPlanBy old.walk word old.addresses.items old.graphs.items new → ⊥) → goes_on phase ≡ true
+  ends_on : (word : ℕ) (old new : Agenda) (phase : Phase) → EndsBy means word old new phase → ((fault : WalkFault) → TellsFault old.walk word fault → ⊥) → (TellsNoRoute means old.walk word old.addresses.items old.graphs.items new → ⊥) → goes_on phase ≡ true
   ends_on word old new NothingRouted ends no_fault some_route = absurd (some_route ends)
   ends_on word old new (Malformed codec fault) ends no_fault some_route = absurd (no_fault fault ends.1)
   ends_on word old new phase ends no_fault some_route = ends
@@ -143,7 +144,7 @@ module _ (IsPlanBy : RawCodec → Plan → Type 0) (verbs_by : RawCodec → Plan
   -- how an agenda was led by what was found
   abbrev pub IsLed : (found : Option ℕ) (old new : Agenda) (phase : Phase) → Type 0
   IsLed None old new phase = new ≡ old
-  IsLed (Some word) old new phase = LeadsOn IsPlanBy verbs_by word old new phase × EndsBy IsPlanBy word old new phase × (new.addresses ≡ old.addresses)
+  IsLed (Some word) old new phase = LeadsOn means word old new phase × EndsBy means word old new phase × (new.addresses ≡ old.addresses)
 
   pub record Looks (sent : ℕ) (outstanding : Option Outstanding) (found : Option ℕ) (agenda : Agenda) (from : ℕ) (phase : Phase) (world : World) : Type 0 where
     pub stage : Stage sent (still_outstanding outstanding found) agenda (from_after found from world.commands) world
@@ -156,13 +157,13 @@ module _ (IsPlanBy : RawCodec → Plan → Type 0) (verbs_by : RawCodec → Plan
   pub looks_by : (sent : ℕ) (outstanding : Option Outstanding) (found : Option ℕ) (old new : Agenda) (from : ℕ) (phase : Phase) (world : World) → AscendFrom 0 graphs → graphs_in world.codecs ≡ graphs → from ≤ length world.commands
       → Stage sent outstanding old from world → Belongs from outstanding world.codecs world.commands found → IsLed found old new phase → Looks sent outstanding found new from phase world
   looks_by sent None None old new from phase world ascend graphs_are within stage belongs led = record {
-    stage = record { last = stage.last; follows = subst (λ (agenda : Agenda). Follows IsPlanBy verbs graphs sent agenda) (sym led) stage.follows; taken = stage.taken };
+    stage = record { last = stage.last; follows = subst (λ (agenda : Agenda). Follows means verbs graphs sent agenda) (sym led) stage.follows; taken = stage.taken };
     within = within;
     goes = λ word is. absurd (no_word word is);
   }
   looks_by sent None (Some word) old new from phase world ascend graphs_are within stage belongs led = absurd belongs
   looks_by sent (Some command) None old new from phase world ascend graphs_are within stage belongs led = record {
-    stage = record { last = stage.last; follows = subst (λ (agenda : Agenda). Follows IsPlanBy verbs graphs (sent - 1) agenda) (sym led) stage.follows; taken = stage.taken };
+    stage = record { last = stage.last; follows = subst (λ (agenda : Agenda). Follows means verbs graphs (sent - 1) agenda) (sym led) stage.follows; taken = stage.taken };
     within = within;
     goes = λ word is. absurd (no_word word is);
   }
@@ -172,12 +173,12 @@ module _ (IsPlanBy : RawCodec → Plan → Type 0) (verbs_by : RawCodec → Plan
       let there = stage.last.2 in
       let answers : sent - 1 ≡ count = omega (arith, sent_is) in
       let taken = subst (λ (answers : ℕ). HaveTaken task.orders answers from world) answers stage.taken in
-      let follows = subst (λ (answers : ℕ). Follows IsPlanBy verbs graphs answers old) answers stage.follows in
+      let follows = subst (λ (answers : ℕ). Follows means verbs graphs answers old) answers stage.follows in
       let can = reply count from world command word ascend graphs_are there taken belongs in
       let goes = ends_on word old new phase led.1 (λ fault faulty. laws.well_formed count word old fault follows can faulty) (λ none. laws.routed count word old new follows can none) in record {
         stage = record {
           last = tt {0};
-          follows = subst (λ (count : ℕ). Follows IsPlanBy verbs graphs count new) (sym sent_is) (laws.leads count word old new follows can (led.0.led goes) led.2);
+          follows = subst (λ (count : ℕ). Follows means verbs graphs count new) (sym sent_is) (laws.leads count word old new follows can (led.0.led goes) led.2);
           taken = subst (λ (count : ℕ). HaveTaken task.orders count (length world.commands) world) (sym sent_is) (taken_next count from world command word there taken within belongs);
         };
         within = omega arith;
@@ -189,12 +190,12 @@ module _ (IsPlanBy : RawCodec → Plan → Type 0) (verbs_by : RawCodec → Plan
   no_order : (order : Order) → Some order ≡ None → ⊥
   no_order order is = cc
 
-  order_there : (free : Bool) (sent : ℕ) (outstanding : Option Outstanding) (agenda : Agenda) (order : Order) → Some order ≡ order_if free (next_on agenda) → (free ≡ true → outstanding ≡ None) → Follows IsPlanBy verbs graphs (answers_of sent outstanding) agenda
+  order_there : (free : Bool) (sent : ℕ) (outstanding : Option Outstanding) (agenda : Agenda) (order : Order) → Some order ≡ order_if free (next_on agenda) → (free ≡ true → outstanding ≡ None) → Follows means verbs graphs (answers_of sent outstanding) agenda
       → (outstanding ≡ None) × (slice_get task.orders sent ≡ Some order)
   order_there false sent outstanding agenda order is idle follows = absurd (no_order order is)
   order_there true sent outstanding agenda order is idle follows =
       let none = idle refl in
-      let at = subst (λ (outstanding : Option Outstanding). Follows IsPlanBy verbs graphs (answers_of sent outstanding) agenda) none follows in
+      let at = subst (λ (outstanding : Option Outstanding). Follows means verbs graphs (answers_of sent outstanding) agenda) none follows in
       (none, sym (is ∙ (laws.agrees sent agenda task at is_for).order))
 
   -- the stage once it is submitted, if there is one
@@ -207,11 +208,11 @@ module _ (IsPlanBy : RawCodec → Plan → Type 0) (verbs_by : RawCodec → Plan
       let answers : sent + 1 - 1 ≡ sent = omega arith in
       let count = ap (λ (outstanding : Option Outstanding). answers_of sent outstanding) none ∙ sym answers in record {
         last = (sent, refl, there.1);
-        follows = subst (λ (count : ℕ). Follows IsPlanBy verbs graphs count agenda) count stage.follows;
+        follows = subst (λ (count : ℕ). Follows means verbs graphs count agenda) count stage.follows;
         taken = subst (λ (count : ℕ). HaveTaken task.orders count from world) count stage.taken;
       }
 
   -- and then none was outstanding
-  pub idle_ordered : (free : Bool) (sent : ℕ) (outstanding : Option Outstanding) (agenda : Agenda) (order : Option Order) → order ≡ order_if free (next_on agenda) → (free ≡ true → outstanding ≡ None) → Follows IsPlanBy verbs graphs (answers_of sent outstanding) agenda
+  pub idle_ordered : (free : Bool) (sent : ℕ) (outstanding : Option Outstanding) (agenda : Agenda) (order : Option Order) → order ≡ order_if free (next_on agenda) → (free ≡ true → outstanding ≡ None) → Follows means verbs graphs (answers_of sent outstanding) agenda
       → (one : Order) → order ≡ Some one → outstanding ≡ None
   idle_ordered free sent outstanding agenda order is idle follows one some = (order_there free sent outstanding agenda one (sym some ∙ is) idle follows).0

@@ -4,6 +4,7 @@ use Rattle.hda_registers.specs.declared.places.TheConstants.{RIRBSTS}
 use Rattle.codec_graph.specs.declared.raw.RawCodec.{RawCodec}
 use Rattle.codec_graph.specs.Settings.{Entries}
 use Rattle.route_planner.specs.declared.routes.Plan.{Plan}
+use Rattle.route_setup.specs.Means.{Means}
 use Rattle.world_steps.specs.declared.Step.{Step}
 use Rattle.hda_world.specs.Worlds.{World}
 use Rattle.hda_world.specs.Steps.{after_steps}
@@ -170,21 +171,21 @@ same_state task course world (DmaWrite at bytes) none = refl
 
 -- ---- codecs that are set up
 
-abbrev pub ForGoodAt : (IsPlanBy : RawCodec → Plan → Type 0) (IsOpenBy : RawCodec → Entries → Plan → Type 0) (graphs : List RawCodec) → Task → World → Course → Type 0
-ForGoodAt IsPlanBy IsOpenBy graphs task world course = are_answered task course ≡ true → AreSetUpForGood IsPlanBy IsOpenBy graphs world
+abbrev pub ForGoodAt : (means : Means) (graphs : List RawCodec) → Task → World → Course → Type 0
+ForGoodAt means graphs task world course = are_answered task course ≡ true → AreSetUpForGood means graphs world
 
 -- from the last answer on they are, in a stretch that began in this state
-pub record IsFine (IsPlanBy : RawCodec → Plan → Type 0) (IsOpenBy : RawCodec → Entries → Plan → Type 0) (graphs : List RawCodec) (task : Task) (lines : List DriverLine) (state : State) (telling : Telling) : Type 0 where
-  pub set_up : StaysSetUp IsPlanBy IsOpenBy graphs task lines telling
-  pub good : ForGoodAt IsPlanBy IsOpenBy graphs task (world_of telling) (course_of task lines telling)
+pub record IsFine (means : Means) (graphs : List RawCodec) (task : Task) (lines : List DriverLine) (state : State) (telling : Telling) : Type 0 where
+  pub set_up : StaysSetUp means graphs task lines telling
+  pub good : ForGoodAt means graphs task (world_of telling) (course_of task lines telling)
   pub state_is : (course_of task lines telling).state ≡ state
 
-module _ (IsPlanBy : RawCodec → Plan → Type 0) (IsOpenBy : RawCodec → Entries → Plan → Type 0) (graphs : List RawCodec) (task : Task) (lines : List DriverLine) (state : State) where
+module _ (means : Means) (graphs : List RawCodec) (task : Task) (lines : List DriverLine) (state : State) where
   abbrev Fine : Telling → Type 0
-  Fine telling = IsFine IsPlanBy IsOpenBy graphs task lines state telling
+  Fine telling = IsFine means graphs task lines state telling
 
   abbrev GoodAt : World → Course → Type 0
-  GoodAt world course = ForGoodAt IsPlanBy IsOpenBy graphs task world course
+  GoodAt world course = ForGoodAt means graphs task world course
 
   -- over an access
   pub access_fine : (event : Event) (old new : Telling) (accessed : Accessed old new event) → Fine old
@@ -192,19 +193,19 @@ module _ (IsPlanBy : RawCodec → Plan → Type 0) (IsOpenBy : RawCodec → Entr
       → (GoodAt (after_steps accessed.steps (world_of old)) (course_of task lines old)
       → GoodAt (happens (after_steps accessed.steps (world_of old)) event) (noted task (course_of task lines old) (after_steps accessed.steps (world_of old)) event)) → Fine new
   access_fine event old new accessed fine stays leads =
-      let good_on : (done : List Step) → GoodAt (after_steps done (world_of old)) (course_of task lines old) = λ done answered. steps_for_good IsPlanBy IsOpenBy graphs done (world_of old) (fine.good answered) in
+      let good_on : (done : List Step) → GoodAt (after_steps done (world_of old)) (course_of task lines old) = λ done answered. steps_for_good means graphs done (world_of old) (fine.good answered) in
       let last = leads (good_on accessed.steps) in record {
-        set_up = access_always (SetUpAt IsPlanBy IsOpenBy graphs task) task lines event old new accessed (λ done answered. (good_on done answered).set_up) (λ answered. (last answered).set_up) fine.set_up;
+        set_up = access_always (SetUpAt means graphs task) task lines event old new accessed (λ done answered. (good_on done answered).set_up) (λ answered. (last answered).set_up) fine.set_up;
         good = at_access GoodAt task lines event old new accessed last;
         state_is = ap (λ (course : Course). course.state) (course_there task lines event old new accessed) ∙ stays ∙ fine.state_is;
       }
 
-  event_good : (event : Event) (world : World) → IsNoLook event → AreCalm (requests_in event) → AreSetUpForGood IsPlanBy IsOpenBy graphs world → AreSetUpForGood IsPlanBy IsOpenBy graphs (happens world event)
+  event_good : (event : Event) (world : World) → IsNoLook event → AreCalm (requests_in event) → AreSetUpForGood means graphs world → AreSetUpForGood means graphs (happens world event)
   event_good (Stepped step) world none calm good = absurd none
   event_good Begin world none calm good = absurd none
   event_good End world none calm good = absurd none
   event_good (Read at width value) world none calm good = good
-  event_good (Write at width value) world none calm good = write_for_good IsPlanBy IsOpenBy graphs world at width value calm.0 good
+  event_good (Write at width value) world none calm good = write_for_good means graphs world at width value calm.0 good
   event_good (DmaRead at bytes) world none calm good = good
   event_good (DmaWrite at bytes) world none calm good = record { idle = good.idle; set_up = good.set_up }
 

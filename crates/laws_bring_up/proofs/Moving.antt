@@ -7,6 +7,7 @@ use Rattle.verb_codes.specs.declared.verbs.Command.{Command}
 use Rattle.codec_graph.specs.declared.raw.RawCodec.{RawCodec}
 use Rattle.codec_graph.specs.Cycles.{IsWellFormed}
 use Rattle.route_planner.specs.declared.routes.Plan.{Plan}
+use Rattle.route_setup.specs.Means.{Means}
 use Rattle.world_rings.specs.declared.response.Response.{Response}
 use Rattle.world_steps.specs.declared.Step.{Step}
 use Rattle.hda_world.specs.Worlds.{World, TakenCommand}
@@ -54,7 +55,7 @@ defaults_stay steps world stopped all =
 
 -- ---- by phase
 
-module _ (IsPlanBy : RawCodec → Plan → Type 0) (verbs_by : RawCodec → Plan → List Command) (verbs : RawCodec → List Command) (graphs : List RawCodec) (task : Task) (laws : AgendaLaws IsPlanBy verbs_by verbs graphs)
+module _ (means : Means) (verbs : RawCodec → List Command) (graphs : List RawCodec) (task : Task) (laws : AgendaLaws means verbs graphs)
     (is_for : IsTaskFor verbs graphs task) (well : All IsWellFormed graphs) (notes : Laws) (steady : Steady) where
   can_begin_stays : (bring_up : BringUp) (steps : List Step) (world : World) → CanBegin bring_up world → CanBegin bring_up (after_steps steps world)
   can_begin_stays bring_up steps world is = record {
@@ -73,14 +74,14 @@ module _ (IsPlanBy : RawCodec → Plan → Type 0) (verbs_by : RawCodec → Plan
     none_walked = is.none_walked;
   }
 
-  asking_stays : (written : ℕ) (bring_up : BringUp) (steps : List Step) (world : World) → IsAsking IsPlanBy verbs graphs task written bring_up world → IsAsking IsPlanBy verbs graphs task written bring_up (after_steps steps world)
+  asking_stays : (written : ℕ) (bring_up : BringUp) (steps : List Step) (world : World) → IsAsking means verbs graphs task written bring_up world → IsAsking means verbs graphs task written bring_up (after_steps steps world)
   asking_stays written bring_up steps world a =
       let corb = bring_up.engine.corb.address in
       let rirb = bring_up.engine.rirb.address in
       let rings = bring_up.engine.rings in
       let on = steps_on steps world in
       let later : Later world (after_steps steps world) = record { on = on; remembers = λ start begun is. steps_remember start begun steps world is } in
-      let stage = stage_on IsPlanBy verbs_by verbs graphs task laws is_for well bring_up.sent rings.outstanding bring_up.agenda a.from world (after_steps steps world) a.stands.from_within later (record { last = a.last; follows = a.follows; taken = a.taken }) in record {
+      let stage = stage_on means verbs graphs task laws is_for well bring_up.sent rings.outstanding bring_up.agenda a.from world (after_steps steps world) a.stands.from_within later (record { last = a.last; follows = a.follows; taken = a.taken }) in record {
         from = a.from;
         read = a.read;
         stands = kept_steps (Stands a.from a.read corb rirb rings) (keeps_standing a.from a.read corb rirb rings responses_apart) steps world a.stands;
@@ -90,7 +91,7 @@ module _ (IsPlanBy : RawCodec → Plan → Type 0) (verbs_by : RawCodec → Plan
         taken = stage.taken;
       }
 
-  pub stage_stays : (phase : Phase) (written : ℕ) (bring_up : BringUp) (steps : List Step) (world : World) → StandsIn phase IsPlanBy verbs graphs task written bring_up world → StandsIn phase IsPlanBy verbs graphs task written bring_up (after_steps steps world)
+  pub stage_stays : (phase : Phase) (written : ℕ) (bring_up : BringUp) (steps : List Step) (world : World) → StandsIn phase means verbs graphs task written bring_up world → StandsIn phase means verbs graphs task written bring_up (after_steps steps world)
   stage_stays Reset written bring_up steps world stage = can_begin_stays bring_up steps world stage
   stage_stays Settling written bring_up steps world stage = announce_stays bring_up steps world stage
   stage_stays Walking written bring_up steps world stage = asking_stays written bring_up steps world stage

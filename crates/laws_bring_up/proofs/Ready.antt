@@ -13,6 +13,7 @@ use Rattle.codec_graph.specs.Cycles.{IsWellFormed}
 use Rattle.codec_graph.specs.Settings.{Entries, IsSettingsOf}
 use Rattle.codec_graph.specs.CodecStates.{CodecState}
 use Rattle.route_planner.specs.declared.routes.Plan.{Plan}
+use Rattle.route_setup.specs.Means.{Means}
 use Rattle.codec_walk.specs.declared.walk.Walk.{Walk}
 use Rattle.codec_walk.specs.Commands.{walk_commands}
 use Rattle.setup_verbs.specs.SetUp.{IsCommandOf, settings_after}
@@ -155,9 +156,9 @@ codec_there address (first ∷ codecs) graph is = by (codec_there address codecs
 
 -- ---- what a setter's plans and verbs are for, as it is handed in
 
-pub record SetterLaws (IsPlanBy : RawCodec → Plan → Type 0) (verbs_by : RawCodec → Plan → List Command) (IsOpenBy : RawCodec → Entries → Plan → Type 0) : Type 0 where
-  pub encodable : (graph : RawCodec) (plan : Plan) → IsWellFormed graph → IsPlanBy graph plan → All (IsCommandOf graph) (verbs_by graph plan)
-  pub opens : (graph : RawCodec) (plan : Plan) (settings : Entries) → IsWellFormed graph → IsPlanBy graph plan → IsSettingsOf graph settings → IsOpenBy graph (settings_after graph settings (verbs_by graph plan)) plan
+pub record SetterLaws (means : Means) : Type 0 where
+  pub encodable : (graph : RawCodec) (plan : Plan) → IsWellFormed graph → means.IsPlanBy graph plan → All (IsCommandOf graph) (means.verbs_by graph plan)
+  pub opens : (graph : RawCodec) (plan : Plan) (settings : Entries) → IsWellFormed graph → means.IsPlanBy graph plan → IsSettingsOf graph settings → means.IsOpenBy graph (settings_after graph settings (means.verbs_by graph plan)) plan
 
 -- a list without items
 no_items : {A : Type 0} (items : List A) → length items ≡ 0 → items ≡ []
@@ -166,14 +167,14 @@ no_items {A} (item ∷ items) is = cc
 
 -- ---- once all commands were taken
 
-module _ (IsPlanBy : RawCodec → Plan → Type 0) (verbs_by : RawCodec → Plan → List Command) (verbs : RawCodec → List Command) (IsOpenBy : RawCodec → Entries → Plan → Type 0) (graphs : List RawCodec) (task : Task)
-    (laws : AgendaLaws IsPlanBy verbs_by verbs graphs) (of : IsTaskOfCodecs IsPlanBy verbs_by verbs graphs task) (setter : SetterLaws IsPlanBy verbs_by IsOpenBy) where
-  commands_by : (some : List RawCodec) (plans : List Plan) → ArePlansBy IsPlanBy some plans → All IsWellFormed some
-      → All (λ (graph : RawCodec). (plan : Plan) → IsPlanBy graph plan → verbs graph ≡ verbs_by graph plan) some → All (λ (graph : RawCodec). All (IsCommandOf graph) (verbs graph)) some
+module _ (means : Means) (verbs : RawCodec → List Command) (graphs : List RawCodec) (task : Task)
+    (laws : AgendaLaws means verbs graphs) (of : IsTaskOfCodecs means verbs graphs task) (setter : SetterLaws means) where
+  commands_by : (some : List RawCodec) (plans : List Plan) → ArePlansBy means.IsPlanBy some plans → All IsWellFormed some
+      → All (λ (graph : RawCodec). (plan : Plan) → means.IsPlanBy graph plan → verbs graph ≡ means.verbs_by graph plan) some → All (λ (graph : RawCodec). All (IsCommandOf graph) (verbs graph)) some
   commands_by [] plans are well verbs_are = All-nil (λ (graph : RawCodec). All (IsCommandOf graph) (verbs graph))
   commands_by (graph ∷ some) [] are well verbs_are = absurd are
   commands_by (graph ∷ some) (plan ∷ plans) are well verbs_are =
-      let Is : RawCodec → Type 0 = λ graph. (plan : Plan) → IsPlanBy graph plan → verbs graph ≡ verbs_by graph plan in
+      let Is : RawCodec → Type 0 = λ graph. (plan : Plan) → means.IsPlanBy graph plan → verbs graph ≡ means.verbs_by graph plan in
       All-cons (λ (graph : RawCodec). All (IsCommandOf graph) (verbs graph)) graph some
       (subst (All (IsCommandOf graph)) (sym (All-head Is graph some verbs_are plan are.0)) (setter.encodable graph plan (All-head IsWellFormed graph some well) are.0))
       (commands_by some plans are.1 (All-tail IsWellFormed graph some well) (All-tail Is graph some verbs_are))
@@ -190,7 +191,7 @@ module _ (IsPlanBy : RawCodec → Plan → Type 0) (verbs_by : RawCodec → Plan
   total = ap (λ (orders : List Order). length orders) of.is_for.orders ∙ length-map (commands_of verbs graphs) _ ∙ length-append (flat_map walk_commands graphs) (flat_map verbs graphs)
 
   -- where all are answered but one at most, those of the set-up can be encoded
-  pub can_be_sent : (count : ℕ) (agenda : Agenda) (walks : Option Walk) → FollowsBy IsPlanBy verbs graphs count agenda walks → length task.orders ≤ count + 1 → All (λ (graph : RawCodec). All (IsCommandOf graph) (verbs graph)) graphs
+  pub can_be_sent : (count : ℕ) (agenda : Agenda) (walks : Option Walk) → FollowsBy means verbs graphs count agenda walks → length task.orders ≤ count + 1 → All (λ (graph : RawCodec). All (IsCommandOf graph) (verbs graph)) graphs
   can_be_sent count agenda None stands all = commands_by graphs agenda.plans.items stands.plans of.right.well_formed of.right.verbs_are
   can_be_sent count agenda (Some under_way) stands all =
       let few = walk_left graphs count agenda under_way stands in
@@ -250,13 +251,13 @@ module _ (IsPlanBy : RawCodec → Plan → Type 0) (verbs_by : RawCodec → Plan
       (subst (λ (graph : RawCodec). graphs_at graph.address graphs ≡ graph ∷ []) (sym same) (alone graphs graph is.ascend contains)) (all_words world is) in
       set_from graph first now same (all_there graph.address start first is.taken.defaults was_at.is) set
 
-  set_open : (graph : RawCodec) (now : CodecState) (plan : Plan) → Contains graphs graph → IsSetFrom graph now → IsPlanBy graph plan → IsOpenBy graph now.settings plan
+  set_open : (graph : RawCodec) (now : CodecState) (plan : Plan) → Contains graphs graph → IsSetFrom graph now → means.IsPlanBy graph plan → means.IsOpenBy graph now.settings plan
   set_open graph now plan contains set planned =
       let well = All-contains IsWellFormed graphs graph of.right.well_formed contains in
-      let verbs_are = All-contains (λ (graph : RawCodec). (plan : Plan) → IsPlanBy graph plan → verbs graph ≡ verbs_by graph plan) graphs graph of.right.verbs_are contains plan planned in
-      subst (λ (settings : Entries). IsOpenBy graph settings plan) (sym (set.are_set ∙ ap (λ (commands : List Command). settings_after graph set.settings commands) verbs_are)) (setter.opens graph plan set.settings well planned set.are_settings)
+      let verbs_are = All-contains (λ (graph : RawCodec). (plan : Plan) → means.IsPlanBy graph plan → verbs graph ≡ means.verbs_by graph plan) graphs graph of.right.verbs_are contains plan planned in
+      subst (λ (settings : Entries). means.IsOpenBy graph settings plan) (sym (set.are_set ∙ ap (λ (commands : List Command). settings_after graph set.settings commands) verbs_are)) (setter.opens graph plan set.settings well planned set.are_settings)
 
-  pub taken_set_up : (world : World) → AllTaken world → AreSetUp IsPlanBy IsOpenBy graphs world
+  pub taken_set_up : (world : World) → AllTaken world → AreSetUp means graphs world
   taken_set_up world is graph contains =
       let there = codec_there graph.address world.codecs graph (ap (λ (graphs : List RawCodec). graph_at graph.address graphs) is.graphs_are ∙ found_there graphs graph is.ascend contains) in
       let set = taken_set world is graph there.now contains there.found in record {
@@ -268,7 +269,7 @@ module _ (IsPlanBy : RawCodec → Plan → Type 0) (verbs_by : RawCodec → Plan
 
   -- ---- in the phase `Ready`
 
-  pub all_taken : (written : ℕ) (bring_up : BringUp) (world : World) → bring_up.phase ≡ Ready → graphs_in world.codecs ≡ graphs → IsAsking IsPlanBy verbs graphs task written bring_up world
+  pub all_taken : (written : ℕ) (bring_up : BringUp) (world : World) → bring_up.phase ≡ Ready → graphs_in world.codecs ≡ graphs → IsAsking means verbs graphs task written bring_up world
       → (bring_up.engine.rings.outstanding ≡ None) × AllTaken world
   all_taken written bring_up world was graphs_are a =
       let outstanding = bring_up.engine.rings.outstanding in
@@ -292,9 +293,9 @@ module _ (IsPlanBy : RawCodec → Plan → Type 0) (verbs_by : RawCodec → Plan
         },
       )
 
-  pub ready_for_good : (written : ℕ) (bring_up : BringUp) (world : World) → bring_up.phase ≡ Ready → IsBroughtUp IsPlanBy verbs graphs task written bring_up world → AreSetUpForGood IsPlanBy IsOpenBy graphs world
+  pub ready_for_good : (written : ℕ) (bring_up : BringUp) (world : World) → bring_up.phase ≡ Ready → IsBroughtUp means verbs graphs task written bring_up world → AreSetUpForGood means graphs world
   ready_for_good written bring_up world was stands =
-      let a = subst (λ (phase : Phase). StandsIn phase IsPlanBy verbs graphs task written bring_up world) was stands.stage in
+      let a = subst (λ (phase : Phase). StandsIn phase means verbs graphs task written bring_up world) was stands.stage in
       let taken = all_taken written bring_up world was stands.graphs_are a in record {
         idle = all_fetched bring_up.engine.rings.outstanding (part_of world.registers) (word_at world.memory (bring_up.engine.corb.address + COMMAND_BYTES * bring_up.engine.rings.submitted)) (drop a.from world.commands) taken.0 a.stands.course;
         set_up = taken_set_up world taken.1;

@@ -8,6 +8,7 @@ use Rattle.codec_graph.specs.declared.raw.RawCodec.{RawCodec}
 use Rattle.codec_graph.specs.CodecStates.{CodecState}
 use Rattle.codec_graph.specs.Settings.{Entries}
 use Rattle.route_planner.specs.declared.routes.Plan.{Plan}
+use Rattle.route_setup.specs.Means.{Means}
 use Rattle.hda_registers.specs.declared.shapes.Width.{Width}
 use Rattle.world_steps.specs.declared.Step.{Step}
 use Rattle.hda_world.specs.Worlds.{World, TakenCommand, codec_at}
@@ -85,25 +86,25 @@ steps_alike steps world same =
       settings = only_asked world.codecs (length world.commands) (after_steps steps world) remembers (subst (λ (commands : List TakenCommand). All IsReading (words_of commands)) (sym none) (All-nil IsReading));
     }
 
-module _ (IsPlanBy : RawCodec → Plan → Type 0) (IsOpenBy : RawCodec → Entries → Plan → Type 0) (graphs : List RawCodec) where
-  alike_set_up : (old new : World) → AreAlike old.codecs new.codecs → AreSetUp IsPlanBy IsOpenBy graphs old → AreSetUp IsPlanBy IsOpenBy graphs new
+module _ (means : Means) (graphs : List RawCodec) where
+  alike_set_up : (old new : World) → AreAlike old.codecs new.codecs → AreSetUp means graphs old → AreSetUp means graphs new
   alike_set_up old new alike set graph contains =
       let there = set graph contains in
       let found = found_alike graph.address old.codecs new.codecs there.now alike there.found in record {
         now = found.now;
         found = found.found;
         graph_is = found.graph_is ∙ there.graph_is;
-        opened = λ plan planned. subst (λ (settings : Entries). IsOpenBy graph settings plan) (sym found.settings_are) (there.opened plan planned);
+        opened = λ plan planned. subst (λ (settings : Entries). means.IsOpenBy graph settings plan) (sym found.settings_are) (there.opened plan planned);
       }
 
-  pub steps_for_good : (steps : List Step) (world : World) → AreSetUpForGood IsPlanBy IsOpenBy graphs world → AreSetUpForGood IsPlanBy IsOpenBy graphs (after_steps steps world)
+  pub steps_for_good : (steps : List Step) (world : World) → AreSetUpForGood means graphs world → AreSetUpForGood means graphs (after_steps steps world)
   steps_for_good steps world are =
       let idle = idle_steps steps world are.idle in record {
         idle = idle.idle;
         set_up = alike_set_up world (after_steps steps world) (steps_alike steps world idle.commands_are) are.set_up;
       }
 
-  pub write_for_good : (world : World) (at : ℕ) (width : Width) (value : ℕ) → SubmitsNone at width value → AreSetUpForGood IsPlanBy IsOpenBy graphs world → AreSetUpForGood IsPlanBy IsOpenBy graphs (after_write at width value world)
+  pub write_for_good : (world : World) (at : ℕ) (width : Width) (value : ℕ) → SubmitsNone at width value → AreSetUpForGood means graphs world → AreSetUpForGood means graphs (after_write at width value world)
   write_for_good world at width value none are =
       let leaves = access_leaves world at value width in record {
         idle = write_idle world at width value none are.idle;

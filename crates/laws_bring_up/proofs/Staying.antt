@@ -6,6 +6,7 @@ use Rattle.verb_codes.specs.declared.verbs.Command.{Command}
 use Rattle.codec_graph.specs.declared.raw.RawCodec.{RawCodec}
 use Rattle.codec_graph.specs.Settings.{Entries}
 use Rattle.route_planner.specs.declared.routes.Plan.{Plan}
+use Rattle.route_setup.specs.Means.{Means}
 use Rattle.hda_registers.specs.declared.places.TheConstants.{WALCLK, RIRBSTS}
 use Rattle.hda_registers.specs.declared.shapes.Width.TheVariants.{One, Four}
 use Rattle.hda_registers.specs.Fields.{entries_of}
@@ -120,16 +121,16 @@ calm_made task lines left turn state state' made before after opened makes are d
 
 -- ---- a call
 
-module _ (IsPlanBy : RawCodec → Plan → Type 0) (verbs_by : RawCodec → Plan → List Command) (verbs : RawCodec → List Command) (IsOpenBy : RawCodec → Entries → Plan → Type 0) (graphs : List RawCodec) (task : Task)
-    (laws : AgendaLaws IsPlanBy verbs_by verbs graphs) (of : IsTaskOfCodecs IsPlanBy verbs_by verbs graphs task) (setter : SetterLaws IsPlanBy verbs_by IsOpenBy) (notes : Laws) (lines : List DriverLine) where
+module _ (means : Means) (verbs : RawCodec → List Command) (graphs : List RawCodec) (task : Task)
+    (laws : AgendaLaws means verbs graphs) (of : IsTaskOfCodecs means verbs graphs task) (setter : SetterLaws means) (notes : Laws) (lines : List DriverLine) where
   abbrev Fine : State → Telling → Type 0
-  Fine state telling = IsFine IsPlanBy IsOpenBy graphs task lines state telling
+  Fine state telling = IsFine means graphs task lines state telling
 
   -- one that looks for no answer
   unlooked_fine : (left : List DriverLine) (turn : Option DriverLine) (state state' : State) (made : List Event) (before after : Telling) → IsOpen task lines left turn state before → Makes made before after → AreNoLooks made
       → is_early state.phase ≡ true → IsDone task lines left state' after → IsSilent task state turn → Fine state before → Fine state after
   unlooked_fine left turn state state' made before after opened makes none early done silent fine =
-      calm_row IsPlanBy IsOpenBy graphs task lines state made before after makes.by none
+      calm_row means graphs task lines state made before after makes.by none
       (λ answered. calm_made task lines left turn state state' made before after opened makes.by (no_looks_accesses made none) done silent (last_of task (course_of task lines before) state opened.state_is early answered)) fine
 
   -- where the device leads by itself
@@ -140,20 +141,20 @@ module _ (IsPlanBy : RawCodec → Plan → Type 0) (verbs_by : RawCodec → Plan
   }
 
   -- where the flag is read, and the last answer is there
-  found_there : (old : BringUp) (written : ℕ) (begun there : World) (course : Course) (flag : ℕ) → is_asking old.phase ≡ true → graphs_in begun.codecs ≡ graphs → (a : IsAsking IsPlanBy verbs graphs task written old begun) → Later begun there
+  found_there : (old : BringUp) (written : ℕ) (begun there : World) (course : Course) (flag : ℕ) → is_asking old.phase ≡ true → graphs_in begun.codecs ≡ graphs → (a : IsAsking means verbs graphs task written old begun) → Later begun there
       → Stands a.from a.read old.engine.corb.address old.engine.rirb.address old.engine.rings there → course.state ≡ state_of old → course.written ≡ written → are_answered task (noted task course there (Read RIRBSTS One flag)) ≡ true
-      → AreSetUpForGood IsPlanBy IsOpenBy graphs there
+      → AreSetUpForGood means graphs there
   found_there old written begun there course flag asking graphs_are a later stood state_is written_is answered = by (answered_parts task (noted task course there (Read RIRBSTS One flag)) (early_as course.state (state_of old) state_is old.early) answered)
     where
-      by : (course.state.phase ≡ Ready) ⊎ FoundLast (is_asking course.state.phase) course.within (course.state.sent == length task.orders) (is_answered course there) → AreSetUpForGood IsPlanBy IsOpenBy graphs there
+      by : (course.state.phase ≡ Ready) ⊎ FoundLast (is_asking course.state.phase) course.within (course.state.sent == length task.orders) (is_answered course there) → AreSetUpForGood means graphs there
       by (inl ready) = absurd (not_true (sym (ap is_asking (sym (ap (λ (state : State). state.phase) state_is) ∙ ready)) ∙ asking))
       by (inr found) =
           let all = sym (ap (λ (state : State). state.sent) state_is) ∙ are_same course.state.sent (length task.orders) found.sent_is in
-          answered_for_good IsPlanBy verbs_by verbs IsOpenBy graphs task laws of setter notes old written begun there course graphs_are a later stood all state_is written_is found.answered_is
+          answered_for_good means verbs graphs task laws of setter notes old written begun there course graphs_are a later stood all state_is written_is found.answered_is
 
   -- the look for the answer to the outstanding command, until the flag is read
   flagged_fine : (left : List DriverLine) (turn : Option DriverLine) (old : BringUp) (made first : List Event) (clock : ℕ) (reads : PollReads) (rest : List Event) (before after : Telling) → IsOpen task lines left turn (state_of old) before
-      → is_asking old.phase ≡ true → graphs_in (world_of before).codecs ≡ graphs → (a : IsAsking IsPlanBy verbs graphs task (course_of task lines before).written old (world_of before))
+      → is_asking old.phase ≡ true → graphs_in (world_of before).codecs ≡ graphs → (a : IsAsking means verbs graphs task (course_of task lines before).written old (world_of before))
       → (looked : Looked old made first clock reads rest a.from a.read before after) → Fine (state_of old) before → Fine (state_of old) looked.look_made.by.2.0
   flagged_fine left turn old made first clock reads rest before after opened asking graphs_are a looked fine =
       let state = state_of old in
@@ -166,10 +167,10 @@ module _ (IsPlanBy : RawCodec → Plan → Type 0) (verbs_by : RawCodec → Plan
       let asks_at = λ (course : Course) (is : course.state ≡ state). subst (λ (state : State). is_asking state.phase ≡ true) (sym is) asking in
       let first_row = (course_row task lines first before begins looked.first_made looked.plain).0 in
       let clock_row = (course_row task lines (look ∷ []) begins one clock_made (refl, tt {0})).0 in
-      let started = calm_row IsPlanBy IsOpenBy graphs task lines state first before begins looked.first_made.by (plain_no_looks first looked.plain)
+      let started = calm_row means graphs task lines state first before begins looked.first_made.by (plain_no_looks first looked.plain)
       (λ answered. absurd (unanswered task (course_of task lines before) (asks_at (course_of task lines before) opened.state_is) opened.unanswered answered)) fine in
       let unfound = ap (λ (course : Course). course.answered) first_row ∙ opened.unanswered in
-      let clocked = calm_row IsPlanBy IsOpenBy graphs task lines state (look ∷ []) begins one clock_made.by (refl, tt {0})
+      let clocked = calm_row means graphs task lines state (look ∷ []) begins one clock_made.by (refl, tt {0})
       (λ answered. absurd (unanswered task (course_of task lines begins) (asks_at (course_of task lines begins) started.state_is) unfound answered)) started in
       let written = ap (λ (course : Course). course.written) clock_row ∙ ap (λ (course : Course). course.written) first_row in
       let there = after_steps reads_flag.steps (world_of one) in
@@ -181,12 +182,12 @@ module _ (IsPlanBy : RawCodec → Plan → Type 0) (verbs_by : RawCodec → Plan
         remembers = λ start begun is. row_remembers (look ∷ []) begins one clock_made start begun (row_remembers first before begins looked.first_made start begun is);
       } in
       let later = later_steps reads_flag.steps (world_of before) (world_of one) to_one in
-      access_fine IsPlanBy IsOpenBy graphs task lines state (Read RIRBSTS One reads.flag) one looked.look_made.by.2.0 reads_flag clocked refl
+      access_fine means graphs task lines state (Read RIRBSTS One reads.flag) one looked.look_made.by.2.0 reads_flag clocked refl
       (λ good answered. found_there old (course_of task lines before).written (world_of before) there (course_of task lines one) reads.flag asking graphs_are a later stood clocked.state_is written answered)
 
   -- and all of a stretch with one
   looked_fine : (left : List DriverLine) (turn : Option DriverLine) (old : BringUp) (state' : State) (made first : List Event) (clock : ℕ) (reads : PollReads) (rest : List Event) (before after : Telling) → IsOpen task lines left turn (state_of old) before
-      → Makes made before after → is_asking old.phase ≡ true → IsSilent task (state_of old) turn → graphs_in (world_of before).codecs ≡ graphs → (a : IsAsking IsPlanBy verbs graphs task (course_of task lines before).written old (world_of before))
+      → Makes made before after → is_asking old.phase ≡ true → IsSilent task (state_of old) turn → graphs_in (world_of before).codecs ≡ graphs → (a : IsAsking means verbs graphs task (course_of task lines before).written old (world_of before))
       → Looked old made first clock reads rest a.from a.read before after → AreNoLooks rest → IsDone task lines left state' after → Fine (state_of old) before → Fine (state_of old) after
   looked_fine left turn old state' made first clock reads rest before after opened makes asking silent graphs_are a looked none done fine =
       let rings = old.engine.rings in
@@ -194,17 +195,17 @@ module _ (IsPlanBy : RawCodec → Plan → Type 0) (verbs_by : RawCodec → Plan
       let state = state_of old in
       let batch = if has_bit reads.flag 0 then batch_accesses rirb rings reads.pointer reads.entries else [] in
       let flagged = flagged_fine left turn old made first clock reads rest before after opened asking graphs_are a looked fine in
-      let polled = calm_row IsPlanBy IsOpenBy graphs task lines state batch looked.look_made.by.2.0 looked.ends looked.look_made.by.2.2 (batch_no_looks (has_bit reads.flag 0) rirb rings reads)
+      let polled = calm_row means graphs task lines state batch looked.look_made.by.2.0 looked.ends looked.look_made.by.2.2 (batch_no_looks (has_bit reads.flag 0) rirb rings reads)
       (λ answered. batch_calm (has_bit reads.flag 0) rirb rings reads) flagged in
       let are = looked_accesses old made first clock reads rest a.from a.read before after looked (no_looks_accesses rest none) in
       let calm : IsLast task state → AreCalm (requests_of rest) = λ last.
       calm_after (ask_accesses rirb clock rings reads) rest (calm_after first (ask_accesses rirb clock rings reads ++ rest)
       (subst (λ (made : List Event). AreCalm (requests_of made)) looked.made_is (calm_made task lines left turn state state' made before after opened makes.by are done silent last))) in
-      calm_row IsPlanBy IsOpenBy graphs task lines state rest looked.ends after looked.rest_made.by none (λ answered. calm (last_of task (course_of task lines looked.ends) state polled.state_is old.early answered)) polled
+      calm_row means graphs task lines state rest looked.ends after looked.rest_made.by none (λ answered. calm (last_of task (course_of task lines looked.ends) state polled.state_is old.early answered)) polled
 
   -- ---- by phase
 
-  pub asking_in : (phase : Phase) (written : ℕ) (bring_up : BringUp) (world : World) → is_asking phase ≡ true → StandsIn phase IsPlanBy verbs graphs task written bring_up world → IsAsking IsPlanBy verbs graphs task written bring_up world
+  pub asking_in : (phase : Phase) (written : ℕ) (bring_up : BringUp) (world : World) → is_asking phase ≡ true → StandsIn phase means verbs graphs task written bring_up world → IsAsking means verbs graphs task written bring_up world
   asking_in Walking written bring_up world is stage = stage
   asking_in SettingUp written bring_up world is stage = stage
   asking_in Playing written bring_up world is stage = absurd stage
@@ -215,17 +216,17 @@ module _ (IsPlanBy : RawCodec → Plan → Type 0) (verbs_by : RawCodec → Plan
   asking_in phase written bring_up world is stage = absurd (not_true is)
 
   -- at its beginning
-  pub called_fine : (left : List DriverLine) (turn : Option DriverLine) (old : BringUp) (before : Telling) → IsOpen task lines left turn (state_of old) before → IsBroughtUp IsPlanBy verbs graphs task (course_of task lines before).written old (world_of before)
-      → StaysSetUp IsPlanBy IsOpenBy graphs task lines before → Fine (state_of old) before
+  pub called_fine : (left : List DriverLine) (turn : Option DriverLine) (old : BringUp) (before : Telling) → IsOpen task lines left turn (state_of old) before → IsBroughtUp means verbs graphs task (course_of task lines before).written old (world_of before)
+      → StaysSetUp means graphs task lines before → Fine (state_of old) before
   called_fine left turn old before opened stands set_up = record {
     set_up = set_up;
-    good = λ answered. ready_for_good IsPlanBy verbs_by verbs IsOpenBy graphs task laws of setter (course_of task lines before).written old (world_of before)
+    good = λ answered. ready_for_good means verbs graphs task laws of setter (course_of task lines before).written old (world_of before)
         (sym (ap (λ (state : State). state.phase) opened.state_is) ∙ unlooked task (course_of task lines before) (early_as (course_of task lines before).state (state_of old) opened.state_is old.early) opened.unanswered answered) stands;
     state_is = opened.state_is;
   }
 
   asking_fine : (left : List DriverLine) (budget : ℕ) (irq : Bool) (old new : BringUp) (before after : Telling) → IsOpen task lines left (Some (record { irq = irq; budget = budget })) (state_of old) before → graphs_in (world_of before).codecs ≡ graphs
-      → (a : IsAsking IsPlanBy verbs graphs task (course_of task lines before).written old (world_of before)) → (leads : Leads IsPlanBy verbs_by irq old new (Some before) (Some after)) → (old.phase ≡ Ready → task.plays ≡ false) → is_asking old.phase ≡ true
+      → (a : IsAsking means verbs graphs task (course_of task lines before).written old (world_of before)) → (leads : Leads means irq old new (Some before) (Some after)) → (old.phase ≡ Ready → task.plays ≡ false) → is_asking old.phase ≡ true
       → IsDone task lines left (state_of new) after → Fine (state_of old) before → LooksOn irq old new leads.made a.from a.read before after ⊎ IsStill old new leads.made a.from a.read after → Fine (state_of old) after
   asking_fine left budget irq old new before after opened graphs_are a leads silent asking done fine (inl on) =
       let corb = old.engine.corb.address in
@@ -235,7 +236,7 @@ module _ (IsPlanBy : RawCodec → Plan → Type 0) (verbs_by : RawCodec → Plan
       unlooked_fine left (Some (record { irq = irq; budget = budget })) (state_of old) (state_of new) leads.made before after opened leads.by.is (unread_no_looks leads.made still.unread) old.early done silent fine
 
   pub call_fine : (left : List DriverLine) (budget : ℕ) (irq : Bool) (old new : BringUp) (before after : Telling) → IsOpen task lines left (Some (record { irq = irq; budget = budget })) (state_of old) before
-      → IsBroughtUp IsPlanBy verbs graphs task (course_of task lines before).written old (world_of before) → Leads IsPlanBy verbs_by irq old new (Some before) (Some after) → (old.phase ≡ Ready → task.plays ≡ false)
+      → IsBroughtUp means verbs graphs task (course_of task lines before).written old (world_of before) → Leads means irq old new (Some before) (Some after) → (old.phase ≡ Ready → task.plays ≡ false)
       → IsDone task lines left (state_of new) after → Fine (state_of old) before → Fine (state_of old) after
   call_fine left budget irq old new before after opened stands leads silent done fine = by (is_asking old.phase) refl
     where
@@ -250,7 +251,7 @@ module _ (IsPlanBy : RawCodec → Plan → Type 0) (verbs_by : RawCodec → Plan
   -- it leaves all set up where it leads to Ready
   pub record LeavesFine (old new : BringUp) (after : Telling) : Type 0 where
     pub fine : Fine (state_of old) after
-    pub ready : are_set_up new.phase ≡ true → AreSetUpForGood IsPlanBy IsOpenBy graphs (world_of after)
+    pub ready : are_set_up new.phase ≡ true → AreSetUpForGood means graphs (world_of after)
 
   -- where the last access leads by what was read
   closed_to : (left : List DriverLine) (old new : BringUp) (made : List Event) (before after : Telling) → IsOpen task lines left None (state_of old) before → Makes made before after → AreAccesses made → IsDone task lines left (state_of new) after
@@ -262,7 +263,7 @@ module _ (IsPlanBy : RawCodec → Plan → Type 0) (verbs_by : RawCodec → Plan
       ∙ ap (λ (turn : Option DriverLine). (next task (course_of task lines after).state turn seen).phase) (sym (row.turn_is ∙ opened.turn_is))
       ∙ ap (λ (state : State). state.phase) done.leads
 
-  quiet_fine : (left : List DriverLine) (old new : BringUp) (before after : Telling) → IsOpen task lines left None (state_of old) before → Ends IsPlanBy verbs_by old new (Some before) (Some after) → is_asking old.phase ≡ false
+  quiet_fine : (left : List DriverLine) (old new : BringUp) (before after : Telling) → IsOpen task lines left None (state_of old) before → Ends means old new (Some before) (Some after) → is_asking old.phase ≡ false
       → IsDone task lines left (state_of new) after → Fine (state_of old) before → LeavesFine old new after
   quiet_fine left old new before after opened ends not done fine =
       let none = unread_no_looks ends.made (ends.unread not) in
@@ -285,10 +286,10 @@ module _ (IsPlanBy : RawCodec → Plan → Type 0) (verbs_by : RawCodec → Plan
       (same_are sent (length task.orders) (omega (arith, within, is, all)), refl)
 
   -- while commands are sent one is outstanding
-  some_outstanding : (written : ℕ) (old : BringUp) (world : World) → is_asking old.phase ≡ true → IsAsking IsPlanBy verbs graphs task written old world → length task.orders ≤ old.sent → old.engine.rings.outstanding ≡ None → ⊥
+  some_outstanding : (written : ℕ) (old : BringUp) (world : World) → is_asking old.phase ≡ true → IsAsking means verbs graphs task written old world → length task.orders ≤ old.sent → old.engine.rings.outstanding ≡ None → ⊥
   some_outstanding written old world asking a all none =
       let count = ap (λ (outstanding : Option Outstanding). answers_of old.sent outstanding) none in
-      let agrees = laws.agrees old.sent old.agenda task (subst (λ (count : ℕ). Follows IsPlanBy verbs graphs count old.agenda) count a.follows) of.is_for in
+      let agrees = laws.agrees old.sent old.agenda task (subst (λ (count : ℕ). Follows means verbs graphs count old.agenda) count a.follows) of.is_for in
       let ready = old.led (asking_goes_on old.phase asking) ∙ agrees.phase ∙ ap (λ (all : Bool). if all then Ready else (if nat_le task.walks old.sent then SettingUp else Walking)) (is_at_most (length task.orders) old.sent all) in
       not_true (sym (ap is_asking ready) ∙ asking)
     where
@@ -296,7 +297,7 @@ module _ (IsPlanBy : RawCodec → Plan → Type 0) (verbs_by : RawCodec → Plan
       is_at_most a b less = search (rules, tests)
 
   last_fine : (left : List DriverLine) (old new : BringUp) (before after : Telling) → IsOpen task lines left None (state_of old) before → graphs_in (world_of before).codecs ≡ graphs
-      → (a : IsAsking IsPlanBy verbs graphs task (course_of task lines before).written old (world_of before)) → Ends IsPlanBy verbs_by old new (Some before) (Some after) → is_asking old.phase ≡ true
+      → (a : IsAsking means verbs graphs task (course_of task lines before).written old (world_of before)) → Ends means old new (Some before) (Some after) → is_asking old.phase ≡ true
       → IsDone task lines left (state_of new) after → Fine (state_of old) before → LeavesFine old new after
   last_fine left old new before after opened graphs_are a ends asking done fine =
       let on = (ends.looks asking).is a.from a.read a.stands in
@@ -318,8 +319,8 @@ module _ (IsPlanBy : RawCodec → Plan → Type 0) (verbs_by : RawCodec → Plan
             }));
       }
 
-  pub end_fine : (left : List DriverLine) (old new : BringUp) (before after : Telling) → IsOpen task lines left None (state_of old) before → IsBroughtUp IsPlanBy verbs graphs task (course_of task lines before).written old (world_of before)
-      → Ends IsPlanBy verbs_by old new (Some before) (Some after) → IsDone task lines left (state_of new) after → Fine (state_of old) before → LeavesFine old new after
+  pub end_fine : (left : List DriverLine) (old new : BringUp) (before after : Telling) → IsOpen task lines left None (state_of old) before → IsBroughtUp means verbs graphs task (course_of task lines before).written old (world_of before)
+      → Ends means old new (Some before) (Some after) → IsDone task lines left (state_of new) after → Fine (state_of old) before → LeavesFine old new after
   end_fine left old new before after opened stands ends done fine = by (is_asking old.phase) refl
     where
       by : (asks : Bool) → is_asking old.phase ≡ asks → LeavesFine old new after

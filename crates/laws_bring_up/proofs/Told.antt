@@ -7,6 +7,7 @@ use Rattle.verb_codes.specs.declared.verbs.Command.{Command}
 use Rattle.codec_graph.specs.declared.raw.RawCodec.{RawCodec}
 use Rattle.codec_graph.specs.CodecStates.{CodecState}
 use Rattle.route_planner.specs.declared.routes.Plan.{Plan}
+use Rattle.route_setup.specs.Means.{Means}
 use Rattle.world_rings.specs.declared.response.Response.{Response}
 use Rattle.hda_registers.specs.declared.places.TheConstants.{STATESTS, WALCLK}
 use Rattle.hda_world.specs.Worlds.{World}
@@ -88,20 +89,20 @@ settled_else : {A B C D : Type 0} (none : Bool) → none ≡ false → (A × B) 
 settled_else none some (inl settles) = settles.1
 settled_else none some (inr left) = absurd (not_true (sym some ∙ left.0))
 
-module _ (IsPlanBy : RawCodec → Plan → Type 0) (verbs_by : RawCodec → Plan → List Command) (verbs : RawCodec → List Command) (graphs : List RawCodec) (task : Task) (laws : AgendaLaws IsPlanBy verbs_by verbs graphs)
-    (begins : (agenda : Agenda) → agenda.addresses.items ≡ map (λ (graph : RawCodec). graph.address) graphs → BeginsWalk agenda.addresses.items [] agenda → Follows IsPlanBy verbs graphs 0 agenda)
-    (of : IsTaskOfCodecs IsPlanBy verbs_by verbs graphs task) (notes : Laws) where
+module _ (means : Means) (verbs : RawCodec → List Command) (graphs : List RawCodec) (task : Task) (laws : AgendaLaws means verbs graphs)
+    (begins : (agenda : Agenda) → agenda.addresses.items ≡ map (λ (graph : RawCodec). graph.address) graphs → BeginsWalk agenda.addresses.items [] agenda → Follows means verbs graphs 0 agenda)
+    (of : IsTaskOfCodecs means verbs graphs task) (notes : Laws) where
   -- a call in a stretch that is open, as it is told
   pub record Called (lines left : List DriverLine) (budget : ℕ) (irq : Bool) (old new : BringUp) (before after : Telling) : Type 0 where
     pub silent : old.phase ≡ Ready → task.plays ≡ false
     pub opened : IsOpen task lines left (Some (record { irq = irq; budget = budget })) (state_of old) before
     pub blocks : IsTaskOf old task
-    pub leads : Leads IsPlanBy verbs_by irq old new (Some before) (Some after)
+    pub leads : Leads means irq old new (Some before) (Some after)
     pub kept : IsKept old new
     pub graphs_are : graphs_in (world_of before).codecs ≡ graphs
 
   abbrev Ends : (lines left : List DriverLine) (new : BringUp) (after : Telling) → Type 0
-  Ends lines left new after = Kept IsPlanBy verbs_by verbs graphs task laws of lines left new after
+  Ends lines left new after = Kept means verbs graphs task laws of lines left new after
 
   -- ---- calls that look for no answer
 
@@ -151,12 +152,12 @@ module _ (IsPlanBy : RawCodec → Plan → Type 0) (verbs_by : RawCodec → Plan
     where
       by : (made : List Event) → new.engine.corb.address ≡ old.engine.corb.address → new.engine.rirb.address ≡ old.engine.rirb.address → new.sent ≡ 0 → new.agenda.graphs.items ≡ [] → All KeepsDefaults (world_of after).codecs → IsUntaken (world_of before).commands (world_of after)
           → (IsSettling old.engine.corb.address old.engine.rirb.address (world_of after) × (new.phase ≡ Settling)) ⊎ ((found_none irq made ≡ true) × CanReset old.engine.corb.address old.engine.rirb.address (world_of after) × (new.phase ≡ Reset))
-          → StandsIn new.phase IsPlanBy verbs graphs task (course_of task lines after).written new (world_of after)
+          → StandsIn new.phase means verbs graphs task (course_of task lines after).written new (world_of after)
       by made corb rirb sent none defaults untaken (inl settles) =
-          subst (λ (phase : Phase). StandsIn phase IsPlanBy verbs graphs task (course_of task lines after).written new (world_of after)) (sym settles.1)
+          subst (λ (phase : Phase). StandsIn phase means verbs graphs task (course_of task lines after).written new (world_of after)) (sym settles.1)
           (record { settling = subst (λ (rirb : ℕ). IsSettling new.engine.corb.address rirb (world_of after)) (sym rirb) (subst (λ (corb : ℕ). IsSettling corb old.engine.rirb.address (world_of after)) (sym corb) settles.0); defaults = defaults; none_sent = sent; none_walked = none })
       by made corb rirb sent none defaults untaken (inr still) =
-          subst (λ (phase : Phase). StandsIn phase IsPlanBy verbs graphs task (course_of task lines after).written new (world_of after)) (sym still.2)
+          subst (λ (phase : Phase). StandsIn phase means verbs graphs task (course_of task lines after).written new (world_of after)) (sym still.2)
           (record {
             can = subst (λ (rirb : ℕ). CanReset new.engine.corb.address rirb (world_of after)) (sym rirb) (subst (λ (corb : ℕ). CanReset corb old.engine.rirb.address (world_of after)) (sym corb) still.1);
             stopped = untaken.stopped;
@@ -174,7 +175,7 @@ module _ (IsPlanBy : RawCodec → Plan → Type 0) (verbs_by : RawCodec → Plan
   some_codec : (world : World) → graphs_in world.codecs ≡ graphs → addresses_of world.codecs ≢ []
   some_codec world are none = of.some (sym are ∙ map_none (graphs_in world.codecs) (sym (addresses_are world.codecs) ∙ none))
 
-  walks_first : (status : ℕ) (agenda : Agenda) (world : World) → graphs_in world.codecs ≡ graphs → AscendFrom 0 (graphs_in world.codecs) → AreCodecs (codecs_in status) (addresses_of world.codecs) → Begins status agenda → Follows IsPlanBy verbs graphs 0 agenda
+  walks_first : (status : ℕ) (agenda : Agenda) (world : World) → graphs_in world.codecs ≡ graphs → AscendFrom 0 (graphs_in world.codecs) → AreCodecs (codecs_in status) (addresses_of world.codecs) → Begins status agenda → Follows means verbs graphs 0 agenda
   walks_first status agenda world are ascend codecs begun =
       let same = addresses_are world.codecs ∙ ap (λ (graphs : List RawCodec). map (λ (graph : RawCodec). graph.address) graphs) are in
       let high = subst (IsAbove 0) (sym same) (above 0 graphs (subst (AscendFrom 0) are ascend)) in
@@ -200,14 +201,14 @@ module _ (IsPlanBy : RawCodec → Plan → Type 0) (verbs_by : RawCodec → Plan
       }
     where
       by : (call : Called lines left budget irq old new before after) → Settles (found_none irq call.leads.made) (slice_index (values_of call.leads.made WALCLK) 0) (slice_index (values_of call.leads.made STATESTS) 0) (addresses_of (world_of before).codecs) (world_of before).commands old new (world_of after) → new.sent ≡ 0
-          → (new.phase ≡ old.phase) ⊎ ((new.phase ≡ Walking) × (new.engine.rings.outstanding ≡ None)) → StandsIn new.phase IsPlanBy verbs graphs task (course_of task lines after).written new (world_of after)
+          → (new.phase ≡ old.phase) ⊎ ((new.phase ≡ Walking) × (new.engine.rings.outstanding ≡ None)) → StandsIn new.phase means verbs graphs task (course_of task lines after).written new (world_of after)
       by call settles sent (inl same) =
           let phase = same ∙ was in
           let none = ap (λ (agenda : Agenda). agenda.graphs.items) (same_agenda call (call.leads.unread (ap is_asking was)) (λ settling walking. settling_walks phase walking)) ∙ announce.none_walked in
           let corb = ap (λ corb. corb.address) call.kept.corb in
           let rirb = ap (λ rirb. rirb.address) call.kept.rirb in
           let stays = unchanged call.leads.made before after call.leads.by.is (settles.untaken phase) in
-          subst (λ (phase : Phase). StandsIn phase IsPlanBy verbs graphs task (course_of task lines after).written new (world_of after)) (sym phase)
+          subst (λ (phase : Phase). StandsIn phase means verbs graphs task (course_of task lines after).written new (world_of after)) (sym phase)
           (record {
             settling = subst (λ (rirb : ℕ). IsSettling new.engine.corb.address rirb (world_of after)) (sym rirb) (subst (λ (corb : ℕ). IsSettling corb old.engine.rirb.address (world_of after)) (sym corb) (settles.early phase));
             defaults = stays.defaults announce.defaults;
@@ -227,15 +228,15 @@ module _ (IsPlanBy : RawCodec → Plan → Type 0) (verbs_by : RawCodec → Plan
             words = refl;
           } in
           let read_within = started.stands.reading.within in
-          subst (λ (phase : Phase). StandsIn phase IsPlanBy verbs graphs task (course_of task lines after).written new (world_of after)) (sym walks.0)
+          subst (λ (phase : Phase). StandsIn phase means verbs graphs task (course_of task lines after).written new (world_of after)) (sym walks.0)
           (record {
             from = begun;
             read = started.read;
-            stands = at_blocks IsPlanBy verbs_by verbs graphs task laws of begun started.read old new (world_of after) call.kept started.stands;
+            stands = at_blocks means verbs graphs task laws of begun started.read old new (world_of after) call.kept started.stands;
             agree = subst (λ (outstanding : Option Outstanding). AnswersAgree (asked_of outstanding) (course_of task lines after).written started.read (world_of after).written) (sym walks.1)
                 (notes.none (course_of task lines after).written started.read (world_of after).written (written_within task lines after) read_within);
             last = subst (λ (outstanding : Option Outstanding). IsLastSent task.orders new.sent outstanding) (sym walks.1) (tt {0});
-            follows = subst (λ (count : ℕ). Follows IsPlanBy verbs graphs count new.agenda) (sym none)
+            follows = subst (λ (count : ℕ). Follows means verbs graphs count new.agenda) (sym none)
                 (walks_first (slice_index (values_of call.leads.made STATESTS) 0) new.agenda (world_of before) call.graphs_are announce.settling.can_start.quiet.ascend (settles.codecs walks.0) (call.leads.begun was walks.0));
             taken = subst (λ (count : ℕ). HaveTaken task.orders count begun (world_of after)) (sym none) taken;
           })
@@ -243,7 +244,7 @@ module _ (IsPlanBy : RawCodec → Plan → Type 0) (verbs_by : RawCodec → Plan
   -- ---- while commands are sent
 
   still_told : (lines left : List DriverLine) (budget : ℕ) (irq : Bool) (old new : BringUp) (before after : Telling) (call : Called lines left budget irq old new before after) → goes_on old.phase ≡ true
-      → (a : IsAsking IsPlanBy verbs graphs task (course_of task lines before).written old (world_of before)) → IsStill old new call.leads.made a.from a.read after → Ends lines left new after
+      → (a : IsAsking means verbs graphs task (course_of task lines before).written old (world_of before)) → IsStill old new call.leads.made a.from a.read after → Ends lines left new after
   still_told lines left budget irq old new before after call goes a still =
       let leads = call.leads in
       let line : DriverLine = record { irq = irq; budget = budget } in
@@ -252,8 +253,8 @@ module _ (IsPlanBy : RawCodec → Plan → Type 0) (verbs_by : RawCodec → Plan
       let on = row_on leads.made before after leads.by.is in
       let written : (course_of task lines before).written ≡ (course_of task lines after).written = sym (ap (λ (course : Course). course.written) row.0) in
       let later : Later (world_of before) (world_of after) = record { on = on; remembers = row_remembers leads.made before after leads.by.is } in
-      let stage = stage_on IsPlanBy verbs_by verbs graphs task laws of.is_for of.right.well_formed old.sent old.engine.rings.outstanding old.agenda a.from (world_of before) (world_of after) a.stands.from_within later (record { last = a.last; follows = a.follows; taken = a.taken }) in
-      let asking : IsAsking IsPlanBy verbs graphs task (course_of task lines after).written old (world_of after) = record {
+      let stage = stage_on means verbs graphs task laws of.is_for of.right.well_formed old.sent old.engine.rings.outstanding old.agenda a.from (world_of before) (world_of after) a.stands.from_within later (record { last = a.last; follows = a.follows; taken = a.taken }) in
+      let asking : IsAsking means verbs graphs task (course_of task lines after).written old (world_of after) = record {
         from = a.from;
         read = a.read;
         stands = still.stands;
@@ -267,17 +268,17 @@ module _ (IsPlanBy : RawCodec → Plan → Type 0) (verbs_by : RawCodec → Plan
         done = unread_done task lines left (Some line) (state_of old) (state_of new) leads.made before after call.opened leads.by.is still.unread (stretch_of lines left budget irq old new before after call still.unread agrees)
             (λ some. going_finds old.phase (state_of old) (seen_by (values_of leads.made) false) goes);
         graphs_are = graphs_on lines left budget irq old new before after call;
-        stage = subst (λ (bring_up : BringUp). StandsIn bring_up.phase IsPlanBy verbs graphs task (course_of task lines after).written bring_up (world_of after)) (sym still.same)
-            (stands_in IsPlanBy verbs_by verbs graphs task laws of old.phase (course_of task lines after).written old (world_of after) goes asking);
+        stage = subst (λ (bring_up : BringUp). StandsIn bring_up.phase means verbs graphs task (course_of task lines after).written bring_up (world_of after)) (sym still.same)
+            (stands_in means verbs graphs task laws of old.phase (course_of task lines after).written old (world_of after) goes asking);
       }
 
   asking_told : (lines left : List DriverLine) (budget : ℕ) (irq : Bool) (old new : BringUp) (before after : Telling) → Called lines left budget irq old new before after → goes_on old.phase ≡ true
-      → IsAsking IsPlanBy verbs graphs task (course_of task lines before).written old (world_of before) → Ends lines left new after
+      → IsAsking means verbs graphs task (course_of task lines before).written old (world_of before) → Ends lines left new after
   asking_told lines left budget irq old new before after call goes a = by call ((call.leads.stays goes).is a.from a.read a.stands)
     where
       by : (call : Called lines left budget irq old new before after) → LooksOn irq old new call.leads.made a.from a.read before after ⊎ IsStill old new call.leads.made a.from a.read after → Ends lines left new after
       by call (inl on) =
-          looks_on IsPlanBy verbs_by verbs graphs task laws of notes lines left budget irq old new call.leads.made before after call.opened goes call.graphs_are a call.leads.reads
+          looks_on means verbs graphs task laws of notes lines left budget irq old new call.leads.made before after call.opened goes call.graphs_are a call.leads.reads
           (λ ended agrees. call.leads.is task budget call.blocks call.silent ended agrees) call.kept call.leads.by.is on
       by call (inr still) = still_told lines left budget irq old new before after call goes a still
 
@@ -285,7 +286,7 @@ module _ (IsPlanBy : RawCodec → Plan → Type 0) (verbs_by : RawCodec → Plan
 
   over_told : (lines left : List DriverLine) (budget : ℕ) (irq : Bool) (old new : BringUp) (before after : Telling) (phase : Phase) → Called lines left budget irq old new before after → old.phase ≡ phase → is_asking phase ≡ false
       → ((seen : Seen) (tally : Tally) → led task (state_of old) seen tally phase ≡ state_of old) → (phase ≡ Settling → ⊥) → ((seen : Seen) → FindsIn phase (state_of old) seen)
-      → (new.agenda ≡ old.agenda → new.sent ≡ old.sent → new.engine.rings.outstanding ≡ old.engine.rings.outstanding → StandsIn phase IsPlanBy verbs graphs task (course_of task lines after).written new (world_of after)) → Ends lines left new after
+      → (new.agenda ≡ old.agenda → new.sent ≡ old.sent → new.engine.rings.outstanding ≡ old.engine.rings.outstanding → StandsIn phase means verbs graphs task (course_of task lines after).written new (world_of after)) → Ends lines left new after
   over_told lines left budget irq old new before after phase call was not still unsettled finds stage =
       let leads = call.leads in
       let line : DriverLine = record { irq = irq; budget = budget } in
@@ -301,13 +302,13 @@ module _ (IsPlanBy : RawCodec → Plan → Type 0) (verbs_by : RawCodec → Plan
         done = unread_done task lines left (Some line) (state_of old) (state_of new) leads.made before after call.opened leads.by.is unread stretch
             (λ some. subst (λ (phase : Phase). FindsIn phase (state_of old) seen) (sym was) (finds seen));
         graphs_are = graphs_on lines left budget irq old new before after call;
-        stage = subst (λ (phase : Phase). StandsIn phase IsPlanBy verbs graphs task (course_of task lines after).written new (world_of after)) (sym same) (stage (same_agenda call unread (λ settling walking. unsettled (sym was ∙ settling))) sent outstanding);
+        stage = subst (λ (phase : Phase). StandsIn phase means verbs graphs task (course_of task lines after).written new (world_of after)) (sym same) (stage (same_agenda call unread (λ settling walking. unsettled (sym was ∙ settling))) sent outstanding);
       }
 
   -- ---- by phase
 
   pub call_told : (lines left : List DriverLine) (budget : ℕ) (irq : Bool) (old new : BringUp) (before after : Telling) (phase : Phase) → old.phase ≡ phase → Called lines left budget irq old new before after
-      → StandsIn phase IsPlanBy verbs graphs task (course_of task lines before).written old (world_of before) → Ends lines left new after
+      → StandsIn phase means verbs graphs task (course_of task lines before).written old (world_of before) → Ends lines left new after
   call_told lines left budget irq old new before after Reset was call stage = reset_told lines left budget irq old new before after call was stage
   call_told lines left budget irq old new before after Settling was call stage = settle_told lines left budget irq old new before after call was stage
   call_told lines left budget irq old new before after Walking was call stage = asking_told lines left budget irq old new before after call (ap goes_on was) stage

@@ -5,6 +5,7 @@ use Rattle.std.proofs.lemmas.List.{length-map}
 use Rattle.verb_codes.specs.declared.verbs.Command.{Command}
 use Rattle.codec_graph.specs.declared.raw.RawCodec.{RawCodec}
 use Rattle.route_planner.specs.declared.routes.Plan.{Plan}
+use Rattle.route_setup.specs.Means.{Means}
 use Rattle.codec_walk.specs.declared.walk.Walk.{Walk}
 use Rattle.codec_walk.specs.Words.{codec_words, codec_command}
 use Rattle.codec_walk.specs.Commands.{walk_commands, nodes_commands}
@@ -65,7 +66,7 @@ none_next next later is = cc
 same_next : (one other : RawCodec) (rest later : List RawCodec) → one ∷ rest ≡ other ∷ later → one ≡ other
 same_next one other rest later is = cc
 
-module _ (IsPlanBy : RawCodec → Plan → Type 0) (verbs_by : RawCodec → Plan → List Command) (verbs : RawCodec → List Command) (graphs : List RawCodec) (task : Task) (of : IsTaskOfCodecs IsPlanBy verbs_by verbs graphs task) where
+module _ (means : Means) (verbs : RawCodec → List Command) (graphs : List RawCodec) (task : Task) (of : IsTaskOfCodecs means verbs graphs task) where
   -- the first of all
   record IsFront (walked : List RawCodec) (count : ℕ) : Type 0 where
     rest : List RawCodec
@@ -73,7 +74,7 @@ module _ (IsPlanBy : RawCodec → Plan → Type 0) (verbs_by : RawCodec → Plan
     told : length (walks_over walked) ≤ count
     untold : (next : RawCodec) (later : List RawCodec) → rest ≡ next ∷ later → count < length (walks_over walked) + length (walk_commands next)
 
-  walked_first : (count : ℕ) (agenda : Agenda) (walks : Option Walk) → FollowsBy IsPlanBy verbs graphs count agenda walks → IsFront agenda.graphs.items count
+  walked_first : (count : ℕ) (agenda : Agenda) (walks : Option Walk) → FollowsBy means verbs graphs count agenda walks → IsFront agenda.graphs.items count
   walked_first count agenda None stands =
       let long = ap (λ (walked : List RawCodec). length (flat_map walk_commands walked)) stands.graphs_are in
       let counted = stands.count_is in record {
@@ -92,14 +93,14 @@ module _ (IsPlanBy : RawCodec → Plan → Type 0) (verbs_by : RawCodec → Plan
       }
 
   -- once the walks are over, all
-  walked_all : (count : ℕ) (agenda : Agenda) (walks : Option Walk) → FollowsBy IsPlanBy verbs graphs count agenda walks → task.walks ≤ count → agenda.graphs.items ≡ graphs
+  walked_all : (count : ℕ) (agenda : Agenda) (walks : Option Walk) → FollowsBy means verbs graphs count agenda walks → task.walks ≤ count → agenda.graphs.items ≡ graphs
   walked_all count agenda None stands all = stands.graphs_are
   walked_all count agenda (Some under_way) stands all =
       let few = walk_left graphs count agenda under_way stands in
       let walks = of.is_for.walks in
       absurd (omega (arith, few, walks, all))
 
-  pub walked_by : (sent : ℕ) (outstanding : Option Outstanding) (agenda : Agenda) → Follows IsPlanBy verbs graphs (answers_of sent outstanding) agenda → AreWalked graphs agenda.graphs.items task.walks sent (answers_of sent outstanding)
+  pub walked_by : (sent : ℕ) (outstanding : Option Outstanding) (agenda : Agenda) → Follows means verbs graphs (answers_of sent outstanding) agenda → AreWalked graphs agenda.graphs.items task.walks sent (answers_of sent outstanding)
   walked_by sent outstanding agenda follows =
       let front = walked_first (answers_of sent outstanding) agenda agenda.walk follows.stands in record {
         rest = front.rest;
@@ -116,7 +117,7 @@ module _ (IsPlanBy : RawCodec → Plan → Type 0) (verbs_by : RawCodec → Plan
       omega (arith, long, walks)
 
   -- by the phase that goes with so many answers
-  pub walked_in : (count : ℕ) (agenda : Agenda) (phase : Phase) → Follows IsPlanBy verbs graphs count agenda → phase ≡ phase_of_answers task count → goes_on phase ≡ true → WalkedIn phase (agenda.graphs.items ≡ graphs)
+  pub walked_in : (count : ℕ) (agenda : Agenda) (phase : Phase) → Follows means verbs graphs count agenda → phase ≡ phase_of_answers task count → goes_on phase ≡ true → WalkedIn phase (agenda.graphs.items ≡ graphs)
   walked_in count agenda Walking follows is goes = tt {0}
   walked_in count agenda SettingUp follows is goes =
       walked_all count agenda agenda.walk follows.stands (at_most task.walks count (walks_answered (nat_le (length task.orders) count) (nat_le task.walks count) (sym is)))

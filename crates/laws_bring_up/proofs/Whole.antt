@@ -22,6 +22,7 @@ use Rattle.laws_bring_up.proofs.Staying.{called_fine, call_fine, end_fine}
 use Rattle.verb_codes.specs.declared.verbs.Command.{Command}
 use Rattle.codec_graph.specs.declared.raw.RawCodec.{RawCodec}
 use Rattle.route_planner.specs.declared.routes.Plan.{Plan}
+use Rattle.route_setup.specs.Means.{Means}
 use Rattle.driver_agenda.specs.declared.agenda.Agenda.{Agenda}
 use Rattle.driver_agenda.specs.Agendas.{BeginsWalk}
 use Rattle.driver_agenda.specs.Following.{Follows}
@@ -47,23 +48,23 @@ not_true : false ≡ true → ⊥
 not_true is = cc
 
 -- a mark changes nothing but that a stretch is open
-marked : (IsPlanBy : RawCodec → Plan → Type 0) (verbs : RawCodec → List Command) (graphs : List RawCodec) (task : Task) (lines : List DriverLine) (bring_up : BringUp) (old new : Telling) (steps : List Step)
-    → ((written : ℕ) (steps : List Step) (world : World) → IsBroughtUp IsPlanBy verbs graphs task written bring_up world → IsBroughtUp IsPlanBy verbs graphs task written bring_up (after_steps steps world))
+marked : (means : Means) (verbs : RawCodec → List Command) (graphs : List RawCodec) (task : Task) (lines : List DriverLine) (bring_up : BringUp) (old new : Telling) (steps : List Step)
+    → ((written : ℕ) (steps : List Step) (world : World) → IsBroughtUp means verbs graphs task written bring_up world → IsBroughtUp means verbs graphs task written bring_up (after_steps steps world))
     → world_of new ≡ after_steps steps (world_of old) → (course_of task lines new).written ≡ (course_of task lines old).written
-    → IsBroughtUp IsPlanBy verbs graphs task (course_of task lines old).written bring_up (world_of old) → IsBroughtUp IsPlanBy verbs graphs task (course_of task lines new).written bring_up (world_of new)
-marked IsPlanBy verbs graphs task lines bring_up old new steps stays world written stands =
-    subst (λ (written : ℕ). IsBroughtUp IsPlanBy verbs graphs task written bring_up (world_of new)) (sym written)
-    (subst (λ (world : World). IsBroughtUp IsPlanBy verbs graphs task (course_of task lines old).written bring_up world) (sym world) (stays (course_of task lines old).written steps (world_of old) stands))
+    → IsBroughtUp means verbs graphs task (course_of task lines old).written bring_up (world_of old) → IsBroughtUp means verbs graphs task (course_of task lines new).written bring_up (world_of new)
+marked means verbs graphs task lines bring_up old new steps stays world written stands =
+    subst (λ (written : ℕ). IsBroughtUp means verbs graphs task written bring_up (world_of new)) (sym written)
+    (subst (λ (world : World). IsBroughtUp means verbs graphs task (course_of task lines old).written bring_up world) (sym world) (stays (course_of task lines old).written steps (world_of old) stands))
 
 -- ---- between calls
 
-module _ (IsPlanBy : RawCodec → Plan → Type 0) (verbs_by : RawCodec → Plan → List Command) (verbs : RawCodec → List Command) (IsOpenBy : RawCodec → Entries → Plan → Type 0) (graphs : List RawCodec) (task : Task)
-    (laws : AgendaLaws IsPlanBy verbs_by verbs graphs) (of : IsTaskOfCodecs IsPlanBy verbs_by verbs graphs task) (setter : SetterLaws IsPlanBy verbs_by IsOpenBy) (notes : Laws) (steady : Steady) where
-  stays : (written : ℕ) (bring_up : BringUp) (steps : List Step) (world : World) → IsBroughtUp IsPlanBy verbs graphs task written bring_up world → IsBroughtUp IsPlanBy verbs graphs task written bring_up (after_steps steps world)
+module _ (means : Means) (verbs : RawCodec → List Command) (graphs : List RawCodec) (task : Task)
+    (laws : AgendaLaws means verbs graphs) (of : IsTaskOfCodecs means verbs graphs task) (setter : SetterLaws means) (notes : Laws) (steady : Steady) where
+  stays : (written : ℕ) (bring_up : BringUp) (steps : List Step) (world : World) → IsBroughtUp means verbs graphs task written bring_up world → IsBroughtUp means verbs graphs task written bring_up (after_steps steps world)
   stays written bring_up steps world stands = record {
     blocks = stands.blocks;
     graphs_are = graphs_stay steps world ∙ stands.graphs_are;
-    stage = stage_stays IsPlanBy verbs_by verbs graphs task laws of.is_for of.right.well_formed notes steady bring_up.phase written bring_up steps world stands.stage;
+    stage = stage_stays means verbs graphs task laws of.is_for of.right.well_formed notes steady bring_up.phase written bring_up steps world stands.stage;
   }
 
   -- at rest codecs are set up in the phase `Ready` alone
@@ -74,79 +75,79 @@ module _ (IsPlanBy : RawCodec → Plan → Type 0) (verbs_by : RawCodec → Plan
       by (inl ready) = ready
       by (inr found) = absurd (not_true (sym outside ∙ found.within_is))
 
-  rest_set_up : (written : ℕ) (bring_up : BringUp) (world : World) (course : Course) → IsBroughtUp IsPlanBy verbs graphs task written bring_up world → course.within ≡ false → course.state ≡ state_of bring_up → SetUpAt IsPlanBy IsOpenBy graphs task world course
+  rest_set_up : (written : ℕ) (bring_up : BringUp) (world : World) (course : Course) → IsBroughtUp means verbs graphs task written bring_up world → course.within ≡ false → course.state ≡ state_of bring_up → SetUpAt means graphs task world course
   rest_set_up written bring_up world course stands outside state_is answered =
-      (ready_for_good IsPlanBy verbs_by verbs IsOpenBy graphs task laws of setter written bring_up world (sym (ap (λ (state : State). state.phase) state_is) ∙ rest_phase course (early_as course.state (state_of bring_up) state_is bring_up.early) outside answered) stands).set_up
+      (ready_for_good means verbs graphs task laws of setter written bring_up world (sym (ap (λ (state : State). state.phase) state_is) ∙ rest_phase course (early_as course.state (state_of bring_up) state_is bring_up.early) outside answered) stands).set_up
 
-  under_way_stays : (lines left : List DriverLine) (bring_up : BringUp) (telling : Telling) → IsUnderWay IsPlanBy verbs IsOpenBy graphs task lines left bring_up telling → (done : List Step)
-      → SetUpAt IsPlanBy IsOpenBy graphs task (after_steps done (world_of telling)) (course_of task lines telling)
+  under_way_stays : (lines left : List DriverLine) (bring_up : BringUp) (telling : Telling) → IsUnderWay means verbs graphs task lines left bring_up telling → (done : List Step)
+      → SetUpAt means graphs task (after_steps done (world_of telling)) (course_of task lines telling)
   under_way_stays lines left bring_up telling way done =
       let course = course_of task lines telling in
       rest_set_up course.written bring_up (after_steps done (world_of telling)) course (stays course.written bring_up done (world_of telling) way.stands) way.rest.within way.rest.state_is
 
-  begins_told : (lines : List DriverLine) (bring_up : BringUp) (telling : Telling) → telling.journal ≡ [] → state_of bring_up ≡ state_opened → IsBroughtUp IsPlanBy verbs graphs task 0 bring_up (world_of telling)
-      → IsUnderWay IsPlanBy verbs IsOpenBy graphs task lines lines bring_up telling
+  begins_told : (lines : List DriverLine) (bring_up : BringUp) (telling : Telling) → telling.journal ≡ [] → state_of bring_up ≡ state_opened → IsBroughtUp means verbs graphs task 0 bring_up (world_of telling)
+      → IsUnderWay means verbs graphs task lines lines bring_up telling
   begins_told lines bring_up telling none opened stands = record {
     rest = subst (λ (state : State). IsAtRest task lines lines state telling) (sym opened) (rests task lines [] telling none);
-    stands = subst (λ (course : Course). IsBroughtUp IsPlanBy verbs graphs task course.written bring_up (world_of telling)) (sym (ap (λ (journal : List Event). course_after task journal telling.start (course_opened lines)) none)) stands;
-    set_up = subst (λ (journal : List Event). Always (SetUpAt IsPlanBy IsOpenBy graphs task) task journal telling.start (course_opened lines)) (sym none) (λ answered. absurd (not_true answered));
+    stands = subst (λ (course : Course). IsBroughtUp means verbs graphs task course.written bring_up (world_of telling)) (sym (ap (λ (journal : List Event). course_after task journal telling.start (course_opened lines)) none)) stands;
+    set_up = subst (λ (journal : List Event). Always (SetUpAt means graphs task) task journal telling.start (course_opened lines)) (sym none) (λ answered. absurd (not_true answered));
   }
 
-  steps_told : (lines left : List DriverLine) (bring_up : BringUp) (steps : List Step) (old new : Telling) → Went old new (map Stepped steps) → IsUnderWay IsPlanBy verbs IsOpenBy graphs task lines left bring_up old
-      → IsUnderWay IsPlanBy verbs IsOpenBy graphs task lines left bring_up new
+  steps_told : (lines left : List DriverLine) (bring_up : BringUp) (steps : List Step) (old new : Telling) → Went old new (map Stepped steps) → IsUnderWay means verbs graphs task lines left bring_up old
+      → IsUnderWay means verbs graphs task lines left bring_up new
   steps_told lines left bring_up steps old new went way =
       let world = world_of-went old new (map Stepped steps) went ∙ steps_are steps (world_of old) in
       let course = course_went task lines old new (map Stepped steps) went ∙ steps_leave_course task steps (world_of old) (course_of task lines old) in record {
         rest = rest_stays task lines left (state_of bring_up) steps old new went way.rest;
-        stands = marked IsPlanBy verbs graphs task lines bring_up old new steps (λ written steps world is. stays written bring_up steps world is) world (ap (λ (course : Course). course.written) course) way.stands;
-        set_up = steps_always (SetUpAt IsPlanBy IsOpenBy graphs task) task lines steps old new went (under_way_stays lines left bring_up old way) way.set_up;
+        stands = marked means verbs graphs task lines bring_up old new steps (λ written steps world is. stays written bring_up steps world is) world (ap (λ (course : Course). course.written) course) way.stands;
+        set_up = steps_always (SetUpAt means graphs task) task lines steps old new went (under_way_stays lines left bring_up old way) way.set_up;
       }
 
-  opens_told : (lines left : List DriverLine) (bring_up : BringUp) (old new : Telling) → Accessed old new Begin → IsUnderWay IsPlanBy verbs IsOpenBy graphs task lines left bring_up old
-      → IsCalled IsPlanBy verbs IsOpenBy graphs task lines (drop 1 left) (slice_get left 0) bring_up new
+  opens_told : (lines left : List DriverLine) (bring_up : BringUp) (old new : Telling) → Accessed old new Begin → IsUnderWay means verbs graphs task lines left bring_up old
+      → IsCalled means verbs graphs task lines (drop 1 left) (slice_get left 0) bring_up new
   opens_told lines left bring_up old new accessed way =
       let there = after_steps accessed.steps (world_of old) in
       let course = course_of task lines old in
       let stood = stays course.written bring_up accessed.steps (world_of old) way.stands in
-      let begins = λ (answered : are_answered task (begun course) ≡ true). (ready_for_good IsPlanBy verbs_by verbs IsOpenBy graphs task laws of setter course.written bring_up there
+      let begins = λ (answered : are_answered task (begun course) ≡ true). (ready_for_good means verbs graphs task laws of setter course.written bring_up there
       (sym (ap (λ (state : State). state.phase) way.rest.state_is) ∙ unlooked task (begun course) (early_as course.state (state_of bring_up) way.rest.state_is bring_up.early) refl answered) stood).set_up in record {
         opened = opens task lines left (state_of bring_up) old new accessed way.rest;
-        stands = marked IsPlanBy verbs graphs task lines bring_up old new accessed.steps (λ written steps world is. stays written bring_up steps world is) (world_after Begin old new accessed)
+        stands = marked means verbs graphs task lines bring_up old new accessed.steps (λ written steps world is. stays written bring_up steps world is) (world_after Begin old new accessed)
             (ap (λ (course : Course). course.written) (course_access task lines Begin old new accessed)) way.stands;
-        set_up = access_always (SetUpAt IsPlanBy IsOpenBy graphs task) task lines Begin old new accessed (under_way_stays lines left bring_up old way) begins way.set_up;
+        set_up = access_always (SetUpAt means graphs task) task lines Begin old new accessed (under_way_stays lines left bring_up old way) begins way.set_up;
       }
 
   -- ---- the end of a stretch
 
   -- before it
-  done_stays : (lines : List DriverLine) (bring_up : BringUp) (telling : Telling) → RemainSetUp IsPlanBy IsOpenBy graphs task lines bring_up telling → (done : List Step)
-      → SetUpAt IsPlanBy IsOpenBy graphs task (after_steps done (world_of telling)) (course_of task lines telling)
-  done_stays lines bring_up telling remains done answered = (steps_for_good IsPlanBy IsOpenBy graphs done (world_of telling) (remains.before answered)).set_up
+  done_stays : (lines : List DriverLine) (bring_up : BringUp) (telling : Telling) → RemainSetUp means graphs task lines bring_up telling → (done : List Step)
+      → SetUpAt means graphs task (after_steps done (world_of telling)) (course_of task lines telling)
+  done_stays lines bring_up telling remains done answered = (steps_for_good means graphs done (world_of telling) (remains.before answered)).set_up
 
   -- and at it
-  ends_set_up : (lines left : List DriverLine) (bring_up : BringUp) (old new : Telling) (accessed : Accessed old new End) → IsDone task lines left (state_of bring_up) old → RemainSetUp IsPlanBy IsOpenBy graphs task lines bring_up old
-      → SetUpAt IsPlanBy IsOpenBy graphs task (after_steps accessed.steps (world_of old)) (ended task (course_of task lines old))
+  ends_set_up : (lines left : List DriverLine) (bring_up : BringUp) (old new : Telling) (accessed : Accessed old new End) → IsDone task lines left (state_of bring_up) old → RemainSetUp means graphs task lines bring_up old
+      → SetUpAt means graphs task (after_steps accessed.steps (world_of old)) (ended task (course_of task lines old))
   ends_set_up lines left bring_up old new accessed done remains answered =
       let course = course_of task lines old in
       let ready = sym (ap (λ (state : State). state.phase) done.leads) ∙ rest_phase (ended task course) (early_as (ended task course).state (state_of bring_up) done.leads bring_up.early) refl answered in
-      (steps_for_good IsPlanBy IsOpenBy graphs accessed.steps (world_of old) (remains.after (ap are_set_up ready))).set_up
+      (steps_for_good means graphs accessed.steps (world_of old) (remains.after (ap are_set_up ready))).set_up
 
-  stretch_set_up : (lines left : List DriverLine) (bring_up : BringUp) (old new : Telling) → Accessed old new End → IsDone task lines left (state_of bring_up) old → RemainSetUp IsPlanBy IsOpenBy graphs task lines bring_up old
-      → StaysSetUp IsPlanBy IsOpenBy graphs task lines old → StaysSetUp IsPlanBy IsOpenBy graphs task lines new
+  stretch_set_up : (lines left : List DriverLine) (bring_up : BringUp) (old new : Telling) → Accessed old new End → IsDone task lines left (state_of bring_up) old → RemainSetUp means graphs task lines bring_up old
+      → StaysSetUp means graphs task lines old → StaysSetUp means graphs task lines new
   stretch_set_up lines left bring_up old new accessed done remains set_up =
-      access_always (SetUpAt IsPlanBy IsOpenBy graphs task) task lines End old new accessed (done_stays lines bring_up old remains) (ends_set_up lines left bring_up old new accessed done remains) set_up
+      access_always (SetUpAt means graphs task) task lines End old new accessed (done_stays lines bring_up old remains) (ends_set_up lines left bring_up old new accessed done remains) set_up
 
-  closes_told : (lines left : List DriverLine) (bring_up : BringUp) (old new : Telling) → Accessed old new End → HasMade IsPlanBy verbs IsOpenBy graphs task lines left bring_up old
-      → IsUnderWay IsPlanBy verbs IsOpenBy graphs task lines left bring_up new
+  closes_told : (lines left : List DriverLine) (bring_up : BringUp) (old new : Telling) → Accessed old new End → HasMade means verbs graphs task lines left bring_up old
+      → IsUnderWay means verbs graphs task lines left bring_up new
   closes_told lines left bring_up old new accessed made = record {
     rest = closes task lines left (state_of bring_up) old new accessed made.done;
-    stands = marked IsPlanBy verbs graphs task lines bring_up old new accessed.steps (λ written steps world is. stays written bring_up steps world is) (world_after End old new accessed)
+    stands = marked means verbs graphs task lines bring_up old new accessed.steps (λ written steps world is. stays written bring_up steps world is) (world_after End old new accessed)
         (ap (λ (course : Course). course.written) (course_access task lines End old new accessed)) made.stands;
     set_up = stretch_set_up lines left bring_up old new accessed made.done made.remains made.set_up;
   }
 
-  ends_over_told : (lines left : List DriverLine) (bring_up : BringUp) (old new : Telling) → Accessed old new End → HasShut IsPlanBy IsOpenBy graphs task lines left bring_up old
-      → IsOver IsPlanBy IsOpenBy graphs task lines bring_up new
+  ends_over_told : (lines left : List DriverLine) (bring_up : BringUp) (old new : Telling) → Accessed old new End → HasShut means graphs task lines left bring_up old
+      → IsOver means graphs task lines bring_up new
   ends_over_told lines left bring_up old new accessed shut = record {
     left = left;
     rest = closes task lines left (state_of bring_up) old new accessed shut.done;
@@ -156,34 +157,34 @@ module _ (IsPlanBy : RawCodec → Plan → Type 0) (verbs_by : RawCodec → Plan
 
   -- ---- calls
 
-  calls_told : ((agenda : Agenda) → agenda.addresses.items ≡ map (λ (graph : RawCodec). graph.address) graphs → BeginsWalk agenda.addresses.items [] agenda → Follows IsPlanBy verbs graphs 0 agenda)
-      → (lines left : List DriverLine) (budget : ℕ) (irq : Bool) (old new : BringUp) (before after : Telling) → IsCalled IsPlanBy verbs IsOpenBy graphs task lines left (Some (record { irq = irq; budget = budget })) old before
-      → (old.phase ≡ Ready → task.plays ≡ false) → Leads IsPlanBy verbs_by irq old new (Some before) (Some after) → IsKept old new → HasMade IsPlanBy verbs IsOpenBy graphs task lines left new after
+  calls_told : ((agenda : Agenda) → agenda.addresses.items ≡ map (λ (graph : RawCodec). graph.address) graphs → BeginsWalk agenda.addresses.items [] agenda → Follows means verbs graphs 0 agenda)
+      → (lines left : List DriverLine) (budget : ℕ) (irq : Bool) (old new : BringUp) (before after : Telling) → IsCalled means verbs graphs task lines left (Some (record { irq = irq; budget = budget })) old before
+      → (old.phase ≡ Ready → task.plays ≡ false) → Leads means irq old new (Some before) (Some after) → IsKept old new → HasMade means verbs graphs task lines left new after
   calls_told begins lines left budget irq old new before after called silent leads kept =
-      let told = call_told IsPlanBy verbs_by verbs graphs task laws begins of notes lines left budget irq old new before after old.phase refl
+      let told = call_told means verbs graphs task laws begins of notes lines left budget irq old new before after old.phase refl
       (record { silent = silent; opened = called.opened; blocks = called.stands.blocks; leads = leads; kept = kept; graphs_are = called.stands.graphs_are }) called.stands.stage in
-      let stands : IsBroughtUp IsPlanBy verbs graphs task (course_of task lines after).written new (world_of after) = record {
+      let stands : IsBroughtUp means verbs graphs task (course_of task lines after).written new (world_of after) = record {
         blocks = record { corb = called.stands.blocks.corb ∙ sym (ap (λ corb. corb.address) kept.corb); rirb = called.stands.blocks.rirb ∙ sym (ap (λ rirb. rirb.address) kept.rirb) };
         graphs_are = told.graphs_are;
         stage = told.stage;
       } in
-      let fine = call_fine IsPlanBy verbs_by verbs IsOpenBy graphs task laws of setter notes lines left budget irq old new before after called.opened called.stands leads silent told.done
-      (called_fine IsPlanBy verbs_by verbs IsOpenBy graphs task laws of setter notes lines left (Some (record { irq = irq; budget = budget })) old before called.opened called.stands called.set_up) in record {
+      let fine = call_fine means verbs graphs task laws of setter notes lines left budget irq old new before after called.opened called.stands leads silent told.done
+      (called_fine means verbs graphs task laws of setter notes lines left (Some (record { irq = irq; budget = budget })) old before called.opened called.stands called.set_up) in record {
         done = told.done;
         stands = stands;
         set_up = fine.set_up;
         remains = record {
           before = fine.good;
-          after = λ ready. ready_for_good IsPlanBy verbs_by verbs IsOpenBy graphs task laws of setter (course_of task lines after).written new (world_of after) (ready_phase new.phase new.early ready) stands;
+          after = λ ready. ready_for_good means verbs graphs task laws of setter (course_of task lines after).written new (world_of after) (ready_phase new.phase new.early ready) stands;
         };
       }
 
-  ends_told : (lines left : List DriverLine) (old new : BringUp) (before after : Telling) → IsCalled IsPlanBy verbs IsOpenBy graphs task lines left None old before → Ends IsPlanBy verbs_by old new (Some before) (Some after)
-      → HasShut IsPlanBy IsOpenBy graphs task lines left new after
+  ends_told : (lines left : List DriverLine) (old new : BringUp) (before after : Telling) → IsCalled means verbs graphs task lines left None old before → Ends means old new (Some before) (Some after)
+      → HasShut means graphs task lines left new after
   ends_told lines left old new before after called ends =
-      let shut = end_told IsPlanBy verbs_by verbs graphs task laws of notes lines left old new before after old.phase refl called.opened called.stands.blocks ends called.stands.graphs_are called.stands.stage in
-      let leaves = end_fine IsPlanBy verbs_by verbs IsOpenBy graphs task laws of setter notes lines left old new before after called.opened called.stands ends shut.done
-      (called_fine IsPlanBy verbs_by verbs IsOpenBy graphs task laws of setter notes lines left None old before called.opened called.stands called.set_up) in record {
+      let shut = end_told means verbs graphs task laws of notes lines left old new before after old.phase refl called.opened called.stands.blocks ends called.stands.graphs_are called.stands.stage in
+      let leaves = end_fine means verbs graphs task laws of setter notes lines left old new before after called.opened called.stands ends shut.done
+      (called_fine means verbs graphs task laws of setter notes lines left None old before called.opened called.stands called.set_up) in record {
         done = shut.done;
         ended = shut.ended;
         set_up = leaves.fine.set_up;
@@ -192,8 +193,8 @@ module _ (IsPlanBy : RawCodec → Plan → Type 0) (verbs_by : RawCodec → Plan
 
   -- ---- all of it
 
-  pub whole : ((agenda : Agenda) → agenda.addresses.items ≡ map (λ (graph : RawCodec). graph.address) graphs → BeginsWalk agenda.addresses.items [] agenda → Follows IsPlanBy verbs graphs 0 agenda)
-      → KeepsToProgress IsPlanBy verbs_by verbs IsOpenBy graphs task
+  pub whole : ((agenda : Agenda) → agenda.addresses.items ≡ map (λ (graph : RawCodec). graph.address) graphs → BeginsWalk agenda.addresses.items [] agenda → Follows means verbs graphs 0 agenda)
+      → KeepsToProgress means verbs graphs task
   whole begins = record {
     begins = begins_told;
     steps = steps_told;

@@ -4,6 +4,7 @@ use Rattle.codec_graph.specs.declared.raw.RawCodec.{RawCodec}
 use Rattle.codec_graph.specs.CodecStates.{CodecState}
 use Rattle.codec_graph.specs.Settings.{Entries}
 use Rattle.route_planner.specs.declared.routes.Plan.{Plan}
+use Rattle.route_setup.specs.Means.{Means}
 use Rattle.hda_world.specs.Worlds.{World, codec_at}
 use Rattle.hda_world.specs.Events.{Event, happens}
 use Rattle.hda_world.specs.Tellings.{Telling, world_of}
@@ -30,23 +31,23 @@ Always Holds task (event ∷ events) world course = Holds world course × Always
 -- ---- the codecs
 
 -- the codec with this graph is there, and its settings are open for its plan
-pub record IsThere (IsPlanBy : RawCodec → Plan → Type 0) (IsOpenBy : RawCodec → Entries → Plan → Type 0) (graph : RawCodec) (codecs : List CodecState) : Type 0 where
+pub record IsThere (means : Means) (graph : RawCodec) (codecs : List CodecState) : Type 0 where
   pub now : CodecState
   pub found : codec_at graph.address codecs ≡ Some now
   pub graph_is : now.graph ≡ graph
-  pub opened : (plan : Plan) → IsPlanBy graph plan → IsOpenBy graph now.settings plan
+  pub opened : (plan : Plan) → means.IsPlanBy graph plan → means.IsOpenBy graph now.settings plan
 
-abbrev pub AreSetUp : (IsPlanBy : RawCodec → Plan → Type 0) (IsOpenBy : RawCodec → Entries → Plan → Type 0) (graphs : List RawCodec) → World → Type 0
-AreSetUp IsPlanBy IsOpenBy graphs world = (graph : RawCodec) → Contains graphs graph → IsThere IsPlanBy IsOpenBy graph world.codecs
+abbrev pub AreSetUp : (means : Means) (graphs : List RawCodec) → World → Type 0
+AreSetUp means graphs world = (graph : RawCodec) → Contains graphs graph → IsThere means graph world.codecs
 
 -- wherever all commands are answered, all codecs are set up
-abbrev pub SetUpAt : (IsPlanBy : RawCodec → Plan → Type 0) (IsOpenBy : RawCodec → Entries → Plan → Type 0) (graphs : List RawCodec) → Task → World → Course → Type 0
-SetUpAt IsPlanBy IsOpenBy graphs task world course = are_answered task course ≡ true → AreSetUp IsPlanBy IsOpenBy graphs world
+abbrev pub SetUpAt : (means : Means) (graphs : List RawCodec) → Task → World → Course → Type 0
+SetUpAt means graphs task world course = are_answered task course ≡ true → AreSetUp means graphs world
 
 -- at every moment that is told
-abbrev pub StaysSetUp : (IsPlanBy : RawCodec → Plan → Type 0) (IsOpenBy : RawCodec → Entries → Plan → Type 0) (graphs : List RawCodec) → Task → (lines : List DriverLine) → Telling → Type 0
-StaysSetUp IsPlanBy IsOpenBy graphs task lines telling =
-    Always (SetUpAt IsPlanBy IsOpenBy graphs task) task telling.journal telling.start (course_opened lines)
+abbrev pub StaysSetUp : (means : Means) (graphs : List RawCodec) → Task → (lines : List DriverLine) → Telling → Type 0
+StaysSetUp means graphs task lines telling =
+    Always (SetUpAt means graphs task) task telling.journal telling.start (course_opened lines)
 
 -- ---- why it stays so
 
@@ -55,11 +56,11 @@ abbrev pub IsIdle : World → Type 0
 IsIdle world = world.registers.global.corb_read_pointer ≡ world.registers.global.corb_write_pointer
 
 -- all codecs are set up, and no command comes
-pub record AreSetUpForGood (IsPlanBy : RawCodec → Plan → Type 0) (IsOpenBy : RawCodec → Entries → Plan → Type 0) (graphs : List RawCodec) (world : World) : Type 0 where
+pub record AreSetUpForGood (means : Means) (graphs : List RawCodec) (world : World) : Type 0 where
   pub idle : IsIdle world
-  pub set_up : AreSetUp IsPlanBy IsOpenBy graphs world
+  pub set_up : AreSetUp means graphs world
 
 -- so it is in an open stretch whose accesses were made, where all commands are answered then or by where it leads
-pub record RemainSetUp (IsPlanBy : RawCodec → Plan → Type 0) (IsOpenBy : RawCodec → Entries → Plan → Type 0) (graphs : List RawCodec) (task : Task) (lines : List DriverLine) (bring_up : BringUp) (telling : Telling) : Type 0 where
-  pub before : are_answered task (course_of task lines telling) ≡ true → AreSetUpForGood IsPlanBy IsOpenBy graphs (world_of telling)
-  pub after : are_set_up bring_up.phase ≡ true → AreSetUpForGood IsPlanBy IsOpenBy graphs (world_of telling)
+pub record RemainSetUp (means : Means) (graphs : List RawCodec) (task : Task) (lines : List DriverLine) (bring_up : BringUp) (telling : Telling) : Type 0 where
+  pub before : are_answered task (course_of task lines telling) ≡ true → AreSetUpForGood means graphs (world_of telling)
+  pub after : are_set_up bring_up.phase ≡ true → AreSetUpForGood means graphs (world_of telling)

@@ -3,6 +3,7 @@ use Rattle.std.specs.Prelude.{◌≡◌, ◌≢◌, ◌≤◌, ◌<◌, ℕ, ◌
 use Rattle.verb_codes.specs.declared.verbs.Command.{Command}
 use Rattle.codec_graph.specs.declared.raw.RawCodec.{RawCodec}
 use Rattle.route_planner.specs.declared.routes.Plan.{Plan}
+use Rattle.route_setup.specs.Means.{Means}
 use Rattle.codec_graph.specs.CodecStates.{CodecState}
 use Rattle.hda_world.specs.Worlds.{World}
 use Rattle.command_engine.specs.declared.answers.Outstanding.{Outstanding}
@@ -27,8 +28,8 @@ use Rattle.driver_bring_up.specs.Calls.{IsTaskOf}
 -- ---- what is to be done
 
 -- the commands of codecs with these graphs: well-formed, one to four of them, with some pin that has a route
-pub record IsTaskOfCodecs (IsPlanBy : RawCodec → Plan → Type 0) (verbs_by : RawCodec → Plan → List Command) (verbs : RawCodec → List Command) (graphs : List RawCodec) (task : Task) : Type 0 where
-  pub right : AreRight IsPlanBy verbs_by verbs graphs
+pub record IsTaskOfCodecs (means : Means) (verbs : RawCodec → List Command) (graphs : List RawCodec) (task : Task) : Type 0 where
+  pub right : AreRight means verbs graphs
   pub is_for : IsTaskFor verbs graphs task
   pub some : graphs ≢ []
   pub few : length graphs ≤ most_codecs
@@ -52,13 +53,13 @@ pub record HaveTaken (orders : List Order) (answers from : ℕ) (world : World) 
 
 -- the engine stands to the world, the agenda follows the codecs' commands, and so many responses were written when the last of them was
 -- submitted
-pub record IsAsking (IsPlanBy : RawCodec → Plan → Type 0) (verbs : RawCodec → List Command) (graphs : List RawCodec) (task : Task) (written : ℕ) (bring_up : BringUp) (world : World) : Type 0 where
+pub record IsAsking (means : Means) (verbs : RawCodec → List Command) (graphs : List RawCodec) (task : Task) (written : ℕ) (bring_up : BringUp) (world : World) : Type 0 where
   pub from : ℕ
   pub read : ℕ
   pub stands : Stands from read bring_up.engine.corb.address bring_up.engine.rirb.address bring_up.engine.rings world
   pub agree : AnswersAgree (asked_of bring_up.engine.rings.outstanding) written read world.written
   pub last : IsLastSent task.orders bring_up.sent bring_up.engine.rings.outstanding
-  pub follows : Follows IsPlanBy verbs graphs (answers_of bring_up.sent bring_up.engine.rings.outstanding) bring_up.agenda
+  pub follows : Follows means verbs graphs (answers_of bring_up.sent bring_up.engine.rings.outstanding) bring_up.agenda
   pub taken : HaveTaken task.orders (answers_of bring_up.sent bring_up.engine.rings.outstanding) from world
 
 -- ---- before
@@ -96,21 +97,21 @@ HasWalked graphs task bring_up =
 
 -- ---- by phase
 
-abbrev pub StandsIn : Phase → (IsPlanBy : RawCodec → Plan → Type 0) (verbs : RawCodec → List Command) (graphs : List RawCodec) (task : Task) (written : ℕ) (bring_up : BringUp) (world : World) → Type 0
-StandsIn Reset IsPlanBy verbs graphs task written bring_up world = CanBegin bring_up world
-StandsIn Settling IsPlanBy verbs graphs task written bring_up world = Announce bring_up world
-StandsIn Walking IsPlanBy verbs graphs task written bring_up world = IsAsking IsPlanBy verbs graphs task written bring_up world
-StandsIn SettingUp IsPlanBy verbs graphs task written bring_up world = IsAsking IsPlanBy verbs graphs task written bring_up world
-StandsIn Ready IsPlanBy verbs graphs task written bring_up world = IsAsking IsPlanBy verbs graphs task written bring_up world
-StandsIn (Unanswered codec command issued noticed) IsPlanBy verbs graphs task written bring_up world = HasWalked graphs task bring_up
-StandsIn Failed IsPlanBy verbs graphs task written bring_up world = HasWalked graphs task bring_up
-StandsIn phase IsPlanBy verbs graphs task written bring_up world = ⊥
+abbrev pub StandsIn : Phase → (means : Means) (verbs : RawCodec → List Command) (graphs : List RawCodec) (task : Task) (written : ℕ) (bring_up : BringUp) (world : World) → Type 0
+StandsIn Reset means verbs graphs task written bring_up world = CanBegin bring_up world
+StandsIn Settling means verbs graphs task written bring_up world = Announce bring_up world
+StandsIn Walking means verbs graphs task written bring_up world = IsAsking means verbs graphs task written bring_up world
+StandsIn SettingUp means verbs graphs task written bring_up world = IsAsking means verbs graphs task written bring_up world
+StandsIn Ready means verbs graphs task written bring_up world = IsAsking means verbs graphs task written bring_up world
+StandsIn (Unanswered codec command issued noticed) means verbs graphs task written bring_up world = HasWalked graphs task bring_up
+StandsIn Failed means verbs graphs task written bring_up world = HasWalked graphs task bring_up
+StandsIn phase means verbs graphs task written bring_up world = ⊥
 
 -- a bring-up for a task over the codecs with these graphs, as it stands to the world
-pub record IsBroughtUp (IsPlanBy : RawCodec → Plan → Type 0) (verbs : RawCodec → List Command) (graphs : List RawCodec) (task : Task) (written : ℕ) (bring_up : BringUp) (world : World) : Type 0 where
+pub record IsBroughtUp (means : Means) (verbs : RawCodec → List Command) (graphs : List RawCodec) (task : Task) (written : ℕ) (bring_up : BringUp) (world : World) : Type 0 where
   pub blocks : IsTaskOf bring_up task
   pub graphs_are : graphs_in world.codecs ≡ graphs
-  pub stage : StandsIn bring_up.phase IsPlanBy verbs graphs task written bring_up world
+  pub stage : StandsIn bring_up.phase means verbs graphs task written bring_up world
 
 -- ---- at its end
 

@@ -52,11 +52,8 @@ pub fn stretches_are_progress()
 /// on, between any two accesses too, each codec is there with its graph and set up by its plan.
 pub fn bring_ups_keep_to_progress<T: Setter>()
     ensures { (setter : T) (format : Format) (verbs : RawCodec → List Command) (graphs : List RawCodec) (task : Task)
-        → IsTaskOfCodecs (λ graph. T.IsPlanBy setter graph format) (λ graph plan. T.verbs_by setter graph plan format
-        TAG) verbs graphs task
-        → KeepsToProgress (λ graph. T.IsPlanBy setter graph format) (λ graph plan. T.verbs_by setter graph plan format
-        TAG) verbs
-        (λ graph settings plan. T.IsOpenBy setter graph settings plan format TAG) graphs task }
+        → IsTaskOfCodecs (T.means setter format TAG) verbs graphs task
+        → KeepsToProgress (T.means setter format TAG) verbs graphs task }
 {
     agendas_follow::<T>();
     agendas_agree::<T>();
@@ -69,12 +66,10 @@ pub fn bring_ups_keep_to_progress<T: Setter>()
 /// to the world as before and after each of its calls.
 pub fn ready_codecs_are_set_up<T: Setter>()
     ensures { (setter : T) (format : Format) (verbs : RawCodec → List Command) (graphs : List RawCodec) (task : Task)
-        → IsTaskOfCodecs (λ graph. T.IsPlanBy setter graph format) (λ graph plan. T.verbs_by setter graph plan format
-        TAG) verbs graphs task
+        → IsTaskOfCodecs (T.means setter format TAG) verbs graphs task
         → (written : ℕ) (bring_up : BringUp) (world : World) → bring_up.phase ≡ Ready
-        → IsBroughtUp (λ graph. T.IsPlanBy setter graph format) verbs graphs task written bring_up world
-        → AreSetUp (λ graph. T.IsPlanBy setter graph format) (λ graph settings plan. T.IsOpenBy setter graph settings
-        plan format TAG) graphs world }
+        → IsBroughtUp (T.means setter format TAG) verbs graphs task written bring_up world
+        → AreSetUp (T.means setter format TAG) graphs world }
 {
     agendas_follow::<T>();
     agendas_agree::<T>();

@@ -5,6 +5,7 @@ use Rattle.verb_codes.specs.declared.verbs.Command.{Command}
 use Rattle.codec_graph.specs.declared.raw.RawCodec.{RawCodec}
 use Rattle.codec_graph.specs.Settings.{Entries}
 use Rattle.route_planner.specs.declared.routes.Plan.{Plan}
+use Rattle.route_setup.specs.Means.{Means}
 use Rattle.hda_world.specs.Events.{Event}
 use Rattle.hda_world.specs.Tellings.{Telling, world_of, Makes}
 use Rattle.command_engine.specs.Polling.{rings_polled}
@@ -46,10 +47,10 @@ made_rest stretches task lines left turn state made before after opened makes ar
 
 -- ---- what a bring-up makes are accesses
 
-module _ (IsPlanBy : RawCodec → Plan → Type 0) (verbs_by : RawCodec → Plan → List Command) (verbs : RawCodec → List Command) (IsOpenBy : RawCodec → Entries → Plan → Type 0) (graphs : List RawCodec) (task : Task)
-    (laws : AgendaLaws IsPlanBy verbs_by verbs graphs) (of : IsTaskOfCodecs IsPlanBy verbs_by verbs graphs task) (setter : SetterLaws IsPlanBy verbs_by IsOpenBy) (notes : Laws) (lines : List DriverLine) where
-  pub leads_accesses : (irq : Bool) (old new : BringUp) (before after : Telling) → IsBroughtUp IsPlanBy verbs graphs task (course_of task lines before).written old (world_of before)
-      → (leads : Leads IsPlanBy verbs_by irq old new (Some before) (Some after)) → AreAccesses leads.made
+module _ (means : Means) (verbs : RawCodec → List Command) (graphs : List RawCodec) (task : Task)
+    (laws : AgendaLaws means verbs graphs) (of : IsTaskOfCodecs means verbs graphs task) (setter : SetterLaws means) (notes : Laws) (lines : List DriverLine) where
+  pub leads_accesses : (irq : Bool) (old new : BringUp) (before after : Telling) → IsBroughtUp means verbs graphs task (course_of task lines before).written old (world_of before)
+      → (leads : Leads means irq old new (Some before) (Some after)) → AreAccesses leads.made
   leads_accesses irq old new before after stands leads = by (is_asking old.phase) refl
     where
       looks : (from read : ℕ) → LooksOn irq old new leads.made from read before after ⊎ IsStill old new leads.made from read after → AreAccesses leads.made
@@ -61,16 +62,16 @@ module _ (IsPlanBy : RawCodec → Plan → Type 0) (verbs_by : RawCodec → Plan
       by : (asks : Bool) → is_asking old.phase ≡ asks → AreAccesses leads.made
       by false not = unread_accesses leads.made (leads.unread not)
       by true asking =
-          let a = asking_in IsPlanBy verbs_by verbs IsOpenBy graphs task laws of setter notes lines old.phase (course_of task lines before).written old (world_of before) asking stands.stage in
+          let a = asking_in means verbs graphs task laws of setter notes lines old.phase (course_of task lines before).written old (world_of before) asking stands.stage in
           looks a.from a.read ((leads.stays (asking_goes_on old.phase asking)).is a.from a.read a.stands)
 
-  pub ends_accesses : (old new : BringUp) (before after : Telling) → IsBroughtUp IsPlanBy verbs graphs task (course_of task lines before).written old (world_of before)
-      → (ends : Ends IsPlanBy verbs_by old new (Some before) (Some after)) → AreAccesses ends.made
+  pub ends_accesses : (old new : BringUp) (before after : Telling) → IsBroughtUp means verbs graphs task (course_of task lines before).written old (world_of before)
+      → (ends : Ends means old new (Some before) (Some after)) → AreAccesses ends.made
   ends_accesses old new before after stands ends = by (is_asking old.phase) refl
     where
       by : (asks : Bool) → is_asking old.phase ≡ asks → AreAccesses ends.made
       by false not = unread_accesses ends.made (ends.unread not)
       by true asking =
-          let a = asking_in IsPlanBy verbs_by verbs IsOpenBy graphs task laws of setter notes lines old.phase (course_of task lines before).written old (world_of before) asking stands.stage in
+          let a = asking_in means verbs graphs task laws of setter notes lines old.phase (course_of task lines before).written old (world_of before) asking stands.stage in
           let on = (ends.looks asking).is a.from a.read a.stands in
           looked_accesses old ends.made [] on.clock on.reads shut_accesses a.from a.read before after on.looked shut_are

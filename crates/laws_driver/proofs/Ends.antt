@@ -5,6 +5,7 @@ use Rattle.verb_codes.specs.declared.verbs.Command.{Command}
 use Rattle.codec_graph.specs.declared.raw.RawCodec.{RawCodec}
 use Rattle.codec_graph.specs.Settings.{Entries}
 use Rattle.route_planner.specs.declared.routes.Plan.{Plan}
+use Rattle.route_setup.specs.Means.{Means}
 use Rattle.stream_format.specs.declared.format.Format.{Format}
 use Rattle.hda_world.specs.Worlds.{World}
 use Rattle.hda_world.specs.Events.{Event, Stepped, Begin, End, happens, after, IsNoStep}
@@ -52,22 +53,22 @@ never_heard fifo telling rests = record {
   none = (Along-end (Rests fifo) telling.journal telling.start rests).none_carried;
 }
 
-module _ (IsPlanBy : RawCodec → Plan → Type 0) (verbs_by : RawCodec → Plan → List Command) (verbs : RawCodec → List Command) (IsOpenBy : RawCodec → Entries → Plan → Type 0) (graphs : List RawCodec) (task : Task)
-    (laws : Given IsPlanBy verbs_by verbs IsOpenBy graphs task) (lines : List DriverLine) (old : Parts) (ended : BringUp) (tally : Tally) (last : List Event) (before begun made after : Telling) (begins : Accessed before begun Begin)
-    (closing : Closes IsPlanBy verbs_by task.plays old ended tally (Some begun) (Some made)) (ends : Accessed made after End) where
+module _ (means : Means) (verbs : RawCodec → List Command) (graphs : List RawCodec) (task : Task)
+    (laws : Given means verbs graphs task) (lines : List DriverLine) (old : Parts) (ended : BringUp) (tally : Tally) (last : List Event) (before begun made after : Telling) (begins : Accessed before begun Begin)
+    (closing : Closes means task.plays old ended tally (Some begun) (Some made)) (ends : Accessed made after End) where
   abbrev pub Gone : Type 0
-  Gone = HasGone IsPlanBy IsOpenBy graphs task lines ended tally last after
+  Gone = HasGone means graphs task lines ended tally last after
 
   -- ---- where its calls do not play
 
-  pub silent_end : plays_now task.plays old.bring_up ≡ false → IsSilent IsPlanBy verbs IsOpenBy graphs task lines [] old before → Gone
+  pub silent_end : plays_now task.plays old.bring_up ≡ false → IsSilent means verbs graphs task lines [] old before → Gone
   silent_end none is =
       let fifo = old.writer.geometry.fifo in
       let called = laws.told.opens lines [] old.bring_up before begun begins is.under_way in
       let call = closing.ends none in
       let shut = laws.told.ends lines [] old.bring_up ended begun made called call in
       let gone = laws.told.over lines ended after (laws.told.ends_over lines [] ended made after ends shut) in
-      let are = ends_accesses IsPlanBy verbs_by verbs IsOpenBy graphs task laws.agenda laws.of laws.setter laws.notes lines old.bring_up ended begun made called.stands call in
+      let are = ends_accesses means verbs graphs task laws.agenda laws.of laws.setter laws.notes lines old.bring_up ended begun made called.stands call in
       let still = made_rest laws.stretches task lines [] None (bringing.state_of old.bring_up) call.made begun made called.opened call.by.is are (end_silent task old.bring_up) shut.done.fits in
       let rests = end_rest laws.events fifo made after ends (row_rest laws.events fifo call.made begun made call.by.is still (begin_rest laws.events fifo before begun begins is.silent.rests)) in
       let fresh : tally ≡ tally_opened = closing.recorded none ∙ is.silent.fresh in record {
@@ -89,11 +90,11 @@ module _ (IsPlanBy : RawCodec → Plan → Type 0) (verbs_by : RawCodec → Plan
     abbrev state_then : State
     state_then = state_with ended tally
 
-    played : IsOpen task lines [] None (state_in old) begun → StayGood IsPlanBy IsOpenBy graphs task lines begun → old.bring_up.engine.rings.outstanding ≡ None → are_set_up (state_in old).phase ≡ true
-        → Played IsPlanBy IsOpenBy graphs task lines [] None state_then made
-    played opened good none up = plays IsPlanBy IsOpenBy graphs task lines [] None (state_in old) state_then call.made begun made opened good none up call.by.is call.are (call.is task task_is)
+    played : IsOpen task lines [] None (state_in old) begun → StayGood means graphs task lines begun → old.bring_up.engine.rings.outstanding ≡ None → are_set_up (state_in old).phase ≡ true
+        → Played means graphs task lines [] None state_then made
+    played opened good none up = plays means graphs task lines [] None (state_in old) state_then call.made begun made opened good none up call.by.is call.are (call.is task task_is)
 
-    gone_by : Played IsPlanBy IsOpenBy graphs task lines [] None state_then made → IsEnded graphs task ended → ended.phase ≡ Ready → ((tally ≡ tally_opened) × WasNeverHeard after) ⊎ WasHeard IsPlanBy IsOpenBy graphs task tally last after → Gone
+    gone_by : Played means graphs task lines [] None state_then made → IsEnded graphs task ended → ended.phase ≡ Ready → ((tally ≡ tally_opened) × WasNeverHeard after) ⊎ WasHeard means graphs task tally last after → Gone
     gone_by was ended_is ready heard =
         let rest = closes task lines [] state_then made after ends was.done in
         let progress = rest_progress task lines [] state_then after rest in record {
@@ -102,20 +103,20 @@ module _ (IsPlanBy : RawCodec → Plan → Type 0) (verbs_by : RawCodec → Plan
           state_is = progress.1;
           ended_is = ended_is;
           ready = λ started. ready;
-          set_up = (end_good IsPlanBy IsOpenBy graphs task lines made after ends was.good).set_up;
+          set_up = (end_good means graphs task lines made after ends was.good).set_up;
           heard = heard;
         }
 
     -- no sound was played
-    module _ (is : IsSilent IsPlanBy verbs IsOpenBy graphs task lines [] old before) where
-      called : told.IsCalled IsPlanBy verbs IsOpenBy graphs task lines [] None old.bring_up begun
+    module _ (is : IsSilent means verbs graphs task lines [] old before) where
+      called : told.IsCalled means verbs graphs task lines [] None old.bring_up begun
       called = laws.told.opens lines [] old.bring_up before begun begins is.under_way
 
       was_ready : old.bring_up.phase ≡ Ready
       was_ready = (plays_then task.plays old.bring_up now).1
 
-      ready : IsReady IsPlanBy verbs_by verbs IsOpenBy graphs task laws.agenda laws.of laws.setter old.bring_up (world_of begun)
-      ready = ready_stands IsPlanBy verbs_by verbs IsOpenBy graphs task laws.agenda laws.of laws.setter (course_of task lines begun).written old.bring_up (world_of begun) was_ready called.stands
+      ready : IsReady means verbs graphs task laws.agenda laws.of laws.setter old.bring_up (world_of begun)
+      ready = ready_stands means verbs graphs task laws.agenda laws.of laws.setter (course_of task lines begun).written old.bring_up (world_of begun) was_ready called.stands
 
       state_is : state_in old ≡ bringing.state_of old.bring_up
       state_is = silent_state old.bring_up old.writer is.silent.fresh
@@ -123,7 +124,7 @@ module _ (IsPlanBy : RawCodec → Plan → Type 0) (verbs_by : RawCodec → Plan
       opened : IsOpen task lines [] None (state_in old) begun
       opened = subst (λ (state : State). IsOpen task lines [] None state begun) (sym state_is) called.opened
 
-      was_played : Played IsPlanBy IsOpenBy graphs task lines [] None state_then made
+      was_played : Played means graphs task lines [] None state_then made
       was_played =
           played opened (record { set_up = called.set_up; good = ready.good }) ready.answered (ap (λ (state : State). are_set_up state.phase) state_is ∙ ap are_set_up was_ready)
 
@@ -145,14 +146,14 @@ module _ (IsPlanBy : RawCodec → Plan → Type 0) (verbs_by : RawCodec → Plan
           (inl (recorded call.tells.is, never_heard fifo after rests))
 
     -- or it was
-    module _ (went : Went before after last) (small : Along HasNotWrapped last (world_of before)) (is : IsHeard IsPlanBy IsOpenBy graphs task lines [] old before) where
-      was : Sounds IsPlanBy IsOpenBy graphs task old before
+    module _ (went : Went before after last) (small : Along HasNotWrapped last (world_of before)) (is : IsHeard means graphs task lines [] old before) where
+      was : Sounds means graphs task old before
       was = is.sounds
 
-      ended_played : Played IsPlanBy IsOpenBy graphs task lines [] None state_then made
+      ended_played : Played means graphs task lines [] None state_then made
       ended_played =
-          played (opens task lines [] (state_in old) before begun begins is.rest) (begin_good IsPlanBy IsOpenBy graphs task lines before begun begins (heard_good IsPlanBy verbs_by verbs IsOpenBy graphs task laws lines [] old before is)) was.answered
-          (heard_set_up IsPlanBy verbs_by verbs IsOpenBy graphs task laws lines [] old before is)
+          played (opens task lines [] (state_in old) before begun begins is.rest) (begin_good means graphs task lines before begun begins (heard_good means verbs graphs task laws lines [] old before is)) was.answered
+          (heard_set_up means verbs graphs task laws lines [] old before is)
 
       -- the events of the call among those of its stretch
       abbrev front : List Event

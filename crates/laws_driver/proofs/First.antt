@@ -5,6 +5,7 @@ use Rattle.verb_codes.specs.declared.verbs.Command.{Command}
 use Rattle.codec_graph.specs.declared.raw.RawCodec.{RawCodec}
 use Rattle.codec_graph.specs.Settings.{Entries}
 use Rattle.route_planner.specs.declared.routes.Plan.{Plan}
+use Rattle.route_setup.specs.Means.{Means}
 use Rattle.hda_world.specs.Events.{Begin, End}
 use Rattle.hda_world.specs.Tellings.{Telling, world_of, Accessed}
 use Rattle.period_writer.specs.declared.course.Course.{Course}
@@ -40,21 +41,21 @@ use Rattle.laws_driver.proofs.Still.{look_all, still_stands}
 use Rattle.laws_driver.proofs.Good.{end_good}
 use Rattle.laws_driver.proofs.Playing.{Played, plays}
 
-module _ (IsPlanBy : RawCodec → Plan → Type 0) (verbs_by : RawCodec → Plan → List Command) (verbs : RawCodec → List Command) (IsOpenBy : RawCodec → Entries → Plan → Type 0) (graphs : List RawCodec) (task : Task)
-    (laws : Given IsPlanBy verbs_by verbs IsOpenBy graphs task) (lines left : List DriverLine) (line : DriverLine) (old new : Parts) (before begun made after : Telling) (begins : Accessed before begun Begin)
-    (calls : Calls IsPlanBy verbs_by task.plays line.irq line.budget old new (Some begun) (Some made)) (ends : Accessed made after End) (small : HasNotWrapped (world_of made)) (now : plays_now task.plays old.bring_up ≡ true)
-    (is : IsSilent IsPlanBy verbs IsOpenBy graphs task lines (line ∷ left) old before) where
+module _ (means : Means) (verbs : RawCodec → List Command) (graphs : List RawCodec) (task : Task)
+    (laws : Given means verbs graphs task) (lines left : List DriverLine) (line : DriverLine) (old new : Parts) (before begun made after : Telling) (begins : Accessed before begun Begin)
+    (calls : Calls means task.plays line.irq line.budget old new (Some begun) (Some made)) (ends : Accessed made after End) (small : HasNotWrapped (world_of made)) (now : plays_now task.plays old.bring_up ≡ true)
+    (is : IsSilent means verbs graphs task lines (line ∷ left) old before) where
   was_ready : old.bring_up.phase ≡ Ready
   was_ready = (plays_then task.plays old.bring_up now).1
 
   task_is : IsTaskOf old.bring_up old.writer old.supply task
   task_is = is.silent.task_is (plays_then task.plays old.bring_up now).0
 
-  called : told.IsCalled IsPlanBy verbs IsOpenBy graphs task lines left (Some line) old.bring_up begun
+  called : told.IsCalled means verbs graphs task lines left (Some line) old.bring_up begun
   called = laws.told.opens lines (line ∷ left) old.bring_up before begun begins is.under_way
 
-  ready : IsReady IsPlanBy verbs_by verbs IsOpenBy graphs task laws.agenda laws.of laws.setter old.bring_up (world_of begun)
-  ready = ready_stands IsPlanBy verbs_by verbs IsOpenBy graphs task laws.agenda laws.of laws.setter (course_of task lines begun).written old.bring_up (world_of begun) was_ready called.stands
+  ready : IsReady means verbs graphs task laws.agenda laws.of laws.setter old.bring_up (world_of begun)
+  ready = ready_stands means verbs graphs task laws.agenda laws.of laws.setter (course_of task lines begun).written old.bring_up (world_of begun) was_ready called.stands
 
   call : sounding.Sounds line.irq line.budget old.bring_up new.bring_up old.writer new.writer old.supply new.supply (Some begun) (Some made)
   call = calls.sounds now
@@ -71,9 +72,9 @@ module _ (IsPlanBy : RawCodec → Plan → Type 0) (verbs_by : RawCodec → Plan
   up : are_set_up (state_in old).phase ≡ true
   up = ap (λ (state : State). are_set_up state.phase) state_is ∙ ap are_set_up was_ready
 
-  played : Played IsPlanBy IsOpenBy graphs task lines left (Some line) (state_in new) made
+  played : Played means graphs task lines left (Some line) (state_in new) made
   played =
-      plays IsPlanBy IsOpenBy graphs task lines left (Some line) (state_in old) (state_in new) call.made begun made opened (record { set_up = called.set_up; good = ready.good }) ready.answered up call.by.is call.are stretch
+      plays means graphs task lines left (Some line) (state_in old) (state_in new) call.made begun made opened (record { set_up = called.set_up; good = ready.good }) ready.answered up call.by.is call.are stretch
 
   begun_rests : Along (Rests old.writer.geometry.fifo) begun.journal begun.start
   begun_rests = begin_rest laws.events old.writer.geometry.fifo before begun begins is.silent.rests
@@ -87,11 +88,11 @@ module _ (IsPlanBy : RawCodec → Plan → Type 0) (verbs_by : RawCodec → Plan
     still_fresh : tally_in new ≡ tally_opened
     still_fresh = ap tally_of still.writer_is ∙ is.silent.fresh
 
-    has_made : told.HasMade IsPlanBy verbs IsOpenBy graphs task lines left new.bring_up made
+    has_made : told.HasMade means verbs graphs task lines left new.bring_up made
     has_made =
-        let stands = still_stands IsPlanBy verbs_by verbs graphs task laws.agenda laws.of laws.notes lines old.bring_up call.made begun made was_ready still.looks call.by.is called.stands in record {
+        let stands = still_stands means verbs graphs task laws.agenda laws.of laws.notes lines old.bring_up call.made begun made was_ready still.looks call.by.is called.stands in record {
           done = subst (λ (state : State). IsDone task lines left state made) (silent_state new.bring_up new.writer still_fresh) played.done;
-          stands = subst (λ (bring_up : BringUp). IsBroughtUp IsPlanBy verbs graphs task (course_of task lines made).written bring_up (world_of made)) (sym still.bring_up) stands;
+          stands = subst (λ (bring_up : BringUp). IsBroughtUp means verbs graphs task (course_of task lines made).written bring_up (world_of made)) (sym still.bring_up) stands;
           set_up = played.good.set_up;
           remains = record { before = λ answered. played.good.good; after = λ up. played.good.good };
         }
@@ -101,7 +102,7 @@ module _ (IsPlanBy : RawCodec → Plan → Type 0) (verbs_by : RawCodec → Plan
         end_rest laws.events old.writer.geometry.fifo made after ends
         (row_rest laws.events old.writer.geometry.fifo call.made begun made call.by.is (look_all LeavesRest (λ at value width. tt {0}) (λ value. inr (inl (inr refl, refl))) call.made still.looks) begun_rests)
 
-    still_silent : IsSilent IsPlanBy verbs IsOpenBy graphs task lines left new after
+    still_silent : IsSilent means verbs graphs task lines left new after
     still_silent = record {
       under_way = laws.told.closes lines left new.bring_up made after ends has_made;
       silent = record {
@@ -121,13 +122,13 @@ module _ (IsPlanBy : RawCodec → Plan → Type 0) (verbs_by : RawCodec → Plan
   all_left : old.supply ≡ task.pcm
   all_left = task_is.sound (ap (λ (course : Course). was_late course.ran) course_is) ∙ ap (λ (course : Course). drop course.used task.pcm) course_is
 
-  begun_heard : sounding.Begins line.irq line.budget old.bring_up new.bring_up old.writer new.writer old.supply call.made begun made → IsHeard IsPlanBy IsOpenBy graphs task lines left new after
+  begun_heard : sounding.Begins line.irq line.budget old.bring_up new.bring_up old.writer new.writer old.supply call.made begun made → IsHeard means graphs task lines left new after
   begun_heard first =
       let fifo = old.writer.geometry.fifo in
       let by = laws.heard.first task.pcm line.irq line.budget old.bring_up new.bring_up old.writer new.writer old.supply call.made begun made ready.from ready.read old.bring_up.engine.corb.address old.bring_up.engine.rirb.address
       first call.stays all_left (along_weaker (Rests fifo) HasNotBegun (rests_unbegun fifo) begun.journal begun.start begun_rests) (Along-end (Rests fifo) begun.journal begun.start begun_rests) ready.stands ready.good.idle is.silent.apart small in record {
         rest = closes task lines left (state_in new) made after ends played.done;
-        set_up = (end_good IsPlanBy IsOpenBy graphs task lines made after ends played.good).set_up;
+        set_up = (end_good means graphs task lines made after ends played.good).set_up;
         sounds = record {
           task_is = task_then;
           ready = call.stays.phase ∙ was_ready;
@@ -140,10 +141,10 @@ module _ (IsPlanBy : RawCodec → Plan → Type 0) (verbs_by : RawCodec → Plan
         };
       }
 
-  by_tells : sounding.SoundTells line.irq line.budget old.bring_up new.bring_up old.writer new.writer old.supply call.made begun made → IsUnderWay IsPlanBy verbs IsOpenBy graphs task lines left new after
+  by_tells : sounding.SoundTells line.irq line.budget old.bring_up new.bring_up old.writer new.writer old.supply call.made begun made → IsUnderWay means verbs graphs task lines left new after
   by_tells (inl still) = inl (still_silent still)
   by_tells (inr (inl first)) = inr (begun_heard first)
   by_tells (inr (inr goes)) = absurd (not_true (sym (ap (λ (course : Course). course.started) course_is) ∙ goes.started))
 
-  pub first_call : IsUnderWay IsPlanBy verbs IsOpenBy graphs task lines left new after
+  pub first_call : IsUnderWay means verbs graphs task lines left new after
   first_call = by_tells call.tells.is

@@ -5,6 +5,7 @@ use Rattle.codec_graph.specs.declared.raw.RawCodec.{RawCodec}
 use Rattle.codec_graph.specs.CodecStates.{CodecState}
 use Rattle.codec_graph.specs.Settings.{Entries}
 use Rattle.route_planner.specs.declared.routes.Plan.{Plan}
+use Rattle.route_setup.specs.Means.{Means}
 use Rattle.world_steps.specs.declared.Step.{Step}
 use Rattle.hda_world.specs.Events.{Event, Stepped, Begin, End, IsNoStep}
 use Rattle.hda_world.specs.Tellings.{Telling, world_of, Went, Accessed, Makes}
@@ -45,11 +46,11 @@ pub record HeardLaws : Type 0 where
       → Sounds codecs (ring_of writer) pcm (tally_of writer) before → (tally.course.started ≡ true) × HasStopped after × (All IsNoStep last → HearTheLine codecs writer.geometry.format pcm tally (world_of after).carried)
   pub over : (old new : Telling) → Accessed old new End → HasStopped old → HasStopped new × ((world_of new).carried ≡ (world_of old).carried)
 
-pub record Given (IsPlanBy : RawCodec → Plan → Type 0) (verbs_by : RawCodec → Plan → List Command) (verbs : RawCodec → List Command) (IsOpenBy : RawCodec → Entries → Plan → Type 0) (graphs : List RawCodec) (task : Task) : Type 0 where
-  pub told : KeepsToProgress IsPlanBy verbs_by verbs IsOpenBy graphs task
-  pub agenda : AgendaLaws IsPlanBy verbs_by verbs graphs
-  pub of : IsTaskOfCodecs IsPlanBy verbs_by verbs graphs task
-  pub setter : SetterLaws IsPlanBy verbs_by IsOpenBy
+pub record Given (means : Means) (verbs : RawCodec → List Command) (graphs : List RawCodec) (task : Task) : Type 0 where
+  pub told : KeepsToProgress means verbs graphs task
+  pub agenda : AgendaLaws means verbs graphs
+  pub of : IsTaskOfCodecs means verbs graphs task
+  pub setter : SetterLaws means
   pub notes : Laws
   pub events : EventsRest
   pub stretches : StretchesRest

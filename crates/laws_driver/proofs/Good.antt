@@ -3,6 +3,7 @@ use Rattle.std.proofs.Common.{◌≡◌, true, List, [], ◌∷◌, map, sym, su
 use Rattle.codec_graph.specs.declared.raw.RawCodec.{RawCodec}
 use Rattle.codec_graph.specs.Settings.{Entries}
 use Rattle.route_planner.specs.declared.routes.Plan.{Plan}
+use Rattle.route_setup.specs.Means.{Means}
 use Rattle.world_steps.specs.declared.Step.{Step}
 use Rattle.hda_world.specs.Worlds.{World}
 use Rattle.hda_world.specs.Steps.{after_steps}
@@ -19,28 +20,28 @@ always_end : (Holds : World → Course → Type 0) (task : Task) (events : List 
 always_end Holds task [] world course all = all
 always_end Holds task (event ∷ events) world course all = always_end Holds task events (happens world event) (noted task course world event) all.1
 
-module _ (IsPlanBy : RawCodec → Plan → Type 0) (IsOpenBy : RawCodec → Entries → Plan → Type 0) (graphs : List RawCodec) (task : Task) (lines : List DriverLine) where
+module _ (means : Means) (graphs : List RawCodec) (task : Task) (lines : List DriverLine) where
   -- at every moment until now, and from now on
   pub record StayGood (telling : Telling) : Type 0 where
-    pub set_up : StaysSetUp IsPlanBy IsOpenBy graphs task lines telling
-    pub good : AreSetUpForGood IsPlanBy IsOpenBy graphs (world_of telling)
+    pub set_up : StaysSetUp means graphs task lines telling
+    pub good : AreSetUpForGood means graphs (world_of telling)
 
   -- where the phase says that they are, and no command is under way
-  pub good_now : (telling : Telling) → StaysSetUp IsPlanBy IsOpenBy graphs task lines telling → are_answered task (course_of task lines telling) ≡ true → IsIdle (world_of telling) → StayGood telling
+  pub good_now : (telling : Telling) → StaysSetUp means graphs task lines telling → are_answered task (course_of task lines telling) ≡ true → IsIdle (world_of telling) → StayGood telling
   good_now telling set_up answered idle = record {
     set_up = set_up;
     good = record {
       idle = idle;
-      set_up = always_end (SetUpAt IsPlanBy IsOpenBy graphs task) task telling.journal telling.start (course_opened lines) set_up answered;
+      set_up = always_end (SetUpAt means graphs task) task telling.journal telling.start (course_opened lines) set_up answered;
     };
   }
 
-  access_good : (event : Event) (old new : Telling) → Accessed old new event → ((world : World) → AreSetUpForGood IsPlanBy IsOpenBy graphs world → AreSetUpForGood IsPlanBy IsOpenBy graphs (happens world event)) → StayGood old → StayGood new
+  access_good : (event : Event) (old new : Telling) → Accessed old new event → ((world : World) → AreSetUpForGood means graphs world → AreSetUpForGood means graphs (happens world event)) → StayGood old → StayGood new
   access_good event old new accessed leads before =
-      let each : (done : List Step) → AreSetUpForGood IsPlanBy IsOpenBy graphs (after_steps done (world_of old)) = λ done. steps_for_good IsPlanBy IsOpenBy graphs done (world_of old) before.good in
+      let each : (done : List Step) → AreSetUpForGood means graphs (after_steps done (world_of old)) = λ done. steps_for_good means graphs done (world_of old) before.good in
       let last = leads (after_steps accessed.steps (world_of old)) (each accessed.steps) in record {
-        set_up = access_always (SetUpAt IsPlanBy IsOpenBy graphs task) task lines event old new accessed (λ done answered. (each done).set_up) (λ answered. last.set_up) before.set_up;
-        good = subst (AreSetUpForGood IsPlanBy IsOpenBy graphs) (sym (world_after event old new accessed)) last;
+        set_up = access_always (SetUpAt means graphs task) task lines event old new accessed (λ done answered. (each done).set_up) (λ answered. last.set_up) before.set_up;
+        good = subst (AreSetUpForGood means graphs) (sym (world_after event old new accessed)) last;
       }
 
   pub begin_good : (old new : Telling) → Accessed old new Begin → StayGood old → StayGood new
@@ -51,17 +52,17 @@ module _ (IsPlanBy : RawCodec → Plan → Type 0) (IsOpenBy : RawCodec → Entr
 
   pub steps_good : (steps : List Step) (old new : Telling) → Went old new (map Stepped steps) → StayGood old → StayGood new
   steps_good steps old new went before =
-      let each : (done : List Step) → AreSetUpForGood IsPlanBy IsOpenBy graphs (after_steps done (world_of old)) = λ done. steps_for_good IsPlanBy IsOpenBy graphs done (world_of old) before.good in record {
-        set_up = steps_always (SetUpAt IsPlanBy IsOpenBy graphs task) task lines steps old new went (λ done answered. (each done).set_up) before.set_up;
-        good = subst (AreSetUpForGood IsPlanBy IsOpenBy graphs) (sym (world_of-went old new (map Stepped steps) went ∙ steps_are steps (world_of old))) (each steps);
+      let each : (done : List Step) → AreSetUpForGood means graphs (after_steps done (world_of old)) = λ done. steps_for_good means graphs done (world_of old) before.good in record {
+        set_up = steps_always (SetUpAt means graphs task) task lines steps old new went (λ done answered. (each done).set_up) before.set_up;
+        good = subst (AreSetUpForGood means graphs) (sym (world_of-went old new (map Stepped steps) went ∙ steps_are steps (world_of old))) (each steps);
       }
 
-  event_good : (event : Event) (world : World) → AreCalm (requests_in event) → AreSetUpForGood IsPlanBy IsOpenBy graphs world → AreSetUpForGood IsPlanBy IsOpenBy graphs (happens world event)
-  event_good (Stepped step) world calm good = steps_for_good IsPlanBy IsOpenBy graphs (step ∷ []) world good
+  event_good : (event : Event) (world : World) → AreCalm (requests_in event) → AreSetUpForGood means graphs world → AreSetUpForGood means graphs (happens world event)
+  event_good (Stepped step) world calm good = steps_for_good means graphs (step ∷ []) world good
   event_good Begin world calm good = good
   event_good End world calm good = good
   event_good (Read at width value) world calm good = good
-  event_good (Write at width value) world calm good = write_for_good IsPlanBy IsOpenBy graphs world at width value calm.0 good
+  event_good (Write at width value) world calm good = write_for_good means graphs world at width value calm.0 good
   event_good (DmaRead at bytes) world calm good = good
   event_good (DmaWrite at bytes) world calm good = record { idle = good.idle; set_up = good.set_up }
 

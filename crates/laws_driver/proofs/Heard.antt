@@ -4,6 +4,7 @@ use Rattle.verb_codes.specs.declared.verbs.Command.{Command}
 use Rattle.codec_graph.specs.declared.raw.RawCodec.{RawCodec}
 use Rattle.codec_graph.specs.Settings.{Entries}
 use Rattle.route_planner.specs.declared.routes.Plan.{Plan}
+use Rattle.route_setup.specs.Means.{Means}
 use Rattle.world_steps.specs.declared.Step.{Step}
 use Rattle.hda_world.specs.Events.{Event, Stepped, Begin, End}
 use Rattle.hda_world.specs.Tellings.{Telling, world_of, Went, Accessed}
@@ -42,26 +43,26 @@ none_ended old ended writer tally' supply made before after (inl shuts) none = a
 none_ended old ended writer tally' supply made before after (inr stops) none =
     ap (λ (rings : RingPlaces). rings.outstanding) stops.rings ∙ none_still old.engine.rings.outstanding (found_by old.engine.rings stops.reads) none
 
-module _ (IsPlanBy : RawCodec → Plan → Type 0) (verbs_by : RawCodec → Plan → List Command) (verbs : RawCodec → List Command) (IsOpenBy : RawCodec → Entries → Plan → Type 0) (graphs : List RawCodec) (task : Task)
-    (laws : Given IsPlanBy verbs_by verbs IsOpenBy graphs task) (lines : List DriverLine) where
+module _ (means : Means) (verbs : RawCodec → List Command) (graphs : List RawCodec) (task : Task)
+    (laws : Given means verbs graphs task) (lines : List DriverLine) where
   abbrev pub Heard : (left : List DriverLine) → Parts → Telling → Type 0
-  Heard left parts telling = IsHeard IsPlanBy IsOpenBy graphs task lines left parts telling
+  Heard left parts telling = IsHeard means graphs task lines left parts telling
 
   pub heard_set_up : (left : List DriverLine) (parts : Parts) (telling : Telling) → Heard left parts telling → are_set_up (state_in parts).phase ≡ true
   heard_set_up left parts telling is = started_set_up parts.bring_up (tally_in parts) is.sounds.by.started
 
-  pub heard_good : (left : List DriverLine) (parts : Parts) (telling : Telling) → Heard left parts telling → StayGood IsPlanBy IsOpenBy graphs task lines telling
+  pub heard_good : (left : List DriverLine) (parts : Parts) (telling : Telling) → Heard left parts telling → StayGood means graphs task lines telling
   heard_good left parts telling is =
       let course = course_of task lines telling in
       let up : are_set_up course.state.phase ≡ true = ap (λ (state : State). are_set_up state.phase) is.rest.state_is ∙ heard_set_up left parts telling is in
-      good_now IsPlanBy IsOpenBy graphs task lines telling is.set_up
+      good_now means graphs task lines telling is.set_up
       (ap (λ (up : Bool). up || (is_asking course.state.phase && (course.within && ((course.state.sent == length task.orders) && course.answered)))) up) is.sounds.by.heard.steady.idle
 
   pub heard_steps : (left : List DriverLine) (parts : Parts) (steps : List Step) (old new : Telling) → Went old new (map Stepped steps) → Heard left parts old → Heard left parts new
   heard_steps left parts steps old new went is =
       let sounds = is.sounds in record {
         rest = rest_stays task lines left (state_in parts) steps old new went is.rest;
-        set_up = (steps_good IsPlanBy IsOpenBy graphs task lines steps old new went (heard_good left parts old is)).set_up;
+        set_up = (steps_good means graphs task lines steps old new went (heard_good left parts old is)).set_up;
         sounds = record {
           task_is = sounds.task_is;
           ready = sounds.ready;
@@ -74,7 +75,7 @@ module _ (IsPlanBy : RawCodec → Plan → Type 0) (verbs_by : RawCodec → Plan
         };
       }
 
-  pub heard_call : (left : List DriverLine) (line : DriverLine) (old new : Parts) (before begun made after : Telling) → Accessed before begun Begin → Calls IsPlanBy verbs_by task.plays line.irq line.budget old new (Some begun) (Some made)
+  pub heard_call : (left : List DriverLine) (line : DriverLine) (old new : Parts) (before begun made after : Telling) → Accessed before begun Begin → Calls means task.plays line.irq line.budget old new (Some begun) (Some made)
       → Accessed made after End → HasNotWrapped (world_of made) → Heard (line ∷ left) old before → Heard left new after
   heard_call left line old new before begun made after begins calls ends small is =
       let was = is.sounds in
@@ -82,12 +83,12 @@ module _ (IsPlanBy : RawCodec → Plan → Type 0) (verbs_by : RawCodec → Plan
       let stays = call.stays in
       let stretch = call.is task was.task_is in
       let opened = opens task lines (line ∷ left) (state_in old) before begun begins is.rest in
-      let good = begin_good IsPlanBy IsOpenBy graphs task lines before begun begins (heard_good (line ∷ left) old before is) in
-      let played = plays IsPlanBy IsOpenBy graphs task lines left (Some line) (state_in old) (state_in new) call.made begun made opened good was.answered (heard_set_up (line ∷ left) old before is) call.by.is call.are stretch in
+      let good = begin_good means graphs task lines before begun begins (heard_good (line ∷ left) old before is) in
+      let played = plays means graphs task lines left (Some line) (state_in old) (state_in new) call.made begun made opened good was.answered (heard_set_up (line ∷ left) old before is) call.by.is call.are stretch in
       let began = laws.heard.begin was.codecs (ring_in old) task.pcm (tally_in old) before begun begins was.by in
       let by = laws.heard.calls was.codecs task.pcm line.irq line.budget old.bring_up new.bring_up old.writer new.writer old.supply call.made begun made task _ call.tells.is call.by.is stretch stays was.task_is.sound small began in record {
         rest = closes task lines left (state_in new) made after ends played.done;
-        set_up = (end_good IsPlanBy IsOpenBy graphs task lines made after ends played.good).set_up;
+        set_up = (end_good means graphs task lines made after ends played.good).set_up;
         sounds = record {
           task_is = task_on task line.irq line.budget old.bring_up new.bring_up old.writer new.writer old.supply new.supply (Some begun) (Some made) call was.task_is;
           ready = stays.phase ∙ was.ready;

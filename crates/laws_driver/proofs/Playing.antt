@@ -4,6 +4,7 @@ use Rattle.std.specs.Option.{is_some}
 use Rattle.codec_graph.specs.declared.raw.RawCodec.{RawCodec}
 use Rattle.codec_graph.specs.Settings.{Entries}
 use Rattle.route_planner.specs.declared.routes.Plan.{Plan}
+use Rattle.route_setup.specs.Means.{Means}
 use Rattle.hda_world.specs.Events.{Event}
 use Rattle.hda_world.specs.Tellings.{Telling, Makes}
 use Rattle.driver_progress.specs.Seen.{seen_by, values_of}
@@ -18,15 +19,15 @@ use Rattle.laws_driver.proofs.Calm.{expected_calm}
 use Rattle.laws_driver.proofs.Course.{idle_done}
 use Rattle.laws_driver.proofs.Good.{StayGood, row_good}
 
-module _ (IsPlanBy : RawCodec → Plan → Type 0) (IsOpenBy : RawCodec → Entries → Plan → Type 0) (graphs : List RawCodec) (task : Task) (lines left : List DriverLine) (turn : Option DriverLine) where
+module _ (means : Means) (graphs : List RawCodec) (task : Task) (lines left : List DriverLine) (turn : Option DriverLine) where
   pub record Played (state' : State) (telling : Telling) : Type 0 where
     pub done : IsDone task lines left state' telling
-    pub good : StayGood IsPlanBy IsOpenBy graphs task lines telling
+    pub good : StayGood means graphs task lines telling
 
-  pub plays : (state state' : State) (made : List Event) (before after : Telling) → IsOpen task lines left turn state before → StayGood IsPlanBy IsOpenBy graphs task lines before → state.rings.outstanding ≡ None → are_set_up state.phase ≡ true
+  pub plays : (state state' : State) (made : List Event) (before after : Telling) → IsOpen task lines left turn state before → StayGood means graphs task lines before → state.rings.outstanding ≡ None → are_set_up state.phase ≡ true
       → Makes made before after → AreAccesses made → IsStretch task state turn made (is_some (answer_in state.rings made)) state' → Played state' after
   plays state state' made before after opened good none up makes are stretch =
       let seen = seen_by (values_of made) (is_some (answer_in state.rings made)) in record {
         done = idle_done task lines left turn state state' made before after opened makes are none up stretch;
-        good = row_good IsPlanBy IsOpenBy graphs task lines made before after makes.by (subst AreCalm (sym stretch.fits) (expected_calm task state turn seen up)) good;
+        good = row_good means graphs task lines made before after makes.by (subst AreCalm (sym stretch.fits) (expected_calm task state turn seen up)) good;
       }

@@ -4,6 +4,7 @@ use Rattle.verb_codes.specs.declared.verbs.Command.{Command}
 use Rattle.codec_graph.specs.declared.raw.RawCodec.{RawCodec}
 use Rattle.codec_graph.specs.Settings.{Entries}
 use Rattle.route_planner.specs.declared.routes.Plan.{Plan}
+use Rattle.route_setup.specs.Means.{Means}
 use Rattle.hda_world.specs.Worlds.{World}
 use Rattle.command_engine.specs.declared.answers.Outstanding.{Outstanding}
 use Rattle.command_engine.specs.Courses.{Stands}
@@ -17,8 +18,8 @@ use Rattle.laws_bring_up.specs.Standing.{IsTaskOfCodecs, IsAsking, StandsIn, IsB
 use Rattle.laws_bring_up.specs.SettingUp.{AreSetUpForGood}
 use Rattle.laws_bring_up.proofs.Callers.{AgendaLaws, SetterLaws, all_taken, ready_for_good, walked_by, walked_in}
 
-module _ (IsPlanBy : RawCodec → Plan → Type 0) (verbs_by : RawCodec → Plan → List Command) (verbs : RawCodec → List Command) (IsOpenBy : RawCodec → Entries → Plan → Type 0) (graphs : List RawCodec) (task : Task)
-    (laws : AgendaLaws IsPlanBy verbs_by verbs graphs) (of : IsTaskOfCodecs IsPlanBy verbs_by verbs graphs task) (setter : SetterLaws IsPlanBy verbs_by IsOpenBy) where
+module _ (means : Means) (verbs : RawCodec → List Command) (graphs : List RawCodec) (task : Task)
+    (laws : AgendaLaws means verbs graphs) (of : IsTaskOfCodecs means verbs graphs task) (setter : SetterLaws means) where
   pub record IsReady (bring_up : BringUp) (world : World) : Type 0 where
     pub from : ℕ
     pub read : ℕ
@@ -26,17 +27,17 @@ module _ (IsPlanBy : RawCodec → Plan → Type 0) (verbs_by : RawCodec → Plan
     pub answered : bring_up.engine.rings.outstanding ≡ None
     pub walked : bring_up.agenda.graphs.items ≡ graphs
     pub enough : length (walks_over graphs) ≤ bring_up.sent
-    pub good : AreSetUpForGood IsPlanBy IsOpenBy graphs world
+    pub good : AreSetUpForGood means graphs world
 
-  pub ready_stands : (written : ℕ) (bring_up : BringUp) (world : World) → bring_up.phase ≡ Ready → IsBroughtUp IsPlanBy verbs graphs task written bring_up world → IsReady bring_up world
+  pub ready_stands : (written : ℕ) (bring_up : BringUp) (world : World) → bring_up.phase ≡ Ready → IsBroughtUp means verbs graphs task written bring_up world → IsReady bring_up world
   ready_stands written bring_up world was stands =
-      let a : IsAsking IsPlanBy verbs graphs task written bring_up world = subst (λ (phase : Phase). StandsIn phase IsPlanBy verbs graphs task written bring_up world) was stands.stage in
-      let none = (all_taken IsPlanBy verbs_by verbs IsOpenBy graphs task laws of setter written bring_up world was stands.graphs_are a).0 in
+      let a : IsAsking means verbs graphs task written bring_up world = subst (λ (phase : Phase). StandsIn phase means verbs graphs task written bring_up world) was stands.stage in
+      let none = (all_taken means verbs graphs task laws of setter written bring_up world was stands.graphs_are a).0 in
       let answers = answers_of bring_up.sent bring_up.engine.rings.outstanding in
       let agrees = laws.agrees answers bring_up.agenda task a.follows of.is_for in
       let phase = bring_up.led (ap goes_on was) ∙ agrees.phase in
-      let all = subst (λ (phase : Phase). WalkedIn phase (bring_up.agenda.graphs.items ≡ graphs)) was (walked_in IsPlanBy verbs_by verbs graphs task of answers bring_up.agenda bring_up.phase a.follows phase (ap goes_on was)) in
-      let told = (walked_by IsPlanBy verbs_by verbs graphs task of bring_up.sent bring_up.engine.rings.outstanding bring_up.agenda a.follows).told in record {
+      let all = subst (λ (phase : Phase). WalkedIn phase (bring_up.agenda.graphs.items ≡ graphs)) was (walked_in means verbs graphs task of answers bring_up.agenda bring_up.phase a.follows phase (ap goes_on was)) in
+      let told = (walked_by means verbs graphs task of bring_up.sent bring_up.engine.rings.outstanding bring_up.agenda a.follows).told in record {
         from = a.from;
         read = a.read;
         stands = a.stands;
@@ -44,7 +45,7 @@ module _ (IsPlanBy : RawCodec → Plan → Type 0) (verbs_by : RawCodec → Plan
         walked = all;
         enough = subst (λ (count : ℕ). length (walks_over graphs) ≤ count) (ap (λ (outstanding : Option Outstanding). answers_of bring_up.sent outstanding) none)
             (subst (λ (walked : List RawCodec). length (walks_over walked) ≤ answers) all told);
-        good = ready_for_good IsPlanBy verbs_by verbs IsOpenBy graphs task laws of setter written bring_up world was stands;
+        good = ready_for_good means verbs graphs task laws of setter written bring_up world was stands;
       }
 
 -- what is left at the end, where all were walked

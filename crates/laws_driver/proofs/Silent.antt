@@ -4,6 +4,7 @@ use Rattle.verb_codes.specs.declared.verbs.Command.{Command}
 use Rattle.codec_graph.specs.declared.raw.RawCodec.{RawCodec}
 use Rattle.codec_graph.specs.Settings.{Entries}
 use Rattle.route_planner.specs.declared.routes.Plan.{Plan}
+use Rattle.route_setup.specs.Means.{Means}
 use Rattle.world_steps.specs.declared.Step.{Step}
 use Rattle.hda_world.specs.Events.{Stepped, Begin, End}
 use Rattle.hda_world.specs.Tellings.{Telling, Went, Accessed}
@@ -45,10 +46,10 @@ silent_on task old new before after kept writer supply rests silent = record {
   rests = subst (λ (writer : WriterState). Along (Rests writer.geometry.fifo) after.journal after.start) (sym writer) rests;
 }
 
-module _ (IsPlanBy : RawCodec → Plan → Type 0) (verbs_by : RawCodec → Plan → List Command) (verbs : RawCodec → List Command) (IsOpenBy : RawCodec → Entries → Plan → Type 0) (graphs : List RawCodec) (task : Task)
-    (laws : Given IsPlanBy verbs_by verbs IsOpenBy graphs task) (lines : List DriverLine) where
+module _ (means : Means) (verbs : RawCodec → List Command) (graphs : List RawCodec) (task : Task)
+    (laws : Given means verbs graphs task) (lines : List DriverLine) where
   abbrev pub Silent : (left : List DriverLine) → Parts → Telling → Type 0
-  Silent left parts telling = IsSilent IsPlanBy verbs IsOpenBy graphs task lines left parts telling
+  Silent left parts telling = IsSilent means verbs graphs task lines left parts telling
 
   pub silent_steps : (left : List DriverLine) (parts : Parts) (steps : List Step) (old new : Telling) → Went old new (map Stepped steps) → Silent left parts old → Silent left parts new
   silent_steps left parts steps old new went before = record {
@@ -62,14 +63,14 @@ module _ (IsPlanBy : RawCodec → Plan → Type 0) (verbs_by : RawCodec → Plan
   }
 
   -- a call of the bring-up
-  pub silent_call : (left : List DriverLine) (line : DriverLine) (old new : Parts) (before begun made after : Telling) → Accessed before begun Begin → Calls IsPlanBy verbs_by task.plays line.irq line.budget old new (Some begun) (Some made)
+  pub silent_call : (left : List DriverLine) (line : DriverLine) (old new : Parts) (before begun made after : Telling) → Accessed before begun Begin → Calls means task.plays line.irq line.budget old new (Some begun) (Some made)
       → Accessed made after End → plays_now task.plays old.bring_up ≡ false → Silent (line ∷ left) old before → Silent left new after
   silent_call left line old new before begun made after begins calls ends none is =
       let fifo = old.writer.geometry.fifo in
       let called = laws.told.opens lines (line ∷ left) old.bring_up before begun begins is.under_way in
       let leads = calls.leads none in
       let has = laws.told.calls lines left line.budget line.irq old.bring_up new.bring_up begun made called (plays_not task.plays old.bring_up none) leads calls.kept in
-      let are = leads_accesses IsPlanBy verbs_by verbs IsOpenBy graphs task laws.agenda laws.of laws.setter laws.notes lines line.irq old.bring_up new.bring_up begun made called.stands leads in
+      let are = leads_accesses means verbs graphs task laws.agenda laws.of laws.setter laws.notes lines line.irq old.bring_up new.bring_up begun made called.stands leads in
       let still = made_rest laws.stretches task lines left (Some line) (bringing.state_of old.bring_up) leads.made begun made called.opened leads.by.is are (call_silent task line old.bring_up none) has.done.fits in
       let rests = end_rest laws.events fifo made after ends (row_rest laws.events fifo leads.made begun made leads.by.is still (begin_rest laws.events fifo before begun begins is.silent.rests)) in record {
         under_way = laws.told.closes lines left new.bring_up made after ends has;

@@ -6,6 +6,7 @@ use Rattle.verb_codes.specs.Words.{has_bit, bits_of}
 use Rattle.verb_codes.specs.declared.verbs.Command.{Command}
 use Rattle.codec_graph.specs.declared.raw.RawCodec.{RawCodec}
 use Rattle.route_planner.specs.declared.routes.Plan.{Plan}
+use Rattle.route_setup.specs.Means.{Means}
 use Rattle.world_rings.specs.declared.response.Response.{Response}
 use Rattle.hda_registers.specs.declared.shapes.Width.{Width}
 use Rattle.hda_registers.specs.declared.shapes.Width.TheVariants.{One, Four}
@@ -60,22 +61,22 @@ look_beside corb rirb = look_all (engine.IsBeside corb rirb) (λ at value width.
 
 -- ---- over them
 
-module _ (IsPlanBy : RawCodec → Plan → Type 0) (verbs_by : RawCodec → Plan → List Command) (verbs : RawCodec → List Command) (graphs : List RawCodec) (task : Task) (laws : AgendaLaws IsPlanBy verbs_by verbs graphs)
-    (of : IsTaskOfCodecs IsPlanBy verbs_by verbs graphs task) (notes : Laws) (lines : List DriverLine) where
+module _ (means : Means) (verbs : RawCodec → List Command) (graphs : List RawCodec) (task : Task) (laws : AgendaLaws means verbs graphs)
+    (of : IsTaskOfCodecs means verbs graphs task) (notes : Laws) (lines : List DriverLine) where
   pub still_stands : (bring_up : BringUp) (made : List Event) (before after : Telling) → bring_up.phase ≡ Ready → (made ≡ []) ⊎ IsLook made → Makes made before after
-      → IsBroughtUp IsPlanBy verbs graphs task (course_of task lines before).written bring_up (world_of before) → IsBroughtUp IsPlanBy verbs graphs task (course_of task lines after).written bring_up (world_of after)
+      → IsBroughtUp means verbs graphs task (course_of task lines before).written bring_up (world_of before) → IsBroughtUp means verbs graphs task (course_of task lines after).written bring_up (world_of after)
   still_stands bring_up made before after was looks makes stands =
       let corb = bring_up.engine.corb.address in
       let rirb = bring_up.engine.rirb.address in
       let rings = bring_up.engine.rings in
       let written = (course_of task lines before).written in
-      let a : IsAsking IsPlanBy verbs graphs task written bring_up (world_of before) = subst (λ (phase : Phase). StandsIn phase IsPlanBy verbs graphs task written bring_up (world_of before)) was stands.stage in
+      let a : IsAsking means verbs graphs task written bring_up (world_of before) = subst (λ (phase : Phase). StandsIn phase means verbs graphs task written bring_up (world_of before)) was stands.stage in
       let on = row_on made before after makes in
       let later : Later (world_of before) (world_of after) = record { on = on; remembers = row_remembers made before after makes } in
-      let stage = stage_on IsPlanBy verbs_by verbs graphs task laws of.is_for of.right.well_formed bring_up.sent rings.outstanding bring_up.agenda a.from (world_of before) (world_of after) a.stands.from_within later
+      let stage = stage_on means verbs graphs task laws of.is_for of.right.well_formed bring_up.sent rings.outstanding bring_up.agenda a.from (world_of before) (world_of after) a.stands.from_within later
       (record { last = a.last; follows = a.follows; taken = a.taken }) in
       let same : written ≡ (course_of task lines after).written = sym (ap (λ (course : Course). course.written) (course_row task lines made before after makes (look_plain made looks)).0) in
-      let asking : IsAsking IsPlanBy verbs graphs task (course_of task lines after).written bring_up (world_of after) = record {
+      let asking : IsAsking means verbs graphs task (course_of task lines after).written bring_up (world_of after) = record {
         from = a.from;
         read = a.read;
         stands = stands_row a.from a.read corb rirb rings made before after makes (look_beside corb rirb made looks) a.stands;
@@ -88,5 +89,5 @@ module _ (IsPlanBy : RawCodec → Plan → Type 0) (verbs_by : RawCodec → Plan
       } in record {
         blocks = stands.blocks;
         graphs_are = (row_remembers made before after makes (world_of before).codecs (length (world_of before).commands) (remembers_itself (world_of before))).graphs ∙ stands.graphs_are;
-        stage = subst (λ (phase : Phase). StandsIn phase IsPlanBy verbs graphs task (course_of task lines after).written bring_up (world_of after)) (sym was) asking;
+        stage = subst (λ (phase : Phase). StandsIn phase means verbs graphs task (course_of task lines after).written bring_up (world_of after)) (sym was) asking;
       }

@@ -5,6 +5,7 @@ use Rattle.codec_graph.specs.declared.raw.RawCodec.{RawCodec}
 use Rattle.codec_graph.specs.CodecStates.{CodecState}
 use Rattle.codec_graph.specs.Settings.{Entries}
 use Rattle.route_planner.specs.declared.routes.Plan.{Plan}
+use Rattle.route_setup.specs.Means.{Means}
 use Rattle.world_steps.specs.declared.Step.{Step}
 use Rattle.hda_world.specs.Events.{Event, Stepped, Begin, End, IsNoStep}
 use Rattle.hda_world.specs.Tellings.{Telling, world_of, Went, Accessed}
@@ -31,33 +32,33 @@ use Rattle.laws_driver.specs.Sounding.{Parts, state_in, ring_in, tally_in, IsYet
 -- ---- between two calls
 
 -- no sound was played yet: the driver brings its codecs up
-pub record IsSilent (IsPlanBy : RawCodec → Plan → Type 0) (verbs : RawCodec → List Command) (IsOpenBy : RawCodec → Entries → Plan → Type 0) (graphs : List RawCodec) (task : Task) (lines left : List DriverLine) (parts : Parts) (telling : Telling) : Type 0 where
-  pub under_way : told.IsUnderWay IsPlanBy verbs IsOpenBy graphs task lines left parts.bring_up telling
+pub record IsSilent (means : Means) (verbs : RawCodec → List Command) (graphs : List RawCodec) (task : Task) (lines left : List DriverLine) (parts : Parts) (telling : Telling) : Type 0 where
+  pub under_way : told.IsUnderWay means verbs graphs task lines left parts.bring_up telling
   pub silent : IsYetSilent task parts telling
 
 -- it plays, or has played
-pub record IsHeard (IsPlanBy : RawCodec → Plan → Type 0) (IsOpenBy : RawCodec → Entries → Plan → Type 0) (graphs : List RawCodec) (task : Task) (lines left : List DriverLine) (parts : Parts) (telling : Telling) : Type 0 where
+pub record IsHeard (means : Means) (graphs : List RawCodec) (task : Task) (lines left : List DriverLine) (parts : Parts) (telling : Telling) : Type 0 where
   pub rest : IsAtRest task lines left (state_in parts) telling
-  pub set_up : StaysSetUp IsPlanBy IsOpenBy graphs task lines telling
-  pub sounds : Sounds IsPlanBy IsOpenBy graphs task parts telling
+  pub set_up : StaysSetUp means graphs task lines telling
+  pub sounds : Sounds means graphs task parts telling
 
-abbrev pub IsUnderWay : (IsPlanBy : RawCodec → Plan → Type 0) (verbs : RawCodec → List Command) (IsOpenBy : RawCodec → Entries → Plan → Type 0) (graphs : List RawCodec) (task : Task) (lines left : List DriverLine) (parts : Parts) → Telling → Type 0
-IsUnderWay IsPlanBy verbs IsOpenBy graphs task lines left parts telling =
-    IsSilent IsPlanBy verbs IsOpenBy graphs task lines left parts telling ⊎ IsHeard IsPlanBy IsOpenBy graphs task lines left parts telling
+abbrev pub IsUnderWay : (means : Means) (verbs : RawCodec → List Command) (graphs : List RawCodec) (task : Task) (lines left : List DriverLine) (parts : Parts) → Telling → Type 0
+IsUnderWay means verbs graphs task lines left parts telling =
+    IsSilent means verbs graphs task lines left parts telling ⊎ IsHeard means graphs task lines left parts telling
 
 -- ---- a call and the last one
 
 -- of a driver that is to play or not: where calls do not play yet it is one of the bring-up, else one that plays
-pub record Calls (IsPlanBy : RawCodec → Plan → Type 0) (verbs_by : RawCodec → Plan → List Command) (play irq : Bool) (budget : ℕ) (old new : Parts) (before after : Option Telling) : Type 0 where
-  pub leads : plays_now play old.bring_up ≡ false → bringing.Leads IsPlanBy verbs_by irq old.bring_up new.bring_up before after
+pub record Calls (means : Means) (play irq : Bool) (budget : ℕ) (old new : Parts) (before after : Option Telling) : Type 0 where
+  pub leads : plays_now play old.bring_up ≡ false → bringing.Leads means irq old.bring_up new.bring_up before after
   pub kept : bringing.IsKept old.bring_up new.bring_up
   pub writer : plays_now play old.bring_up ≡ false → new.writer ≡ old.writer
   pub supply : plays_now play old.bring_up ≡ false → new.supply ≡ old.supply
   pub sounds : plays_now play old.bring_up ≡ true → sounding.Sounds irq budget old.bring_up new.bring_up old.writer new.writer old.supply new.supply before after
 
 -- so too the last one, which leaves this bring-up and this tally
-pub record Closes (IsPlanBy : RawCodec → Plan → Type 0) (verbs_by : RawCodec → Plan → List Command) (play : Bool) (old : Parts) (ended : BringUp) (tally : Tally) (before after : Option Telling) : Type 0 where
-  pub ends : plays_now play old.bring_up ≡ false → bringing.Ends IsPlanBy verbs_by old.bring_up ended before after
+pub record Closes (means : Means) (play : Bool) (old : Parts) (ended : BringUp) (tally : Tally) (before after : Option Telling) : Type 0 where
+  pub ends : plays_now play old.bring_up ≡ false → bringing.Ends means old.bring_up ended before after
   pub recorded : plays_now play old.bring_up ≡ false → tally ≡ tally_in old
   pub sounds : plays_now play old.bring_up ≡ true → sounding.EndsSound old.bring_up ended old.writer tally old.supply before after
 
@@ -70,38 +71,38 @@ pub record WasNeverHeard (telling : Telling) : Type 0 where
 
 -- it was set going once and stopped, and codecs that were set up heard the line, where the device made no step in the last stretch, of which
 -- these are the events
-pub record WasHeard (IsPlanBy : RawCodec → Plan → Type 0) (IsOpenBy : RawCodec → Entries → Plan → Type 0) (graphs : List RawCodec) (task : Task) (tally : Tally) (last : List Event) (telling : Telling) : Type 0 where
+pub record WasHeard (means : Means) (graphs : List RawCodec) (task : Task) (tally : Tally) (last : List Event) (telling : Telling) : Type 0 where
   pub started : tally.course.started ≡ true
   pub lived : HasStopped telling
   pub codecs : List CodecState
-  pub set_up : AreSetUpIn IsPlanBy IsOpenBy graphs codecs
+  pub set_up : AreSetUpIn means graphs codecs
   pub hear : All IsNoStep last → HearTheLine codecs task.geometry.format task.pcm tally (world_of telling).carried
 
 -- all that is then known: the journal is progress and leads to the driver's state, each stretch found what it was to find, which graphs were
 -- walked, all codecs were set up at every moment from the last answer on, and what was heard
-pub record HasGone (IsPlanBy : RawCodec → Plan → Type 0) (IsOpenBy : RawCodec → Entries → Plan → Type 0) (graphs : List RawCodec) (task : Task) (lines : List DriverLine) (ended : BringUp) (tally : Tally) (last : List Event) (telling : Telling) : Type 0 where
+pub record HasGone (means : Means) (graphs : List RawCodec) (task : Task) (lines : List DriverLine) (ended : BringUp) (tally : Tally) (last : List Event) (telling : Telling) : Type 0 where
   pub progress : IsProgress task lines telling
   pub finds : HasFound task lines telling
   pub state_is : course.state_of task lines telling ≡ state_with ended tally
   pub ended_is : IsEnded graphs task ended
   -- where sound was played the bring-up was over
   pub ready : tally.course.started ≡ true → ended.phase ≡ Ready
-  pub set_up : StaysSetUp IsPlanBy IsOpenBy graphs task lines telling
-  pub heard : ((tally ≡ tally_opened) × WasNeverHeard telling) ⊎ WasHeard IsPlanBy IsOpenBy graphs task tally last telling
+  pub set_up : StaysSetUp means graphs task lines telling
+  pub heard : ((tally ≡ tally_opened) × WasNeverHeard telling) ⊎ WasHeard means graphs task tally last telling
 
 -- ---- how it is led on
 
-pub record KeepsPlaying (IsPlanBy : RawCodec → Plan → Type 0) (verbs_by : RawCodec → Plan → List Command) (verbs : RawCodec → List Command) (IsOpenBy : RawCodec → Entries → Plan → Type 0) (graphs : List RawCodec) (task : Task) : Type 0 where
+pub record KeepsPlaying (means : Means) (verbs : RawCodec → List Command) (graphs : List RawCodec) (task : Task) : Type 0 where
   -- where nothing happened yet
   pub begins : (lines : List DriverLine) (parts : Parts) (telling : Telling) → telling.journal ≡ [] → bringing.state_of parts.bring_up ≡ state_opened
-      → IsBroughtUp IsPlanBy verbs graphs task 0 parts.bring_up (world_of telling) → tally_in parts ≡ tally_opened → (task.plays ≡ true → IsTaskOf parts.bring_up parts.writer parts.supply task)
-      → AreApartFrom (ring_in parts) parts.bring_up.engine.rirb.address → Rests parts.writer.geometry.fifo (world_of telling) → IsUnderWay IsPlanBy verbs IsOpenBy graphs task lines lines parts telling
+      → IsBroughtUp means verbs graphs task 0 parts.bring_up (world_of telling) → tally_in parts ≡ tally_opened → (task.plays ≡ true → IsTaskOf parts.bring_up parts.writer parts.supply task)
+      → AreApartFrom (ring_in parts) parts.bring_up.engine.rirb.address → Rests parts.writer.geometry.fifo (world_of telling) → IsUnderWay means verbs graphs task lines lines parts telling
   -- steps of the device
-  pub steps : (lines left : List DriverLine) (parts : Parts) (steps : List Step) (old new : Telling) → Went old new (map Stepped steps) → IsUnderWay IsPlanBy verbs IsOpenBy graphs task lines left parts old
-      → IsUnderWay IsPlanBy verbs IsOpenBy graphs task lines left parts new
+  pub steps : (lines left : List DriverLine) (parts : Parts) (steps : List Step) (old new : Telling) → Went old new (map Stepped steps) → IsUnderWay means verbs graphs task lines left parts old
+      → IsUnderWay means verbs graphs task lines left parts new
   -- a stretch of a line, while WALCLK has not wrapped: just the accesses that are expected are made, and it leads where progress says
-  pub runs : (lines left : List DriverLine) (line : DriverLine) (old new : Parts) (before begun made after : Telling) → Accessed before begun Begin → Calls IsPlanBy verbs_by task.plays line.irq line.budget old new (Some begun) (Some made)
-      → Accessed made after End → HasNotWrapped (world_of made) → IsUnderWay IsPlanBy verbs IsOpenBy graphs task lines (line ∷ left) old before → IsUnderWay IsPlanBy verbs IsOpenBy graphs task lines left new after
+  pub runs : (lines left : List DriverLine) (line : DriverLine) (old new : Parts) (before begun made after : Telling) → Accessed before begun Begin → Calls means task.plays line.irq line.budget old new (Some begun) (Some made)
+      → Accessed made after End → HasNotWrapped (world_of made) → IsUnderWay means verbs graphs task lines (line ∷ left) old before → IsUnderWay means verbs graphs task lines left new after
   -- and the closing one, in which WALCLK has not wrapped at any moment
-  pub ends : (lines : List DriverLine) (old : Parts) (ended : BringUp) (tally : Tally) (last : List Event) (before begun made after : Telling) → Accessed before begun Begin → Closes IsPlanBy verbs_by task.plays old ended tally (Some begun) (Some made)
-      → Accessed made after End → Went before after last → Along HasNotWrapped last (world_of before) → IsUnderWay IsPlanBy verbs IsOpenBy graphs task lines [] old before → HasGone IsPlanBy IsOpenBy graphs task lines ended tally last after
+  pub ends : (lines : List DriverLine) (old : Parts) (ended : BringUp) (tally : Tally) (last : List Event) (before begun made after : Telling) → Accessed before begun Begin → Closes means task.plays old ended tally (Some begun) (Some made)
+      → Accessed made after End → Went before after last → Along HasNotWrapped last (world_of before) → IsUnderWay means verbs graphs task lines [] old before → HasGone means graphs task lines ended tally last after

@@ -4,6 +4,7 @@ use Rattle.codec_graph.specs.declared.raw.RawCodec.{RawCodec}
 use Rattle.codec_graph.specs.CodecStates.{CodecState}
 use Rattle.codec_graph.specs.Settings.{Entries}
 use Rattle.route_planner.specs.declared.routes.Plan.{Plan}
+use Rattle.route_setup.specs.Means.{Means}
 use Rattle.hda_world.specs.Tellings.{Telling}
 use Rattle.period_writer.specs.Runs.{Tally, tally_opened}
 use Rattle.period_writer.specs.Standing.{Ring}
@@ -45,16 +46,16 @@ pub record IsYetSilent (task : Task) (parts : Parts) (telling : Telling) : Type 
 -- ---- from the first run on
 
 -- these codecs have the graphs, and are set up
-abbrev pub AreSetUpIn : (IsPlanBy : RawCodec → Plan → Type 0) (IsOpenBy : RawCodec → Entries → Plan → Type 0) (graphs : List RawCodec) → List CodecState → Type 0
-AreSetUpIn IsPlanBy IsOpenBy graphs codecs = (graph : RawCodec) → Contains graphs graph → IsThere IsPlanBy IsOpenBy graph codecs
+abbrev pub AreSetUpIn : (means : Means) (graphs : List RawCodec) → List CodecState → Type 0
+AreSetUpIn means graphs codecs = (graph : RawCodec) → Contains graphs graph → IsThere means graph codecs
 
 -- a driver that plays or has played: all commands were answered before, and codecs that were set up hear it
-pub record Sounds (IsPlanBy : RawCodec → Plan → Type 0) (IsOpenBy : RawCodec → Entries → Plan → Type 0) (graphs : List RawCodec) (task : Task) (parts : Parts) (telling : Telling) : Type 0 where
+pub record Sounds (means : Means) (graphs : List RawCodec) (task : Task) (parts : Parts) (telling : Telling) : Type 0 where
   pub task_is : IsTaskOf parts.bring_up parts.writer parts.supply task
   pub ready : parts.bring_up.phase ≡ Ready
   pub walked : parts.bring_up.agenda.graphs.items ≡ graphs
   pub answered : parts.bring_up.engine.rings.outstanding ≡ None
   pub enough : length (walks_over graphs) ≤ parts.bring_up.sent
   pub codecs : List CodecState
-  pub set_up : AreSetUpIn IsPlanBy IsOpenBy graphs codecs
+  pub set_up : AreSetUpIn means graphs codecs
   pub by : heard.Sounds codecs (ring_in parts) task.pcm (tally_in parts) telling

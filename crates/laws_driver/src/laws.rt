@@ -25,11 +25,8 @@ use route_setup::Setter;
 /// was never set going.
 pub fn drivers_keep_to_progress<T: Setter>()
     ensures { (setter : T) (format : Format) (verbs : RawCodec → List Command) (graphs : List RawCodec) (task : Task)
-        → IsTaskOfCodecs (λ graph. T.IsPlanBy setter graph format)
-        (λ graph plan. T.verbs_by setter graph plan format TAG) verbs graphs task
-        → KeepsPlaying (λ graph. T.IsPlanBy setter graph format)
-        (λ graph plan. T.verbs_by setter graph plan format TAG) verbs
-        (λ graph settings plan. T.IsOpenBy setter graph settings plan format TAG) graphs task }
+        → IsTaskOfCodecs (T.means setter format TAG) verbs graphs task
+        → KeepsPlaying (T.means setter format TAG) verbs graphs task }
 {
     bring_ups_keep_to_progress::<T>();
     agendas_follow::<T>();

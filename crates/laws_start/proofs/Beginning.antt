@@ -6,6 +6,7 @@ use Rattle.codec_graph.specs.declared.raw.RawCodec.{RawCodec}
 use Rattle.stream_format.specs.declared.format.Format.{Format}
 use Rattle.route_planner.specs.declared.routes.Plan.{Plan}
 use Rattle.route_planner.specs.Plans.{IsPlan}
+use Rattle.route_setup.specs.Means.{Means, analog}
 use Rattle.hda_files.specs.declared.machine.CodecFile.{CodecFile}
 use Rattle.hda_files.specs.declared.machine.Machine.{Machine}
 use Rattle.hda_files.specs.Machines.{IsSound}
@@ -31,7 +32,7 @@ use Rattle.std.specs.Prelude.{All}
 use Rattle.audio_driver.specs.Opening.{IsOpened}
 use Rattle.laws_bring_up.specs.Standing.{CanBegin, StandsIn, IsBroughtUp}
 use Rattle.heard_lists.specs.Listings.{graphs_in as graphs_of}
-use Rattle.laws_start.specs.Tasks.{verbs_in, task_of, blocks_of}
+use Rattle.laws_start.specs.Tasks.{verbs_in, task_of, blocks_of, stream_tag}
 use Rattle.laws_start.specs.Reading.{IsWhole}
 use Rattle.laws_start.specs.Starting.{BeginsAt}
 use Rattle.laws_start.proofs.Tasked.{stand_by_address}
@@ -92,21 +93,21 @@ begins format machine plans geometry plays pcm most bring_up writer sound whole 
       stands = record {
         blocks = record { corb = refl; rirb = refl };
         graphs_are = graphs_there machine.codecs;
-        stage = subst (λ (phase : Phase). StandsIn phase (λ (graph : RawCodec). IsPlan graph format) (verbs_in format machine.codecs plans) (graphs_of machine.codecs) task 0 bring_up (start_of REGION_BYTES machine)) (sym opened.phase)
+        stage = subst (λ (phase : Phase). StandsIn phase (analog format stream_tag) (verbs_in format machine.codecs plans) (graphs_of machine.codecs) task 0 bring_up (start_of REGION_BYTES machine)) (sym opened.phase)
             (can_begin bring_up machine REGION_BYTES refl sound whole opened.sent opened.graphs);
       };
       state = opened_state bring_up geometry most writer opened;
     }
 
 -- so it stands to every world of which nothing was asked yet
-pub stands_before : (IsPlanBy : RawCodec → Plan → Type 0) (verbs : RawCodec → List Command) (task : Task) (geometry : Geometry) (most : ℕ) (bring_up : BringUp) (writer : WriterState) (world : World)
+pub stands_before : (means : Means) (verbs : RawCodec → List Command) (task : Task) (geometry : Geometry) (most : ℕ) (bring_up : BringUp) (writer : WriterState) (world : World)
     → IsOpened geometry most bring_up writer → IsTaskOf bring_up task → length world.memory ≡ REGION_BYTES → AscendByAddress world.codecs → HasOnly world → world.registers.global.corb_run ≡ 0 → All KeepsDefaults world.codecs
-    → IsBroughtUp IsPlanBy verbs (graphs_in world.codecs) task 0 bring_up world × (state_of bring_up ≡ state_opened)
-stands_before IsPlanBy verbs task geometry most bring_up writer world opened blocks whole ascend only stopped defaults = (
+    → IsBroughtUp means verbs (graphs_in world.codecs) task 0 bring_up world × (state_of bring_up ≡ state_opened)
+stands_before means verbs task geometry most bring_up writer world opened blocks whole ascend only stopped defaults = (
   record {
     blocks = blocks;
     graphs_are = refl;
-    stage = subst (λ (phase : Phase). StandsIn phase IsPlanBy verbs (graphs_in world.codecs) task 0 bring_up world) (sym opened.phase)
+    stage = subst (λ (phase : Phase). StandsIn phase means verbs (graphs_in world.codecs) task 0 bring_up world) (sym opened.phase)
         (record {
           can = record { blocks = blocks_inside bring_up (length world.memory) whole; ascend = ascend; only = only };
           stopped = stopped;

@@ -10,6 +10,7 @@ use Rattle.codec_graph.specs.declared.raw.RawCodec.{RawCodec}
 use Rattle.stream_format.specs.declared.format.Format.{Format}
 use Rattle.route_planner.specs.declared.routes.Plan.{Plan}
 use Rattle.route_planner.specs.Plans.{IsPlan}
+use Rattle.route_setup.specs.Means.{analog}
 use Rattle.setup_verbs.proofs.Callers.{one_plan_of}
 use Rattle.driver_agenda.specs.Planned.{ArePlansBy, verbs_for, has_route}
 use Rattle.hda_files.specs.declared.machine.CodecFile.{CodecFile}
@@ -20,7 +21,7 @@ use Rattle.command_engine.specs.Courses.{AscendFrom}
 use Rattle.driver_progress.specs.Tasks.{Blocks, order_of, walks_over}
 use Rattle.laws_bring_up.specs.Standing.{IsTaskOfCodecs}
 use Rattle.heard_lists.specs.Listings.{graphs_in}
-use Rattle.laws_start.specs.Tasks.{HavePlans, verbs_by, verbs_in, task_of}
+use Rattle.laws_start.specs.Tasks.{HavePlans, verbs_by, verbs_in, task_of, stream_tag}
 use Rattle.laws_start.specs.Reading.{IsWhole}
 
 -- ---- addresses
@@ -119,7 +120,7 @@ some_graph format (file ∷ files) plans have routed none = cc
 
 pub tasked : (format : Format) (machine : Machine) (plans : List Plan) (geometry : Geometry) (plays : Bool) (pcm : List ℕ) (blocks : Blocks) → IsSound machine → IsWhole machine → HavePlans format machine.codecs plans
     → list_any has_route plans ≡ true
-    → IsTaskOfCodecs (λ (graph : RawCodec). IsPlan graph format) (verbs_by format) (verbs_in format machine.codecs plans) (graphs_in machine.codecs) (task_of format machine plans geometry plays pcm blocks)
+    → IsTaskOfCodecs (analog format stream_tag) (verbs_in format machine.codecs plans) (graphs_in machine.codecs) (task_of format machine plans geometry plays pcm blocks)
 tasked format machine plans geometry plays pcm blocks sound whole have routed =
     let ascend = stand_by_address 0 machine.codecs sound.ascending sound.each (λ some. omega arith) in
     let own = all_have_verbs format 0 machine.codecs plans have ascend in

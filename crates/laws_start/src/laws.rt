@@ -11,7 +11,7 @@ ghost use Rattle.driver_bring_up.specs.Calls.{state_of, IsTaskOf};
 ghost use Rattle.codec_graph.specs.declared.raw.RawCodec.{RawCodec};
 ghost use Rattle.stream_format.specs.declared.format.Format.{Format};
 ghost use Rattle.route_planner.specs.declared.routes.Plan.{Plan};
-ghost use Rattle.route_planner.specs.Plans.{IsPlan};
+ghost use Rattle.route_setup.specs.Means.{analog};
 ghost use Rattle.driver_agenda.specs.Planned.{have_route};
 ghost use Rattle.dma_pool.specs.Pools.{PoolState};
 ghost use Rattle.hda_files.specs.declared.machine.Machine.{Machine};
@@ -25,10 +25,11 @@ ghost use Rattle.rig.specs.Replays.{start_of};
 ghost use Rattle.laws_stream.specs.Resting.{Rests, AreApartFrom};
 ghost use Rattle.laws_bring_up.specs.Standing.{IsTaskOfCodecs, IsBroughtUp};
 ghost use Rattle.heard_lists.specs.Listings.{graphs_in as graphs_of};
-ghost use Rattle.laws_start.specs.Tasks.{HavePlans, verbs_by, verbs_in, task_of, blocks_of};
+ghost use Rattle.laws_start.specs.Tasks.{HavePlans, stream_tag, verbs_in, task_of, blocks_of};
 ghost use Rattle.laws_start.specs.Reading.{IsRead, IsWhole};
 ghost use Rattle.laws_start.specs.Starting.{BeginsAt, IsAllFree};
 
+use driver_bring_up::TAG;
 use route_setup::Setter;
 
 /// A machine that a codec file describes has well-formed graphs, of four codecs at most, and each codec begins with
@@ -43,7 +44,7 @@ pub fn machines_have_tasks()
     ensures { (format : Format) (machine : Machine) (plans : List Plan) (geometry : Geometry) (plays : Bool)
         (pcm : List ℕ) (blocks : Blocks)
         → IsSound machine → IsWhole machine → HavePlans format machine.codecs plans → have_route plans ≡ true
-        → IsTaskOfCodecs (λ (graph : RawCodec). IsPlan graph format) (verbs_by format)
+        → IsTaskOfCodecs (analog format stream_tag)
         (verbs_in format machine.codecs plans) (graphs_of machine.codecs)
         (task_of format machine plans geometry plays pcm blocks) }
 {}
@@ -67,7 +68,7 @@ pub fn opened_drivers_stand<T: Setter>()
         → IsOpened geometry most bring_up writer → IsTaskOf bring_up task → length world.memory ≡ REGION_BYTES
         → AscendByAddress world.codecs → HasOnly world
         → world.registers.global.corb_run ≡ 0 → All KeepsDefaults world.codecs
-        → IsBroughtUp (λ graph. T.IsPlanBy setter graph format) verbs (graphs_in world.codecs) task 0 bring_up world
+        → IsBroughtUp (T.means setter format TAG) verbs (graphs_in world.codecs) task 0 bring_up world
         × (state_of bring_up ≡ state_opened) }
 {}
 

@@ -8,6 +8,7 @@ use Rattle.hda_world.specs.Events.{Event, Stepped, Begin, End, Read, Write, DmaR
 use Rattle.hda_world.specs.Tellings.{Telling, Went, Accessed, MakesBy}
 use Rattle.command_engine.specs.declared.answers.Event as told
 use Rattle.command_engine.specs.Entries.{responses_in, events_of}
+use Rattle.driver_bring_up.specs.declared.answers.TheConstants.{TAG}
 use Rattle.driver_bring_up.specs.Commanding.{entries_in, with_told}
 use Rattle.schedule_reader.specs.declared.schedule.Schedule.{Schedule}
 use Rattle.schedule_reader.specs.Counts.{items_of}
@@ -17,6 +18,7 @@ use Rattle.hda_world.proofs.Callers.{went_both}
 use Rattle.driver_bring_up.specs.Counted.{IsCount}
 use Rattle.driver_bring_up.specs.Jacks.{IsOfPin, Counts}
 use Rattle.driver_bring_up.specs.declared.bringing.BringUp.{BringUp}
+use Rattle.route_setup.specs.Means.{Meaning}
 use Rattle.period_writer.specs.declared.geometry.Geometry.{Geometry}
 use Rattle.period_writer.specs.Writers.{WriterState}
 use Rattle.period_writer.specs.Runs.{measures}
@@ -34,7 +36,7 @@ use Rattle.rig.specs.declared.rig.Rig.{Rig}
 use Rattle.rig.specs.Rigs.{telling_of}
 use Rattle.wav_reader.specs.Supplies.{MayGive, EndsWith}
 use Rattle.program_runs.specs.Feeding.{IsFed}
-use Rattle.program_runs.specs.Going.{Stand, sounded, Means, UnderWay, Goes, Ran, IsClosed, IsDriven, HasDriven, plan_by, verbs_for}
+use Rattle.program_runs.specs.Going.{Stand, sounded, UnderWay, Goes, Ran, IsClosed, IsDriven, HasDriven}
 use Rattle.program_runs.proofs.Events.{Run, run_of, counted_on}
 use Rattle.program_runs.proofs.LinkFrames.{short_before, never_wrapped}
 use Rattle.program_runs.proofs.Goes.{Keeps}
@@ -81,8 +83,8 @@ record Made (old ended : BringUp) (before after : Telling) : Type 0 where
   pub by : MakesBy made before after
   pub counted : (told : List told.Event) → IsCount told old.jacks → IsCount (with_told told (entries_in made)) ended.jacks
 
-module _ (means : Means) (format : Format) (play : Bool) where
-  made_by : (old : Parts) (closed : Closed) (before after : Telling) → (closes : of_driver.Closes (plan_by means format) (verbs_for means format) play old.bring_up old.writer old.supply closed (Some before) (Some after))
+module _ (means : Meaning) (format : Format) (play : Bool) where
+  made_by : (old : Parts) (closed : Closed) (before after : Telling) → (closes : of_driver.Closes (means format TAG) play old.bring_up old.writer old.supply closed (Some before) (Some after))
       → Made old.bring_up closes.ended before after
   made_by old closed before after closes = by (plays_now play old.bring_up) refl where
     by : (now : Bool) → plays_now play old.bring_up ≡ now → Made old.bring_up closes.ended before after
@@ -90,7 +92,7 @@ module _ (means : Means) (format : Format) (play : Bool) where
     by true is = (let sounds = closes.sounds is in record { made = sounds.made; by = sounds.by.is.by; counted = sounds.counted })
 
   pub run_closes : Keeps means format → IsWithoutSteps → TakesAccesses → AreOfPins → (old : Parts) (closed : Closed) (before begun made after : Telling)
-      → Accessed before begun Begin → of_driver.Closes (plan_by means format) (verbs_for means format) play old.bring_up old.writer old.supply closed (Some begun) (Some made) → Accessed made after End
+      → Accessed before begun Begin → of_driver.Closes (means format TAG) play old.bring_up old.writer old.supply closed (Some begun) (Some made) → Accessed made after End
       → IsStretchFrom (length before.journal) [] after.journal → IsClosed means format play old closed before after
   run_closes keeps without accesses of_pins old closed before begun made after opened closes ended stretched = record {
     accesses = accesses_of run.events;
@@ -100,7 +102,7 @@ module _ (means : Means) (format : Format) (play : Bool) where
     tally = closes.tally;
     over = λ verbs graphs task all is short under_way.
         ((keeps verbs graphs task is.of_codecs).ends all old closes.ended closes.tally (stretch [] (accesses_of run.events)) before begun made after opened
-        (subst (λ (plays : Bool). Closes (plan_by means format) (verbs_for means format) plays old closes.ended closes.tally (Some begun) (Some made)) (sym is.plays_is) last) ended went
+        (subst (λ (plays : Bool). Closes (means format TAG) plays old closes.ended closes.tally (Some begun) (Some made)) (sym is.plays_is) last) ended went
         (never_wrapped before after (stretch [] (accesses_of run.events)) went short) under_way);
     counted = λ first count.
         (closes.jacks (told_in (first ++ stretch [] (accesses_of run.events)))
@@ -119,7 +121,7 @@ module _ (means : Means) (format : Format) (play : Bool) where
     call : Made old.bring_up closes.ended begun made
     call = made_by old closed begun made closes
 
-    last : Closes (plan_by means format) (verbs_for means format) play old closes.ended closes.tally (Some begun) (Some made)
+    last : Closes (means format TAG) play old closes.ended closes.tally (Some begun) (Some made)
     last = record { ends = closes.ends; recorded = closes.recorded; sounds = closes.sounds }
 
     run : Run call.made before after
@@ -159,7 +161,7 @@ module _ (means : Means) (format : Format) (play : Bool) where
   }
 
 -- so for a rig, where what the setter means, the format, whether it plays and the ring stayed, while so many bytes of the sound were read
-pub driven_by : (means means' : Means) (format : Format) (play play' : Bool) (schedule : Schedule) (old middle : Stand) (closed : Closed) (read : ℕ) (after : Rig)
+pub driven_by : (means means' : Meaning) (format : Format) (play play' : Bool) (schedule : Schedule) (old middle : Stand) (closed : Closed) (read : ℕ) (after : Rig)
     → means' ≡ means → format ≡ old.player.bring_up.agenda.format → play' ≡ play → middle.player.writer.geometry ≡ old.player.writer.geometry → read ≡ middle.player.supply.taken + length middle.player.supply.held
     → Ran means format play (items_of schedule) old middle
     → ((sound : List ℕ) → MayGive middle.player.supply sound → EndsWith middle.player.supply sound → IsClosed means' middle.player.bring_up.agenda.format play' (sounded middle.player sound) closed (telling_of middle.rig) (telling_of after))
@@ -177,6 +179,6 @@ driven_by means means' format play play' schedule old middle closed read after s
 } where
   by : (sound : List ℕ) → MayGive middle.player.supply sound → EndsWith middle.player.supply sound → IsClosed means format play (sounded middle.player sound) closed (telling_of middle.rig) (telling_of after)
   by sound may ends =
-      subst (λ (m : Means). IsClosed m format play (sounded middle.player sound) closed (telling_of middle.rig) (telling_of after)) same
+      subst (λ (m : Meaning). IsClosed m format play (sounded middle.player sound) closed (telling_of middle.rig) (telling_of after)) same
       (subst (λ (f : Format). IsClosed means' f play (sounded middle.player sound) closed (telling_of middle.rig) (telling_of after)) (ran.format_is ∙ sym is)
       (subst (λ (p : Bool). IsClosed means' middle.player.bring_up.agenda.format p (sounded middle.player sound) closed (telling_of middle.rig) (telling_of after)) plays (closes sound may ends)))

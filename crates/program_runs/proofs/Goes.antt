@@ -14,10 +14,12 @@ use Rattle.hda_world.specs.Events.{Event, Stepped, Begin, End}
 use Rattle.hda_world.specs.Tellings.{Telling, Went, Accessed, MakesBy}
 use Rattle.hda_world.proofs.Callers.{went_none, went_both}
 use Rattle.command_engine.specs.declared.answers.Event as told
+use Rattle.driver_bring_up.specs.declared.answers.TheConstants.{TAG}
 use Rattle.driver_progress.specs.Tasks.{Task, DriverLine}
 use Rattle.driver_bring_up.specs.Commanding.{entries_in, with_told}
 use Rattle.driver_bring_up.specs.Counted.{IsCount}
 use Rattle.driver_bring_up.specs.declared.bringing.BringUp.{BringUp}
+use Rattle.route_setup.specs.Means.{Meaning}
 use Rattle.audio_driver.specs.States.{plays_now}
 use Rattle.rig.specs.Follows.{FollowItems}
 use Rattle.rig.specs.Stretches.{IsStretchFrom}
@@ -26,7 +28,7 @@ use Rattle.laws_driver.specs.Sounding.{Parts}
 use Rattle.laws_driver.specs.Keeping.{Calls, KeepsPlaying}
 use Rattle.program_runs.specs.Lines.{line_of, lines_in}
 use Rattle.program_runs.specs.Events.{told_in}
-use Rattle.program_runs.specs.Going.{Means, UnderWay, Goes, plan_by, verbs_for, open_by}
+use Rattle.program_runs.specs.Going.{UnderWay, Goes}
 use Rattle.program_runs.proofs.Events.{told_both, Run, run_of, counted_on}
 use Rattle.program_runs.proofs.LinkFrames.{short_before, not_wrapped}
 
@@ -34,10 +36,10 @@ pub lines_both : (first second : List Item) → lines_in (first ++ second) ≡ l
 lines_both first second = ap (map line_of) (filter_map-append driver_line first second) ∙ map-append line_of _ _
 
 -- progress is kept for each task
-abbrev pub Keeps : Means → Format → Type 0
+abbrev pub Keeps : Meaning → Format → Type 0
 Keeps means format =
-    (verbs : RawCodec → List Command) (graphs : List RawCodec) (task : Task) → IsTaskOfCodecs (plan_by means format) (verbs_for means format) verbs graphs task
-    → KeepsPlaying (plan_by means format) (verbs_for means format) verbs (open_by means format) graphs task
+    (verbs : RawCodec → List Command) (graphs : List RawCodec) (task : Task) → IsTaskOfCodecs (means format TAG) verbs graphs task
+    → KeepsPlaying (means format TAG) verbs graphs task
 
 -- both halves of a journal follow items: what the rig's laws say of it
 abbrev pub FollowBoth : Type 0
@@ -52,9 +54,9 @@ pub record Made (old new : BringUp) (before after : Telling) : Type 0 where
   pub by : MakesBy made before after
   pub counted : (told : List told.Event) → IsCount told old.jacks → IsCount (with_told told (entries_in made)) new.jacks
 
-module _ (means : Means) (format : Format) (play : Bool) where
+module _ (means : Meaning) (format : Format) (play : Bool) where
   -- a call makes some, whether it plays or not
-  made_by : (irq : Bool) (budget : ℕ) (old new : Parts) (before after : Telling) → Calls (plan_by means format) (verbs_for means format) play irq budget old new (Some before) (Some after)
+  made_by : (irq : Bool) (budget : ℕ) (old new : Parts) (before after : Telling) → Calls (means format TAG) play irq budget old new (Some before) (Some after)
       → Made old.bring_up new.bring_up before after
   made_by irq budget old new before after calls = by (plays_now play old.bring_up) refl where
     by : (now : Bool) → plays_now play old.bring_up ≡ now → Made old.bring_up new.bring_up before after
@@ -106,7 +108,7 @@ module _ (means : Means) (format : Format) (play : Bool) where
 
   -- a call of the driver between its marks
   pub line_goes : Keeps means format → FollowsLine → (line : scheduled.DriverLine) (old new : Parts) (before begun made after : Telling) → Accessed before begun Begin
-      → Calls (plan_by means format) (verbs_for means format) play line.irq line.budget old new (Some begun) (Some made) → Accessed made after End
+      → Calls (means format TAG) play line.irq line.budget old new (Some begun) (Some made) → Accessed made after End
       → IsStretchFrom (length before.journal) line.groups after.journal → Goes means format play (Drive line ∷ []) old new before after
   line_goes keeps follows line old new before begun made after opened calls ended stretched = record {
     events = events;
@@ -114,7 +116,7 @@ module _ (means : Means) (format : Format) (play : Bool) where
     follow = follows line before.journal events (subst (λ (journal : List Event). IsStretchFrom (length before.journal) line.groups journal) went.journal stretched);
     leads = λ verbs graphs task all left is short under_way.
         ((keeps verbs graphs task is.of_codecs).runs all left (line_of line) old new before begun made after opened
-        (subst (λ (plays : Bool). Calls (plan_by means format) (verbs_for means format) plays line.irq line.budget old new (Some begun) (Some made)) (sym is.plays_is) calls) ended
+        (subst (λ (plays : Bool). Calls (means format TAG) plays line.irq line.budget old new (Some begun) (Some made)) (sym is.plays_is) calls) ended
         (not_wrapped made (short_before made after _ ended.went short)) under_way);
     counted = λ first count. counts first count;
     format_is = new.bring_up.formats ∙ calls.kept.format ∙ sym old.bring_up.formats;

@@ -22,6 +22,7 @@ use Rattle.period_writer.specs.declared.course.Course.{Course}
 use Rattle.period_writer.specs.declared.course.Run.{Run}
 use Rattle.period_writer.specs.declared.course.Span.{Span}
 use Rattle.audio_driver.specs.Opening.{IsOpened}
+use Rattle.driver_bring_up.specs.declared.answers.TheConstants.{TAG}
 use Rattle.driver_progress.specs.declared.phase.Phase.{Phase}
 use Rattle.driver_progress.specs.Tasks.{Task}
 use Rattle.driver_progress.specs.Progress.{course_of, course_opened}
@@ -29,6 +30,7 @@ use Rattle.driver_bring_up.specs.Counted.{IsCount}
 use Rattle.driver_bring_up.specs.Jacks.{Counts}
 use Rattle.driver_bring_up.specs.declared.bringing.BringUp.{BringUp}
 use Rattle.driver_bring_up.specs.Standing.{answers_of}
+use Rattle.route_setup.specs.Means.{analog}
 use Rattle.laws_bring_up.specs.Standing.{IsTaskOfCodecs, AreWalked, WalkedIn}
 use Rattle.laws_stream.specs.Resting.{Rests, AreApartFrom}
 use Rattle.audio_driver.specs.States.{phase_if, played_as, IsTaskOf, state_with}
@@ -44,17 +46,13 @@ use Rattle.driver_progress.specs.States.{State}
 use Rattle.program_runs.specs.Lines.{lines_of}
 use Rattle.program_runs.specs.Events.{told_in}
 use Rattle.program_runs.specs.LinkFrames.{IsShort}
-use Rattle.program_runs.specs.Going.{Means, parts_with, IsTask, UnderWay, Leaves, IsDriven, plan_by, open_by}
+use Rattle.program_runs.specs.Going.{parts_with, IsTask, UnderWay, Leaves, IsDriven}
 use Rattle.program_runs.specs.Ends.{can_end}
 use Rattle.program_runs.specs.FrameCounts.{written_by}
 use Rattle.program_runs.proofs.Written.{used_written}
 use Rattle.program_runs.proofs.LinkFrames.{follows_frames}
 use Rattle.program_runs.proofs.Goes.{Keeps}
 use Rattle.program_runs.proofs.Phases.{is_failed, course_well, ended_well, ends}
-
--- what an analog set-up means
-abbrev pub analog : Means
-analog = record { IsPlanBy = IsPlan; verbs_by = setup_verbs; IsOpenBy = IsSetUp }
 
 pub some_same : {A : Type 0} {one other : A} → Some one ≡ Some other → one ≡ other
 some_same {A} {one} {other} same = cc
@@ -76,7 +74,7 @@ pub record Gone (machine : Machine) (format : Format) (play : Bool) (task : Task
   pub tally : Tally
   pub last : List Event
   pub no_steps : All IsNoStep last
-  pub has : HasGone (plan_by analog format) (open_by analog format) (graphs_in machine.codecs) task (lines_of schedule) ended tally last (telling_from REGION_BYTES machine journal)
+  pub has : HasGone (analog format TAG) (graphs_in machine.codecs) task (lines_of schedule) ended tally last (telling_from REGION_BYTES machine journal)
   pub leaves : Leaves play old ended tally closed
   -- the journal replays from the machine's start, and follows the schedule
   pub replays : AreHonest journal (start_of REGION_BYTES machine)
@@ -99,7 +97,7 @@ opened_tally geometry most bring_up writer opened =
 -- it can begin its task
 pub opened_can_go : (machine : Machine) (format : Format) (plans : List Plan) (geometry : Geometry) (most : ℕ) (play plays : Bool) (pcm : List ℕ) (bring_up : BringUp) (writer : WriterState) (supply : List ℕ) → play ≡ plays
     → (plays ≡ true → supply ≡ pcm) → IsOpened geometry most bring_up writer → AreApartFrom (ring_of writer) bring_up.engine.rirb.address → geometry.fifo ≡ machine.fifo → geometry.format ≡ format
-    → IsTaskOfCodecs (λ (graph : RawCodec). IsPlan graph format) (verbs_by format) (verbs_in format machine.codecs plans) (graphs_in machine.codecs) (task_of format machine plans geometry plays pcm (blocks_of bring_up writer))
+    → IsTaskOfCodecs (analog format TAG) (verbs_in format machine.codecs plans) (graphs_in machine.codecs) (task_of format machine plans geometry plays pcm (blocks_of bring_up writer))
     → BeginsAt format machine plans (task_of format machine plans geometry plays pcm (blocks_of bring_up writer)) bring_up → Rests machine.fifo (start_of REGION_BYTES machine)
     → CanGo machine format plans play (task_of format machine plans geometry plays pcm (blocks_of bring_up writer)) (parts_with bring_up writer supply)
 opened_can_go machine format plans geometry most play plays pcm bring_up writer supply same sound opened apart fifo format_is of_codecs begins rests = record {
@@ -154,8 +152,8 @@ module _ (keeps : (format : Format) → Keeps analog format) (machine : Machine)
   under_way : UnderWay analog format (verbs_in format machine.codecs plans) (graphs_in machine.codecs) task (lines_of schedule) (lines_of schedule) old before
   under_way = subst (λ (telling : Telling). UnderWay analog format (verbs_in format machine.codecs plans) (graphs_in machine.codecs) task (lines_of schedule) (lines_of schedule) old telling) (sym start) first
 
-  has_gone : HasGone (plan_by analog format) (open_by analog format) (graphs_in machine.codecs) task (lines_of schedule) driven.ended driven.tally driven.last (telling_from REGION_BYTES machine journal)
-  has_gone = subst (λ (telling : Telling). HasGone (plan_by analog format) (open_by analog format) (graphs_in machine.codecs) task (lines_of schedule) driven.ended driven.tally driven.last telling) end_is
+  has_gone : HasGone (analog format TAG) (graphs_in machine.codecs) task (lines_of schedule) driven.ended driven.tally driven.last (telling_from REGION_BYTES machine journal)
+  has_gone = subst (λ (telling : Telling). HasGone (analog format TAG) (graphs_in machine.codecs) task (lines_of schedule) driven.ended driven.tally driven.last telling) end_is
       (driven.over (verbs_in format machine.codecs plans) (graphs_in machine.codecs) task (lines_of schedule) can.is
       (subst IsShort (sym end_is) (short_from machine schedule journal follows limited)) under_way)
 

@@ -26,6 +26,7 @@ use Rattle.route_planner.specs.declared.routes.Plan.{Plan}
 use Rattle.route_planner.specs.Order.{association_of, sequence_of, comes_before}
 use Rattle.route_planner.specs.Paths.{passes}
 use Rattle.route_planner.specs.Plans.{IsPlan}
+use Rattle.route_setup.specs.Means.{analog}
 use Rattle.setup_verbs.specs.SetUp.{IsSetUp, IsNoRoute, IsOutcomeOpen, HasNoRoute}
 use Rattle.hda_files.specs.declared.machine.CodecFile.{CodecFile}
 use Rattle.hda_world.specs.Worlds.{CarriedFrame, codec_at}
@@ -116,14 +117,14 @@ module _ (format : Format) (pcm : List ℕ) (tally : Tally) (carried : List Carr
   entry_hears codec now plan k d outcome.NoPath at graph is set_up within same = silent_there codec now plan k d at graph is set_up within (subst IsNoRoute (sym same) (tt {0}))
 
   -- every candidate pin of a codec that is set up
-  pub plan_hears : (file : CodecFile) (plan : Plan) → IsPlan file.graph format plan → IsThere (λ (graph : RawCodec). IsPlan graph format) (λ (graph : RawCodec) (settings : Entries) (plan : Plan). IsSetUp graph settings plan format 1) file.graph codecs
+  pub plan_hears : (file : CodecFile) (plan : Plan) → IsPlan file.graph format plan → IsThere (analog format 1) file.graph codecs
       → HearTheirs format pcm tally carried file plan
   plan_hears file plan is there = λ k d within. entry_hears file.graph there.now plan k d (get_or plan.pins k d).outcome there.found there.graph_is is
       (subst (λ (graph : RawCodec). IsSetUp graph there.now.settings plan format 1) (refl) (there.opened plan is)) within refl
 
   -- and of all codecs
   pub all_hear : (files : List CodecFile) (plans : List Plan) → AllZip (λ (file : CodecFile) (plan : Plan). IsPlan file.graph format plan) files plans
-      → ((file : CodecFile) → Contains files file → IsThere (λ (graph : RawCodec). IsPlan graph format) (λ (graph : RawCodec) (settings : Entries) (plan : Plan). IsSetUp graph settings plan format 1) file.graph codecs)
+      → ((file : CodecFile) → Contains files file → IsThere (analog format 1) file.graph codecs)
       → AllZip (HearTheirs format pcm tally carried) files plans
   all_hear [] [] planned all_there = planned
   all_hear [] (plan ∷ plans) planned all_there = planned

@@ -15,6 +15,7 @@ use Rattle.hda_world.specs.declared.world.TheConstants.{REGION_BYTES}
 use Rattle.hda_world.specs.Events.{Event}
 use Rattle.hda_world.specs.Worlds.{CarriedFrame}
 use Rattle.hda_world.specs.Tellings.{Telling, world_of}
+use Rattle.driver_bring_up.specs.declared.answers.TheConstants.{TAG}
 use Rattle.driver_progress.specs.States.{State}
 use Rattle.period_writer.specs.declared.course.Course.{Course}
 use Rattle.period_writer.specs.declared.course.Ran.{Ran}
@@ -30,6 +31,7 @@ use Rattle.driver_progress.specs.Tasks.{Task, Blocks}
 use Rattle.driver_progress.specs.Phases.{walked_all}
 use Rattle.laws_stream.specs.Ending.{HearTheLine}
 use Rattle.driver_bring_up.specs.Standing.{answers_of}
+use Rattle.route_setup.specs.Means.{analog}
 use Rattle.laws_bring_up.specs.Standing.{AreWalked, WalkedIn}
 use Rattle.laws_driver.specs.Sounding.{Parts}
 use Rattle.laws_driver.specs.Keeping.{WasHeard, WasNeverHeard}
@@ -38,14 +40,13 @@ use Rattle.rig.specs.Replays.{telling_from}
 use Rattle.heard_lists.specs.Listings.{graphs_in}
 use Rattle.laws_start.specs.Tasks.{HavePlans}
 use Rattle.program_runs.specs.Lines.{lines_of}
-use Rattle.program_runs.specs.Going.{plan_by, open_by}
 use Rattle.program_runs.specs.Ends.{can_end}
 use Rattle.program_runs.specs.Histories.{MakesProgress, StaysOpen, journal_of, told_by}
 use Rattle.program_runs.specs.FrameCounts.{written_by}
 use Rattle.program_runs.specs.Hearing.{HasPlayedAll, HearTheirs, lists_heard}
 use Rattle.program_runs.specs.Stretches.{stretches_of}
 use Rattle.program_runs.specs.Plays.{AreRecorded, HasRunUpTo, IsHeard, IsPlayFault, Lived, played_task}
-use Rattle.program_runs.proofs.Gone.{analog, Gone, phase_left, played_phase, unplayed_ends}
+use Rattle.program_runs.proofs.Gone.{Gone, phase_left, played_phase, unplayed_ends}
 use Rattle.program_runs.proofs.Hearing.{all_hear, none_hear}
 use Rattle.program_runs.proofs.LineRecorded.{RunLaws, recorded_line}
 use Rattle.program_runs.proofs.Recorded.{recorded_is}
@@ -128,7 +129,7 @@ module _ (machine : Machine) (plans : List Plan) (wav : Wav) (geometry : Geometr
   carried = (world_of telling).carried
 
   abbrev Heard : Type 0
-  Heard = ((gone.tally ≡ tally_opened) × WasNeverHeard telling) ⊎ WasHeard (plan_by analog wav.format) (open_by analog wav.format) (graphs_in machine.codecs) task gone.tally gone.last telling
+  Heard = ((gone.tally ≡ tally_opened) × WasNeverHeard telling) ⊎ WasHeard (analog wav.format TAG) (graphs_in machine.codecs) task gone.tally gone.last telling
 
   streamed : Heard → Lived gone.tally.course.started gone.tally telling
   streamed (inl (none, never)) =

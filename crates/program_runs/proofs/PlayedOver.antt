@@ -18,6 +18,7 @@ use Rattle.period_writer.specs.declared.geometry.Geometry.{Geometry}
 use Rattle.period_writer.specs.Runs.{Measures, measures}
 use Rattle.period_writer.specs.Writers.{WriterState}
 use Rattle.driver_bring_up.specs.declared.bringing.BringUp.{BringUp}
+use Rattle.route_setup.specs.Means.{analog}
 use Rattle.audio_driver.specs.declared.driver.closing.Closed.{Closed}
 use Rattle.rig.specs.Rigs.{telling_of}
 use Rattle.rig.specs.Replays.{telling_from}
@@ -30,7 +31,7 @@ use Rattle.program_runs.specs.Going.{HasDriven, IsDriven, parts_with, stand_of}
 use Rattle.program_runs.specs.Plays.{played_task, sound_with}
 use Rattle.program_runs.proofs.Feeds.{first_supply, block_four}
 use Rattle.program_runs.proofs.Goes.{Keeps}
-use Rattle.program_runs.proofs.Gone.{analog, CanGo, Gone, gone, used_in_runs}
+use Rattle.program_runs.proofs.Gone.{CanGo, Gone, gone, used_in_runs}
 use Rattle.program_runs.proofs.Played.{playing_ends, written_few}
 use Rattle.program_runs.proofs.PlayedFrom.{source_for, fed_at_open, later, may, ends, long, less_if, few_bytes}
 

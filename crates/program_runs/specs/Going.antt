@@ -15,6 +15,7 @@ use Rattle.driver_bring_up.specs.declared.answers.TheConstants.{TAG}
 use Rattle.driver_bring_up.specs.Counted.{IsCount}
 use Rattle.driver_bring_up.specs.Jacks.{Counts}
 use Rattle.driver_bring_up.specs.declared.bringing.BringUp.{BringUp}
+use Rattle.route_setup.specs.Means.{Meaning}
 use Rattle.laws_bring_up.specs.Standing.{IsTaskOfCodecs}
 use Rattle.hda_outside.specs.declared.pieces.Cut.{Cut}
 use Rattle.wav_reader.specs.Supplies.{Source, Supplied, MayGive, EndsWith, IsTaken, sound_before}
@@ -36,22 +37,6 @@ use Rattle.program_runs.specs.Lines.{lines_in, lines_of}
 use Rattle.program_runs.specs.Events.{told_in}
 use Rattle.program_runs.specs.LinkFrames.{IsShort}
 use Rattle.program_runs.specs.Feeding.{Shelves, Took, IsFed}
-
--- what a setter means: which plan is that of a graph, by which verbs it is set up, and what these are for
-pub record Means : Type 1 where
-  pub IsPlanBy : RawCodec → Format → Plan → Type 0
-  pub verbs_by : RawCodec → Plan → Format → ℕ → List Command
-  pub IsOpenBy : RawCodec → Entries → Plan → Format → ℕ → Type 0
-
--- the same for the one format and tag of a driver
-abbrev pub plan_by : Means → Format → RawCodec → Plan → Type 0
-plan_by means format graph plan = means.IsPlanBy graph format plan
-
-abbrev pub verbs_for : Means → Format → RawCodec → Plan → List Command
-verbs_for means format graph plan = means.verbs_by graph plan format TAG
-
-abbrev pub open_by : Means → Format → RawCodec → Entries → Plan → Type 0
-open_by means format graph settings plan = means.IsOpenBy graph settings plan format TAG
 
 -- a driver with its supply, of which it is not known yet what it will have given
 pub record Player : Type 0 where
@@ -91,20 +76,20 @@ IsFedFrom source first stand =
     IsFed (measures_of player.writer) source first stand.shelf stand.cut player.supply player.writer.course
 
 -- what is to be done for codecs with these graphs, with sound or without
-pub record IsTask (means : Means) (format : Format) (play : Bool) (verbs : RawCodec → List Command)
+pub record IsTask (means : Meaning) (format : Format) (play : Bool) (verbs : RawCodec → List Command)
     (graphs : List RawCodec) (task : Task) : Type 0 where
-  pub of_codecs : IsTaskOfCodecs (plan_by means format) (verbs_for means format) verbs graphs task
+  pub of_codecs : IsTaskOfCodecs (means format TAG) verbs graphs task
   pub plays_is : task.plays ≡ play
 
 -- between two calls of a driver, with these lines left
-abbrev pub UnderWay : Means → Format → (RawCodec → List Command) → List RawCodec → Task → (all left : List DriverLine)
+abbrev pub UnderWay : Meaning → Format → (RawCodec → List Command) → List RawCodec → Task → (all left : List DriverLine)
     → Parts → Telling → Type 0
 UnderWay means format verbs graphs task all left parts telling =
-    IsUnderWay (plan_by means format) verbs (open_by means format) graphs task all left parts telling
+    IsUnderWay (means format TAG) verbs graphs task all left parts telling
 
 -- for each task, a driver with these lines and others left leads on to where the others are left, while the journal is
 -- short
-abbrev pub LeadsOn : Means → Format → (play : Bool)
+abbrev pub LeadsOn : Meaning → Format → (play : Bool)
     → (lines : List DriverLine) (old new : Parts) (before after : Telling) → Type 0
 LeadsOn means format play lines old new before after =
     (verbs : RawCodec → List Command) (graphs : List RawCodec) (task : Task) (all left : List DriverLine)
@@ -113,7 +98,7 @@ LeadsOn means format play lines old new before after =
     → UnderWay means format verbs graphs task all left new after
 
 -- these items were run, one after another
-pub record Goes (means : Means) (format : Format) (play : Bool) (items : List Item) (old new : Parts)
+pub record Goes (means : Meaning) (format : Format) (play : Bool) (items : List Item) (old new : Parts)
     (before after : Telling) : Type 0 where
   pub events : List Event
   pub went : Went before after events
@@ -127,7 +112,7 @@ pub record Goes (means : Means) (format : Format) (play : Bool) (items : List It
   pub silent : play ≡ false → new.writer ≡ old.writer
 
 -- a driver line was run, for which the supply was filled
-pub record RanLine (means : Means) (format : Format) (play : Bool) (line : Line) (old new : Player) (before after : Rig)
+pub record RanLine (means : Meaning) (format : Format) (play : Bool) (line : Line) (old new : Player) (before after : Rig)
     : Type 0 where
   pub taken : IsTaken old.supply new.supply
   pub accounts : Accounts (measures_of old.writer) old.supply new.supply old.writer.course new.writer.course
@@ -139,7 +124,7 @@ pub record RanLine (means : Means) (format : Format) (play : Bool) (line : Line)
   pub machine : (setting_of after).machine ≡ (setting_of before).machine
 
 -- so a rig went on, from between two runs to between two runs
-pub record Ran (means : Means) (format : Format) (play : Bool) (items : List Item) (old new : Stand) : Type 0 where
+pub record Ran (means : Meaning) (format : Format) (play : Bool) (items : List Item) (old new : Stand) : Type 0 where
   pub gave : List ℕ
   pub took : Took gave old.shelf old.player.supply new.player.supply
   -- it went on so over each sound that the supply may yet give at the end, with what was taken before it
@@ -163,7 +148,7 @@ pub record Leaves (play : Bool) (old : Parts) (ended : BringUp) (tally : Tally) 
   pub silent : play ≡ false → tally ≡ tally_in old
 
 -- the last call was made, in a run without steps
-pub record IsClosed (means : Means) (format : Format) (play : Bool) (old : Parts) (closed : Closed)
+pub record IsClosed (means : Meaning) (format : Format) (play : Bool) (old : Parts) (closed : Closed)
     (before after : Telling) : Type 0 where
   pub accesses : List Event
   pub are : AreAccesses accesses
@@ -173,7 +158,7 @@ pub record IsClosed (means : Means) (format : Format) (play : Bool) (old : Parts
   pub over : (verbs : RawCodec → List Command) (graphs : List RawCodec) (task : Task) (all : List DriverLine)
       → IsTask means format play verbs graphs task → IsShort after
       → UnderWay means format verbs graphs task all [] old before
-      → HasGone (plan_by means format) (open_by means format) graphs task all ended tally (stretch [] accesses) after
+      → HasGone (means format TAG) graphs task all ended tally (stretch [] accesses) after
   pub counted : (first : List Event) → IsCount (told_in first) old.bring_up.jacks
       → Counts (told_in (first ++ stretch [] accesses)) closed.jacks.items
   -- no less was used than before
@@ -181,7 +166,7 @@ pub record IsClosed (means : Means) (format : Format) (play : Bool) (old : Parts
   pub leaves : Leaves play old ended tally closed
 
 -- a whole schedule was run, and then the last call was made, with these events, in which the device made no step
-pub record IsDriven (means : Means) (format : Format) (play : Bool) (schedule : Schedule) (old : Parts)
+pub record IsDriven (means : Meaning) (format : Format) (play : Bool) (schedule : Schedule) (old : Parts)
     (closed : Closed) (before after : Telling) : Type 0 where
   pub events : List Event
   pub went : Went before after events
@@ -193,7 +178,7 @@ pub record IsDriven (means : Means) (format : Format) (play : Bool) (schedule : 
   pub over : (verbs : RawCodec → List Command) (graphs : List RawCodec) (task : Task) (all : List DriverLine)
       → IsTask means format play verbs graphs task → IsShort after
       → UnderWay means format verbs graphs task all (lines_of schedule) old before
-      → HasGone (plan_by means format) (open_by means format) graphs task all ended tally last after
+      → HasGone (means format TAG) graphs task all ended tally last after
   pub counted : (first : List Event) → IsCount (told_in first) old.bring_up.jacks
       → Counts (told_in (first ++ events)) closed.jacks.items
   pub leaves : Leaves play old ended tally closed
@@ -201,7 +186,7 @@ pub record IsDriven (means : Means) (format : Format) (play : Bool) (schedule : 
 -- a whole schedule was run, and then the last call was made, while so many bytes of the sound were read. The supply
 -- that was left at the last call gives one more sound, or none: over each that ends with it the run is that of what was
 -- taken, and of that sound
-pub record HasDriven (means : Means) (format : Format) (play : Bool) (schedule : Schedule) (old : Stand)
+pub record HasDriven (means : Meaning) (format : Format) (play : Bool) (schedule : Schedule) (old : Stand)
     (closed : Closed) (read : ℕ) (shelf : Shelves) (cut : Option Cut) (after : Telling) : Type 0 where
   pub last : Supplied
   pub course : Course

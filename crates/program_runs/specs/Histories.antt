@@ -18,6 +18,7 @@ use Rattle.driver_progress.specs.Tasks.{Task}
 use Rattle.driver_progress.specs.States.{State}
 use Rattle.driver_progress.specs.Progress.{state_of, IsProgress}
 use Rattle.driver_bring_up.specs.Standing.{answers_of}
+use Rattle.route_setup.specs.Means.{analog}
 use Rattle.laws_bring_up.specs.Stretches.{HasFound}
 use Rattle.laws_bring_up.specs.Standing.{AreWalked}
 use Rattle.laws_bring_up.specs.SettingUp.{StaysSetUp}
@@ -67,9 +68,7 @@ pub record MakesProgress (machine : Machine) (schedule : Schedule) (task : Task)
 -- open: from the answer to the last command on, at every moment all codecs are set up by their plans for the format
 abbrev pub StaysOpen : Format → Machine → Schedule → Task → Telling → Type 0
 StaysOpen format machine schedule task telling =
-    StaysSetUp (λ (graph : RawCodec) (plan : Plan). IsPlan graph format plan)
-    (λ (graph : RawCodec) (settings : Entries) (plan : Plan). IsSetUp graph settings plan format stream_tag)
-    (graphs_in machine.codecs) task (lines_of schedule) telling
+    StaysSetUp (analog format stream_tag) (graphs_in machine.codecs) task (lines_of schedule) telling
 
 -- the number of commands that it takes to walk over the machine's codecs and to set them up
 abbrev pub commands_for : Format → Machine → List Plan → ℕ

@@ -46,8 +46,7 @@ fn call<T: Setter, P: Platform>(
     ensures accounts { Accounts (measures_of driver.old.writer) driver.old.supply driver.new.supply
         driver.old.writer.course driver.new.writer.course }
     ensures leads { OnOk result ((later : List ℕ) → MayGive driver.new.supply later
-        → Calls (λ graph. T.IsPlanBy driver.old.setter graph driver.old.bring_up.agenda.format)
-        (λ graph plan. T.verbs_by driver.old.setter graph plan driver.old.bring_up.agenda.format TAG) driver.old.play
+        → Calls (T.means driver.old.setter driver.old.bring_up.agenda.format TAG) driver.old.play
         line.now.irq line.now.budget (spec.parts_with driver.old.bring_up driver.old.writer
         (sound_before driver.old.supply driver.new.supply later)) (spec.parts_with driver.new.bring_up driver.new.writer
         later) (P.told platform.old) (P.told platform.new)) }
@@ -85,12 +84,7 @@ fn run_filled<T: Setter>(
     requires room { ring_bytes driver.old.writer.geometry.periods
         driver.old.writer.geometry.period + ROOM_BYTES ≤ bytes }
     ensures ran { OnOk result (spec.RanLine
-        (record {
-          IsPlanBy = T.IsPlanBy driver.old.setter;
-          verbs_by = T.verbs_by driver.old.setter;
-          IsOpenBy
-              = T.IsOpenBy driver.old.setter;
-        }) driver.old.bring_up.agenda.format driver.old.play line.now
+        (T.means driver.old.setter) driver.old.bring_up.agenda.format driver.old.play line.now
         (spec.parts_of driver.old.bring_up driver.old.writer driver.old.supply)
         (spec.parts_of driver.new.bring_up driver.new.writer driver.new.supply) rig.old rig.new) }
     ensures geometry { OnOk result (driver.new.writer.geometry ≡ driver.old.writer.geometry) }
@@ -128,12 +122,7 @@ pub(crate) fn run_line<T: Setter, S: Shelf>(
     requires room { ring_bytes driver.old.writer.geometry.periods
         driver.old.writer.geometry.period + ROOM_BYTES ≤ bytes }
     ensures ran { OnOk result (spec.Ran
-        (record {
-          IsPlanBy = T.IsPlanBy driver.old.setter;
-          verbs_by = T.verbs_by driver.old.setter;
-          IsOpenBy
-              = T.IsOpenBy driver.old.setter;
-        }) driver.old.bring_up.agenda.format driver.old.play (Drive line.now ∷ [])
+        (T.means driver.old.setter) driver.old.bring_up.agenda.format driver.old.play (Drive line.now ∷ [])
         (spec.stand_of driver.old.bring_up driver.old.writer driver.old.supply
         (shelves_of (S.told shelf.old) (S.faults shelf.old) (S.empties shelf.old) (S.given shelf.old)) cut.old rig.old)
         (spec.stand_of driver.new.bring_up driver.new.writer driver.new.supply
@@ -167,12 +156,7 @@ pub(crate) fn run_last<T: Setter + Drop>(
     requires room { ring_bytes driver.writer.geometry.periods driver.writer.geometry.period + ROOM_BYTES ≤ bytes }
     ensures closed { IfOk result (λ closed. (sound : List ℕ) → MayGive driver.supply sound
         → EndsWith driver.supply sound
-        → spec.IsClosed (record {
-          IsPlanBy = T.IsPlanBy driver.setter;
-          verbs_by = T.verbs_by driver.setter;
-          IsOpenBy
-              = T.IsOpenBy driver.setter;
-        }) driver.bring_up.agenda.format driver.play
+        → spec.IsClosed (T.means driver.setter) driver.bring_up.agenda.format driver.play
         (spec.parts_with driver.bring_up driver.writer sound) closed (telling_of rig.old) (telling_of rig.new)) }
     ensures machine { OnOk result ((setting_of rig.new).machine ≡ (setting_of rig.old).machine) }
 {

@@ -47,12 +47,7 @@ pub(crate) fn drive<T: Setter + Drop, S: Shelf>(
     requires few { driver.calls + length (lines_of schedule.now) ≤ driver.runs }
     requires room { ring_bytes driver.writer.geometry.periods driver.writer.geometry.period + ROOM_BYTES ≤ bytes }
     ensures driven { IfOk result (λ driven. spec.HasDriven
-        (record {
-          IsPlanBy = T.IsPlanBy driver.setter;
-          verbs_by = T.verbs_by driver.setter;
-          IsOpenBy = T.IsOpenBy
-              driver.setter;
-        }) driver.bring_up.agenda.format driver.play schedule.now
+        (T.means driver.setter) driver.bring_up.agenda.format driver.play schedule.now
         (spec.stand_of driver.bring_up driver.writer driver.supply (shelves_of (S.told shelf.old) (S.faults shelf.old)
         (S.empties shelf.old) (S.given shelf.old)) cut.old rig.old)
         driven.closed driven.read (shelves_of (S.told shelf.new) (S.faults shelf.new) (S.empties shelf.new)

@@ -40,12 +40,7 @@ fn run_item<T: Setter, S: Shelf>(
     requires room { ring_bytes driver.old.writer.geometry.periods
         driver.old.writer.geometry.period + ROOM_BYTES ≤ bytes }
     ensures ran { OnOk result (spec.Ran
-        (record {
-          IsPlanBy = T.IsPlanBy driver.old.setter;
-          verbs_by = T.verbs_by driver.old.setter;
-          IsOpenBy
-              = T.IsOpenBy driver.old.setter;
-        }) driver.old.bring_up.agenda.format driver.old.play (item.now ∷ [])
+        (T.means driver.old.setter) driver.old.bring_up.agenda.format driver.old.play (item.now ∷ [])
         (spec.stand_of driver.old.bring_up driver.old.writer driver.old.supply
         (shelves_of (S.told shelf.old) (S.faults shelf.old) (S.empties shelf.old) (S.given shelf.old)) cut.old rig.old)
         (spec.stand_of driver.new.bring_up driver.new.writer driver.new.supply
@@ -90,12 +85,7 @@ fn run_items<T: Setter, S: Shelf>(
     requires room { ring_bytes driver.old.writer.geometry.periods
         driver.old.writer.geometry.period + ROOM_BYTES ≤ bytes }
     ensures ran { OnOk result (spec.Ran
-        (record {
-          IsPlanBy = T.IsPlanBy driver.old.setter;
-          verbs_by = T.verbs_by driver.old.setter;
-          IsOpenBy
-              = T.IsOpenBy driver.old.setter;
-        }) driver.old.bring_up.agenda.format driver.old.play items.now
+        (T.means driver.old.setter) driver.old.bring_up.agenda.format driver.old.play items.now
         (spec.stand_of driver.old.bring_up driver.old.writer driver.old.supply
         (shelves_of (S.told shelf.old) (S.faults shelf.old) (S.empties shelf.old) (S.given shelf.old)) cut.old rig.old)
         (spec.stand_of driver.new.bring_up driver.new.writer driver.new.supply
@@ -139,12 +129,7 @@ fn run_part<T: Setter, S: Shelf>(
     requires room { ring_bytes driver.old.writer.geometry.periods
         driver.old.writer.geometry.period + ROOM_BYTES ≤ bytes }
     ensures ran { OnOk result (spec.Ran
-        (record {
-          IsPlanBy = T.IsPlanBy driver.old.setter;
-          verbs_by = T.verbs_by driver.old.setter;
-          IsOpenBy
-              = T.IsOpenBy driver.old.setter;
-        }) driver.old.bring_up.agenda.format driver.old.play (items_in part.now)
+        (T.means driver.old.setter) driver.old.bring_up.agenda.format driver.old.play (items_in part.now)
         (spec.stand_of driver.old.bring_up driver.old.writer driver.old.supply
         (shelves_of (S.told shelf.old) (S.faults shelf.old) (S.empties shelf.old) (S.given shelf.old)) cut.old rig.old)
         (spec.stand_of driver.new.bring_up driver.new.writer driver.new.supply
@@ -188,12 +173,7 @@ pub(crate) fn run_schedule<T: Setter, S: Shelf>(
     requires room { ring_bytes driver.old.writer.geometry.periods
         driver.old.writer.geometry.period + ROOM_BYTES ≤ bytes }
     ensures ran { OnOk result (spec.Ran
-        (record {
-          IsPlanBy = T.IsPlanBy driver.old.setter;
-          verbs_by = T.verbs_by driver.old.setter;
-          IsOpenBy
-              = T.IsOpenBy driver.old.setter;
-        }) driver.old.bring_up.agenda.format driver.old.play (items_of schedule.now)
+        (T.means driver.old.setter) driver.old.bring_up.agenda.format driver.old.play (items_of schedule.now)
         (spec.stand_of driver.old.bring_up driver.old.writer driver.old.supply
         (shelves_of (S.told shelf.old) (S.faults shelf.old) (S.empties shelf.old) (S.given shelf.old)) cut.old rig.old)
         (spec.stand_of driver.new.bring_up driver.new.writer driver.new.supply

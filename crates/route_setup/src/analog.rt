@@ -1,8 +1,6 @@
 //! The set-up of analog outputs.
-ghost use Rattle.route_planner.specs.Plans.{IsPlan};
-ghost use Rattle.setup_verbs.specs.VerbList.{setup_verbs};
-ghost use Rattle.setup_verbs.specs.SetUp.{IsSetUp};
 ghost use Rattle.setup_verbs.proofs.Callers.{lead_to_set_up, all_commands_of, one_plan_of};
+ghost use Rattle.route_setup.specs.Means.{analog};
 
 use crate::setter::Setter;
 use codec_graph::Graph;
@@ -16,13 +14,9 @@ use verb_codes::Command;
 pub struct Analog;
 
 impl Setter for Analog {
-    ghost IsPlanBy = { λ _. IsPlan };
+    ghost means = { λ _. analog };
 
-    ghost verbs_by = { λ _. setup_verbs };
-
-    ghost IsOpenBy = { λ _. IsSetUp };
-
-    ghost one_plan = { λ _. one_plan_of };
+    ghost one_plan = { λ _ graph format tag. one_plan_of graph format };
 
     ghost opens = { λ _ graph plan format tag settings well is some few of. lead_to_set_up graph plan format tag well is
         some few settings of };

@@ -76,7 +76,7 @@ impl<T: Setter + Drop> Driver<T> {
         requires room { ROOM_ACCESSES ≤ P.spare_accesses platform.old }
         requires bytes_room { ring_size self.writer + ROOM_BYTES ≤ P.spare_bytes platform.old }
         ensures closes { (sound : List ℕ) → MayGive self.supply sound → EndsWith self.supply sound
-            → IfOk result (λ closed. ClosesBy T.IsPlanBy T.verbs_by self sound closed
+            → IfOk result (λ closed. ClosesBy T.means self sound closed
             (P.told platform.old) (P.told platform.new)) }
         ensures gives { IfOk result (λ closed. GivesBlocks self closed.pool) }
         ensures pool { IfOk result (λ closed. (before : PoolState)

@@ -35,7 +35,7 @@ pub(super) fn end_call<P: Platform, T: Setter>(
     requires free { length writer.old.runs < writer.old.records }
     requires room { PLAY_END_ACCESSES ≤ P.spare_accesses platform.old }
     requires bytes_room { ring_size writer.old + POLL_BYTES ≤ P.spare_bytes platform.old }
-    ensures ends { states.plays_now play bring_up.old ≡ false → OnOk result (FinishesBy T.IsPlanBy T.verbs_by
+    ensures ends { states.plays_now play bring_up.old ≡ false → OnOk result (FinishesBy T.means
         setter.now bring_up.old bring_up.new (P.told platform.old) (P.told platform.new)) }
     ensures recorded { states.plays_now play bring_up.old ≡ false → tally_of writer.new ≡ tally_of writer.old }
     ensures sounds { states.plays_now play bring_up.old ≡ true → EndsAny bring_up.old bring_up.new

@@ -35,7 +35,7 @@ impl<T: Setter> Driver<T> {
         requires room { ROOM_ACCESSES ≤ P.spare_accesses platform.old }
         requires bytes_room { ring_size self.old.writer + ROOM_BYTES ≤ P.spare_bytes platform.old }
         ensures leads { states.plays_now self.old.play self.old.bring_up ≡ false
-            → OnOk result (LeadsBy T.IsPlanBy T.verbs_by false self.old self.new
+            → OnOk result (LeadsBy T.means false self.old self.new
             (P.told platform.old) (P.told platform.new)) }
         ensures sounds { states.plays_now self.old.play self.old.bring_up ≡ true
             → SoundsAny false budget self.old.bring_up self.new.bring_up self.old.writer self.new.writer
@@ -90,7 +90,7 @@ impl<T: Setter> Driver<T> {
         requires room { ROOM_ACCESSES ≤ P.spare_accesses platform.old }
         requires bytes_room { ring_size self.old.writer + ROOM_BYTES ≤ P.spare_bytes platform.old }
         ensures leads { states.plays_now self.old.play self.old.bring_up ≡ false
-            → OnOk result (LeadsBy T.IsPlanBy T.verbs_by true self.old self.new
+            → OnOk result (LeadsBy T.means true self.old self.new
             (P.told platform.old) (P.told platform.new)) }
         ensures sounds { states.plays_now self.old.play self.old.bring_up ≡ true
             → SoundsAny true budget self.old.bring_up self.new.bring_up self.old.writer self.new.writer

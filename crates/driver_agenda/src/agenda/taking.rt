@@ -120,8 +120,7 @@ impl Agenda {
     /// want of memory. After an error no command comes.
     pub fn take<T: Setter>(&mut self, setter: &T, answer: u32) -> Result<(), AgendaFault>
         requires { IsSome (spec.next_of self.old.walk self.old.verbs.items self.old.answered) }
-        ensures leads { OnOk result (spec.LedBy (λ graph. T.IsPlanBy setter.now graph self.old.format)
-            (λ graph plan. T.verbs_by setter.now graph plan self.old.format TAG) self.old.walk answer self.old
+        ensures leads { OnOk result (spec.LedBy (T.means setter.now self.old.format TAG) self.old.walk answer self.old
             self.new) }
         ensures malformed { (codec : ℕ) (fault : WalkFault) → result ≡ Err (AgendaFault.Malformed codec fault)
             → (codec ≡ slice_index self.old.addresses.items (length self.old.graphs.items))
@@ -129,7 +128,7 @@ impl Agenda {
         ensures kept { (codec : ℕ) (fault : WalkFault) → result ≡ Err (AgendaFault.Malformed codec fault)
             → (self.new.graphs ≡ self.old.graphs) × (self.new.plans ≡ self.old.plans) }
         ensures nothing { result ≡ Err AgendaFault.NothingRouted
-            → spec.TellsNoRoute (λ graph. T.IsPlanBy setter.now graph self.old.format) self.old.walk answer
+            → spec.TellsNoRoute (T.means setter.now self.old.format TAG) self.old.walk answer
             self.old.addresses.items self.old.graphs.items self.new }
         ensures addresses { self.new.addresses ≡ self.old.addresses }
         ensures format { self.new.format ≡ self.old.format }
@@ -156,8 +155,8 @@ impl Agenda {
         requires none { self.old.walk ≡ None }
         requires under_way { IsUnderWay self.old.addresses.items (length self.old.graphs.items) walk }
         requires fresh { self.old.answered ≡ 0 }
-        ensures leads { OnOk result (spec.LedByDialogue (λ graph. T.IsPlanBy setter.now graph self.old.format)
-            (λ graph plan. T.verbs_by setter.now graph plan self.old.format TAG) (answered (remaining walk) answer)
+        ensures leads { OnOk result (spec.LedByDialogue (T.means setter.now self.old.format TAG)
+            (answered (remaining walk) answer)
             self.old.addresses.items self.old.graphs.items self.new) }
         ensures malformed { (codec : ℕ) (fault : WalkFault) → result ≡ Err (AgendaFault.Malformed codec fault)
             → (codec ≡ slice_index self.old.addresses.items (length self.old.graphs.items))
@@ -165,7 +164,7 @@ impl Agenda {
         ensures kept { (codec : ℕ) (fault : WalkFault) → result ≡ Err (AgendaFault.Malformed codec fault)
             → (self.new.graphs ≡ self.old.graphs) × (self.new.plans ≡ self.old.plans) }
         ensures nothing { result ≡ Err AgendaFault.NothingRouted
-            → spec.EndsLast (λ graph. T.IsPlanBy setter.now graph self.old.format) (answered (remaining walk) answer)
+            → spec.EndsLast (T.means setter.now self.old.format TAG) (answered (remaining walk) answer)
             self.old.addresses.items self.old.graphs.items self.new }
         ensures addresses { self.new.addresses ≡ self.old.addresses }
         ensures format { self.new.format ≡ self.old.format }
@@ -189,8 +188,7 @@ impl Agenda {
         requires tells { TellsOf (slice_index self.old.addresses.items (length self.old.graphs.items))
             (remaining walk) }
         requires fresh { self.old.answered ≡ 0 }
-        ensures leads { OnOk result (spec.LedByDialogue (λ graph. T.IsPlanBy setter.now graph self.old.format)
-            (λ graph plan. T.verbs_by setter.now graph plan self.old.format TAG) (remaining walk)
+        ensures leads { OnOk result (spec.LedByDialogue (T.means setter.now self.old.format TAG) (remaining walk)
             self.old.addresses.items self.old.graphs.items self.new) }
         ensures malformed { (codec : ℕ) (fault : WalkFault) → result ≡ Err (AgendaFault.Malformed codec fault)
             → (codec ≡ slice_index self.old.addresses.items (length self.old.graphs.items))
@@ -198,7 +196,7 @@ impl Agenda {
         ensures kept { (codec : ℕ) (fault : WalkFault) → result ≡ Err (AgendaFault.Malformed codec fault)
             → (self.new.graphs ≡ self.old.graphs) × (self.new.plans ≡ self.old.plans) }
         ensures nothing { result ≡ Err AgendaFault.NothingRouted
-            → spec.EndsLast (λ graph. T.IsPlanBy setter.now graph self.old.format) (remaining walk)
+            → spec.EndsLast (T.means setter.now self.old.format TAG) (remaining walk)
             self.old.addresses.items self.old.graphs.items self.new }
         ensures addresses { self.new.addresses ≡ self.old.addresses }
         ensures format { self.new.format ≡ self.old.format }
@@ -216,13 +214,12 @@ impl Agenda {
     fn go_on<T: Setter>(&mut self, setter: &T) -> Result<(), AgendaFault>
         requires none { self.old.walk ≡ None }
         requires fresh { self.old.answered ≡ 0 }
-        ensures leads { OnOk result (spec.GoesOn (λ graph. T.IsPlanBy setter.now graph self.old.format)
-            (λ graph plan. T.verbs_by setter.now graph plan self.old.format TAG) self.old.addresses.items
+        ensures leads { OnOk result (spec.GoesOn (T.means setter.now self.old.format TAG) self.old.addresses.items
             self.old.graphs.items self.new) }
         ensures malformed { (codec : ℕ) (fault : WalkFault) → result ≡ Err (AgendaFault.Malformed codec fault) → ⊥ }
         ensures nothing { result ≡ Err AgendaFault.NothingRouted
             → (length self.old.addresses.items ≤ length self.old.graphs.items)
-            × spec.RoutesNothing (λ graph. T.IsPlanBy setter.now graph self.old.format) self.old.graphs.items self.new }
+            × spec.RoutesNothing (T.means setter.now self.old.format TAG) self.old.graphs.items self.new }
         ensures addresses { self.new.addresses ≡ self.old.addresses }
         ensures format { self.new.format ≡ self.old.format }
     {
@@ -239,11 +236,11 @@ impl Agenda {
     fn set_up<T: Setter>(&mut self, setter: &T) -> Result<(), AgendaFault>
         requires none { self.old.walk ≡ None }
         requires fresh { self.old.answered ≡ 0 }
-        ensures begins { OnOk result (spec.BeginsVerbs (λ graph. T.IsPlanBy setter.now graph self.old.format)
-            (λ graph plan. T.verbs_by setter.now graph plan self.old.format TAG) self.old.graphs.items self.new) }
+        ensures begins { OnOk result (spec.BeginsVerbs (T.means setter.now self.old.format TAG) self.old.graphs.items
+            self.new) }
         ensures malformed { (codec : ℕ) (fault : WalkFault) → result ≡ Err (AgendaFault.Malformed codec fault) → ⊥ }
         ensures nothing { result ≡ Err AgendaFault.NothingRouted
-            → spec.RoutesNothing (λ graph. T.IsPlanBy setter.now graph self.old.format) self.old.graphs.items self.new }
+            → spec.RoutesNothing (T.means setter.now self.old.format TAG) self.old.graphs.items self.new }
         ensures addresses { self.new.addresses ≡ self.old.addresses }
         ensures format { self.new.format ≡ self.old.format }
     {

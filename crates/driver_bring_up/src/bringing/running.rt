@@ -33,8 +33,7 @@ impl BringUp {
         requires few { self.old.looks < 1000000 }
         requires room { BRING_UP_ACCESSES ≤ P.spare_accesses platform.old }
         requires bytes_room { BRING_UP_BYTES ≤ P.spare_bytes platform.old }
-        ensures leads { OnOk result (spec.Leads (λ graph. T.IsPlanBy setter.now graph self.old.agenda.format)
-            (λ graph plan. T.verbs_by setter.now graph plan self.old.agenda.format TAG) false self.old self.new
+        ensures leads { OnOk result (spec.Leads (T.means setter.now self.old.agenda.format TAG) false self.old self.new
             (P.told platform.old) (P.told platform.new)) }
         ensures kept { spec.IsKept self.old self.new }
         ensures failed { OnErr result (self.new.phase ≡ phases.Failed) }
@@ -72,8 +71,7 @@ impl BringUp {
         requires few { self.old.looks < 1000000 }
         requires room { BRING_UP_INTERRUPT_ACCESSES ≤ P.spare_accesses platform.old }
         requires bytes_room { BRING_UP_BYTES ≤ P.spare_bytes platform.old }
-        ensures leads { OnOk result (spec.Leads (λ graph. T.IsPlanBy setter.now graph self.old.agenda.format)
-            (λ graph plan. T.verbs_by setter.now graph plan self.old.agenda.format TAG) true self.old self.new
+        ensures leads { OnOk result (spec.Leads (T.means setter.now self.old.agenda.format TAG) true self.old self.new
             (P.told platform.old) (P.told platform.new)) }
         ensures kept { spec.IsKept self.old self.new }
         ensures failed { OnErr result (self.new.phase ≡ phases.Failed) }
@@ -126,8 +124,7 @@ impl BringUp {
         requires few { self.old.looks ≤ 1000000 }
         requires room { BRING_UP_END_ACCESSES ≤ P.spare_accesses platform.old }
         requires bytes_room { POLL_BYTES ≤ P.spare_bytes platform.old }
-        ensures ends { OnOk result (spec.Ends (λ graph. T.IsPlanBy setter.now graph self.old.agenda.format)
-            (λ graph plan. T.verbs_by setter.now graph plan self.old.agenda.format TAG) self.old self.new
+        ensures ends { OnOk result (spec.Ends (T.means setter.now self.old.agenda.format TAG) self.old self.new
             (P.told platform.old) (P.told platform.new)) }
         ensures kept { spec.IsKept self.old self.new }
         ensures failed { OnErr result (self.new.phase ≡ phases.Failed) }

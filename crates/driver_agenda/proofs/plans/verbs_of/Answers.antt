@@ -13,20 +13,20 @@ use Rattle.driver_agenda.proofs.plans.verbs_of.Goals as goal
 
 pub bounds-plans-index : goal.bounds-plans-index
 bounds-plans-index g c =
-    let long = plans_long (λ (graph : RawCodec). g.T.Setter.IsPlanBy c.args.setter.now graph c.args.format) c.args.graphs.now c.args.plans.now c.requires.plans in
+    let long = plans_long (g.T.Setter.means c.args.setter.now c.args.format TAG).IsPlanBy c.args.graphs.now c.args.plans.now c.requires.plans in
     omega (arith, long)
 
 pub verbs_of_one-requires-clause-plan : goal.verbs_of_one-requires-clause-plan
 verbs_of_one-requires-clause-plan g c =
-    let P = λ (graph : RawCodec). g.T.Setter.IsPlanBy c.args.setter.now graph c.args.format in
-    let is = plans_at P c.args.graphs.now c.args.plans.now c.loop-index.index c.index-graphs-index.result c.index-plans-index.result c.requires.plans (omega arith) in
-    subst (λ (graph : RawCodec). P graph c.index-plans-index.result) (sym c.index-graphs-index.is)
-    (subst (λ (plan : Plan). P (get_or c.args.graphs.now c.loop-index.index c.index-graphs-index.result) plan) (sym c.index-plans-index.is) is)
+    let means = g.T.Setter.means c.args.setter.now c.args.format TAG in
+    let is = plans_at means.IsPlanBy c.args.graphs.now c.args.plans.now c.loop-index.index c.index-graphs-index.result c.index-plans-index.result c.requires.plans (omega arith) in
+    subst (λ (graph : RawCodec). means.IsPlanBy graph c.index-plans-index.result) (sym c.index-graphs-index.is)
+    (subst (λ (plan : Plan). means.IsPlanBy (get_or c.args.graphs.now c.loop-index.index c.index-graphs-index.result) plan) (sym c.index-plans-index.is) is)
 
 pub loop-index-preserved : goal.loop-index-preserved
 loop-index-preserved g c =
-    let f = λ (graph : RawCodec) (plan : Plan). g.T.Setter.verbs_by c.args.setter.now graph plan c.args.format TAG in
-    let long = plans_long (λ (graph : RawCodec). g.T.Setter.IsPlanBy c.args.setter.now graph c.args.format) c.args.graphs.now c.args.plans.now c.requires.plans in
+    let f = (g.T.Setter.means c.args.setter.now c.args.format TAG).verbs_by in
+    let long = plans_long (g.T.Setter.means c.args.setter.now c.args.format TAG).IsPlanBy c.args.graphs.now c.args.plans.now c.requires.plans in
     let below : c.loop-index.index < length c.args.graphs.now = omega arith in
     let grown = verbs_more f c.args.graphs.now c.args.plans.now c.loop-index.index c.index-graphs-index.result c.index-plans-index.result below long in
     let graph-is : c.index-graphs-index.result ≡ get_or c.args.graphs.now c.loop-index.index c.index-graphs-index.result = c.index-graphs-index.is in
@@ -49,7 +49,7 @@ loop-index-preserved g c =
 
 pub returns-clause-value : goal.returns-clause-value
 returns-clause-value g c =
-    let f = λ (graph : RawCodec) (plan : Plan). g.T.Setter.verbs_by c.args.setter.now graph plan c.args.format TAG in
-    let long = plans_long (λ (graph : RawCodec). g.T.Setter.IsPlanBy c.args.setter.now graph c.args.format) c.args.graphs.now c.args.plans.now c.requires.plans in
+    let f = (g.T.Setter.means c.args.setter.now c.args.format TAG).verbs_by in
+    let long = plans_long (g.T.Setter.means c.args.setter.now c.args.format TAG).IsPlanBy c.args.graphs.now c.args.plans.now c.requires.plans in
     c.loop-index.invariant.value ∙ (ap (λ (graphs : List RawCodec). verbs_for f graphs (take c.loop-index.index c.args.plans.now)) (take_all c.loop-index.index c.args.graphs.now (omega arith))
     ∙ ap (λ (plans : List Plan). verbs_for f c.args.graphs.now plans) (take_all c.loop-index.index c.args.plans.now (omega (arith, long))))

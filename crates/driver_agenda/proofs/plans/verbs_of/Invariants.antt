@@ -8,5 +8,5 @@ use Rattle.driver_agenda.proofs.plans.verbs_of.Given as goal
 abbrev pub invariant-loop-index : goal.invariant-loop-index
 invariant-loop-index g l = record {
   in_range : All IsInRange l.all.items;
-  value : l.all.items ≡ verbs_for (λ graph plan. g.T.Setter.verbs_by l.setter graph plan l.format TAG) (take l.index l.graphs) (take l.index l.plans);
+  value : l.all.items ≡ verbs_for (g.T.Setter.means l.setter l.format TAG).verbs_by (take l.index l.graphs) (take l.index l.plans);
 }

@@ -17,9 +17,9 @@ returns-then-line-clause-leads g c =
     let format = driver.bring_up.agenda.format in
     let old = parts_of driver.bring_up driver.writer driver.supply in
     let new = parts_of now.bring_up now.writer now.supply in
-    subst (λ (irq : Bool). OnOk c.irq.result ((later : List ℕ) → MayGive new.supply later → Calls (λ graph. g.T.Setter.IsPlanBy driver.setter graph format) (λ graph plan. g.T.Setter.verbs_by driver.setter graph plan format TAG) driver.play irq c.args.line.now.budget (sounded old (sound_before old.supply new.supply later)) (sounded new later) (g.P.Platform.told c.args.platform.now) (g.P.Platform.told c.irq.new.platform)))
+    subst (λ (irq : Bool). OnOk c.irq.result ((later : List ℕ) → MayGive new.supply later → Calls (g.T.Setter.means driver.setter format TAG) driver.play irq c.args.line.now.budget (sounded old (sound_before old.supply new.supply later)) (sounded new later) (g.P.Platform.told c.args.platform.now) (g.P.Platform.told c.irq.new.platform)))
     (sym c.if-line.true)
-    (called (λ graph. g.T.Setter.IsPlanBy driver.setter graph format) (λ graph plan. g.T.Setter.verbs_by driver.setter graph plan format TAG) driver.play true c.args.line.now.budget (measures_of driver.writer).ring old new (g.P.Platform.told c.args.platform.now) (g.P.Platform.told c.irq.new.platform) c.irq.result
+    (called (g.T.Setter.means driver.setter format TAG) driver.play true c.args.line.now.budget (measures_of driver.writer).ring old new (g.P.Platform.told c.args.platform.now) (g.P.Platform.told c.irq.new.platform) c.irq.result
     (ring_some driver.writer.geometry.periods driver.writer.geometry.period driver.writer.geometry.some_periods driver.writer.geometry.some) c.requires.within c.requires.up c.irq.ensures.taken c.irq.ensures.leads c.irq.ensures.kept c.irq.ensures.writer c.irq.ensures.supply c.irq.ensures.sounds)
 
 pub returns-else-line-clause-leads : goal.returns-else-line-clause-leads
@@ -29,9 +29,9 @@ returns-else-line-clause-leads g c =
     let format = driver.bring_up.agenda.format in
     let old = parts_of driver.bring_up driver.writer driver.supply in
     let new = parts_of now.bring_up now.writer now.supply in
-    subst (λ (irq : Bool). OnOk c.run.result ((later : List ℕ) → MayGive new.supply later → Calls (λ graph. g.T.Setter.IsPlanBy driver.setter graph format) (λ graph plan. g.T.Setter.verbs_by driver.setter graph plan format TAG) driver.play irq c.args.line.now.budget (sounded old (sound_before old.supply new.supply later)) (sounded new later) (g.P.Platform.told c.args.platform.now) (g.P.Platform.told c.run.new.platform)))
+    subst (λ (irq : Bool). OnOk c.run.result ((later : List ℕ) → MayGive new.supply later → Calls (g.T.Setter.means driver.setter format TAG) driver.play irq c.args.line.now.budget (sounded old (sound_before old.supply new.supply later)) (sounded new later) (g.P.Platform.told c.args.platform.now) (g.P.Platform.told c.run.new.platform)))
     (sym c.if-line.false)
-    (called (λ graph. g.T.Setter.IsPlanBy driver.setter graph format) (λ graph plan. g.T.Setter.verbs_by driver.setter graph plan format TAG) driver.play false c.args.line.now.budget (measures_of driver.writer).ring old new (g.P.Platform.told c.args.platform.now) (g.P.Platform.told c.run.new.platform) c.run.result
+    (called (g.T.Setter.means driver.setter format TAG) driver.play false c.args.line.now.budget (measures_of driver.writer).ring old new (g.P.Platform.told c.args.platform.now) (g.P.Platform.told c.run.new.platform) c.run.result
     (ring_some driver.writer.geometry.periods driver.writer.geometry.period driver.writer.geometry.some_periods driver.writer.geometry.some) c.requires.within c.requires.up c.run.ensures.taken c.run.ensures.leads c.run.ensures.kept c.run.ensures.writer c.run.ensures.supply c.run.ensures.sounds)
 
 pub irq-requires-clause-enough : goal.irq-requires-clause-enough

@@ -4,16 +4,17 @@ use Rattle.schedule_reader.specs.declared.schedule.Group.{Group}
 use Rattle.rig.specs.declared.setting.Setting.{Setting}
 use Rattle.rig.specs.Rigs.{setting_of, telling_of}
 use Rattle.rig.specs.Stretches.{IsStretchFrom}
-use Rattle.program_runs.specs.Going.{Means, parts_with}
+use Rattle.program_runs.specs.Going.{parts_with}
 use Rattle.program_runs.proofs.Goes.{Keeps, line_goes}
 use Rattle.program_runs.proofs.Ran.{stretched_from}
 use Rattle.program_runs.proofs.calls.run_filled.Goals as goal
+use Rattle.route_setup.specs.Means.{Meaning}
 
 pub returns-clause-ran : goal.returns-clause-ran
 returns-clause-ran g c =
     let driver = c.args.driver.now in
     let format = driver.bring_up.agenda.format in
-    let means : Means = record { IsPlanBy = g.T.Setter.IsPlanBy driver.setter; verbs_by = g.T.Setter.verbs_by driver.setter; IsOpenBy = g.T.Setter.IsOpenBy driver.setter } in
+    let means : Meaning = g.T.Setter.means driver.setter in
     let keeps : Keeps means format = λ verbs graphs task is. c.drivers_keep_to_progress.ensures driver.setter format verbs graphs task is in
     let now = c.call.new.driver in
     let before = telling_of c.args.rig.now in

@@ -1,10 +1,11 @@
 use Rattle.std.proofs.Common.{◌≡◌, ap, refl}
 use Rattle.program_runs.specs.Feeding.{shelves_of}
-use Rattle.program_runs.specs.Going.{Means, stand_of, parts_of}
+use Rattle.program_runs.specs.Going.{stand_of, parts_of}
 use Rattle.period_writer.specs.Writers.{measures_of}
 use Rattle.program_runs.proofs.Feeds.{held_within}
 use Rattle.program_runs.proofs.Ran.{on_ok_both, fed_so, ran_filled}
 use Rattle.program_runs.proofs.calls.run_line.Goals as goal
+use Rattle.route_setup.specs.Means.{Meaning}
 
 pub returns-clause-ran : goal.returns-clause-ran
 returns-clause-ran g c =
@@ -12,9 +13,9 @@ returns-clause-ran g c =
     let fed = c.feed.new.driver in
     let next = c.run_filled.new.driver in
     let feeds = c.in_ok-feed.ensures in
-    let means : Means = record { IsPlanBy = g.T.Setter.IsPlanBy driver.setter; verbs_by = g.T.Setter.verbs_by driver.setter; IsOpenBy = g.T.Setter.IsOpenBy driver.setter } in
-    let means' : Means = record { IsPlanBy = g.T.Setter.IsPlanBy fed.setter; verbs_by = g.T.Setter.verbs_by fed.setter; IsOpenBy = g.T.Setter.IsOpenBy fed.setter } in
-    let same : means' ≡ means = ap (λ setter. record { IsPlanBy = g.T.Setter.IsPlanBy setter; verbs_by = g.T.Setter.verbs_by setter; IsOpenBy = g.T.Setter.IsOpenBy setter }) feeds.setter in
+    let means : Meaning = g.T.Setter.means driver.setter in
+    let means' : Meaning = g.T.Setter.means fed.setter in
+    let same : means' ≡ means = ap (λ setter. g.T.Setter.means setter) feeds.setter in
     let shelf = shelves_of (g.S.Shelf.told c.args.shelf.now) (g.S.Shelf.faults c.args.shelf.now) (g.S.Shelf.empties c.args.shelf.now) (g.S.Shelf.given c.args.shelf.now) in
     let shelf' = shelves_of (g.S.Shelf.told c.feed.new.shelf) (g.S.Shelf.faults c.feed.new.shelf) (g.S.Shelf.empties c.feed.new.shelf) (g.S.Shelf.given c.feed.new.shelf) in
     let old = stand_of driver.bring_up driver.writer driver.supply shelf c.args.cut.now c.args.rig.now in

@@ -4,11 +4,12 @@ use Rattle.schedule_reader.specs.declared.schedule.Item.{Item}
 use Rattle.wav_reader.specs.Supplies.{Source}
 use Rattle.wav_reader.specs.Fills.{IsBeside}
 use Rattle.program_runs.specs.Feeding.{shelves_of}
-use Rattle.program_runs.specs.Going.{Means, Ran, stand_of}
+use Rattle.program_runs.specs.Going.{Ran, stand_of}
 use Rattle.period_writer.specs.Writers.{measures_of}
 use Rattle.program_runs.proofs.Ran.{ran_none, ran_both, fed_so}
 use Rattle.program_runs.proofs.Counting.{count_more, count_within, one_line}
 use Rattle.program_runs.proofs.items.run_items.Goals as goal
+use Rattle.route_setup.specs.Means.{Meaning}
 
 pub loop-item-init : goal.loop-item-init
 loop-item-init g c =
@@ -40,10 +41,10 @@ loop-item-preserved g c =
     let i = c.loop-item.item-index in
     let driver = c.args.driver.now in
     let format = driver.bring_up.agenda.format in
-    let means : Means = record { IsPlanBy = g.T.Setter.IsPlanBy driver.setter; verbs_by = g.T.Setter.verbs_by driver.setter; IsOpenBy = g.T.Setter.IsOpenBy driver.setter } in
+    let means : Meaning = g.T.Setter.means driver.setter in
     let now = c.loop-item.driver in
-    let means' : Means = record { IsPlanBy = g.T.Setter.IsPlanBy now.setter; verbs_by = g.T.Setter.verbs_by now.setter; IsOpenBy = g.T.Setter.IsOpenBy now.setter } in
-    let same : means' ≡ means = ap (λ setter. record { IsPlanBy = g.T.Setter.IsPlanBy setter; verbs_by = g.T.Setter.verbs_by setter; IsOpenBy = g.T.Setter.IsOpenBy setter }) c.loop-item.invariant.setter in
+    let means' : Meaning = g.T.Setter.means now.setter in
+    let same : means' ≡ means = ap (λ setter. g.T.Setter.means setter) c.loop-item.invariant.setter in
     let item : c.item-item.result ≡ get_or items i c.item-item.result = c.item-item.is in
     let turn : take (i + 1) items ≡ take i items ++ c.item-item.result ∷ [] = take_more items i c.item-item.result c.loop-item-test.true ∙ ap (λ (one : Item). take i items ++ one ∷ []) (sym item) in
     let step = c.in_ok-run_item.ensures in

@@ -4,11 +4,12 @@ use Rattle.program_runs.specs.Lines.{lines_in}
 use Rattle.wav_reader.specs.Supplies.{Source}
 use Rattle.wav_reader.specs.Fills.{IsBeside}
 use Rattle.program_runs.specs.Feeding.{shelves_of}
-use Rattle.program_runs.specs.Going.{Means, Ran, stand_of}
+use Rattle.program_runs.specs.Going.{Ran, stand_of}
 use Rattle.period_writer.specs.Writers.{measures_of}
 use Rattle.program_runs.proofs.Ran.{ran_none, ran_both, fed_so}
 use Rattle.program_runs.proofs.Counting.{items_times, items_more, count_times, count_both, times_within, part_is}
 use Rattle.program_runs.proofs.items.run_part.Goals as goal
+use Rattle.route_setup.specs.Means.{Meaning}
 
 pub loop-init : goal.loop-init
 loop-init g c =
@@ -43,9 +44,9 @@ loop-preserved g c =
     let driver = c.args.driver.now in
     let now = c.loop.driver in
     let format = driver.bring_up.agenda.format in
-    let means : Means = record { IsPlanBy = g.T.Setter.IsPlanBy driver.setter; verbs_by = g.T.Setter.verbs_by driver.setter; IsOpenBy = g.T.Setter.IsOpenBy driver.setter } in
-    let means' : Means = record { IsPlanBy = g.T.Setter.IsPlanBy now.setter; verbs_by = g.T.Setter.verbs_by now.setter; IsOpenBy = g.T.Setter.IsOpenBy now.setter } in
-    let same : means' ≡ means = ap (λ setter. record { IsPlanBy = g.T.Setter.IsPlanBy setter; verbs_by = g.T.Setter.verbs_by setter; IsOpenBy = g.T.Setter.IsOpenBy setter }) c.loop.invariant.setter in
+    let means : Meaning = g.T.Setter.means driver.setter in
+    let means' : Meaning = g.T.Setter.means now.setter in
+    let same : means' ≡ means = ap (λ setter. g.T.Setter.means setter) c.loop.invariant.setter in
     let turn : items_times items (c.loop.counter + 1) ≡ items_times items c.loop.counter ++ c.as_slice.result.now =
     items_more items c.loop.counter ∙ ap (λ (back : List Item). items_times items c.loop.counter ++ back) (sym c.as_slice.ensures) in
     let more = ap (λ (all : List Item). length (lines_in all)) turn ∙ count_both (items_times items c.loop.counter) c.as_slice.result.now in
@@ -77,7 +78,7 @@ pub returns-clause-ran : goal.returns-clause-ran
 returns-clause-ran g c =
     let items = c.args.part.now.items in
     let driver = c.args.driver.now in
-    let means : Means = record { IsPlanBy = g.T.Setter.IsPlanBy driver.setter; verbs_by = g.T.Setter.verbs_by driver.setter; IsOpenBy = g.T.Setter.IsOpenBy driver.setter } in
+    let means : Meaning = g.T.Setter.means driver.setter in
     let all : c.loop.counter ≡ c.args.part.now.times = omega (arith, c.loop.auto.counter-end, c.loop-test.false) in
     subst (λ (n : ℕ). Ran means driver.bring_up.agenda.format driver.play (items_times items n)
     (stand_of driver.bring_up driver.writer driver.supply (shelves_of (g.S.Shelf.told c.args.shelf.now) (g.S.Shelf.faults c.args.shelf.now) (g.S.Shelf.empties c.args.shelf.now) (g.S.Shelf.given c.args.shelf.now)) c.args.cut.now c.args.rig.now)

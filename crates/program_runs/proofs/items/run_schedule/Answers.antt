@@ -10,11 +10,12 @@ use Rattle.program_runs.specs.Lines.{lines_in}
 use Rattle.wav_reader.specs.Supplies.{Source}
 use Rattle.wav_reader.specs.Fills.{IsBeside}
 use Rattle.program_runs.specs.Feeding.{shelves_of}
-use Rattle.program_runs.specs.Going.{Means, Ran, stand_of}
+use Rattle.program_runs.specs.Going.{Ran, stand_of}
 use Rattle.period_writer.specs.Writers.{measures_of}
 use Rattle.program_runs.proofs.Ran.{ran_none, ran_both, fed_so}
 use Rattle.program_runs.proofs.Counting.{part_lines, part_counts, count_both}
 use Rattle.program_runs.proofs.items.run_schedule.Goals as goal
+use Rattle.route_setup.specs.Means.{Meaning}
 
 pub loop-part-init : goal.loop-part-init
 loop-part-init g c =
@@ -52,9 +53,9 @@ loop-part-preserved g c =
     let driver = c.args.driver.now in
     let now = c.loop-part.driver in
     let format = driver.bring_up.agenda.format in
-    let means : Means = record { IsPlanBy = g.T.Setter.IsPlanBy driver.setter; verbs_by = g.T.Setter.verbs_by driver.setter; IsOpenBy = g.T.Setter.IsOpenBy driver.setter } in
-    let means' : Means = record { IsPlanBy = g.T.Setter.IsPlanBy now.setter; verbs_by = g.T.Setter.verbs_by now.setter; IsOpenBy = g.T.Setter.IsOpenBy now.setter } in
-    let same : means' ≡ means = ap (λ setter. record { IsPlanBy = g.T.Setter.IsPlanBy setter; verbs_by = g.T.Setter.verbs_by setter; IsOpenBy = g.T.Setter.IsOpenBy setter }) c.loop-part.invariant.setter in
+    let means : Meaning = g.T.Setter.means driver.setter in
+    let means' : Meaning = g.T.Setter.means now.setter in
+    let same : means' ≡ means = ap (λ setter. g.T.Setter.means setter) c.loop-part.invariant.setter in
     let front = flat_map items_in (take i parts) in
     let turn : flat_map items_in (take (i + 1) parts) ≡ front ++ items_in part =
     ap (flat_map items_in) (take_more parts i part c.loop-part-test.true ∙ ap (λ (one : Part). take i parts ++ one ∷ []) (sym c.part-item.is))

@@ -10,7 +10,7 @@ use Rattle.program_runs.proofs.items.run_schedule.Given as goal
 -- the items of the first parts were run
 abbrev pub invariant-loop-part : goal.invariant-loop-part
 invariant-loop-part g l = record {
-  ran : Ran (record { IsPlanBy = g.T.Setter.IsPlanBy l.fn.driver.setter; verbs_by = g.T.Setter.verbs_by l.fn.driver.setter; IsOpenBy = g.T.Setter.IsOpenBy l.fn.driver.setter }) l.fn.driver.bring_up.agenda.format l.fn.driver.play
+  ran : Ran (g.T.Setter.means l.fn.driver.setter) l.fn.driver.bring_up.agenda.format l.fn.driver.play
       (flat_map items_in (take l.part-index l.part-items)) (stand_of l.fn.driver.bring_up l.fn.driver.writer l.fn.driver.supply (shelves_of (g.S.Shelf.told l.fn.shelf) (g.S.Shelf.faults l.fn.shelf) (g.S.Shelf.empties l.fn.shelf) (g.S.Shelf.given l.fn.shelf)) l.fn.cut l.fn.rig)
       (stand_of l.driver.bring_up l.driver.writer l.driver.supply (shelves_of (g.S.Shelf.told l.shelf) (g.S.Shelf.faults l.shelf) (g.S.Shelf.empties l.shelf) (g.S.Shelf.given l.shelf)) l.cut l.rig);
   told : g.S.Shelf.told l.shelf ≡ g.S.Shelf.told l.fn.shelf;

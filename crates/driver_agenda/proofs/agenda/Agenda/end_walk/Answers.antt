@@ -24,20 +24,19 @@ invariant_of-self-2-clause-of_them g c =
 
 pub returns-clause-leads : goal.returns-clause-leads
 returns-clause-leads g c =
-    let P = λ (graph : RawCodec). g.T.Setter.IsPlanBy c.args.setter.now graph c.args.self.now.format in
-    let v = λ (graph : RawCodec) (plan : Plan). g.T.Setter.verbs_by c.args.setter.now graph plan c.args.self.now.format TAG in
+    let means = g.T.Setter.means c.args.setter.now c.args.self.now.format TAG in
     let addresses = c.args.self.now.addresses.items in
-    on_ok_weaker c.go_on.result (λ (goes : GoesOn P v addresses c.push.new.self.items c.go_on.new.self).
-    walk_ends P v (remaining c.args.walk) c.in_ok-graph.graph addresses c.args.self.now.graphs.items c.go_on.new.self c.in_ok-graph.ensures.good
-    (subst (λ (graphs : List RawCodec). GoesOn P v addresses graphs c.go_on.new.self) c.in-Ok.ensures.items goes)) c.go_on.ensures.leads
+    on_ok_weaker c.go_on.result (λ (goes : GoesOn means addresses c.push.new.self.items c.go_on.new.self).
+    walk_ends means (remaining c.args.walk) c.in_ok-graph.graph addresses c.args.self.now.graphs.items c.go_on.new.self c.in_ok-graph.ensures.good
+    (subst (λ (graphs : List RawCodec). GoesOn means addresses graphs c.go_on.new.self) c.in-Ok.ensures.items goes)) c.go_on.ensures.leads
 
 pub returns-clause-nothing : goal.returns-clause-nothing
 returns-clause-nothing g c = λ is.
-    let P = λ (graph : RawCodec). g.T.Setter.IsPlanBy c.args.setter.now graph c.args.self.now.format in
+    let means = g.T.Setter.means c.args.setter.now c.args.self.now.format TAG in
     let routes = c.go_on.ensures.nothing is in
     record {
       graph = c.in_ok-graph.graph;
       gives = c.in_ok-graph.ensures.good;
       last = subst (λ (graphs : List RawCodec). length c.args.self.now.addresses.items ≤ length graphs) c.in-Ok.ensures.items routes.0;
-      nothing = subst (λ (graphs : List RawCodec). RoutesNothing P graphs c.go_on.new.self) c.in-Ok.ensures.items routes.1;
+      nothing = subst (λ (graphs : List RawCodec). RoutesNothing means graphs c.go_on.new.self) c.in-Ok.ensures.items routes.1;
     }

@@ -9,6 +9,5 @@ use Rattle.driver_agenda.proofs.agenda.Agenda.take.Goals as goal
 pub returns-in_ok-take_word-in-Some-clause-leads : goal.returns-in_ok-take_word-in-Some-clause-leads
 returns-in_ok-take_word-in-Some-clause-leads g c =
     let was : Some c.in-Some.walk ≡ c.args.self.now.walk = c.in-Some.ensures.value in
-    let P = λ (graph : RawCodec). g.T.Setter.IsPlanBy c.args.setter.now graph c.args.self.now.format in
-    let v = λ (graph : RawCodec) (plan : Plan). g.T.Setter.verbs_by c.args.setter.now graph plan c.args.self.now.format TAG in
-    subst (λ (under_way : Option Walk). LedBy P v under_way c.args.answer c.args.self.now c.take_word.new.self) was c.in_ok-take_word-in-Some.ensures.leads
+    let means = g.T.Setter.means c.args.setter.now c.args.self.now.format TAG in
+    subst (λ (under_way : Option Walk). LedBy means under_way c.args.answer c.args.self.now c.take_word.new.self) was c.in_ok-take_word-in-Some.ensures.leads

@@ -24,7 +24,7 @@ pub returns-then-is_some-clause-leads : goal.returns-then-is_some-clause-leads
 returns-then-is_some-clause-leads g c =
     let some : is_some c.next.result ≡ true = sym c.is_some.ensures ∙ c.if-is_some.true in
     let asks : IsSome (question (remaining c.take.new.self)) = subst (λ (asked : Option Command). IsSome asked) c.next.ensures.value some in
-    walks_on _ _ (answered (remaining c.args.walk) c.args.answer) c.args.self.now.addresses.items c.args.self.now.graphs.items _
+    walks_on _ (answered (remaining c.args.walk) c.args.answer) c.args.self.now.addresses.items c.args.self.now.graphs.items _
     (subst (λ (dialogue : Dialogue). IsSome (question dialogue)) c.in_ok-take.ensures.ok asks)
     (record { under_way = c.take.new.self; is = refl; goes_on = c.in_ok-take.ensures.ok; graphs_are = refl })
 

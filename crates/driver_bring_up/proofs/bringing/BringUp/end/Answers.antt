@@ -18,7 +18,7 @@ returns-then-is_reset-clause-ends g c =
       is = λ task of ended agrees. none_stretch task (state_of old) (sym c.is_reset.ensures ∙ c.if-is_reset.true);
       ended = λ task of ended. absurd (not_true (sym asks ∙ (is_over old.phase (is_some (answer_in old.engine.rings [])) old.phase ended).0));
       unread = λ not. tt {0};
-      reads = reads_none _ _ [] old old refl (λ still. refl) refl;
+      reads = reads_none _ [] old old refl (λ still. refl) refl;
       looks = λ asking. absurd (not_true (sym asks ∙ asking));
     }
 
@@ -31,6 +31,6 @@ returns-clause-ends g c =
       is = λ task of ended agrees. shut_stretch task (state_of old) asks (sym c.is_reset.ensures ∙ c.if-is_reset.false) old.early;
       ended = λ task of ended. absurd (not_true (sym asks ∙ (is_over old.phase (is_some (answer_in old.engine.rings shut_accesses)) old.phase ended).0));
       unread = λ not. (tt {0}, (tt {0}, (tt {0}, tt {0})));
-      reads = reads_none _ _ shut_accesses old old refl (λ still. refl) refl;
+      reads = reads_none _ shut_accesses old old refl (λ still. refl) refl;
       looks = λ asking. absurd (not_true (sym asks ∙ asking));
     }
