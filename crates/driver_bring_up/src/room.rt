@@ -1,5 +1,5 @@
-//! How many accesses the calls of a bring-up make at most, and how many bytes of memory these read and write. Each is the
-//! sum of its parts.
+//! How many accesses the calls of a bring-up make at most, and how many bytes of memory these read and write. Each is
+//! the sum of its parts.
 ghost use Rattle.std.specs.Prelude.{◌≡◌};
 
 use command_engine::{POLL_BYTES, SUBMIT_ACCESSES, SUBMIT_BYTES};
