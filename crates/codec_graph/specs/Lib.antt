@@ -2,6 +2,7 @@ pub mod Widget
 pub mod Listed
 pub mod Widths
 pub mod Faults
+pub mod FaultText
 pub mod Cycles
 pub mod Candidates
 pub mod Settings

@@ -3,7 +3,7 @@ ghost use Rattle.std.specs.Prelude.{◌≡◌, IfOk, OnOk, OnErr, length};
 ghost use Rattle.hda_model.specs.Copies.{copied};
 ghost use Rattle.hda_model.specs.Refusals.{open_fault_text};
 
-use hda_model::{OpenFault, copy_bytes, push_open_fault};
+use hda_model::{OpenFault, copy_bytes};
 use std::alloc::{AllocError, Global};
 
 /// Writes the words of a fault, as many bytes as fit, and says how many they are.
@@ -15,8 +15,7 @@ pub(crate) fn tell(alloc: Global, why: OpenFault, into: &mut [u8]) -> Result<usi
     ensures length { IfOk result (λ count. count ≡ length (open_fault_text why)) }
     ensures none { OnErr result (into.new ≡ into.old) }
 {
-    let mut words = String::new(alloc);
-    push_open_fault(&mut words, why)?;
+    let words = why.to_string(alloc)?;
     copy_bytes(words.as_bytes(), into);
     Ok(words.len())
 }

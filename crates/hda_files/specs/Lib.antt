@@ -1,4 +1,5 @@
 pub mod Keys
+pub mod FaultText
 pub mod Values
 pub mod Memory
 pub mod Openings

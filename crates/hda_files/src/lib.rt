@@ -40,6 +40,7 @@
 
 mod codec;
 mod fault;
+mod fault_text;
 mod laws;
 mod list_faults;
 mod machine;

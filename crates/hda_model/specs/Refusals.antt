@@ -4,7 +4,7 @@ use Rattle.std.specs.Prelude.{Err, Option, Some, None}
 use Rattle.codec_graph.specs.CodecStates.{CodecState}
 use Rattle.world_steps.specs.declared.Step.{Step}
 use Rattle.world_steps.specs.declared.Step.TheVariants as step
-use Rattle.file_faults.specs.FaultText.{fault_text}
+use Rattle.hda_files.specs.FaultText.{fault_text}
 use Rattle.hda_files.specs.Machines.{Reads}
 use Rattle.hda_files.specs.declared.fault.FileFault.TheVariants as files
 use Rattle.hda_controller.specs.Controllers.{has_codec}

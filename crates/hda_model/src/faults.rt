@@ -1,10 +1,8 @@
 //! Why a call is refused.
-ghost use Rattle.std.specs.Prelude.{◌≡◌, ◌++◌, OnOk, string_bytes};
-ghost use Rattle.hda_model.specs.Refusals.{open_fault_text};
 
-use file_faults::push_fault;
 use hda_files::FileFault;
 use std::alloc::{AllocError, AllocFailed};
+use std::fmt;
 
 /// How many bytes the text of a codec file may have.
 pub const MOST_TEXT_BYTES: usize = 262_144;
@@ -64,15 +62,19 @@ pub enum StepFault {
     OutOfMemory,
 }
 
-/// Appends the words of a fault, as the program ends with them. Want of memory has none.
-///
-/// # Errors
-/// Want of memory.
-pub fn push_open_fault(out: &mut String, fault: OpenFault) -> Result<(), AllocError>
-    ensures { OnOk result (string_bytes out.new ≡ string_bytes out.old ++ open_fault_text fault) }
-{
-    match fault {
-        OpenFault::TooLong => out.push_str("TooLong"),
-        OpenFault::File(fault) => push_fault(out, fault),
+/// The words of a fault, as the program ends with them.
+impl fmt::Display for OpenFault {
+    ghost use Rattle.std.specs.Prelude.{Some};
+    ghost use Rattle.hda_model.specs.Refusals.{open_fault_text};
+
+    ghost output = { λ fault. Some (open_fault_text fault) };
+
+    fn fmt<W: fmt::Write>(&self, f: &mut fmt::Formatter<W>) -> fmt::Result {
+        match self {
+            OpenFault::TooLong => f.write_str("TooLong"),
+            OpenFault::File(fault) => write!(f, "{fault}"),
+        }
     }
 }
+
+impl std::error::Error for OpenFault {}

@@ -10,7 +10,7 @@ mod places;
 mod room;
 
 pub use codec_sound::Heard;
-pub use faults::{MOST_TEXT_BYTES, OpenFault, StepFault, push_open_fault};
+pub use faults::{MOST_TEXT_BYTES, OpenFault, StepFault};
 pub use hda_files::FileFault;
 pub use hda_registers::Width;
 pub use heard_items::{HeardItem, copy_bytes};

@@ -3,7 +3,6 @@ ghost use Rattle.std.specs.Prelude.{◌≡◌, ◌≢◌, ◌≤◌, ℕ, List, 
 ghost use Rattle.hda_program.specs.Files.{AreCodecBytesRead, FailedUnder, GivenAtMost, IsCodecRead};
 
 use crate::message::{Message, codec_refused, unreadable};
-use file_faults::push_fault;
 use hda_files::{FileFault, Machine, read_machine};
 use hda_outside::{ReadAll, Shelf, read_all};
 use std::alloc::{AllocError, Global};
@@ -43,8 +42,7 @@ fn read_bytes(alloc: Global, bytes: &[u8]) -> Result<Result<Machine, Message>, A
         Ok(machine) => Ok(Ok(machine)),
         Err(FileFault::OutOfMemory) => Err(AllocError),
         Err(fault) => {
-            let mut text = String::new(alloc);
-            push_fault(&mut text, fault)?;
+            let text = fault.to_string(alloc)?;
             Ok(Err(codec_refused(alloc, text.as_str())?))
         }
     }

@@ -13,7 +13,6 @@ mod play;
 mod route;
 mod run;
 mod schedule;
-mod text;
 mod walk;
 mod wav;
 

@@ -5,9 +5,12 @@ ghost use Rattle.hda_program.specs.Text.{codec_refused_line, geometry_refused_li
 ghost use Rattle.hda_program.specs.Text.{schedule_refused_line, usage_line, wav_refused_line};
 ghost use Rattle.sound_report.specs.Texts.{unreadable_line};
 
-use crate::text::USAGE;
 use sound_report::Status;
 use std::alloc::{AllocError, Global};
+
+/// The line for words that are no command.
+const USAGE: &str =
+    "usage: hda_play route CODEC [--rate R] [--channels C] | walk CODEC SCHEDULE | play CODEC WAV SCHEDULE [--periods K] [--period M] | make N\n";
 
 /// A text, and the status with which the program ends that writes it.
 #[derive(Drop)]

@@ -13,7 +13,6 @@ use crate::codec::read_codec_file;
 use crate::message::geometry_refused;
 use crate::plans::{nothing_routed, plans_of};
 use crate::schedule::read_schedule_file;
-use crate::text::geometry_fault_name;
 use crate::wav::open_wav_file;
 use driver_agenda::have_route;
 use hda_files::Machine;
@@ -159,7 +158,8 @@ fn play_schedule<S: Shelf>(
     match Geometry::new(periods, period, machine.fifo, head.format) {
         Ok(geometry) => play_ring(alloc, shelf, machine, head, wav, geometry, schedule),
         Err(fault) => {
-            let message = geometry_refused(alloc, geometry_fault_name(fault))?;
+            let text = fault.to_string(alloc)?;
+            let message = geometry_refused(alloc, text.as_str())?;
             Ok(Answer::Message(message))
         }
     }

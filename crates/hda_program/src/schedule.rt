@@ -3,7 +3,6 @@ ghost use Rattle.std.specs.Prelude.{◌≡◌, ◌≢◌, ◌≤◌, ℕ, List, 
 ghost use Rattle.hda_program.specs.Files.{AreScheduleBytesRead, FailedUnder, GivenAtMost, IsScheduleRead};
 
 use crate::message::{Message, schedule_refused, unreadable};
-use crate::text::push_schedule_fault;
 use hda_outside::{ReadAll, Shelf, read_all};
 use schedule_reader::{MOST_SCHEDULE_BYTES, SchedFault, Schedule, read_schedule};
 use std::alloc::{AllocError, Global};
@@ -42,8 +41,7 @@ fn read_bytes(alloc: Global, bytes: &[u8]) -> Result<Result<Schedule, Message>, 
         Ok(schedule) => Ok(Ok(schedule)),
         Err(SchedFault::OutOfMemory) => Err(AllocError),
         Err(fault) => {
-            let mut text = String::new(alloc);
-            push_schedule_fault(&mut text, fault)?;
+            let text = fault.to_string(alloc)?;
             Ok(Err(schedule_refused(alloc, text.as_str())?))
         }
     }

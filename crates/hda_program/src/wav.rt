@@ -2,10 +2,10 @@
 ghost use Rattle.std.specs.Prelude.{◌≡◌, ◌≢◌, ◌≤◌, ℕ, List, IfOk};
 ghost use Rattle.hda_program.specs.Files.{FailedUnder, GivenAtMost, IsWavOpened};
 ghost use Rattle.hda_program.specs.Meanings.{message_meant, telling};
-ghost use Rattle.hda_program.specs.Text.{wav_fault_text, wav_refused_line};
+ghost use Rattle.hda_program.specs.Text.{wav_refused_line};
+ghost use Rattle.wav_reader.specs.FaultText as wav;
 
 use crate::message::{Message, unreadable, wav_refused};
-use crate::text::push_wav_fault;
 use hda_outside::Shelf;
 use sound_report::Status;
 use std::alloc::{AllocError, Global};
@@ -39,9 +39,8 @@ pub(crate) fn open_wav_file<S: Shelf>(
 /// The WAV file has this fault before its sound.
 fn faulty(alloc: Global, fault: WavFault) -> Result<Message, AllocError>
     ensures { IfOk result (λ message.
-        message_meant message ≡ telling Status.WavRefused (wav_refused_line (wav_fault_text fault))) }
+        message_meant message ≡ telling Status.WavRefused (wav_refused_line (wav.fault_text fault))) }
 {
-    let mut text = String::new(alloc);
-    push_wav_fault(&mut text, fault)?;
+    let text = fault.to_string(alloc)?;
     wav_refused(alloc, text.as_str())
 }

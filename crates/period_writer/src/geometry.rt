@@ -3,6 +3,7 @@ ghost use Rattle.std.specs.Prelude.{◌≡◌, ◌≤◌, ◌<◌, ◌*◌, ◌^
 ghost use Rattle.stream_format.specs.Cadence.{block_bytes, most_bytes};
 ghost use Rattle.period_writer.specs.Rings as rings;
 
+use std::fmt;
 use stream_format::Format;
 
 /// The bytes that a period is a multiple of: a multiple of 128, to which buffers are aligned (HDA 1.0a, 3.6.3), and of
@@ -20,6 +21,22 @@ pub enum GeometryFault {
     /// The ring has no more bytes than the FIFO, or not one link frame may pass between two runs.
     RingTooSmall,
 }
+
+impl fmt::Display for GeometryFault {
+    ghost use Rattle.std.specs.Prelude.{Some};
+    ghost use Rattle.period_writer.specs.FaultText.{fault_text};
+
+    ghost output = { λ fault. Some (fault_text fault) };
+
+    fn fmt<W: fmt::Write>(&self, f: &mut fmt::Formatter<W>) -> fmt::Result {
+        f.write_str(match self {
+            GeometryFault::FifoTooSmall => "FifoTooSmall",
+            GeometryFault::RingTooSmall => "RingTooSmall",
+        })
+    }
+}
+
+impl std::error::Error for GeometryFault {}
 
 /// The shape of a ring: how many periods it has, of how many bytes, for which FIFO and which format.
 #[derive(Clone, Copy, Debug, PartialEq, Eq)]

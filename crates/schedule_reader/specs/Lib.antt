@@ -5,6 +5,7 @@ pub mod Operands
 pub mod Heads
 pub mod Rows
 pub mod Faults
+pub mod FaultText
 pub mod Parts
 pub mod Counts
 pub mod Ranges

@@ -2,6 +2,7 @@
 ghost use Rattle.std.specs.Prelude.{◌≡◌};
 
 use std::alloc::{AllocError, AllocFailed};
+use std::fmt;
 
 /// The first fault of a schedule. Lines count from 1, and the first faulty one counts; the others come in the order in
 /// which they stand here.
@@ -20,6 +21,26 @@ pub enum SchedFault {
     /// Memory was wanting. This says nothing of the schedule.
     OutOfMemory,
 }
+
+impl fmt::Display for SchedFault {
+    ghost use Rattle.std.specs.Prelude.{Some};
+    ghost use Rattle.schedule_reader.specs.FaultText.{fault_text};
+
+    ghost output = { λ fault. Some (fault_text fault) };
+
+    fn fmt<W: fmt::Write>(&self, f: &mut fmt::Formatter<W>) -> fmt::Result {
+        match self {
+            SchedFault::Line(number) => write!(f, "Line {number}"),
+            SchedFault::Nested(number) => write!(f, "Nested {number}"),
+            SchedFault::Unclosed => f.write_str("Unclosed"),
+            SchedFault::TooManySteps => f.write_str("TooManySteps"),
+            SchedFault::TooManyFrames => f.write_str("TooManyFrames"),
+            SchedFault::OutOfMemory => f.write_str("out of memory"),
+        }
+    }
+}
+
+impl std::error::Error for SchedFault {}
 
 impl From<AllocError> for SchedFault {
     ghost use Rattle.std.specs.Prelude.{◌≡◌};

@@ -3,6 +3,7 @@ ghost use Rattle.std.specs.Prelude.{◌≡◌, ◌≤◌, ◌<◌, ◌+◌, None
 ghost use Rattle.verb_codes.specs.Lists as spec;
 
 use std::alloc::AllocError;
+use std::fmt;
 
 /// What the first faulty entry of a connection list has wrong; of several the first of these. This project's own.
 #[derive(Clone, Copy, Debug, PartialEq, Eq)]
@@ -18,6 +19,25 @@ pub enum ListFault {
     /// The entry is a range whose node identifier is not above that of the entry before it.
     RangeBackward,
 }
+
+impl fmt::Display for ListFault {
+    ghost use Rattle.std.specs.Prelude.{Some};
+    ghost use Rattle.verb_codes.specs.FaultText.{list_fault_text};
+
+    ghost output = { λ fault. Some (list_fault_text fault) };
+
+    fn fmt<W: fmt::Write>(&self, f: &mut fmt::Formatter<W>) -> fmt::Result {
+        f.write_str(match self {
+            ListFault::Zero => "Zero",
+            ListFault::Beyond => "Beyond",
+            ListFault::FirstIsRange => "FirstIsRange",
+            ListFault::RangeAfterRange => "RangeAfterRange",
+            ListFault::RangeBackward => "RangeBackward",
+        })
+    }
+}
+
+impl std::error::Error for ListFault {}
 
 /// Why a connection list has no expansion.
 #[derive(Clone, Copy, Debug, PartialEq, Eq)]

@@ -1,3 +1,4 @@
+pub mod FaultText
 pub mod Chunks
 pub mod Formats
 pub mod Heads

@@ -3,6 +3,7 @@ ghost use Rattle.std.specs.Prelude.{◌≡◌};
 ghost use Rattle.wav_reader.specs.declared.fault.WavFault.TheVariants.{OutOfMemory};
 
 use std::alloc::AllocError;
+use std::fmt;
 
 /// The first fault of a WAV file, or want of memory.
 #[derive(Clone, Copy, Debug, PartialEq, Eq)]
@@ -28,6 +29,30 @@ pub enum WavFault {
     /// Memory was wanting, which says nothing of the file.
     OutOfMemory,
 }
+
+impl fmt::Display for WavFault {
+    ghost use Rattle.std.specs.Prelude.{Some};
+    ghost use Rattle.wav_reader.specs.FaultText.{fault_text};
+
+    ghost output = { λ fault. Some (fault_text fault) };
+
+    fn fmt<W: fmt::Write>(&self, f: &mut fmt::Formatter<W>) -> fmt::Result {
+        match self {
+            WavFault::NotRiff => f.write_str("NotRiff"),
+            WavFault::NoFormat => f.write_str("NoFormat"),
+            WavFault::NoData => f.write_str("NoData"),
+            WavFault::Truncated(length) => write!(f, "Truncated {length}"),
+            WavFault::Tag(tag) => write!(f, "Tag {tag}"),
+            WavFault::Channels(channels) => write!(f, "Channels {channels}"),
+            WavFault::Rate(rate) => write!(f, "Rate {rate}"),
+            WavFault::Bits(bits) => write!(f, "Bits {bits}"),
+            WavFault::BlockAlign => f.write_str("BlockAlign"),
+            WavFault::OutOfMemory => f.write_str("out of memory"),
+        }
+    }
+}
+
+impl std::error::Error for WavFault {}
 
 impl From<AllocError> for WavFault {
     ghost from_gives = { λ _ fault. fault ≡ OutOfMemory };

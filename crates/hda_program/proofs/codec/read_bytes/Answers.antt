@@ -1,6 +1,6 @@
 use Rattle.std.proofs.Common.{◌≡◌, ◌≢◌, rules}
 use Rattle.hda_files.specs.declared.fault.FileFault.TheVariants.{OutOfMemory}
-use Rattle.file_faults.specs.FaultText.{fault_text}
+use Rattle.hda_files.specs.FaultText.{fault_text}
 use Rattle.hda_program.proofs.codec.read_bytes.Goals as goal
 
 pub returns-in_ok-codec_refused-in-Err : goal.returns-in_ok-codec_refused-in-Err

@@ -1,0 +1,12 @@
+-- The words of a schedule's fault. This project's own.
+use Rattle.std.specs.Prelude.{ℕ, List, ◌++◌, codes, decimal}
+use Rattle.schedule_reader.specs.declared.fault.SchedFault.{SchedFault}
+use Rattle.schedule_reader.specs.declared.fault.SchedFault.TheVariants.{Line, Nested, Unclosed, TooManySteps, TooManyFrames, OutOfMemory}
+
+abbrev pub fault_text : SchedFault → List ℕ
+fault_text (Line number) = codes "Line " ++ decimal number
+fault_text (Nested number) = codes "Nested " ++ decimal number
+fault_text Unclosed = codes "Unclosed"
+fault_text TooManySteps = codes "TooManySteps"
+fault_text TooManyFrames = codes "TooManyFrames"
+fault_text OutOfMemory = codes "out of memory"
