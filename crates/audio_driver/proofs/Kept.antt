@@ -1,6 +1,7 @@
 -- What a driver keeps from call to call.
 use Rattle.std.proofs.Common.{◌≡◌, ◌≤◌, ◌<◌, ◌+◌, ℕ, List, [], ◌∷◌, length, length-append, Bool, true, false, refl, sym, ap, subst, ◌∙◌, arith}
 use Rattle.std.specs.Prelude.{◌&&◌, not, Contains}
+use Rattle.std.proofs.lemmas.Bool.{and_parts}
 use Rattle.dma_pool.specs.declared.blocks.Lent.{Lent}
 use Rattle.dma_pool.specs.Blocks.{run_at}
 use Rattle.dma_pool.specs.Pools.{PoolState}
@@ -23,13 +24,9 @@ use Rattle.audio_driver.specs.States.{is_open, phase_if, phase_of, plays_now}
 
 -- ---- the phase
 
-both_hold : (a b : Bool) → (a && b) ≡ true → b ≡ true
-both_hold true b is = is
-both_hold false b is = cc
-
 -- where calls play, all codecs are set up
 pub plays_ready : (play : Bool) (bring_up : BringUp) → plays_now play bring_up ≡ true → is_ready bring_up.phase ≡ true
-plays_ready play bring_up plays = both_hold play (is_ready bring_up.phase) plays
+plays_ready play bring_up plays = (and_parts play (is_ready bring_up.phase) plays).1
 
 pub plays_same : (play : Bool) (old new : BringUp) → new.phase ≡ old.phase → plays_now play old ≡ true → plays_now play new ≡ true
 plays_same play old new same plays = ap (λ (phase : Phase). play && is_ready phase) same ∙ plays

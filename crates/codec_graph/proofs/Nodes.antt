@@ -1,7 +1,7 @@
 -- Node identifiers of a well-formed graph.
-use Rattle.std.proofs.Common.{◌≡◌, ◌<◌, ◌≤◌, ◌==◌, ◌||◌, ℕ, Bool, true, false, List, [], ◌∷◌, ◌++◌, Some, None, inl, inr, refl, sym, ◌∙◌, arith}
+use Rattle.std.proofs.Common.{◌≡◌, ◌<◌, ◌≤◌, ◌==◌, ℕ, Bool, true, false, List, [], ◌∷◌, ◌++◌, Some, None, inl, inr, refl, sym, ◌∙◌, arith}
 use Rattle.std.specs.Prelude.{nat_lt}
-use Rattle.std.proofs.lemmas.Bool.{cases_lt}
+use Rattle.std.proofs.lemmas.Bool.{cases_lt, or_parts}
 use Rattle.std.proofs.lemmas.Bool.Decides.{nat_tests}
 use Rattle.std.proofs.lemmas.Option.{none-some}
 use Rattle.codec_graph.specs.declared.raw.RawNode.{RawNode}
@@ -41,16 +41,8 @@ node_below codec nid node well there = elim (cases_lt nid 128) [
   | inr high ↦ absurd (none-some node (sym (node_at-high codec nid well high) ∙ there))
 ]
 
-or_left : (a b : Bool) → (a || b) ≡ false → a ≡ false
-or_left true b e = e
-or_left false b e = refl
-
-or_right : (a b : Bool) → (a || b) ≡ false → b ≡ false
-or_right true b e = cc
-or_right false b e = e
-
 -- nor has the function group
 pub group_below : (codec : RawCodec) (nid : ℕ) → IsWellFormed codec → (nid == codec.group) ≡ true → nid < 128
 group_below codec nid well is =
-    let low = or_right _ (nat_lt 127 codec.group) (or_left _ (is_widget codec codec.group) (good_count codec well)) in
+    let low = (or_parts _ (nat_lt 127 codec.group) ((or_parts _ (is_widget codec codec.group) (good_count codec well)).0)).1 in
     grind (arith, nat_tests)

@@ -3,6 +3,7 @@ use Rattle.std.proofs.Common.{◌≡◌, ◌≢◌, ◌≤◌, ◌<◌, ◌-◌,
 use Rattle.std.specs.Prelude.{All, nat_lt}
 use Rattle.std.proofs.lemmas.Bool.{ne_eqb}
 use Rattle.std.proofs.lemmas.List.Elements.{All-head, All-tail}
+use Rattle.std.proofs.Math.Bool.{not-and_self}
 use Rattle.codec_graph.specs.CodecStates.{CodecState}
 use Rattle.hda_registers.specs.declared.shapes.Shape.{Shape}
 use Rattle.hda_registers.specs.declared.shapes.Width.{Width}
@@ -26,16 +27,12 @@ record KeepsStream (old new : Fields) : Type 0 where
   format : new.output.format ≡ old.output.format
   still : rose old.output new.output ≡ false
 
-not_both : (runs : Bool) → (not runs && runs) ≡ false
-not_both true = refl
-not_both false = refl
-
 not_then : (ran : Bool) → (not ran && false) ≡ false
 not_then true = refl
 not_then false = refl
 
 same_run : (old new : Descriptor) → new.run ≡ old.run → rose old new ≡ false
-same_run old new same = ap (λ (run : ℕ). not (is_running old) && (run == 1)) same ∙ not_both (is_running old)
+same_run old new same = ap (λ (run : ℕ). not (is_running old) && (run == 1)) same ∙ not-and_self (is_running old)
 
 same_output : (old new : Fields) → new.output ≡ old.output → KeepsStream old new
 same_output old new same = record {

@@ -1,10 +1,11 @@
 -- The last run stops the stream, and pins heard the line.
-use Rattle.std.proofs.Common.{◌≡◌, inl, inr, ◌≤◌, ◌+◌, ◌-◌, ◌*◌, ◌/◌, ◌==◌, ◌&&◌, ◌||◌, not, ℕ, min, Bool, true, false, if◌then◌else◌, List, [], ◌∷◌, ◌++◌, append_assoc, length, map, drop, Some, refl, sym, ap, subst, ◌∙◌, arith, rules}
+use Rattle.std.proofs.Common.{◌≡◌, inl, inr, ◌≤◌, ◌+◌, ◌-◌, ◌*◌, ◌/◌, ◌==◌, ◌&&◌, not, ℕ, min, Bool, true, false, if◌then◌else◌, List, [], ◌∷◌, ◌++◌, append_assoc, length, map, drop, Some, refl, sym, ap, subst, ◌∙◌, arith, rules}
 use Rattle.std.specs.Prelude.{All, nat_lt}
 use Rattle.std.specs.List.{range_with_len}
 use Rattle.std.proofs.Math.Nat.{mod-eq_of_lt, div-mul-le_self}
 use Rattle.std.proofs.lemmas.Nat.{le-div}
 use Rattle.std.proofs.lemmas.List.Elements.{All-from_recursion}
+use Rattle.std.proofs.lemmas.Bool.{or_parts}
 use Rattle.codec_graph.specs.CodecStates.{CodecState}
 use Rattle.hda_registers.specs.declared.shapes.Width.TheVariants.{One, Four}
 use Rattle.hda_registers.specs.declared.places.TheConstants.{WALCLK}
@@ -165,10 +166,6 @@ clock_read bytes periods start sound reach reach' pcm clock later world honest =
     (λ middle same honest. row_read bytes periods reach reach' _ (range_with_len (reach / bytes) (touched bytes reach reach')) (Read WALCLK Four clock ∷ later) middle (λ last same' honest. honest.0 ∙ ap (λ (fields : Fields). value_at fields WALCLK Four) (same' ∙ same)) honest)
     (subst (λ (events : List Event). AreHonest events world) (append_assoc (line_writes bytes periods start (min reach (start + sound)) (sound_and_silence (min reach (start + sound) - start) (min reach (start + sound) - start) pcm)) (line_writes bytes periods reach reach' (sound_and_silence (sound - (min reach (start + sound) - start)) (reach' - reach) (drop (min reach (start + sound) - start) pcm))) (Read WALCLK Four clock ∷ later)) honest)
 
-or_first : (a b : Bool) → (a || b) ≡ false → a ≡ false
-or_first true b e = cc
-or_first false b e = refl
-
 -- with a budget of 0 nothing is taken back
 no_budget : (m : Measures) (course : Course) (facts : RunFacts) → facts.budget ≡ 0 → takes_back m course facts ≡ false
 no_budget m course facts none = by (nat_lt (run_cut m course facts) course.reach) where
@@ -228,7 +225,7 @@ module _ (laws : HearLaws) (codecs : List CodecState) (ring : Ring) (pcm : List 
     few : 500 * (world_of begins).frames ≤ tally.course.from + 500 * limit_in ring
     few =
         let late : nat_lt (500 * m.limit) (run.facts.to - tally.course.from) ≡ false =
-        (let first = or_first (is_late_since m tally.course run.facts) (is_slow m tally.course run.facts) in_time in sym (ap (λ (started : Bool). started && nat_lt (500 * m.limit) (run.facts.to - tally.course.from)) playing.started) ∙ first) in
+        (let first = (or_parts (is_late_since m tally.course run.facts) (is_slow m tally.course run.facts) in_time).0 in sym (ap (λ (started : Bool). started && nat_lt (500 * m.limit) (run.facts.to - tally.course.from)) playing.started) ∙ first) in
         few_frames (world_of begins).frames run.facts.to tally.course.from (limit_in ring) clock_is (not_more (500 * limit_in ring) (run.facts.to - tally.course.from) late)
 
     playing_heard : (address pin pair : ℕ) → signal_with (codec_at address codecs) 1 (format_word ring.geometry.format) (Some (layout ring.geometry.format)) pin ≡ Pair pair

@@ -1,7 +1,8 @@
 -- Blocks that are first fits in a region lie in it, and apart.
-use Rattle.std.proofs.Common.{◌≡◌, ◌≤◌, inl, inr, ◌+◌, ◌*◌, ◌/◌, ◌%◌, ◌||◌, ℕ, Bool, true, false, nat_le, List, [], ◌∷◌, refl, sym, ap, subst, arith, rules}
+use Rattle.std.proofs.Common.{◌≡◌, ◌≤◌, inl, inr, ◌+◌, ◌*◌, ◌/◌, ◌%◌, ◌||◌, ℕ, Bool, true, nat_le, List, [], ◌∷◌, refl, sym, ap, subst, arith, rules}
 use Rattle.std.specs.Prelude.{Contains}
 use Rattle.std.proofs.lemmas.List.Elements.{All-contains, Contains-append_left, Contains-append_right, Contains-push}
+use Rattle.std.proofs.lemmas.Bool.{or_right}
 use Rattle.dma_pool.specs.declared.runs.Run.{Run}
 use Rattle.dma_pool.specs.Pools.{AddsRun, IsApart, granules_for}
 use Rattle.dma_pool.specs.Blocks.{run_at}
@@ -17,10 +18,6 @@ added : (old : List Run) (run : Run) (new : List Run) → AddsRun old run new �
 added old run new adds =
     subst (λ (runs : List Run). Contains runs run) (sym adds.becomes) (Contains-append_right adds.front (run ∷ adds.back) run (Contains-append_left (run ∷ []) adds.back run (Contains-push [] run)))
 
-or_true : (a b : Bool) → b ≡ true → (a || b) ≡ true
-or_true true b is = refl
-or_true false b is = is
-
 lie_apart : (corb rirb : ℕ) → corb % 128 ≡ 0 → rirb % 128 ≡ 0 → IsApart (rirb / 128) (granules_for rirb_bytes) (run_at corb corb_bytes) → are_apart corb rirb ≡ true
 lie_apart corb rirb aligned aligned' (inl before) =
     let less : corb + corb_bytes ≤ rirb = omega (arith, before, aligned, aligned') in
@@ -28,7 +25,7 @@ lie_apart corb rirb aligned aligned' (inl before) =
     ap (λ (b : Bool). b || nat_le (rirb + rirb_bytes) corb) is
 lie_apart corb rirb aligned aligned' (inr behind) =
     let less : rirb + rirb_bytes ≤ corb = omega (arith, behind, aligned, aligned') in
-    or_true (nat_le (corb + corb_bytes) rirb) (nat_le (rirb + rirb_bytes) corb) (search (rules, less))
+    or_right (nat_le (corb + corb_bytes) rirb) (nat_le (rirb + rirb_bytes) corb) (search (rules, less))
 
 -- both rings lie so
 pub record LieWell (blocks : Blocks) : Type 0 where

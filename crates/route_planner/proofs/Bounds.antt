@@ -1,7 +1,7 @@
 -- What tables without a fault say of node identifiers and connection lists.
 use Rattle.std.proofs.Common.{◌≡◌, ◌<◌, ◌≤◌, ◌+◌, ◌-◌, ◌==◌, ◌||◌, ℕ, Bool, true, false, not, cond, List, [], ◌∷◌, ◌++◌, length, None, refl, sym, ap, subst, ◌∙◌, zero, suc, arith}
 use Rattle.std.specs.Prelude.{is_some, slice_get, nat_lt, nat_le}
-use Rattle.std.proofs.lemmas.Bool.{ltb-false}
+use Rattle.std.proofs.lemmas.Bool.{ltb-false, or_parts}
 use Rattle.std.specs.List.{list_all}
 use Rattle.std.proofs.lemmas.Bool.Decides.{nat_tests}
 use Rattle.codec_graph.specs.declared.raw.RawNode.{RawNode}
@@ -26,23 +26,15 @@ no_fault : (holds : Bool) (fault : GraphFault) → fault_if holds fault ≡ [] �
 no_fault true fault e = cc
 no_fault false fault e = refl
 
-or_left : (a b : Bool) → (a || b) ≡ false → a ≡ false
-or_left true b e = e
-or_left false b e = refl
-
-or_right : (a b : Bool) → (a || b) ≡ false → b ≡ false
-or_right true b e = cc
-or_right false b e = e
-
 -- the widgets end below 128 and are as many as the nodes
 ends_below : (codec : RawCodec) → has_bad_count codec ≡ false → codec.first + length codec.nodes ≤ 128
 ends_below codec e =
-    let a = or_left _ (is_widget codec codec.group) e in
-    let b = or_left _ (nat_le 128 codec.group) a in
-    let c = or_left _ (codec.group == 0) b in
-    let many = or_right _ (not (length codec.nodes == codec.count)) c in
-    let d = or_left _ (not (length codec.nodes == codec.count)) c in
-    let end = or_right _ (nat_lt 128 (codec.first + codec.count)) d in
+    let a = (or_parts _ (is_widget codec codec.group) e).0 in
+    let b = (or_parts _ (nat_le 128 codec.group) a).0 in
+    let c = (or_parts _ (codec.group == 0) b).0 in
+    let many = (or_parts _ (not (length codec.nodes == codec.count)) c).1 in
+    let d = (or_parts _ (not (length codec.nodes == codec.count)) c).0 in
+    let end = (or_parts _ (nat_lt 128 (codec.first + codec.count)) d).1 in
     grind (arith, nat_tests)
 
 short_list : (node : RawNode) → nat_lt (most_connections node) (length node.list) ≡ false → length node.list ≤ 64

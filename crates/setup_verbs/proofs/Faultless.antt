@@ -2,7 +2,7 @@
 use Rattle.std.proofs.Common.{◌≡◌, ◌<◌, ◌≤◌, ◌+◌, ◌-◌, ◌==◌, ◌&&◌, ◌||◌, ℕ, zero, suc, Bool, true, false, not, cond, List, [], ◌∷◌, ◌++◌, length, Some, None, refl, sym, subst, ◌∙◌, arith}
 use Rattle.std.specs.Prelude.{slice_get, nat_lt, nat_le}
 use Rattle.std.specs.List.{list_all}
-use Rattle.std.proofs.lemmas.Bool.{ltb-false, true≢false}
+use Rattle.std.proofs.lemmas.Bool.{ltb-false, true≢false, or_parts}
 use Rattle.std.proofs.lemmas.Bool.Decides.{nat_tests}
 use Rattle.std.proofs.lemmas.Option.{none-some}
 use Rattle.codec_graph.specs.declared.raw.RawNode.{RawNode}
@@ -25,14 +25,6 @@ no_fault : (holds : Bool) (fault : GraphFault) → fault_if holds fault ≡ [] �
 no_fault true fault e = cc
 no_fault false fault e = refl
 
-pub or_left : (a b : Bool) → (a || b) ≡ false → a ≡ false
-or_left true b e = e
-or_left false b e = refl
-
-pub or_right : (a b : Bool) → (a || b) ≡ false → b ≡ false
-or_right true b e = cc
-or_right false b e = e
-
 offset_fits : (word : ℕ) → has_bad_offset word ≡ false → amplifier_offset word ≤ amplifier_steps word
 offset_fits word e = ltb-false (amplifier_steps word) (amplifier_offset word) e
 
@@ -53,8 +45,8 @@ faultless codec nid node e =
     let amps = no_fault (has_bad_offset node.amp_in || has_bad_offset node.amp_out) (AmpOffset nid) (none_right (fault_if (nat_lt (most_connections node) (length node.list)) (ListTooLong nid)) (fault_if (has_bad_offset node.amp_in || has_bad_offset node.amp_out) (AmpOffset nid)) rest) in
     record {
       inputs = few_inputs (is_mixer node) (length node.list) (no_fault (nat_lt (most_connections node) (length node.list)) (ListTooLong nid) long);
-      amp_in = offset_fits node.amp_in (or_left (has_bad_offset node.amp_in) (has_bad_offset node.amp_out) amps);
-      amp_out = offset_fits node.amp_out (or_right (has_bad_offset node.amp_in) (has_bad_offset node.amp_out) amps);
+      amp_in = offset_fits node.amp_in ((or_parts (has_bad_offset node.amp_in) (has_bad_offset node.amp_out) amps).0);
+      amp_out = offset_fits node.amp_out ((or_parts (has_bad_offset node.amp_in) (has_bad_offset node.amp_out) amps).1);
     }
 
 faultless_nodes : (codec : RawCodec) (nid : ℕ) (nodes : List RawNode) → nodes_faults codec nid nodes ≡ [] → (i : ℕ) (node : RawNode) → slice_get nodes i ≡ Some node → IsFaultless node
@@ -105,12 +97,12 @@ by_own P false here group h g = g
 pub input_offset : (codec : RawCodec) (nid : ℕ) (node : RawNode) → IsWellFormed codec → node_at codec nid ≡ Some node → amplifier_offset (input_amplifier_word codec node) ≤ amplifier_steps (input_amplifier_word codec node)
 input_offset codec nid node well there =
     by_own (λ w. amplifier_offset w ≤ amplifier_steps w) (overrides_amplifiers node) node.amp_in codec.group_words.amp_in (faultless_at codec nid node well there).amp_in
-    (offset_fits codec.group_words.amp_in (or_left (has_bad_offset codec.group_words.amp_in) (has_bad_offset codec.group_words.amp_out) (group_offsets codec well)))
+    (offset_fits codec.group_words.amp_in ((or_parts (has_bad_offset codec.group_words.amp_in) (has_bad_offset codec.group_words.amp_out) (group_offsets codec well)).0))
 
 pub output_offset : (codec : RawCodec) (nid : ℕ) (node : RawNode) → IsWellFormed codec → node_at codec nid ≡ Some node → amplifier_offset (output_amplifier_word codec node) ≤ amplifier_steps (output_amplifier_word codec node)
 output_offset codec nid node well there =
     by_own (λ w. amplifier_offset w ≤ amplifier_steps w) (overrides_amplifiers node) node.amp_out codec.group_words.amp_out (faultless_at codec nid node well there).amp_out
-    (offset_fits codec.group_words.amp_out (or_right (has_bad_offset codec.group_words.amp_in) (has_bad_offset codec.group_words.amp_out) (group_offsets codec well)))
+    (offset_fits codec.group_words.amp_out ((or_parts (has_bad_offset codec.group_words.amp_in) (has_bad_offset codec.group_words.amp_out) (group_offsets codec well)).1))
 
 -- where the group is, and where the widgets are
 pub record HasPlaces (codec : RawCodec) : Type 0 where
@@ -123,16 +115,16 @@ pub record HasPlaces (codec : RawCodec) : Type 0 where
 pub places : (codec : RawCodec) → IsWellFormed codec → HasPlaces codec
 places codec well =
     let e = good_count codec well in
-    let a = or_left _ (is_widget codec codec.group) e in
-    let apart = or_right _ (is_widget codec codec.group) e in
-    let below = or_right _ (nat_le 128 codec.group) a in
-    let b = or_left _ (nat_le 128 codec.group) a in
-    let some = or_right _ (codec.group == 0) b in
-    let c = or_left _ (codec.group == 0) b in
-    let many = or_right _ (not (length codec.nodes == codec.count)) c in
-    let d = or_left _ (not (length codec.nodes == codec.count)) c in
-    let f = or_left _ (nat_lt 128 (codec.first + codec.count)) d in
-    let first = or_right (codec.count == 0) (codec.first == 0) f in
+    let a = (or_parts _ (is_widget codec codec.group) e).0 in
+    let apart = (or_parts _ (is_widget codec codec.group) e).1 in
+    let below = (or_parts _ (nat_le 128 codec.group) a).1 in
+    let b = (or_parts _ (nat_le 128 codec.group) a).0 in
+    let some = (or_parts _ (codec.group == 0) b).1 in
+    let c = (or_parts _ (codec.group == 0) b).0 in
+    let many = (or_parts _ (not (length codec.nodes == codec.count)) c).1 in
+    let d = (or_parts _ (not (length codec.nodes == codec.count)) c).0 in
+    let f = (or_parts _ (nat_lt 128 (codec.first + codec.count)) d).0 in
+    let first = (or_parts (codec.count == 0) (codec.first == 0) f).1 in
     record {
       some = grind (arith, nat_tests);
       below = grind (arith, nat_tests);
