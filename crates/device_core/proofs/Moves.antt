@@ -41,18 +41,6 @@ keeps_queues old codecs waiting keeps same = record {
   output_stands = keeps.output_stands;
 }
 
--- what a plug leaves of a codec
-pin_graph : (codec : CodecState) (nid : ℕ) (present : Bool) (node : RawNode) (pin : Bool) → (if pin then pin_plugged codec nid present node else codec).graph ≡ codec.graph
-pin_graph codec nid present node true = refl
-pin_graph codec nid present node false = refl
-
-node_graph : (codec : CodecState) (nid : ℕ) (present : Bool) (node : Option RawNode) → (node_plugged codec nid present node).graph ≡ codec.graph
-node_graph codec nid present None = refl
-node_graph codec nid present (Some node) = pin_graph codec nid present node (is_pin node)
-
-pub graph_plugged : (nid : ℕ) (present : Bool) (codec : CodecState) → (plugged codec nid present).graph ≡ codec.graph
-graph_plugged nid present codec = node_graph codec nid present (node_at codec.graph nid)
-
 pin_settings : (codec : CodecState) (nid : ℕ) (present : Bool) (node : RawNode) (pin : Bool) → (if pin then pin_plugged codec nid present node else codec).settings ≡ codec.settings
 pin_settings codec nid present node true = refl
 pin_settings codec nid present node false = refl

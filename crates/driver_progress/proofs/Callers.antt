@@ -16,3 +16,7 @@ pub use Rattle.driver_progress.proofs.CourseRows.{course_row}
 pub use Rattle.driver_progress.proofs.PhaseCases.{asking_goes_on, asking_early, asking_active, ready_is}
 -- the accesses of a call, and of the last one, while commands are sent, and where they lead
 pub use Rattle.driver_progress.proofs.PhaseCases.{asking_runs, asking_led, asking_closes, asking_closed}
+-- what conforms in a row conforms at its back
+pub use Rattle.driver_progress.proofs.CourseLaws.{conforms_back}
+-- and at its front
+pub use Rattle.driver_progress.proofs.CourseLaws.{conforms_front}

@@ -10,4 +10,6 @@ pub mod StreamWrites
 pub mod Apart
 pub mod Dispatch
 pub mod Keeping
+pub mod Pointers
+pub mod RingSizes
 pub mod Callers

@@ -75,3 +75,17 @@ accessed_after old middle new step event stepped later = record {
   steps = step ∷ later.steps;
   went = went_both old middle new (Stepped step ∷ []) (map Stepped later.steps ++ event ∷ []) stepped later.went;
 }
+
+-- steps as events lead where the steps lead
+pub steps_after : (steps : List Step) (world : World) → after (map Stepped steps) world ≡ after_steps steps world
+steps_after [] world = refl
+steps_after (one ∷ steps) world = steps_after steps (after_step one world)
+
+-- what all events of a row have, all of its front and all of its back have
+pub events_front : (P : Event → Type 0) (front back : List Event) → All P (front ++ back) → All P front
+events_front P [] back all = All-nil P
+events_front P (event ∷ front) back all = All-cons P event front (All-head P event (front ++ back) all) (events_front P front back (All-tail P event (front ++ back) all))
+
+pub events_back : (P : Event → Type 0) (front back : List Event) → All P (front ++ back) → All P back
+events_back P [] back all = all
+events_back P (event ∷ front) back all = events_back P front back (All-tail P event (front ++ back) all)

@@ -10,13 +10,14 @@ use Rattle.hda_registers.specs.declared.shapes.Width.{Width}
 use Rattle.hda_registers.specs.Fields.{is_running}
 use Rattle.world_rings.specs.Entries.{next_command}
 use Rattle.world_steps.specs.declared.Step.{Step}
+use Rattle.codec_graph.proofs.Callers.{graph-plugged, settings-plugged}
 use Rattle.hda_world.specs.Worlds.{World, TakenCommand, codec_at, with_codec}
 use Rattle.hda_world.specs.Steps.{address_of, taking, after_steps}
 use Rattle.hda_world.specs.Events.{Event, Stepped, Begin, End, Read, Write, DmaRead, DmaWrite, after_write, happens, after}
 use Rattle.hda_world.specs.Kept.{Kept}
-use Rattle.hda_world.proofs.Callers.{kept_steps, frames_after, access_leaves, graphs-with_codec, graph-plugged, found_address, absent}
+use Rattle.hda_world.proofs.Callers.{kept_steps, frames_after, access_leaves, graphs-with_codec, found_address, absent}
 use Rattle.laws_settings.specs.Histories.{settings_since, FoundTaken, WasTaken, WereTaken, RemembersBy, Remembers}
-use Rattle.laws_settings.proofs.Codecs.{part-with_codec, settings-plugged, found_taken, all_handed}
+use Rattle.laws_settings.proofs.Codecs.{part-with_codec, found_taken, all_handed}
 
 -- ---- the last of some commands
 

@@ -8,3 +8,5 @@ pub use Rattle.rig.proofs.Following.{follow_more, run_more, all_accesses}
 pub use Rattle.rig.proofs.Replayed.{replayed}
 -- a candidate pin of a codec's graph is one of its machine
 pub use Rattle.rig.proofs.Candidates.{candidate_known}
+-- where there are no groups there are no accesses
+pub use Rattle.rig.proofs.Weaving.{groups_none}

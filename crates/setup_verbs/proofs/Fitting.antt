@@ -13,7 +13,7 @@ use Rattle.codec_graph.specs.declared.raw.RawCodec.{RawCodec}
 use Rattle.codec_graph.specs.Widget.{node_at, is_selector, has_input_amplifier}
 use Rattle.codec_graph.specs.Candidates.{is_candidate_at}
 use Rattle.codec_graph.specs.Cycles.{IsWellFormed}
-use Rattle.codec_graph.proofs.Callers.{node_below}
+use Rattle.codec_graph.proofs.Callers.{node_below, counted}
 use Rattle.stream_format.specs.declared.format.Format.{Format}
 use Rattle.route_planner.specs.declared.routes.PinPlan.{PinPlan}
 use Rattle.route_planner.specs.declared.routes.Plan.{Plan}
@@ -24,7 +24,7 @@ use Rattle.setup_verbs.specs.declared.roles.Role.{Role}
 use Rattle.setup_verbs.specs.declared.roles.Role.TheVariants.{Unused, Passed, Source}
 use Rattle.setup_verbs.specs.Roles.{role_of}
 use Rattle.setup_verbs.specs.Steps.{FitsRole, FitsVerbs}
-use Rattle.setup_verbs.proofs.Faultless.{faultless_at, places, IsApart, apart_at}
+use Rattle.setup_verbs.proofs.Faultless.{faultless_at, IsApart, apart_at}
 use Rattle.setup_verbs.proofs.RoleFacts.{IsUsedWell, role_well}
 
 few_numbers : (xs : List ℕ) (n : ℕ) → AllPairs (λ x y. x ≢ y) xs → ((x : ℕ) → Contains xs x → x < n) → length xs ≤ n
@@ -62,13 +62,13 @@ candidate_there (Some node) e = (node, refl)
 -- the order has at most 126 pins: they have identifiers below 128, none is 0 and none is the group
 few_pins : (codec : RawCodec) (pins : List ℕ) → IsWellFormed codec → IsOrder codec pins → length pins ≤ 126
 few_pins codec pins well order =
-    let p = places codec well in
+    let p = counted codec well in
     let all : length (0 ∷ codec.group ∷ pins) ≤ 128 = few_numbers (0 ∷ codec.group ∷ pins) 128
     (pairs_cons 0 (codec.group ∷ pins)
-    (All-cons (λ y. 0 ≢ y) codec.group pins (λ e. let z : 1 ≤ codec.group = p.some in absurd (omega arith)) (λ k d within e. let z = (apart (get_or pins k d) (Contains-get_or pins k d within)).some in absurd (omega arith)))
+    (All-cons (λ y. 0 ≢ y) codec.group pins (λ e. let z : 1 ≤ codec.group = p.has_group in absurd (omega arith)) (λ k d within e. let z = (apart (get_or pins k d) (Contains-get_or pins k d within)).some in absurd (omega arith)))
     (pairs_cons codec.group pins (λ k d within e. (apart (get_or pins k d) (Contains-get_or pins k d within)).other (sym e)) (pins_apart codec pins order)))
     (λ x has. All-contains (λ y. y < 128) (0 ∷ codec.group ∷ pins) x
-    (All-cons (λ y. y < 128) 0 (codec.group ∷ pins) (omega arith) (All-cons (λ y. y < 128) codec.group pins p.below (λ k d within. below (get_or pins k d) (Contains-get_or pins k d within)))) has)
+    (All-cons (λ y. y < 128) 0 (codec.group ∷ pins) (omega arith) (All-cons (λ y. y < 128) codec.group pins p.group_below (λ k d within. below (get_or pins k d) (Contains-get_or pins k d within)))) has)
     in omega arith
   where
     there : (pin : ℕ) → Contains pins pin → (node : RawNode) × (node_at codec pin ≡ Some node)
