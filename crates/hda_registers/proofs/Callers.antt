@@ -30,9 +30,9 @@ pub use Rattle.hda_registers.proofs.Keeping.{keeps-shape}
 -- what holds in reset holds after each write
 pub use Rattle.hda_registers.proofs.Keeping.{stays-held}
 -- what a write leaves of CORB's pointers
-pub use Rattle.hda_registers.proofs.Pointers.{KeepsPointers}
+pub use Rattle.hda_registers.proofs.CorbPointers.{KeepsPointers}
 -- a write beside GCTL and CORB's pointers leaves both
-pub use Rattle.hda_registers.proofs.Pointers.{written_pointers}
+pub use Rattle.hda_registers.proofs.CorbPointers.{written_pointers}
 -- a ring has an entry
 pub use Rattle.hda_registers.proofs.RingSizes.{some_entries}
 -- and 256 at most

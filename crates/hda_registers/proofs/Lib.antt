@@ -10,6 +10,6 @@ pub mod StreamWrites
 pub mod Apart
 pub mod Dispatch
 pub mod Keeping
-pub mod Pointers
+pub mod CorbPointers
 pub mod RingSizes
 pub mod Callers

@@ -136,3 +136,7 @@ pub use Rattle.hda_world.proofs.Telling.{steps_after}
 pub use Rattle.hda_world.proofs.Telling.{events_front}
 -- and all of its back
 pub use Rattle.hda_world.proofs.Telling.{events_back}
+-- a relation of the link frames alone is kept where one more keeps it
+pub use Rattle.hda_world.proofs.Passing.{kept_frames}
+-- and one of the codecs alone where their moves keep it
+pub use Rattle.hda_world.proofs.Passing.{kept_codecs}

@@ -1,9 +1,12 @@
 -- How the relations of what is told go together.
 use Rattle.std.proofs.Common.{◌≡◌, List, [], ◌∷◌, ◌++◌, map, refl, sym, ap, subst, ◌∙◌, append_assoc, append-nil, Option, Some, None}
+use Rattle.std.specs.Prelude.{All}
+use Rattle.std.proofs.lemmas.List.Elements.{All-nil, All-cons, All-head, All-tail}
 use Rattle.world_steps.specs.declared.Step.{Step}
 use Rattle.hda_world.specs.Worlds.{World}
 use Rattle.hda_world.specs.Events.{Event, Stepped, happens, after, AreHonest}
 use Rattle.hda_world.specs.Tellings.{Telling, world_of, Went, Accessed, Grew, Between, BetweenBy, Then}
+use Rattle.hda_world.specs.Steps.{after_step, after_steps}
 
 pub after-append : (first second : List Event) (world : World) → after (first ++ second) world ≡ after second (after first world)
 after-append [] second world = refl

@@ -13,13 +13,10 @@ use Rattle.driver_progress.specs.Tasks.{Order}
 use Rattle.driver_progress.specs.Commands.{ask_accesses}
 use Rattle.driver_progress.specs.Shutting.{shut_accesses}
 use Rattle.driver_progress.specs.Unread.{IsAccess, AreAccesses, IsUnread, AreUnread}
+use Rattle.driver_progress.proofs.Callers.{accesses_both, entry_accesses}
 use Rattle.driver_bring_up.specs.Commanding.{submit_made}
 use Rattle.driver_bring_up.specs.declared.bringing.BringUp.{BringUp}
 use Rattle.driver_bring_up.specs.Told.{Looked}
-
-pub accesses_both : (front back : List Event) → AreAccesses front → AreAccesses back → AreAccesses (front ++ back)
-accesses_both [] back first second = second
-accesses_both (event ∷ front) back first second = (first.0, accesses_both front back first.1 second)
 
 unread_access : (event : Event) → IsUnread event → IsAccess event
 unread_access (Stepped step) unread = unread
@@ -49,13 +46,9 @@ plain_accesses (event ∷ events) plain = (plain_access event plain.0, plain_acc
 
 -- ---- a look for an answer, and what comes after it
 
-entries_are : (rirb size place : ℕ) (entries : List (List ℕ)) → AreAccesses (entry_reads rirb size place entries)
-entries_are rirb size place [] = tt {0}
-entries_are rirb size place (entry ∷ entries) = (tt {0}, entries_are rirb size (place + 1) entries)
-
 batch_are : (some : Bool) (rirb : ℕ) (rings : RingPlaces) (reads : PollReads) → AreAccesses (if some then batch_accesses rirb rings reads.pointer reads.entries else [])
 batch_are true rirb rings reads =
-    (tt {0}, accesses_both (entry_reads rirb (entries_of rings.rirb) (rings.read + 1) reads.entries) (Write RIRBSTS One 1 ∷ []) (entries_are rirb (entries_of rings.rirb) (rings.read + 1) reads.entries) (tt {0}, tt {0}))
+    (tt {0}, accesses_both (entry_reads rirb (entries_of rings.rirb) (rings.read + 1) reads.entries) (Write RIRBSTS One 1 ∷ []) (entry_accesses rirb (entries_of rings.rirb) (rings.read + 1) reads.entries) (tt {0}, tt {0}))
 batch_are false rirb rings reads = tt {0}
 
 pub submit_are : (corb : ℕ) (rings : RingPlaces) (order : Option Order) → AreAccesses (submit_made corb rings order)

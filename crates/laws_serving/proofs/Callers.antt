@@ -3,7 +3,7 @@
 -- a write beside GCTL writes the registers and nothing else, and leaves the count of link frames
 pub use Rattle.laws_serving.proofs.Worlds.{write_is, event_time, event_frames_stay, step_out, IsTimed, IsBeside, timed_row}
 -- no step takes back a link frame, and events let no more pass than theirs
-pub use Rattle.laws_serving.proofs.Counting.{step_grows, steps_count, event_frames, events_count, call_frames, timed_steps}
+pub use Rattle.laws_serving.proofs.Counting.{step_grows, steps_count, events_count, call_frames, timed_steps}
 -- accesses by what they ask
 pub use Rattle.laws_serving.proofs.Requests.{IsAccess, Reads, reads_first, Makes, writes_first, InTwo, in_two, none_asked}
 -- accesses one after another, between which streams move

@@ -16,7 +16,7 @@ use Rattle.hda_world.specs.Steps.{after_step, frame_step, output_fetched, output
 use Rattle.hda_world.specs.Events.{Event, Stepped, Begin, End, Read, Write, DmaRead, DmaWrite, IsNoStep, happens, after_write, registers_written}
 use Rattle.hda_world.proofs.Callers.{passed_global, plain_write, kept_step}
 use Rattle.driver_progress.specs.Beginning.{KeepsTime}
-use Rattle.driver_progress.proofs.StretchCallers.{keeps_time}
+use Rattle.driver_progress.proofs.Callers.{keeps_time}
 use Rattle.laws_serving.specs.ServingSchedules.{IsOfStreams}
 use Rattle.laws_serving.proofs.Rows.{CalmRow, kept_row}
 

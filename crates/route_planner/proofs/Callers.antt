@@ -17,6 +17,8 @@ pub use Rattle.route_planner.proofs.OnlyPlan.{only_plan}
 pub use Rattle.route_planner.proofs.Bridge.{match_some}
 -- the entries of a plan are admissible
 pub use Rattle.route_planner.proofs.OnlyPlan.{admissible_entries}
+-- no pin comes before itself
+pub use Rattle.route_planner.proofs.Sorted.{not_before}
 
 -- in a graph whose tables have no fault, widgets have node identifiers below 128 and at most 64 connections each
 pub IsBounded-from_sound : (codec : RawCodec) → HasSoundTables codec → IsBounded codec

@@ -1,4 +1,4 @@
 pub mod Pieces
 pub mod Standing
-pub mod Engines
+pub mod EngineMoves
 pub mod Callers
