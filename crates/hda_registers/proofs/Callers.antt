@@ -39,6 +39,12 @@ pub use Rattle.hda_registers.proofs.RingSizes.{some_entries}
 pub use Rattle.hda_registers.proofs.RingSizes.{few_entries}
 -- what lies beside GCTL
 pub use Rattle.hda_registers.proofs.Apart.{not_control}
+-- CRST and the wall clock are the same
+pub use Rattle.hda_registers.proofs.Clocks.{SameTime}
+-- they are where no register is written
+pub use Rattle.hda_registers.proofs.Clocks.{same_time}
+-- and after a write elsewhere than at GCTL
+pub use Rattle.hda_registers.proofs.Clocks.{written_time}
 
 -- GCTL reads CRST and UNSOL
 pub read-global_control : (f : Fields) → value_at f 0x08 Four ≡ f.global.controller_reset + f.global.unsolicited * 2 ^ 8

@@ -12,4 +12,5 @@ pub mod Dispatch
 pub mod Keeping
 pub mod CorbPointers
 pub mod RingSizes
+pub mod Clocks
 pub mod Callers
