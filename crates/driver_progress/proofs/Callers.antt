@@ -39,3 +39,9 @@ pub use Rattle.driver_progress.proofs.Time.{keeps_time}
 pub use Rattle.driver_progress.proofs.AccessRows.{accesses_both}
 -- the reads of RIRB's entries are accesses
 pub use Rattle.driver_progress.proofs.AccessRows.{entry_accesses}
+-- an access that reads no answer is an access
+pub use Rattle.driver_progress.proofs.AccessRows.{unread_access}
+-- and so is a plain one
+pub use Rattle.driver_progress.proofs.AccessRows.{plain_access}
+-- an access fits what is expected
+pub use Rattle.driver_progress.proofs.AccessRows.{access_fits}

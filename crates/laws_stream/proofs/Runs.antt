@@ -22,7 +22,7 @@ use Rattle.period_writer.specs.Playing.{run_writes, turn_accesses, play_accesses
 use Rattle.period_writer.specs.Standing.{Ring}
 use Rattle.period_writer.specs.Owning.{IsOwned, Allowed, IsPlaying}
 use Rattle.period_writer.specs.Outcomes.{RunTells, allowed_in}
-use Rattle.period_writer.proofs.Callers.{started_by, still_on}
+use Rattle.period_writer.proofs.Callers.{still_on}
 use Rattle.laws_hearing.specs.Steady.{LeavesSteady}
 use Rattle.audio_driver.specs.States.{is_open}
 use Rattle.laws_stream.specs.Lives.{Runs, IsStopped, Along, stops, IsGoing, HasStopped, Lives}
