@@ -22,10 +22,7 @@ use Rattle.period_writer.specs.Playing.{writes_by, run_writes, stop_accesses, pl
 use Rattle.driver_progress.specs.Interrupts.{clear_accesses, interrupt_accesses}
 use Rattle.driver_progress.specs.Shutting.{shut_accesses}
 use Rattle.driver_progress.specs.Unread.{IsAccess, AreAccesses}
-
-pub are_both : (front back : List Event) → AreAccesses front → AreAccesses back → AreAccesses (front ++ back)
-are_both [] back first second = second
-are_both (event ∷ front) back first second = (first.0, are_both front back first.1 second)
+use Rattle.driver_progress.proofs.Callers.{accesses_both, entry_accesses}
 
 map_are : (made : ℕ → Event) → ((number : ℕ) → IsAccess (made number)) → (numbers : List ℕ) → AreAccesses (map made numbers)
 map_are made each [] = tt {0}
@@ -41,16 +38,12 @@ pub interrupt_are : (interrupts stream : ℕ) → AreAccesses (interrupt_accesse
 interrupt_are interrupts stream =
     (tt {0}, clear_are (has_bit interrupts 31) stream (clear_accesses interrupts stream) (clear_are (has_bit interrupts 1) stream _ (tt {0}, (tt {0}, tt {0}))))
 
-entries_are : (rirb size place : ℕ) (entries : List (List ℕ)) → AreAccesses (entry_reads rirb size place entries)
-entries_are rirb size place [] = tt {0}
-entries_are rirb size place (entry ∷ entries) = (tt {0}, entries_are rirb size (place + 1) entries)
-
 pub poll_are : (rirb : ℕ) (rings : RingPlaces) (reads : PollReads) → AreAccesses (poll_accesses rirb rings reads)
 poll_are rirb rings reads =
     let entries = entry_reads rirb (entries_of rings.rirb) (rings.read + 1) reads.entries in (
       tt {0},
       clear_are (has_bit reads.flag 0) 0 (batch_accesses rirb rings reads.pointer reads.entries)
-          (tt {0}, are_both entries (Write RIRBSTS One 1 ∷ []) (entries_are rirb (entries_of rings.rirb) (rings.read + 1) reads.entries) (tt {0}, tt {0})),
+          (tt {0}, accesses_both entries (Write RIRBSTS One 1 ∷ []) (entry_accesses rirb (entries_of rings.rirb) (rings.read + 1) reads.entries) (tt {0}, tt {0})),
     )
 
 -- ---- runs
@@ -73,8 +66,8 @@ start_are geometry list periods from in_reset ready to written =
             tt {0},
             (
               tt {0},
-              are_both entries (line ++ rest) (map_are (entry_write list periods bytes) (λ number. tt {0}) (range_with_len 0 (length periods)))
-                  (are_both line rest (lines_are bytes periods 0 (ring_bytes geometry.periods geometry.period) written)
+              accesses_both entries (line ++ rest) (map_are (entry_write list periods bytes) (λ number. tt {0}) (range_with_len 0 (length periods)))
+                  (accesses_both line rest (lines_are bytes periods 0 (ring_bytes geometry.periods geometry.period) written)
                   (tt {0}, (tt {0}, (tt {0}, (tt {0}, (tt {0}, (tt {0}, (tt {0}, (tt {0}, tt {0}))))))))),
             ),
           ),
@@ -87,13 +80,13 @@ rows_are : (bytes : ℕ) (periods : List ℕ) (start sound reach reach' : ℕ) (
 rows_are bytes periods start sound reach reach' pcm =
     let first = sound_and_silence (min reach (start + sound) - start) (min reach (start + sound) - start) pcm in
     let second = sound_and_silence (sound - (min reach (start + sound) - start)) (reach' - reach) (drop (min reach (start + sound) - start) pcm) in
-    are_both (line_writes bytes periods start (min reach (start + sound)) first) (line_writes bytes periods reach reach' second)
+    accesses_both (line_writes bytes periods start (min reach (start + sound)) first) (line_writes bytes periods reach reach' second)
     (lines_are bytes periods start (min reach (start + sound)) first) (lines_are bytes periods reach reach' second)
 
 turn_are : (geometry : Geometry) (periods : List ℕ) (course : Course) (facts : RunFacts) (pcm : List ℕ) (later : List Event) → AreAccesses later
     → AreAccesses (run_writes (period_bytes geometry.period) periods (measures geometry) course facts pcm ++ Read WALCLK Four facts.to ∷ later)
 turn_are geometry periods course facts pcm later are =
-    are_both (run_writes (period_bytes geometry.period) periods (measures geometry) course facts pcm) (Read WALCLK Four facts.to ∷ later)
+    accesses_both (run_writes (period_bytes geometry.period) periods (measures geometry) course facts pcm) (Read WALCLK Four facts.to ∷ later)
     (rows_are (period_bytes geometry.period) periods (run_start (measures geometry) course facts) (run_sound (measures geometry) course facts) course.reach (run_reach (measures geometry) course facts) pcm) (tt {0}, are)
 
 stop_are : (was : Ran) → AreAccesses (stop_accesses was)

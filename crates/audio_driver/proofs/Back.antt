@@ -2,6 +2,7 @@
 use Rattle.std.proofs.Common.{◌≡◌, ◌≤◌, ◌+◌, ◌/◌, ◌||◌, not, cond, ℕ, suc, Bool, true, false, List, [], ◌∷◌, ◌++◌, length, refl, sym, ap, subst, ◌∙◌, inl, inr, arith, length-append}
 use Rattle.std.specs.Prelude.{Contains, All, filter, map}
 use Rattle.std.proofs.lemmas.List.Elements.{filter-append}
+use Rattle.std.proofs.lemmas.Bool.{or_right, or_left}
 use Rattle.dma_pool.specs.declared.runs.Run.{Run}
 use Rattle.dma_pool.specs.Pools.{PoolState, AddsRun, IsApart, granules_for}
 use Rattle.dma_pool.specs.Blocks.{run_at}
@@ -61,14 +62,6 @@ filter_none runs (run ∷ taken) none =
 abbrev AreIn : (runs : List Run) (bytes : ℕ) → List ℕ → Type 0
 AreIn runs bytes [] = Unit
 AreIn runs bytes (address ∷ addresses) = (is_taken runs (run_at address bytes) ≡ true) × AreIn runs bytes addresses
-
-or_right : (one other : Bool) → other ≡ true → (one || other) ≡ true
-or_right true other is = refl
-or_right false other is = is
-
-or_left : (one other : Bool) → one ≡ true → (one || other) ≡ true
-or_left true other is = refl
-or_left false other is = cc
 
 or_none : (one other : Bool) → one ≡ false → other ≡ false → (one || other) ≡ false
 or_none false other fails none = none

@@ -18,13 +18,14 @@ use Rattle.period_writer.specs.Writers.{WriterState, tally_of, measures_of, peri
 use Rattle.driver_progress.specs.declared.phase.Phase.{Phase}
 use Rattle.driver_progress.specs.declared.phase.Phase.TheVariants.{Ready}
 use Rattle.driver_progress.specs.Shutting.{shut_accesses}
+use Rattle.driver_progress.proofs.Callers.{accesses_both}
 use Rattle.driver_bring_up.specs.Commanding.{entries_in, answer_in}
 use Rattle.driver_bring_up.specs.declared.bringing.BringUp.{BringUp}
 use Rattle.driver_bring_up.specs.Calls.{Listens}
 use Rattle.driver_bring_up.proofs.Callers.{answer_none, same_found}
 use Rattle.audio_driver.specs.States.{phase_if, state_of, is_open, is_playing}
 use Rattle.audio_driver.specs.Sounding.{EndsSound}
-use Rattle.audio_driver.proofs.Accesses.{are_both, poll_are, finish_are, shut_are}
+use Rattle.audio_driver.proofs.Accesses.{poll_are, finish_are, shut_are}
 use Rattle.audio_driver.proofs.Seeing.{poll_entries}
 use Rattle.audio_driver.proofs.Stretches.{silent_stretch}
 use Rattle.audio_driver.proofs.Whole.{GoesTo, finish_is}
@@ -73,7 +74,7 @@ ends_playing old new writer tally' supply answer before listened stopped after c
     let goes : GoesTo old new writer tally' supply 0 finishes.from finishes.lpib finishes.to listens.reads =
     record { started = started; more = more; new_ones = listens.new_ones; kept = listens.kept; sent = listens.sent; rings = listens.rings; tally_is = finishes.tally_is } in record {
       made = poll ++ (run ++ shut_accesses);
-      are = are_both poll (run ++ shut_accesses) (poll_are old.engine.rirb.address old.engine.rings listens.reads) (are_both run shut_accesses (finish_are writer.geometry (periods_of writer) writer.course facts supply) shut_are);
+      are = accesses_both poll (run ++ shut_accesses) (poll_are old.engine.rirb.address old.engine.rings listens.reads) (accesses_both run shut_accesses (finish_are writer.geometry (periods_of writer) writer.course facts supply) shut_are);
       by = row_both listens.made (row_both finishes.made shut);
       is = λ task of. same_found found (finish_is task old new writer tally' supply finishes.from finishes.lpib finishes.to listens.reads of goes);
       counted = counts_same (poll ++ (run ++ shut_accesses)) listens.reads.entries old new entries listens.counted;

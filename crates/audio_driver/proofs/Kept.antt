@@ -1,6 +1,7 @@
 -- What a driver keeps from call to call.
-use Rattle.std.proofs.Common.{◌≡◌, ◌≤◌, ◌<◌, ◌+◌, ℕ, List, [], ◌∷◌, length, length-append, Bool, true, false, refl, sym, ap, subst, ◌∙◌, arith}
+use Rattle.std.proofs.Common.{◌≡◌, ◌≤◌, ◌<◌, ◌+◌, ℕ, List, [], length, Bool, true, false, refl, sym, ap, subst, ◌∙◌, arith}
 use Rattle.std.specs.Prelude.{◌&&◌, not, Contains}
+use Rattle.std.proofs.lemmas.Bool.{and_parts}
 use Rattle.dma_pool.specs.declared.blocks.Lent.{Lent}
 use Rattle.dma_pool.specs.Blocks.{run_at}
 use Rattle.dma_pool.specs.Pools.{PoolState}
@@ -11,7 +12,7 @@ use Rattle.period_writer.specs.declared.course.Course.{Course}
 use Rattle.period_writer.specs.declared.course.Ran.{Ran}
 use Rattle.period_writer.specs.declared.course.Run.{Run}
 use Rattle.period_writer.specs.declared.course.Span.{Span}
-use Rattle.period_writer.specs.Runs.{Measures, RunFacts, Tally, run_of, is_late, tally_if, tally_after, course_opened, tally_opened}
+use Rattle.period_writer.specs.Runs.{Tally, course_opened, tally_opened}
 use Rattle.period_writer.specs.Writers.{WriterState, KeepsRing, tally_of}
 use Rattle.driver_progress.specs.declared.phase.Phase.{Phase}
 use Rattle.driver_progress.specs.Phases.{is_asking, is_ready}
@@ -23,29 +24,12 @@ use Rattle.audio_driver.specs.States.{is_open, phase_if, phase_of, plays_now}
 
 -- ---- the phase
 
-both_hold : (a b : Bool) → (a && b) ≡ true → b ≡ true
-both_hold true b is = is
-both_hold false b is = cc
-
 -- where calls play, all codecs are set up
 pub plays_ready : (play : Bool) (bring_up : BringUp) → plays_now play bring_up ≡ true → is_ready bring_up.phase ≡ true
-plays_ready play bring_up plays = both_hold play (is_ready bring_up.phase) plays
+plays_ready play bring_up plays = (and_parts play (is_ready bring_up.phase) plays).1
 
 pub plays_same : (play : Bool) (old new : BringUp) → new.phase ≡ old.phase → plays_now play old ≡ true → plays_now play new ≡ true
 plays_same play old new same plays = ap (λ (phase : Phase). play && is_ready phase) same ∙ plays
-
--- ---- the runs
-
-more_by : (late : Bool) (m : Measures) (tally : Tally) (facts : RunFacts) → length (tally_if late m tally facts).runs ≤ length tally.runs + 1
-more_by true m tally facts = omega arith
-more_by false m tally facts = let long = length-append tally.runs (run_of m tally.course facts ∷ []) in omega arith
-
--- a run records one at most
-pub one_more : (m : Measures) (tally tally' : Tally) (facts : RunFacts) → tally' ≡ tally_after m tally facts → length tally'.runs ≤ length tally.runs + 1
-one_more m tally tally' facts is =
-    let more = more_by (is_late m tally.course facts) m tally facts in
-    let same = ap (λ (tally : Tally). length tally.runs) is in
-    omega arith
 
 -- ---- a driver that was just opened
 

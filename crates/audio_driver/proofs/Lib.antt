@@ -8,3 +8,4 @@ mod Whole
 mod Sounded
 mod Ended
 pub mod Accesses
+pub mod Callers

@@ -21,8 +21,8 @@ use Rattle.driver_progress.specs.Seen.{Seen, seen_by, values_of}
 use Rattle.driver_progress.specs.States.{State}
 use Rattle.driver_progress.specs.Expected.{polls, appends, plays_on}
 use Rattle.driver_progress.specs.Next.{outstanding_if, polled, tally_next, budget_of}
-use Rattle.driver_progress.proofs.StretchCallers.{poll_fits}
-use Rattle.driver_bring_up.proofs.CommandCallers.{rings_same}
+use Rattle.driver_progress.proofs.Callers.{poll_fits}
+use Rattle.driver_bring_up.proofs.Callers.{rings_same}
 use Rattle.audio_driver.proofs.Seeing.{poll_clocks, poll_positions, poll_pointer, turn_seen}
 
 -- what a run of a task goes by, and what it writes

@@ -14,7 +14,7 @@ use Rattle.command_engine.specs.Polling.{PollReads, AreNew, entry_reads, batch_a
 use Rattle.period_writer.specs.declared.registers.TheConstants.{POSITION}
 use Rattle.driver_progress.specs.Seen.{seen_by, values_of, value_in}
 use Rattle.driver_bring_up.specs.Commanding.{entry_in, entries_in}
-use Rattle.driver_bring_up.proofs.CommandCallers.{asked_entries, none_read, pointer_by}
+use Rattle.driver_bring_up.proofs.Callers.{asked_entries, entry_unread, pointer_by}
 
 -- ---- what writes leave
 
@@ -38,7 +38,7 @@ batch_seen : (written : Bool) (register rirb : ℕ) (rings : RingPlaces) (reads 
 batch_seen false register rirb rings reads rest other = refl
 batch_seen true register rirb rings reads rest other =
     ap (λ (values : List ℕ). values ++ values_of (batch_rest ++ rest) register) other
-    ∙ none_read register rirb (entries_of rings.rirb) (rings.read + 1) reads.entries rest
+    ∙ entry_unread register rirb (entries_of rings.rirb) (rings.read + 1) reads.entries rest
   where
     batch_rest : List Event
     batch_rest = entry_reads rirb (entries_of rings.rirb) (rings.read + 1) reads.entries ++ Write RIRBSTS One 1 ∷ []

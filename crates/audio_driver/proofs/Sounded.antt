@@ -29,7 +29,7 @@ use Rattle.driver_progress.specs.declared.phase.Phase.{Phase}
 use Rattle.driver_progress.specs.declared.phase.Phase.TheVariants.{Ready}
 use Rattle.driver_progress.specs.Phases.{is_active}
 use Rattle.driver_progress.specs.Interrupts.{interrupt_accesses}
-use Rattle.driver_progress.proofs.StretchCallers.{interrupt_unread}
+use Rattle.driver_progress.proofs.Callers.{interrupt_unread, accesses_both}
 use Rattle.driver_bring_up.specs.Commanding.{entries_in, answer_in, with_told}
 use Rattle.driver_bring_up.specs.Counted.{IsCount}
 use Rattle.driver_bring_up.specs.declared.bringing.BringUp.{BringUp}
@@ -38,7 +38,7 @@ use Rattle.driver_bring_up.specs.Told.{found_none}
 use Rattle.driver_bring_up.proofs.Callers.{unread_none, answer_none, same_answer, same_found, interrupt_entries, inactive_stretch, none_stretch_of, interrupted_stretch}
 use Rattle.audio_driver.specs.States.{phase_if, played_as, state_of, is_open, was_late, IsLeft}
 use Rattle.audio_driver.specs.Sounding.{SoundTells, Sounds}
-use Rattle.audio_driver.proofs.Accesses.{are_both, interrupt_are, poll_are, start_are, play_are}
+use Rattle.audio_driver.proofs.Accesses.{interrupt_are, poll_are, start_are, play_are}
 use Rattle.audio_driver.proofs.Seeing.{writes_entries, poll_entries}
 use Rattle.audio_driver.proofs.Stretches.{over_stretch, over_inactive, open_active}
 use Rattle.audio_driver.proofs.Whole.{open_on_time, GoesTo, start_is, play_is}
@@ -194,7 +194,7 @@ play_sounds old new writer writer' supply supply' budget answer before middle af
     let goes : GoesTo old new writer (tally_of writer') supply budget plays.from plays.lpib plays.to listens.reads =
     record { started = started; more = more; new_ones = listens.new_ones; kept = listens.kept; sent = listens.sent; rings = listens.rings; tally_is = plays.tally_is } in record {
       made = poll ++ run;
-      are = are_both poll run (poll_are old.engine.rirb.address old.engine.rings listens.reads) (play_are writer.geometry (periods_of writer) writer.course facts supply was);
+      are = accesses_both poll run (poll_are old.engine.rirb.address old.engine.rings listens.reads) (play_are writer.geometry (periods_of writer) writer.course facts supply was);
       by = row_both listens.made run_made;
       is = λ task of. same_found found (play_is task old new writer writer' supply budget plays.from plays.lpib plays.to listens.reads of goes);
       sound = λ pcm left. left_after pcm supply supply' (measures_of writer) (tally_of writer) (tally_of writer') facts (open_on_time writer.course.ran more) plays.tally_is plays.pcm_is left;
@@ -293,7 +293,7 @@ irq_sounds old new writer writer' supply supply' budget interrupts stream before
     let entries = interrupt_entries interrupts stream sounds.made in
     let active : is_active (state_of old writer).phase ≡ true = active_phase old writer ready more in record {
       made = made;
-      are = are_both (interrupt_accesses interrupts stream) sounds.made (interrupt_are interrupts stream) sounds.are;
+      are = accesses_both (interrupt_accesses interrupts stream) sounds.made (interrupt_are interrupts stream) sounds.are;
       by = row_both looked sounds.by;
       is = λ task of. same_found (sym (same_answer old.engine.rings sounds.made made entries))
           (interrupted_stretch task (state_of old writer) budget sounds.made (is_some (answer_in old.engine.rings sounds.made)) (state_of new writer') interrupts stream on active (sounds.is task of));

@@ -30,7 +30,7 @@ use Rattle.driver_progress.specs.Expected.{starts, plays_on, stops, runs, closes
 use Rattle.driver_progress.specs.Next.{phase_played, after_run, led, closed, tally_next}
 use Rattle.driver_progress.specs.Shutting.{shut_accesses}
 use Rattle.driver_bring_up.specs.Commanding.{IsStretch, run_of}
-use Rattle.driver_bring_up.proofs.Callers.{none_read}
+use Rattle.driver_bring_up.proofs.Callers.{clock_unread}
 use Rattle.audio_driver.specs.States.{played_as, phase_if, is_open}
 use Rattle.audio_driver.proofs.Seeing.{writes_seen}
 use Rattle.audio_driver.proofs.PlayedOn.{facts_in, pcm_in, tally_in, writes_in, made_in, seen_in, tally_by, appends_by, played_on}
@@ -161,7 +161,7 @@ over_stretch task state budget was phase over =
       fits = sym (ap (λ (phase : Phase). runs task state budget seen tally phase) phase ∙ over_runs task state budget seen tally was over);
       leads = sym (ap (λ (phase : Phase). record (led task state seen tally phase) { tally = tally }) phase
           ∙ ap (λ (after : State). record after { tally = tally }) (over_led task state seen tally was over)
-          ∙ ap (λ (tally : Tally). record state { tally = tally }) (none_read state.tally.course.ran _ _ _ state.tally));
+          ∙ ap (λ (tally : Tally). record state { tally = tally }) (clock_unread state.tally.course.ran _ _ _ state.tally));
     }
 
 pub over_inactive : (was : Ran) → is_open was ≡ false → is_active (played_as was) ≡ false
@@ -196,5 +196,5 @@ silent_stretch task state started was phase silent =
       fits = sym (ap (λ (phase : Phase). closes task state seen phase) phase ∙ silent_closes task state seen started was silent);
       leads = sym (ap (λ (phase : Phase). record (closed task state seen tally phase) { tally = tally }) phase
           ∙ ap (λ (after : State). record after { tally = tally }) (silent_closed task state seen tally started was silent)
-          ∙ ap (λ (tally : Tally). record state { tally = tally }) (none_read state.tally.course.ran _ _ _ state.tally));
+          ∙ ap (λ (tally : Tally). record state { tally = tally }) (clock_unread state.tally.course.ran _ _ _ state.tally));
     }

@@ -1,6 +1,6 @@
 -- Where the runs of a writer lead a driver, by the driver's own ring and sound.
 use Rattle.std.proofs.Common.{◌≡◌, ◌-◌, ℕ, List, [], ◌∷◌, ◌++◌, length, append_assoc, Bool, true, false, Option, Some, None, refl, sym, ap, subst, ◌∙◌}
-use Rattle.period_writer.proofs.Callers.{opened_late}
+use Rattle.period_writer.proofs.Callers.{opened_late, started_by}
 use Rattle.std.specs.Prelude.{drop}
 use Rattle.std.specs.Option.{is_some}
 use Rattle.std.proofs.lemmas.List.{length-drop}
@@ -31,11 +31,6 @@ use Rattle.audio_driver.proofs.PlayedOn.{facts_in, tally_in}
 use Rattle.audio_driver.proofs.Stretches.{plays_stretch, closes_stretch, starts_stretch, stopped_last}
 
 -- ---- what a run leaves
-
--- the stream stays started
-pub started_by : (late : Bool) (m : Measures) (tally : Tally) (facts : RunFacts) → tally.course.started ≡ true → (tally_if late m tally facts).course.started ≡ true
-started_by true m tally facts started = started
-started_by false m tally facts started = refl
 
 pub open_playing : (was : Ran) → is_open was ≡ true → was ≡ ran.Playing
 open_playing ran.Playing more = refl

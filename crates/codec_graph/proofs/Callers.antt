@@ -25,6 +25,23 @@ pub use Rattle.codec_graph.proofs.Unchanged.{lookup-put}
 pub use Rattle.codec_graph.proofs.Sound.{settings-reading}
 -- answers have 32 bits
 pub use Rattle.codec_graph.proofs.Narrow.{answer_of-narrow}
+-- what is plugged in leaves the graph of its codec
+pub use Rattle.codec_graph.proofs.Plugging.{graph-plugged}
+-- and its settings
+pub use Rattle.codec_graph.proofs.Plugging.{settings-plugged}
+-- where a row of faults is empty, so are its parts
+pub use Rattle.codec_graph.proofs.Nodes.{faultless_left, faultless_right}
+-- where a fault is not there, its test fails
+pub use Rattle.codec_graph.proofs.Nodes.{faultless_test}
+-- where the widgets and the group of a well-formed graph are
+pub use Rattle.codec_graph.proofs.Tables.{IsCounted, counted_by}
+pub use Rattle.codec_graph.proofs.Nodes.{counted}
+-- what is found among opening values
+pub use Rattle.codec_graph.proofs.Defaults.{found-opening}
+-- a pin of a well-formed graph has its default's control
+pub use Rattle.codec_graph.proofs.Defaults.{has_default}
+-- a value that is found is that one
+pub use Rattle.codec_graph.proofs.Defaults.{value_of}
 
 -- a widget of a well-formed graph has a node identifier of seven bits
 pub node_below : (codec : RawCodec) (nid : ℕ) (node : RawNode) → IsWellFormed codec → node_at codec nid ≡ Some node → nid < node_identifiers

@@ -12,5 +12,7 @@ pub mod Narrow
 pub mod Unchanged
 pub mod Sound
 pub mod ListWords
+pub mod Plugging
+pub mod Defaults
 pub mod Callers
 mod Safety

@@ -1,6 +1,5 @@
 -- Node identifiers of a well-formed graph.
-use Rattle.std.proofs.Common.{◌≡◌, ◌<◌, ◌≤◌, ◌==◌, ◌||◌, ℕ, Bool, true, false, List, [], ◌∷◌, ◌++◌, Some, None, inl, inr, refl, sym, ◌∙◌, arith}
-use Rattle.std.specs.Prelude.{nat_lt}
+use Rattle.std.proofs.Common.{◌≡◌, ◌<◌, ◌≤◌, ◌==◌, ℕ, Bool, true, false, List, [], ◌∷◌, ◌++◌, Some, None, inl, inr, refl, sym, ◌∙◌, arith}
 use Rattle.std.proofs.lemmas.Bool.{cases_lt}
 use Rattle.std.proofs.lemmas.Bool.Decides.{nat_tests}
 use Rattle.std.proofs.lemmas.Option.{none-some}
@@ -8,32 +7,36 @@ use Rattle.codec_graph.specs.declared.raw.RawNode.{RawNode}
 use Rattle.codec_graph.specs.declared.raw.RawCodec.{RawCodec}
 use Rattle.codec_graph.specs.declared.fault.GraphFault.{GraphFault}
 use Rattle.codec_graph.specs.declared.fault.GraphFault.TheVariants.{NoAudioGroup, BadCount}
-use Rattle.codec_graph.specs.Widget.{node_at, is_widget}
+use Rattle.codec_graph.specs.Widget.{node_at}
 use Rattle.codec_graph.specs.Faults.{fault_if, is_no_audio_group, has_bad_count}
 use Rattle.codec_graph.specs.Cycles.{IsWellFormed}
-use Rattle.codec_graph.proofs.Tables.{counted, node_at-past}
+use Rattle.codec_graph.proofs.Tables.{IsCounted, counted_by, node_at-past}
 
-none_left : (xs ys : List GraphFault) → xs ++ ys ≡ [] → xs ≡ []
-none_left [] ys e = refl
-none_left (x ∷ xs) ys e = cc
+pub faultless_left : (xs ys : List GraphFault) → xs ++ ys ≡ [] → xs ≡ []
+faultless_left [] ys e = refl
+faultless_left (x ∷ xs) ys e = cc
 
-none_right : (xs ys : List GraphFault) → xs ++ ys ≡ [] → ys ≡ []
-none_right [] ys e = e
-none_right (x ∷ xs) ys e = cc
+pub faultless_right : (xs ys : List GraphFault) → xs ++ ys ≡ [] → ys ≡ []
+faultless_right [] ys e = e
+faultless_right (x ∷ xs) ys e = cc
 
-no_fault : (holds : Bool) (fault : GraphFault) → fault_if holds fault ≡ [] → holds ≡ false
-no_fault true fault e = cc
-no_fault false fault e = refl
+pub faultless_test : (holds : Bool) (fault : GraphFault) → fault_if holds fault ≡ [] → holds ≡ false
+faultless_test true fault e = cc
+faultless_test false fault e = refl
 
 -- the count of a well-formed graph is good
 pub good_count : (codec : RawCodec) → IsWellFormed codec → has_bad_count codec ≡ false
 good_count codec well =
-    let rest = none_right (fault_if (is_no_audio_group codec) (NoAudioGroup codec.group)) _ well.tables.no_fault in
-    no_fault (has_bad_count codec) (BadCount 0) (none_left (fault_if (has_bad_count codec) (BadCount 0)) _ rest)
+    let rest = faultless_right (fault_if (is_no_audio_group codec) (NoAudioGroup codec.group)) _ well.tables.no_fault in
+    faultless_test (has_bad_count codec) (BadCount 0) (faultless_left (fault_if (has_bad_count codec) (BadCount 0)) _ rest)
+
+-- where the widgets and the group of a well-formed graph are
+pub counted : (codec : RawCodec) → IsWellFormed codec → IsCounted codec
+counted codec well = counted_by codec (good_count codec well)
 
 -- no widget of a well-formed graph has a node identifier above 7Fh
 pub node_at-high : (codec : RawCodec) (nid : ℕ) → IsWellFormed codec → 128 ≤ nid → node_at codec nid ≡ None
-node_at-high codec nid well high = node_at-past codec (counted codec (good_count codec well)) nid high
+node_at-high codec nid well high = node_at-past codec (counted codec well) nid high
 
 pub node_below : (codec : RawCodec) (nid : ℕ) (node : RawNode) → IsWellFormed codec → node_at codec nid ≡ Some node → nid < 128
 node_below codec nid node well there = elim (cases_lt nid 128) [
@@ -41,16 +44,8 @@ node_below codec nid node well there = elim (cases_lt nid 128) [
   | inr high ↦ absurd (none-some node (sym (node_at-high codec nid well high) ∙ there))
 ]
 
-or_left : (a b : Bool) → (a || b) ≡ false → a ≡ false
-or_left true b e = e
-or_left false b e = refl
-
-or_right : (a b : Bool) → (a || b) ≡ false → b ≡ false
-or_right true b e = cc
-or_right false b e = e
-
 -- nor has the function group
 pub group_below : (codec : RawCodec) (nid : ℕ) → IsWellFormed codec → (nid == codec.group) ≡ true → nid < 128
 group_below codec nid well is =
-    let low = or_right _ (nat_lt 127 codec.group) (or_left _ (is_widget codec codec.group) (good_count codec well)) in
+    let low = (counted codec well).group_below in
     grind (arith, nat_tests)

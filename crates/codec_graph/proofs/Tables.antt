@@ -4,9 +4,10 @@ use Rattle.std.proofs.Math.Seq.{drop-cons}
 use Rattle.codec_graph.specs.declared.raw.RawNode.{RawNode}
 use Rattle.codec_graph.specs.declared.raw.RawCodec.{RawCodec}
 use Rattle.codec_graph.specs.declared.fault.GraphFault.{GraphFault}
-use Rattle.codec_graph.specs.Widget.{normal_node, normal, node_at}
+use Rattle.codec_graph.specs.Widget.{normal_node, normal, node_at, is_widget}
 use Rattle.std.proofs.lemmas.Option.{slice_get_past}
 use Rattle.std.proofs.lemmas.Bool.Decides.{nat_tests}
+use Rattle.std.proofs.lemmas.Bool.{or_parts}
 use Rattle.codec_graph.specs.Faults.{has_bad_count, node_faults, nodes_faults, first_fault}
 
 cond_twice : {X : Type 0} (b : Bool) (x d : X) → cond b (cond b x d) d ≡ cond b x d
@@ -54,13 +55,19 @@ pub record IsCounted (codec : RawCodec) : Type 0 where
   pub begins : 1 ≤ codec.first
   pub ends : codec.first + codec.count ≤ 128
   pub as_many : length codec.nodes ≡ codec.count
+  pub has_group : 1 ≤ codec.group
+  pub group_below : codec.group < 128
+  pub group_apart : is_widget codec codec.group ≡ false
 
-pub counted : (codec : RawCodec) → has_bad_count codec ≡ false → IsCounted codec
-counted codec good = record {
+pub counted_by : (codec : RawCodec) → has_bad_count codec ≡ false → IsCounted codec
+counted_by codec good = record {
   some = grind (arith, nat_tests);
   begins = grind (arith, nat_tests);
   ends = grind (arith, nat_tests);
   as_many = grind (arith, nat_tests);
+  has_group = grind (arith, nat_tests);
+  group_below = grind (arith, nat_tests);
+  group_apart = (or_parts _ (is_widget codec codec.group) good).1;
 }
 
 -- no widget has a node identifier above 7Fh

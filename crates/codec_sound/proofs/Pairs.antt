@@ -2,6 +2,7 @@
 use Rattle.std.proofs.Common.{◌≡◌, ◌≢◌, ℕ, zero, suc, ◌+◌, ◌*◌, ◌/◌, ◌%◌, ◌<◌, Bool, true, false, cond, ◌==◌, ◌&&◌, ◌||◌, not, List, [], ◌∷◌, Option, Some, None, refl, arith}
 use Rattle.std.specs.Prelude.{nat_lt}
 use Rattle.std.proofs.lemmas.Bool.Decides.{nat_tests}
+use Rattle.std.proofs.lemmas.Bool.{or_parts}
 use Rattle.codec_graph.specs.declared.raw.RawNode.{RawNode}
 use Rattle.codec_graph.specs.declared.raw.RawCodec.{RawCodec}
 use Rattle.codec_graph.specs.declared.controls.Control.TheVariants as control
@@ -62,10 +63,6 @@ among-passed_on n codec settings f nid node (Some from) all = among-after_input 
 pair_fits : (n channel : ℕ) → n % 2 ≡ 0 → (channel % 2 == 1) ≡ false → channel < n → 2 * (channel / 2) + 1 < n
 pair_fits n channel even odd below = let other : channel % 2 ≢ 1 = grind (arith, nat_tests) in omega (arith, other)
 
-or_right : (a b : Bool) → (a || b) ≡ false → b ≡ false
-or_right true b e = cc
-or_right false b e = e
-
 among-pair_from : (stream : LinkStream) (channel : ℕ) (lower : Bool) → stream.channels % 2 ≡ 0 → nat_lt channel stream.channels ≡ lower → ((channel % 2 == 1) && lower) ≡ false → IsAmong stream.channels (cond lower (Pair (channel / 2)) Silence)
 among-pair_from stream channel false even is e = tt
 among-pair_from stream channel true even is e = pair_fits stream.channels channel even (left (channel % 2 == 1) e) (below is) where
@@ -80,7 +77,7 @@ among-converted : (settings : Entries) (stream : LinkStream) (nid : ℕ) (node :
 among-converted settings stream nid node even = among-cond stream.channels (takes settings stream nid) _ Silence (by (converts_otherwise settings stream nid node) refl) tt where
   by : (b : Bool) → converts_otherwise settings stream nid node ≡ b → IsAmong stream.channels (cond b Altered (pair_from stream (channel_at settings nid)))
   by true e = tt
-  by false e = among-pair_from stream (channel_at settings nid) (nat_lt (channel_at settings nid) stream.channels) even refl (or_right _ ((channel_at settings nid % 2 == 1) && nat_lt (channel_at settings nid) stream.channels) e)
+  by false e = among-pair_from stream (channel_at settings nid) (nat_lt (channel_at settings nid) stream.channels) even refl ((or_parts _ ((channel_at settings nid % 2 == 1) && nat_lt (channel_at settings nid) stream.channels) e).1)
 
 among-made : (codec : RawCodec) (settings : Entries) (stream : LinkStream) (f : ℕ → Signal) (nid : ℕ) (node : RawNode) → stream.channels % 2 ≡ 0 → ((to : ℕ) → IsAmong stream.channels (f to)) → IsAmong stream.channels (made codec settings stream f nid node)
 among-made codec settings stream f nid node even all =

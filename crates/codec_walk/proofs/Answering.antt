@@ -11,13 +11,14 @@ use Rattle.verb_codes.specs.declared.verbs.Verb.TheVariants.{GetDefault}
 use Rattle.verb_codes.specs.declared.parameters.Parameter.{Parameter}
 use Rattle.verb_codes.specs.declared.parameters.Parameter.TheVariants.{Vendor, Revision, Nodes, GroupType, WidgetCapabilities, PcmSizesAndRates, StreamFormats, PinCapabilities, InputAmplifier, ListLength, PowerStates, OutputAmplifier}
 use Rattle.verb_codes.specs.Lists.{entries_per_word}
+use Rattle.codec_graph.proofs.Callers.{IsCounted}
 use Rattle.codec_walk.specs.declared.words.CodecWord.{CodecWord}
 use Rattle.codec_walk.specs.declared.words.CodecWord.TheVariants as codec_word
 use Rattle.codec_walk.specs.declared.words.NodeWord.{NodeWord}
 use Rattle.codec_walk.specs.declared.words.NodeWord.TheVariants as node_word
 use Rattle.codec_walk.specs.Words.{command_to, parameter_command, list_command, codec_command, applies, word_command, entries_told, is_long}
 use Rattle.codec_walk.specs.Replies.{CanAnswer}
-use Rattle.codec_walk.proofs.Counted.{IsCounted, IsWidgetAt}
+use Rattle.codec_walk.proofs.Counted.{IsWidgetAt}
 
 parameter_answer : (graph : RawCodec) (settings : Entries) (present : List Bool) (address nid : ℕ) (wanted : Parameter)
     → answer_of graph settings present (parameter_command address nid wanted) ≡ known_parameter graph nid wanted

@@ -4,8 +4,6 @@ use Rattle.std.specs.Prelude.{slice_get}
 use Rattle.verb_codes.specs.declared.verbs.Command.{Command}
 use Rattle.codec_walk.specs.Dialogues.{Dialogue, answered, after}
 use Rattle.codec_walk.specs.Replies.{AreReplies}
--- where the widgets and the group of a well-formed graph are
-pub use Rattle.codec_walk.proofs.Counted.{IsCounted, counted}
 
 -- a dialogue after one answer more
 pub after-push : (dialogue : Dialogue) (answers : List ℕ) (answer : ℕ) → after dialogue (answers ++ answer ∷ []) ≡ answered (after dialogue answers) answer

@@ -1,61 +1,15 @@
 -- Where the widgets of a well-formed graph are.
-use Rattle.std.proofs.Common.{◌≡◌, ◌<◌, ◌≤◌, ◌+◌, ◌-◌, ◌==◌, ◌||◌, ℕ, Bool, true, false, List, [], ◌∷◌, ◌++◌, length, map, Some, refl, sym, ap, ◌∙◌, subst, arith, append_assoc, length-append}
+use Rattle.std.proofs.Common.{◌≡◌, ◌<◌, ◌≤◌, ◌+◌, ◌-◌, ◌==◌, ℕ, Bool, true, false, List, [], ◌∷◌, ◌++◌, length, map, Some, refl, sym, ap, ◌∙◌, subst, arith, append_assoc, length-append}
 use Rattle.std.specs.Prelude.{nat_lt, slice_get, All}
 use Rattle.std.proofs.lemmas.Bool.Decides.{nat_tests}
 use Rattle.std.proofs.lemmas.List.Elements.{All-head, All-tail}
 use Rattle.codec_graph.specs.declared.raw.RawNode.{RawNode}
 use Rattle.codec_graph.specs.declared.raw.RawCodec.{RawCodec}
-use Rattle.codec_graph.specs.declared.fault.GraphFault.{GraphFault}
-use Rattle.codec_graph.specs.declared.fault.GraphFault.TheVariants.{NoAudioGroup, BadCount}
 use Rattle.codec_graph.specs.Widget.{normal_node, node_at, is_widget}
 use Rattle.codec_graph.specs.Listed.{HasReadableList}
-use Rattle.codec_graph.specs.Faults.{fault_if, is_no_audio_group, has_bad_count}
 use Rattle.codec_graph.specs.Cycles.{IsWellFormed}
+use Rattle.codec_graph.proofs.Callers.{IsCounted, counted}
 use Rattle.codec_walk.specs.Walks.{has_widgets}
-
-none_left : (xs ys : List GraphFault) → xs ++ ys ≡ [] → xs ≡ []
-none_left [] ys e = refl
-none_left (x ∷ xs) ys e = cc
-
-none_right : (xs ys : List GraphFault) → xs ++ ys ≡ [] → ys ≡ []
-none_right [] ys e = e
-none_right (x ∷ xs) ys e = cc
-
-no_fault : (holds : Bool) (fault : GraphFault) → fault_if holds fault ≡ [] → holds ≡ false
-no_fault true fault e = cc
-no_fault false fault e = refl
-
-or_right : (a b : Bool) → (a || b) ≡ false → b ≡ false
-or_right true b e = cc
-or_right false b e = e
-
-good_count : (codec : RawCodec) → IsWellFormed codec → has_bad_count codec ≡ false
-good_count codec well =
-    let rest = none_right (fault_if (is_no_audio_group codec) (NoAudioGroup codec.group)) _ well.tables.no_fault in
-    no_fault (has_bad_count codec) (BadCount 0) (none_left (fault_if (has_bad_count codec) (BadCount 0)) _ rest)
-
-pub record IsCounted (codec : RawCodec) : Type 0 where
-  pub some : 1 ≤ codec.count
-  pub begins : 1 ≤ codec.first
-  pub ends : codec.first + codec.count ≤ 128
-  pub as_many : length codec.nodes ≡ codec.count
-  pub has_group : 1 ≤ codec.group
-  pub group_below : codec.group < 128
-  pub group_apart : is_widget codec codec.group ≡ false
-
-counted_by : (codec : RawCodec) → has_bad_count codec ≡ false → IsCounted codec
-counted_by codec good = record {
-  some = grind (arith, nat_tests);
-  begins = grind (arith, nat_tests);
-  ends = grind (arith, nat_tests);
-  as_many = grind (arith, nat_tests);
-  has_group = grind (arith, nat_tests);
-  group_below = grind (arith, nat_tests);
-  group_apart = or_right _ (is_widget codec codec.group) good;
-}
-
-pub counted : (codec : RawCodec) → IsWellFormed codec → IsCounted codec
-counted codec well = counted_by codec (good_count codec well)
 
 pub widgets_there : (codec : RawCodec) → IsCounted codec → has_widgets codec ≡ true
 widgets_there codec counts = let a = counts.some in let b = counts.begins in let c = counts.ends in grind (arith, nat_tests)

@@ -16,6 +16,7 @@ use Rattle.codec_walk.specs.Dialogues.{Dialogue, Ask, Told, told, after, asked}
 use Rattle.codec_walk.specs.Words.{parameter_command, list_command, node_words, applies, word_command, with_word, words_for, is_long, entries_told}
 use Rattle.codec_walk.specs.Walks.{from_codec, from_words, from_entries, from_length, from_power, from_node, with_node, from_widgets, from_count, has_widgets, walk}
 use Rattle.codec_walk.specs.Commands.{connection_commands, power_commands, node_commands, nodes_commands, walk_commands}
+use Rattle.codec_walk.proofs.EntryWords.{place_more, place_none, none_left, more_left}
 
 -- however it is told to its end, this holds of what was asked and told
 abbrev pub Ends : Dialogue → (List Command → RawCodec → Type 0) → Type 0
@@ -83,23 +84,6 @@ module _ (address nid : ℕ) where
       (λ answer. ends_words words caps (with_word node word answer) rest (λ commands codec. Q (word_command address nid word ∷ commands) codec) (bare_word caps node word answer bare))
       (ends_words words caps node rest Q bare)
       each
-
-  -- a word of entries less
-  place_more : (long : Bool) (word : ℕ) → (word + 1) * entries_per_word long ≡ word * entries_per_word long + entries_per_word long
-  place_more true word = omega arith
-  place_more false word = omega arith
-
-  place_none : (long : Bool) → 0 * entries_per_word long ≡ 0
-  place_none true = refl
-  place_none false = refl
-
-  none_left : (long : Bool) (left : ℕ) → 0 ≡ words_for long left → left ≡ 0
-  none_left true left e = omega arith
-  none_left false left e = omega arith
-
-  more_left : (long : Bool) (left words : ℕ) → suc words ≡ words_for long left → words ≡ words_for long (left - entries_per_word long)
-  more_left true left words e = omega arith
-  more_left false left words e = omega arith
 
   length_word : (long : Bool) (word : ℕ) → length (entries_of_word long word) ≡ entries_per_word long
   length_word true word = refl

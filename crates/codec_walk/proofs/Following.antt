@@ -20,6 +20,7 @@ use Rattle.codec_walk.specs.Replies.{CanAnswer}
 use Rattle.codec_walk.proofs.Leading.{Leads, leads_append, leads_ask}
 use Rattle.codec_walk.proofs.Counted.{IsWidgetAt, AreWidgetsAt}
 use Rattle.codec_walk.proofs.Answering as answering
+use Rattle.codec_walk.proofs.EntryWords.{place_more, place_none, none_left, more_left}
 
 -- a word that GetList answers has the entries from its place on
 abbrev pub HasListWords : Type 0
@@ -60,23 +61,6 @@ front false xs = four_front xs
 window : (long : Bool) (xs : List ℕ) (place : ℕ)
     → take (length xs - place) (map (λ i. slice_index xs (place + i)) (range_with_len 0 (entries_per_word long))) ≡ take (entries_per_word long) (drop place xs)
 window long xs place = simp (length-drop, get_or-drop) at (front long (drop place xs))
-
--- a word of entries less
-place_more : (long : Bool) (word : ℕ) → (word + 1) * entries_per_word long ≡ word * entries_per_word long + entries_per_word long
-place_more true word = omega arith
-place_more false word = omega arith
-
-place_none : (long : Bool) → 0 * entries_per_word long ≡ 0
-place_none true = refl
-place_none false = refl
-
-none_left : (long : Bool) (left : ℕ) → 0 ≡ words_for long left → left ≡ 0
-none_left true left e = omega arith
-none_left false left e = omega arith
-
-more_left : (long : Bool) (left words : ℕ) → suc words ≡ words_for long left → words ≡ words_for long (left - entries_per_word long)
-more_left true left words e = omega arith
-more_left false left words e = omega arith
 
 module _ (list_words : HasListWords) (graph : RawCodec) where
   module _ (nid : ℕ) (node : RawNode) (at : IsWidgetAt graph nid node) where

@@ -8,4 +8,5 @@ pub mod Following
 pub mod OneOutcome
 pub mod Whole
 pub mod Counting
+pub mod EntryWords
 pub mod Callers

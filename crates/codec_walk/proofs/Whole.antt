@@ -25,10 +25,11 @@ use Rattle.codec_walk.specs.declared.fault.WalkFault.TheVariants as walk_fault
 use Rattle.std.specs.Prelude.{◌⊎◌}
 use Rattle.std.proofs.Common.{inl, inr}
 use Rattle.std.proofs.lemmas.Option.{none-some}
+use Rattle.codec_graph.proofs.Callers.{counted}
 use Rattle.codec_walk.specs.Outcomes.{HasGoodLists, IsGood, IsOutcome}
 use Rattle.codec_walk.proofs.OneOutcome.{no_first}
 use Rattle.codec_walk.proofs.Leading.{Leads}
-use Rattle.codec_walk.proofs.Counted.{counted, widgets_there, widgets_at}
+use Rattle.codec_walk.proofs.Counted.{widgets_there, widgets_at}
 use Rattle.codec_walk.proofs.Answering.{codec_value, codec_answer}
 use Rattle.codec_walk.proofs.Following.{HasListWords, unlisted, leads_widgets}
 

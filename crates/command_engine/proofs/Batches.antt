@@ -1,11 +1,11 @@
 -- What a batch of RIRB's engine leaves.
-use Rattle.std.proofs.Common.{◌≡◌, ◌<◌, ◌≤◌, ◌⊎◌, ◌+◌, ◌*◌, ◌%◌, ◌==◌, ◌||◌, ℕ, suc, Bool, true, false, min, nat_le, List, [], ◌∷◌, ◌++◌, length, take, drop, slice_index, slice_get, Some, refl, sym, ap, subst, ◌∙◌, inl, inr, arith, rules, tests, lit<, lit≤, length-append, if◌then◌else◌}
+use Rattle.std.proofs.Common.{◌≡◌, ◌<◌, ◌≤◌, ◌⊎◌, ◌+◌, ◌*◌, ◌%◌, ◌||◌, ℕ, suc, Bool, true, false, min, nat_le, List, [], ◌∷◌, length, slice_index, slice_get, Some, refl, sym, ap, subst, ◌∙◌, inl, inr, arith, rules, tests, lit<, length-append}
 use Rattle.std.proofs.Math.Nat.{mod-lt, mod-add-mod, mod-eq_of_lt}
-use Rattle.std.proofs.Math.Seq.{drop-append_seam}
-use Rattle.std.proofs.lemmas.List.{length-take, take-append-drop}
+use Rattle.std.proofs.lemmas.List.{length-take}
 use Rattle.hda_registers.specs.declared.shapes.RingSize.{RingSize}
 use Rattle.hda_registers.specs.declared.shapes.RingSize.TheVariants.{Two, Sixteen, Full}
 use Rattle.hda_registers.specs.Fields.{Fields, entries_of, responses_of, rirb_address}
+use Rattle.hda_registers.proofs.Callers.{some_entries, few_entries}
 use Rattle.world_rings.specs.declared.response.Response.{Response}
 use Rattle.world_rings.specs.Memory.{word_at, IsOutside}
 use Rattle.world_rings.specs.Entries.{response_bytes, response_place, response_stored, responses_stored, after_response, after_responses}
@@ -21,16 +21,6 @@ abbrev pub EachStands : Type 0
 EachStands = (fields : Fields) (memory : List ℕ) (responses : List Response) (place : ℕ) (response : Response)
     → length responses < entries_of fields.shape.rirb → IsRirbInside fields memory → slice_get responses place ≡ Some response
     → StandsAt fields (responses_stored fields memory responses) (place + 1) response
-
-pub some_entries : (size : RingSize) → 0 < entries_of size
-some_entries Two = lit< tt
-some_entries Sixteen = lit< tt
-some_entries Full = lit< tt
-
-pub few_entries : (size : RingSize) → entries_of size ≤ 256
-few_entries Two = lit≤ tt
-few_entries Sixteen = lit≤ tt
-few_entries Full = lit≤ tt
 
 pub half_small : (size : RingSize) → half_of size < entries_of size
 half_small Two = lit< tt
@@ -60,10 +50,6 @@ pointer_after (response ∷ responses) fields within =
 
 -- ---- which responses
 
-batch_by : (can : Bool) (count : ℕ) (waiting responses : List Response) → can ≡ true → (if can then take count waiting else []) ≡ responses → take count waiting ≡ responses
-batch_by true count waiting responses is e = e
-batch_by false count waiting responses is e = cc
-
 -- a batch has at most as many responses as RINTCNT says, half of the entries
 pub batch_short : (fields : Fields) (size : RingSize) (waiting responses : List Response) → can_respond fields ≡ true → batch fields waiting ≡ responses
     → fields.global.response_count ≡ half_of size → length responses ≤ half_of size
@@ -72,18 +58,6 @@ batch_short fields size waiting responses can are served =
     let long : length responses ≡ min (batch_of fields) (length waiting) = ap length (sym taken) ∙ length-take (batch_of fields) waiting in
     let asked : responses_of fields.global.response_count ≡ half_of size = ap responses_of served ∙ half_asked size in
     omega arith
-
--- they are the first that wait
-pub batch_first : (fields : Fields) (waiting responses : List Response) → can_respond fields ≡ true → batch fields waiting ≡ responses → responses ++ drop (length responses) waiting ≡ waiting
-batch_first fields waiting responses can are =
-    let taken = batch_by (can_respond fields) (batch_of fields) waiting responses can are in
-    let all : responses ++ drop (batch_of fields) waiting ≡ waiting = ap (λ (rs : List Response). rs ++ drop (batch_of fields) waiting) (sym taken) ∙ take-append-drop (batch_of fields) waiting in
-    let tail : drop (length responses) waiting ≡ drop (batch_of fields) waiting = ap (drop (length responses)) (sym all) ∙ drop-append_seam responses (drop (batch_of fields) waiting) in
-    ap (λ (rest : List Response). responses ++ rest) tail ∙ all
-
--- RIRB's engine writes while the flag is 0
-pub flag_clear : (fields : Fields) → can_respond fields ≡ true → (fields.global.response_flag == 1) ≡ false
-flag_clear fields can = search (rules, tests)
 
 -- ---- memory
 

@@ -8,7 +8,7 @@ use Rattle.hda_registers.specs.declared.shapes.RingSize.TheVariants.{Two, Sixtee
 use Rattle.hda_registers.specs.Fields.{Fields, entries_of, is_out_of_reset}
 use Rattle.hda_registers.specs.Access.{written}
 use Rattle.hda_registers.specs.Laws.{IsBesideRings, IsHeldInReset}
-use Rattle.hda_registers.proofs.Callers.{leaves-rings, keeps-shape, stays-held}
+use Rattle.hda_registers.proofs.Callers.{leaves-rings, keeps-shape, stays-held, some_entries, few_entries}
 use Rattle.world_rings.specs.Memory.{word_at, stored, IsOutside}
 use Rattle.world_rings.proofs.Callers.{stored_outside}
 use Rattle.hda_world.specs.Worlds.{World}
@@ -17,7 +17,7 @@ use Rattle.hda_world.proofs.Callers.{beside_write}
 use Rattle.command_engine.specs.declared.ring_places.RingPlaces.{RingPlaces}
 use Rattle.command_engine.specs.Sizes.{half_of}
 use Rattle.command_engine.specs.Courses.{RingPart, part_of, HasRings, IsBeside, IsBesideBlock, AreBeside, Course, StandsBy, Stands}
-use Rattle.command_engine.proofs.Batches.{EachStands, some_entries, few_entries, same_word}
+use Rattle.command_engine.proofs.Batches.{EachStands, same_word}
 use Rattle.command_engine.proofs.Keeping.{steps_keep_standing}
 
 some_half : (size : RingSize) → half_of size ≢ 0

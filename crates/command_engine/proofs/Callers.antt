@@ -42,3 +42,11 @@ pub use Rattle.command_engine.proofs.Settled.{answered_whole}
 pub use Rattle.command_engine.proofs.Quiet.{reset_registers, risen_registers, control-written}
 -- which of them is a reset
 pub use Rattle.command_engine.proofs.Quiet.{resets, no_reset}
+-- what all codecs have and the changed one, all have after the change
+pub use Rattle.command_engine.proofs.Codecs.{changed_all}
+-- a sum over the codecs changes by the changed one
+pub use Rattle.command_engine.proofs.Codecs.{changed_sum}
+-- where no codec is asked, none takes a command
+pub use Rattle.command_engine.proofs.SubmitTellings.{none_gained}
+-- a write of CRST takes the controller out of reset
+pub use Rattle.command_engine.proofs.Quiet.{leaves_reset}

@@ -188,18 +188,6 @@ pub coming_plugged : (gained : List TakenCommand) (address nid : ℕ) (present :
 coming_plugged gained address nid present unread waiting codecs ascend way =
     coming_changed gained address (λ codec. plugged codec nid present) unread waiting codecs ascend (λ codec can. plugged_can gained codec nid present can) (λ codec. plugged_fewer codec nid present) way
 
--- the graph stays
-pub graph_plugged : (nid : ℕ) (present : Bool) (codec : CodecState) → (plugged codec nid present).graph ≡ codec.graph
-graph_plugged nid present codec = by (node_at codec.graph nid)
-  where
-    pin : (node : RawNode) (b : Bool) → (if b then pin_plugged codec nid present node else codec).graph ≡ codec.graph
-    pin node true = refl
-    pin node false = refl
-
-    by : (node : Option RawNode) → (node_plugged codec nid present node).graph ≡ codec.graph
-    by None = refl
-    by (Some node) = pin node (is_pin node)
-
 -- ---- RIRB's engine writes the first that wait
 
 first_all : (P : Response → Type 0) (first rest : List Response) → All P (first ++ rest) → All P first

@@ -17,6 +17,9 @@ use Rattle.world_rings.specs.Memory.{word_at}
 use Rattle.world_rings.specs.Entries.{next_place, next_command, after_responses, responses_stored}
 use Rattle.world_rings.specs.Engines.{can_fetch, can_respond, batch}
 use Rattle.world_steps.specs.declared.Step.{Step}
+use Rattle.hda_registers.proofs.Callers.{some_entries, few_entries}
+use Rattle.codec_graph.proofs.Callers.{graph-plugged}
+use Rattle.world_rings.proofs.Callers.{flag_clear, batch_first}
 use Rattle.hda_world.specs.declared.step.TheConstants.{FRAMES_TO_DISCOVERY}
 use Rattle.hda_world.specs.Worlds.{World, TakenCommand, codec_at, with_codec}
 use Rattle.hda_world.specs.Steps.{address_of, taking, items_of, handed, responses_of, responded, discovered, passed, after_steps}
@@ -28,8 +31,8 @@ use Rattle.command_engine.specs.declared.answers.Outstanding.{Outstanding}
 use Rattle.command_engine.specs.Blocks.{are_apart}
 use Rattle.command_engine.specs.Courses.{RingPart, part_of, HasRings, AscendFrom, AscendByAddress, AreOf, IsWordOf, IsOfCodec, AreOfCodecs, graphs_in, Course, IsOnItsWay, AreStanding, StandsBy, Stands}
 use Rattle.command_engine.proofs.Codecs.{graph_there}
-use Rattle.command_engine.proofs.Coming.{coming_taken, coming_sent, coming_lost, coming_plugged, graph_plugged, coming_responded}
-use Rattle.command_engine.proofs.Batches.{EachStands, some_entries, few_entries, half_small, part_after, pointer_after, batch_short, batch_first, flag_clear, size_stored, word_stays, standing_written}
+use Rattle.command_engine.proofs.Coming.{coming_taken, coming_sent, coming_lost, coming_plugged, coming_responded}
+use Rattle.command_engine.proofs.Batches.{EachStands, half_small, part_after, pointer_after, batch_short, size_stored, word_stays, standing_written}
 
 -- ---- codecs stay by address
 
@@ -39,8 +42,6 @@ ascend_with address change keeps codecs ascend = subst (AscendFrom 0) (sym (grap
 -- and so do the commands that they took stay theirs
 taken_with : (address : ℕ) (change : CodecState → CodecState) → ((codec : CodecState) → (change codec).graph ≡ codec.graph) → (codecs : List CodecState) (gained : List TakenCommand) → AreOfCodecs codecs gained → AreOfCodecs (with_codec address change codecs) gained
 taken_with address change keeps codecs gained all = subst (λ (graphs : List RawCodec). All (IsOfCodec graphs) gained) (sym (graphs-with_codec address change keeps codecs)) all
-
--- ---- a command is handed over
 
 -- ---- a link frame leaves the rings' registers
 
@@ -177,7 +178,7 @@ module _ (from read corb rirb : ℕ) (rings : RingPlaces) where
   plugs world address nid present holds = record {
     has_rings = holds.has_rings;
     blocks = holds.blocks;
-    ascend = ascend_with address (λ codec. plugged codec nid present) (graph_plugged nid present) world.codecs holds.ascend;
+    ascend = ascend_with address (λ codec. plugged codec nid present) (graph-plugged nid present) world.codecs holds.ascend;
     reading = holds.reading;
     flag = holds.flag;
     few = holds.few;
@@ -185,7 +186,7 @@ module _ (from read corb rirb : ℕ) (rings : RingPlaces) where
     standing = holds.standing;
     from_within = holds.from_within;
     course = holds.course;
-    taken_by = taken_with address (λ codec. plugged codec nid present) (graph_plugged nid present) world.codecs (drop from world.commands) holds.taken_by;
+    taken_by = taken_with address (λ codec. plugged codec nid present) (graph-plugged nid present) world.codecs (drop from world.commands) holds.taken_by;
     on_its_way = coming_plugged (drop from world.commands) address nid present (drop read world.written) world.waiting world.codecs holds.ascend holds.on_its_way;
   }
 

@@ -8,10 +8,11 @@ use Rattle.verb_codes.specs.Words.{bits_of, has_bit}
 use Rattle.hda_registers.specs.declared.shapes.Width.TheVariants.{One}
 use Rattle.hda_registers.specs.Fields.{Fields, entries_of}
 use Rattle.hda_registers.specs.Access.{written}
-use Rattle.hda_registers.proofs.Callers.{read-response_flag, read-rirb_write_pointer, keeps-reset, keeps-left}
+use Rattle.hda_registers.proofs.Callers.{read-response_flag, read-rirb_write_pointer, keeps-reset, keeps-left, some_entries}
 use Rattle.world_rings.specs.declared.response.Response.{Response}
 use Rattle.world_rings.specs.declared.entries.TheConstants.{RESPONSE_BYTES}
 use Rattle.world_rings.specs.Entries.{response_bytes}
+use Rattle.world_rings.proofs.Callers.{flag_clear}
 use Rattle.world_streams.specs.Streams.{StreamState, settled_state}
 use Rattle.hda_world.specs.Worlds.{World}
 use Rattle.hda_world.specs.Events as happens
@@ -23,7 +24,7 @@ use Rattle.command_engine.specs.Entries.{response_in, responses_in, answer_among
 use Rattle.command_engine.specs.Polling.{PollReads, entry_reads, batch_accesses, poll_accesses, new_entries, asked_of, found_by, read_to, still_outstanding, AreNew}
 use Rattle.command_engine.specs.Courses.{RingPart, part_of, ResponseCanCome, StandsBy, Stands}
 use Rattle.command_engine.specs.Belonging.{as_held, from_after, PollLeaves}
-use Rattle.command_engine.proofs.Batches.{EachStands, some_entries, half_small, flag_clear}
+use Rattle.command_engine.proofs.Batches.{EachStands, half_small}
 use Rattle.command_engine.proofs.Keeping.{keeps_standing}
 use Rattle.command_engine.proofs.Holding.{Holding, keeps_holding}
 use Rattle.command_engine.proofs.EntryReads.{entry_says, new_is}

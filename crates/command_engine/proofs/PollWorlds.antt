@@ -14,6 +14,7 @@ use Rattle.codec_graph.proofs.Callers.{answers-cons}
 use Rattle.hda_registers.specs.declared.shapes.Width.TheVariants.{One}
 use Rattle.hda_registers.specs.Fields.{Fields, entries_of, is_out_of_reset}
 use Rattle.hda_registers.specs.Access.{written, placed, global_written}
+use Rattle.hda_registers.proofs.Callers.{some_entries}
 use Rattle.world_rings.specs.declared.response.Response.{Response}
 use Rattle.world_rings.specs.Memory.{word_at}
 use Rattle.hda_world.specs.Worlds.{World, TakenCommand}
@@ -27,7 +28,6 @@ use Rattle.command_engine.specs.Polling.{asked_of, still_outstanding}
 use Rattle.command_engine.specs.Courses.{RingPart, part_of, HasRings, AreOf, IsOfCodec, AreOfCodecs, graph_at, graphs_in, Course, CanCome, ResponseCanCome, ItemCanCome, CodecCanSend, solicited, waiting_answers, IsOnItsWay, StandsBy, Stands}
 use Rattle.command_engine.specs.Belonging.{as_held, Belongs, from_after}
 use Rattle.command_engine.proofs.Codecs.{graph_address}
-use Rattle.command_engine.proofs.Batches.{some_entries}
 
 -- ---- the answer among what was read
 

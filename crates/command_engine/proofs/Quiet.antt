@@ -1,5 +1,5 @@
 -- What keeps the world quiet, and what leads to a start.
-use Rattle.std.proofs.Common.{◌≡◌, ◌≢◌, ◌≤◌, ◌<◌, ◌⊎◌, ◌-◌, ◌*◌, ◌/◌, ◌%◌, ◌==◌, ◌||◌, ◌&&◌, ℕ, Bool, true, false, List, [], ◌∷◌, length, map, refl, sym, ap, subst, ◌∙◌, inl, inr, arith, rules, tests, lit≤, if◌then◌else◌}
+use Rattle.std.proofs.Common.{◌≡◌, ◌≢◌, ◌≤◌, ◌<◌, ◌⊎◌, ◌-◌, ◌*◌, ◌/◌, ◌%◌, ◌==◌, ◌||◌, ◌&&◌, not, ℕ, Bool, true, false, List, [], ◌∷◌, length, map, refl, sym, ap, subst, ◌∙◌, inl, inr, arith, rules, tests, lit≤, if◌then◌else◌}
 use Rattle.std.specs.Prelude.{All, nat_lt}
 use Rattle.std.proofs.lemmas.List.Elements.{All-cons, All-nil}
 use Rattle.std.proofs.lemmas.List.Sums.{sum_by-cons}
@@ -238,6 +238,13 @@ risen_registers fields value odd =
       write-control fields value ∙ out_of_reset fields g one ∙ ap (λ (g : Global). record fields { global = g }) is
           ∙ ap (λ (reset : ℕ). record fields { global = record fields.global { controller_reset = reset; unsolicited = g.unsolicited } }) odd,
     )
+
+-- such a write takes the controller out of reset
+pub leaves_reset : (fields : Fields) → fields.global.controller_reset ≡ 0 → (effects_of fields 0x08 Four 0x101).left_reset ≡ true
+unfolding effects_of
+leaves_reset fields held =
+    ap (λ (reset : ℕ). not (reset == 1) && is_out_of_reset (written fields 0x08 Four 0x101).global) held
+    ∙ ap (λ (f : Fields). not (0 == 1) && is_out_of_reset f.global) (risen_registers fields 0x101 refl).1
 
 pub risen_can_start : (corb rirb value : ℕ) (world : World) → value % 2 ≡ 1 → IsQuiet corb rirb world → CanStart corb rirb (after_write 0x08 Four value world)
 risen_can_start corb rirb value world odd quiet =

@@ -19,7 +19,7 @@ use Rattle.hda_world.specs.Worlds.{World, TakenCommand, codec_at, with_codec}
 use Rattle.hda_world.specs.Steps.{address_of, taking}
 use Rattle.hda_world.specs.Events.{Event, Stepped, Begin, End, Read, Write, DmaRead, DmaWrite, reset_if, counted_anew_if, registers_written, after_write, happens, after}
 use Rattle.hda_world.specs.Kept.{Kept}
-use Rattle.hda_world.proofs.Callers.{kept_steps, frames_after, found_all}
+use Rattle.hda_world.proofs.Callers.{kept_steps, found_all, kept_codecs}
 use Rattle.command_engine.specs.declared.answers.Outstanding.{Outstanding}
 use Rattle.command_engine.specs.Belonging.{IsSettled, TookSettled, IsAnswered}
 
@@ -90,30 +90,14 @@ module _ (from : ℕ) where
   changes address change codecs commands keeps is = record { codecs_are = all_with address change codecs keeps is.codecs_are; within = is.within; takers_are = is.takers_are }
 
   keeps_settled : Kept (Settled from)
-  keeps_settled = record {
-    codecs = record {
-      hands = λ world holds can free.
-          (let word = next_command world.registers world.memory in hands (address_of word) word (length world.carried) (is_running world.registers.output) world.codecs world.commands holds);
-      sends = λ world address item rest holds out room are.
-          changes address without_first world.codecs world.commands (λ codec is. record { well_formed = is.well_formed; settings = is.settings }) holds;
-      loses = λ world address holds out. changes address without_answer world.codecs world.commands (λ codec is. record { well_formed = is.well_formed; settings = is.settings }) holds;
-      plugs = λ world address nid present holds. changes address (λ codec. plugged codec nid present) world.codecs world.commands (λ codec is. settled_plugged codec nid present is) holds;
-    };
-    responds = λ world response rest holds can are. holds;
-    bytes = record {
-      comes = λ world holds can room good is. holds;
-      ends = λ world holds can room good is. holds;
-      breaks = λ world holds can room bad. holds;
-      refuses = λ world holds must. holds;
-    };
-    passes = λ world holds out still. holds;
-    frames = frames_after (Settled from) (λ world holds out. holds) (record {
-      gaps = λ world holds can none. holds;
-      sends = λ world holds can some enough. holds;
-      misses = λ world holds can short. holds;
-      stops = λ world holds must. holds;
-    });
-  }
+  keeps_settled = kept_codecs (SettledBy from) (record {
+    hands = λ world holds can free.
+        (let word = next_command world.registers world.memory in hands (address_of word) word (length world.carried) (is_running world.registers.output) world.codecs world.commands holds);
+    sends = λ world address item rest holds out room are.
+        changes address without_first world.codecs world.commands (λ codec is. record { well_formed = is.well_formed; settings = is.settings }) holds;
+    loses = λ world address holds out. changes address without_answer world.codecs world.commands (λ codec is. record { well_formed = is.well_formed; settings = is.settings }) holds;
+    plugs = λ world address nid present holds. changes address (λ codec. plugged codec nid present) world.codecs world.commands (λ codec is. settled_plugged codec nid present is) holds;
+  })
 
   reset_settled : (reset : Bool) (world : World) → Settled from world → Settled from (reset_if reset world)
   reset_settled true world is = record { codecs_are = all_cleared world.codecs is.codecs_are; within = is.within; takers_are = is.takers_are }

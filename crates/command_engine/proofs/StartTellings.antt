@@ -14,7 +14,8 @@ use Rattle.hda_registers.specs.Moves.{framed, raised}
 use Rattle.hda_registers.specs.Table.{size_code}
 use Rattle.hda_registers.specs.Access.{written}
 use Rattle.hda_registers.specs.Laws.{IsBesideRings}
-use Rattle.hda_registers.proofs.Callers.{keeps-reset, keeps-left, read-corb_size, read-rirb_size, write-corb_write_pointer}
+use Rattle.hda_registers.proofs.Callers.{keeps-reset, keeps-left, read-corb_size, read-rirb_size, write-corb_write_pointer, some_entries}
+use Rattle.codec_graph.proofs.Callers.{graph-plugged}
 use Rattle.world_rings.specs.declared.response.Response.{Response}
 use Rattle.world_rings.specs.Engines.{can_fetch, can_respond}
 use Rattle.hda_world.specs.declared.step.TheConstants.{FRAMES_TO_DISCOVERY}
@@ -29,8 +30,8 @@ use Rattle.command_engine.specs.Sizes.{largest_size, half_of}
 use Rattle.command_engine.specs.Starting.{StartReads, codecs_in, rings_of, rings_read, settings_if, corb_accesses, rirb_accesses, start_accesses}
 use Rattle.command_engine.specs.Courses.{RingPart, part_of, HasBlocks, AscendByAddress, AreOf, IsOfCodec, AreOfCodecs, graphs_in, IsOnItsWay, StandsBy, Stands}
 use Rattle.command_engine.specs.Quiet.{CanStart, IsBlockAddress}
-use Rattle.command_engine.proofs.Coming.{coming_sent, coming_lost, coming_plugged, graph_plugged}
-use Rattle.command_engine.proofs.Batches.{EachStands, some_entries}
+use Rattle.command_engine.proofs.Coming.{coming_sent, coming_lost, coming_plugged}
+use Rattle.command_engine.proofs.Batches.{EachStands}
 use Rattle.command_engine.proofs.Keeping.{ascend_with, part-passed, keeps_standing}
 use Rattle.command_engine.proofs.Beside.{event_keeps}
 use Rattle.command_engine.proofs.StartWrites.{write-state_status, write-corb_base, write-corb_reset, write-corb_ready, write-corb_run, write-rirb_base, write-rirb_reset, write-response_count, write-rirb_run}
@@ -117,7 +118,7 @@ module _ (from read corb rirb : ℕ) where
           changed part run world (with_codec address without_answer world.codecs) world.waiting holds (ascend_with address without_answer (λ codec. refl) world.codecs holds.ascend)
           (coming_lost [] address [] world.waiting world.codecs holds.ascend holds.way);
       plugs = λ world address nid present holds.
-          changed part run world (with_codec address (λ codec. plugged codec nid present) world.codecs) world.waiting holds (ascend_with address (λ codec. plugged codec nid present) (graph_plugged nid present) world.codecs holds.ascend)
+          changed part run world (with_codec address (λ codec. plugged codec nid present) world.codecs) world.waiting holds (ascend_with address (λ codec. plugged codec nid present) (graph-plugged nid present) world.codecs holds.ascend)
           (coming_plugged [] address nid present [] world.waiting world.codecs holds.ascend holds.way);
     };
     responds = λ world response rest holds can are. absurd (no_response part run world holds can);

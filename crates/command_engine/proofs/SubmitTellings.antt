@@ -6,7 +6,7 @@ use Rattle.byteorder.specs.Numbers.{little_from-bytes, length-bytes_low_first}
 use Rattle.hda_registers.specs.declared.shapes.Width.TheVariants.{Two}
 use Rattle.hda_registers.specs.Fields.{entries_of, rirb_address}
 use Rattle.hda_registers.specs.Access.{written}
-use Rattle.hda_registers.proofs.Callers.{keeps-reset, keeps-left, write-corb_write_pointer}
+use Rattle.hda_registers.proofs.Callers.{keeps-reset, keeps-left, write-corb_write_pointer, some_entries, few_entries}
 use Rattle.world_rings.specs.declared.response.Response.{Response}
 use Rattle.world_rings.specs.Memory.{word_at, stored, IsOutside}
 use Rattle.world_rings.specs.Entries.{next_place}
@@ -21,13 +21,18 @@ use Rattle.command_engine.specs.declared.answers.Outstanding.{Outstanding}
 use Rattle.command_engine.specs.Blocks.{are_apart}
 use Rattle.command_engine.specs.Submitting.{command_place, submit_accesses, rings_submitted}
 use Rattle.command_engine.specs.Courses.{RingPart, part_of, AreOf, AllFetched, Course, StandsBy, Stands}
-use Rattle.command_engine.proofs.Batches.{EachStands, some_entries, few_entries, word_stays}
+use Rattle.command_engine.proofs.Batches.{EachStands, word_stays}
 use Rattle.command_engine.proofs.Keeping.{keeps_standing}
 use Rattle.command_engine.proofs.Holding.{Holding, keeps_holding}
 
 are_none : (gained : List TakenCommand) → AreOf None gained → gained ≡ []
 are_none [] are = refl
 are_none (taken ∷ more) are = absurd are
+
+-- where no codec is asked, none takes a command
+pub none_gained : (part : RingPart) (word : ℕ) (gained : List TakenCommand) → Course None part word gained → gained ≡ []
+none_gained part word gained (inl all) = are_none gained all.taken
+none_gained part word gained (inr next) = next.none
 
 -- a word that is stored reads back
 word_written : (memory : List ℕ) (at word : ℕ) → at + 4 ≤ length memory → word_at (stored memory at (little_bytes 4 word)) at ≡ word % 2 ^ 32

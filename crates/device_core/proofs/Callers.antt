@@ -17,3 +17,5 @@ pub use Rattle.device_core.proofs.Handing.{handed_there}
 pub use Rattle.device_core.proofs.Handing.{length-with_codec}
 -- which writes leave the tag and the format of the output stream
 pub use Rattle.device_core.proofs.Sounding.{write_keeps_sound}
+-- a place that lies within is found
+pub use Rattle.device_core.proofs.Places.{place_by}

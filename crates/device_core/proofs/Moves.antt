@@ -1,11 +1,9 @@
 -- That the device goes where the world goes: what waits, and what is plugged in.
-use Rattle.std.proofs.Common.{◌≡◌, ◌++◌, ℕ, Bool, true, false, List, [], ◌∷◌, if◌then◌else◌, Option, Some, None, refl, sym, ap, subst, ◌∙◌}
+use Rattle.std.proofs.Common.{◌≡◌, ◌++◌, ℕ, Bool, true, false, List, [], ◌∷◌, if◌then◌else◌, Option, Some, None, sym, ap, subst, ◌∙◌}
 use Rattle.std.specs.Prelude.{slice_get}
 use Rattle.std.specs.Option.{option_map, unwrap_or}
-use Rattle.codec_graph.specs.declared.raw.RawNode.{RawNode}
-use Rattle.codec_graph.specs.Widget.{node_at, is_pin}
 use Rattle.codec_graph.specs.declared.waiting.Waiting.{Waiting}
-use Rattle.codec_graph.specs.CodecStates.{CodecState, plugged, pin_plugged, node_plugged, without_first, without_answer}
+use Rattle.codec_graph.specs.CodecStates.{CodecState, plugged, without_first, without_answer}
 use Rattle.codec_nodes.specs.Queues.{marked}
 use Rattle.hda_registers.specs.Fields.{Fields, is_out_of_reset}
 use Rattle.world_rings.specs.declared.response.Response.{Response}
@@ -40,29 +38,6 @@ keeps_queues old codecs waiting keeps same = record {
   input_stands = keeps.input_stands;
   output_stands = keeps.output_stands;
 }
-
--- what a plug leaves of a codec
-pin_graph : (codec : CodecState) (nid : ℕ) (present : Bool) (node : RawNode) (pin : Bool) → (if pin then pin_plugged codec nid present node else codec).graph ≡ codec.graph
-pin_graph codec nid present node true = refl
-pin_graph codec nid present node false = refl
-
-node_graph : (codec : CodecState) (nid : ℕ) (present : Bool) (node : Option RawNode) → (node_plugged codec nid present node).graph ≡ codec.graph
-node_graph codec nid present None = refl
-node_graph codec nid present (Some node) = pin_graph codec nid present node (is_pin node)
-
-pub graph_plugged : (nid : ℕ) (present : Bool) (codec : CodecState) → (plugged codec nid present).graph ≡ codec.graph
-graph_plugged nid present codec = node_graph codec nid present (node_at codec.graph nid)
-
-pin_settings : (codec : CodecState) (nid : ℕ) (present : Bool) (node : RawNode) (pin : Bool) → (if pin then pin_plugged codec nid present node else codec).settings ≡ codec.settings
-pin_settings codec nid present node true = refl
-pin_settings codec nid present node false = refl
-
-node_settings : (codec : CodecState) (nid : ℕ) (present : Bool) (node : Option RawNode) → (node_plugged codec nid present node).settings ≡ codec.settings
-node_settings codec nid present None = refl
-node_settings codec nid present (Some node) = pin_settings codec nid present node (is_pin node)
-
-pub settings_plugged : (nid : ℕ) (present : Bool) (codec : CodecState) → (plugged codec nid present).settings ≡ codec.settings
-settings_plugged nid present codec = node_settings codec nid present (node_at codec.graph nid)
 
 module _ (memory : List ℕ) (old : DeviceState) (world : World) (is : IsWorld memory old world) where
   abbrev After : DeviceState → World → Type 0

@@ -29,7 +29,7 @@ none_is : (first size : ℕ) (within : Bool) → nat_lt first size ≡ within �
 none_is first size true here is = (let never : Some first ≡ None = is in cc)
 none_is first size false here is = ltb-false first size here
 
-place_by : (first size place : ℕ) → first ≡ place → place < size → cond (nat_lt first size) (Some first) None ≡ Some place
+pub place_by : (first size place : ℕ) → first ≡ place → place < size → cond (nat_lt first size) (Some first) None ≡ Some place
 place_by first size place is within = rw is (let inside : nat_lt place size ≡ true = lt-ltb place size within in rw inside refl)
 
 place_past : (first size : ℕ) → first ≡ size → cond (nat_lt first size) (Some first) None ≡ None

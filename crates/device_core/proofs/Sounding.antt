@@ -1,6 +1,6 @@
 -- Which writes leave the tag and the format of the output stream.
 use Rattle.std.proofs.Common.{◌≡◌, ◌≢◌, ◌≤◌, ◌<◌, ◌⊎◌, ◌+◌, ◌-◌, ◌/◌, ◌%◌, ◌==◌, ◌&&◌, ◌||◌, ℕ, Bool, true, false, nat_lt, refl, sym, ap, subst, inl, inr, arith, ne_eqb, tests, rules}
-use Rattle.std.proofs.lemmas.Bool.{ltb-false, eqb-true, eqb-false, cases_lt, cases_eq, lt-ltb}
+use Rattle.std.proofs.lemmas.Bool.{ltb-false, eqb-true, eqb-false, cases_lt, cases_eq, lt-ltb, or_parts}
 use Rattle.hda_registers.specs.declared.shapes.Width.{Width}
 use Rattle.hda_registers.specs.declared.shapes.Width.TheVariants.{One, Two, Four}
 use Rattle.hda_registers.specs.Fields.{Descriptor, Fields, is_out_of_reset}
@@ -58,14 +58,6 @@ written_by f at w v false is keeps = rw is (record { tag = refl; format = refl }
 
 -- ---- where the write is
 
-left_of : (a b : Bool) → (a || b) ≡ false → a ≡ false
-left_of true b none = none
-left_of false b none = refl
-
-right_of : (a b : Bool) → (a || b) ≡ false → b ≡ false
-right_of true b none = (let z : true ≡ false = none in cc)
-right_of false b none = none
-
 apart_of : (a b : Bool) → (a && b) ≡ false → a ≡ true → b ≡ false
 apart_of true b none is = none
 apart_of false b none is = cc
@@ -113,8 +105,8 @@ aligned_where f at w taken = eqb-true (at % bytes_of w) 0 (first_of (at % bytes_
 
 output_kept : (f : Fields) (at : ℕ) (w : Width) (v : ℕ) → 0xA0 ≤ at → at < 0xC0 → touches_sound at w ≡ false → KeepsHeard f.output (written f at w v).output
 output_kept f at w v low high apart =
-    let control : (nat_lt at 0xA3 && nat_lt 0xA0 (at + bytes_of w)) ≡ false = right_of _ _ (left_of _ _ apart) in
-    let form : (nat_lt at 0xB4 && nat_lt 0xB2 (at + bytes_of w)) ≡ false = right_of _ _ apart in
+    let control : (nat_lt at 0xA3 && nat_lt 0xA0 (at + bytes_of w)) ≡ false = (or_parts _ _ ((or_parts _ _ apart).0)).1 in
+    let form : (nat_lt at 0xB4 && nat_lt 0xB2 (at + bytes_of w)) ≡ false = (or_parts _ _ apart).1 in
     elim (cases_lt at 0xA4) [
       | inl below ↦ status_written f at w v (status_place at w below low control) (aligned_where f at w)
       | inr past ↦ elim (cases_lt at 0xB0) [
@@ -140,7 +132,7 @@ output_kept f at w v low high apart =
 
 heard_kept : (f : Fields) (at : ℕ) (w : Width) (v : ℕ) → touches_sound at w ≡ false → KeepsHeard f.output (written f at w v).output
 heard_kept f at w v apart =
-    let control : at / 4 ≢ 2 = eqb-false (at / 4) 2 (left_of _ _ (left_of _ _ apart)) in
+    let control : at / 4 ≢ 2 = eqb-false (at / 4) 2 ((or_parts _ _ ((or_parts _ _ apart).0)).0) in
     elim (cases_lt at 0x80) [
       | inl below ↦ heard_same _ _ (leaves-streams f at w v control (inl below)).output
       | inr low ↦ elim (cases_lt at 0xA0) [

@@ -302,7 +302,7 @@ module _ (asks : Asks) (tells : Tells) (counts : Counts) (means : Means) (verbs 
 -- ---- an answer
 
 -- a walk that is not at its end has commands left
-walks_on : (graphs : List RawCodec) (count : ℕ) (agenda : Agenda) (under_way : Walk) → FollowsWalk graphs count agenda under_way → count < length (flat_map walk_commands graphs)
+pub walks_on : (graphs : List RawCodec) (count : ℕ) (agenda : Agenda) (under_way : Walk) → FollowsWalk graphs count agenda under_way → count < length (flat_map walk_commands graphs)
 walks_on graphs count agenda under_way stands =
     let all = ap (λ (graphs : List RawCodec). length (flat_map walk_commands graphs)) stands.split
     ∙ ap length (flat_map-append walk_commands stands.done (stands.current ∷ stands.rest))

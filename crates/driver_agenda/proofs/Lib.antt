@@ -3,3 +3,4 @@ pub mod Telling
 pub mod Leading
 pub mod Places
 pub mod Following
+pub mod Callers

@@ -14,7 +14,7 @@ use Rattle.driver_progress.specs.Tasks.{Blocks, Order}
 use Rattle.driver_progress.specs.Seen.{seen_by, values_of, value_in}
 use Rattle.driver_progress.specs.Expected.{polls, submits}
 use Rattle.driver_progress.specs.Commands.{ask_accesses}
-use Rattle.driver_progress.proofs.StretchCallers.{poll_fits}
+use Rattle.driver_progress.proofs.Callers.{poll_fits}
 use Rattle.driver_bring_up.specs.Commanding.{submit_made}
 
 -- all accesses of a call that goes on with these
@@ -27,10 +27,10 @@ pub none_submitted : (register corb : ℕ) (rings : RingPlaces) (order : Option 
 none_submitted register corb rings None = refl
 none_submitted register corb rings (Some order) = refl
 
-pub none_read : (register rirb size place : ℕ) (entries : List (List ℕ)) (rest : List Event)
+pub entry_unread : (register rirb size place : ℕ) (entries : List (List ℕ)) (rest : List Event)
     → values_of ((entry_reads rirb size place entries ++ Write RIRBSTS One 1 ∷ []) ++ rest) register ≡ values_of rest register
-none_read register rirb size place [] rest = refl
-none_read register rirb size place (entry ∷ entries) rest = none_read register rirb size (place + 1) entries rest
+entry_unread register rirb size place [] rest = refl
+entry_unread register rirb size place (entry ∷ entries) rest = entry_unread register rirb size (place + 1) entries rest
 
 -- an event and then events by which nothing is read of it
 flat_one : (register : ℕ) (event : Event) (rest : List Event) → values_of rest register ≡ [] → values_of (event ∷ rest) register ≡ values_of (event ∷ []) register
@@ -43,7 +43,7 @@ batch_reads : (written : Bool) (register rirb : ℕ) (rings : RingPlaces) (reads
 batch_reads false register rirb rings reads rest none = none
 batch_reads true register rirb rings reads rest none =
     flat_one register (Read RIRBWP Two reads.pointer) ((entry_reads rirb (entries_of rings.rirb) (rings.read + 1) reads.entries ++ Write RIRBSTS One 1 ∷ []) ++ rest)
-    (none_read register rirb (entries_of rings.rirb) (rings.read + 1) reads.entries rest ∙ none)
+    (entry_unread register rirb (entries_of rings.rirb) (rings.read + 1) reads.entries rest ∙ none)
 
 -- ---- what the stretch saw
 

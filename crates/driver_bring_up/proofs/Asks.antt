@@ -18,11 +18,11 @@ use Rattle.driver_progress.specs.Commands.{ask_accesses}
 use Rattle.driver_progress.specs.Shutting.{shut_accesses}
 use Rattle.driver_bring_up.specs.Standing.{Agrees, answers_of, phase_of, next_on}
 use Rattle.driver_bring_up.specs.Commanding.{LedTo, poll_by, leaves_free, unanswered_if, order_if, submit_made, rings_with, sent_with, state_with, IsStretch, IsLastLook, run_of}
-use Rattle.driver_bring_up.proofs.CommandCallers.{comes, stretch, closing, last_look}
 use Rattle.driver_progress.specs.Phases.{is_asking, goes_on, can_follow, is_early}
 use Rattle.driver_progress.proofs.Callers.{asking_goes_on, asking_early}
 use Rattle.driver_bring_up.specs.Calls.{is_ended, sent_if}
 use Rattle.driver_bring_up.proofs.Leading.{outstanding_none}
+use Rattle.driver_bring_up.proofs.Commands.{comes, stretch, closing, last_look}
 
 -- ---- phases
 

@@ -33,12 +33,12 @@ use Rattle.driver_progress.specs.Phases.{is_asking}
 use Rattle.driver_bring_up.specs.Told.{IsGivenUp}
 use Rattle.driver_bring_up.specs.Standing.{LeadsOn, EndsBy}
 use Rattle.driver_bring_up.specs.Commanding.{IsStretch, LedTo, Taken, poll_by, entry_in, entries_in, answer_in, with_told, submit_made}
-use Rattle.driver_progress.proofs.StretchCallers.{interrupt_unread}
-use Rattle.driver_bring_up.proofs.CommandCallers.{asked_entries}
 use Rattle.driver_progress.specs.Tasks.{Order, Task, DriverLine}
 use Rattle.driver_progress.specs.States.{State}
+use Rattle.driver_progress.proofs.Callers.{interrupt_unread}
 use Rattle.driver_bring_up.specs.declared.bringing.BringUp.{BringUp}
 use Rattle.driver_bring_up.specs.Calls.{ReadsOn}
+use Rattle.driver_bring_up.proofs.Entries.{asked_entries}
 
 -- ---- where nothing is read
 

@@ -5,7 +5,6 @@ pub mod Asks
 pub mod Still
 pub mod Staying
 pub mod Unread
-pub mod CommandCallers
 mod Agreeing
 mod Asked
 pub mod Commands

@@ -30,10 +30,10 @@ use Rattle.driver_progress.specs.Next.{settled_if, walking_if, led, tally_next}
 use Rattle.driver_progress.specs.declared.settling.Settled.{Settled}
 use Rattle.driver_progress.specs.declared.settling.Settled.TheVariants.{TooEarly, NoCodec, Codecs}
 use Rattle.driver_progress.specs.Settling.{start_if, settle_accesses, codecs_found, found_if, rings_after}
-use Rattle.driver_progress.proofs.StretchCallers.{settle_fits_by}
+use Rattle.driver_progress.proofs.Callers.{settle_fits_by}
 use Rattle.driver_bring_up.specs.Standing.{phase_at}
 use Rattle.driver_bring_up.specs.Commanding.{IsStretch, run_of}
-use Rattle.driver_bring_up.proofs.CommandCallers.{once}
+use Rattle.driver_bring_up.proofs.Commands.{once}
 
 -- ---- what was found
 

@@ -23,9 +23,9 @@ use Rattle.driver_progress.specs.declared.registers.TheConstants.{STREAM_STATUS}
 use Rattle.driver_progress.specs.Tasks.{Order}
 use Rattle.driver_progress.specs.Noting.{ArePlain}
 use Rattle.driver_progress.specs.Interrupts.{interrupt_accesses}
-use Rattle.driver_progress.proofs.StretchCallers.{unread_both, interrupt_unread}
 use Rattle.driver_progress.specs.Commands.{ask_accesses}
 use Rattle.driver_progress.specs.Shutting.{shut_accesses}
+use Rattle.driver_progress.proofs.Callers.{unread_both, interrupt_unread}
 use Rattle.driver_bring_up.specs.Commanding.{poll_by, entries_in, submit_made, order_if, rings_with, sent_with}
 use Rattle.driver_bring_up.specs.Standing.{next_on}
 use Rattle.driver_bring_up.specs.declared.bringing.BringUp.{BringUp}

@@ -19,9 +19,9 @@ use Rattle.driver_progress.specs.Expected.{runs, runs_in, starts, asks, clears, 
 use Rattle.driver_progress.specs.Next.{led, closed, polled, tally_next, next, expected}
 use Rattle.driver_progress.specs.Interrupts.{clear_accesses, interrupt_accesses}
 use Rattle.driver_progress.specs.Shutting.{shut_accesses}
-use Rattle.driver_progress.proofs.StretchCallers.{interrupt_fits}
 use Rattle.driver_bring_up.specs.Commanding.{IsStretch, IsLastLook, run_of}
 use Rattle.driver_progress.specs.Phases.{PhaseGroup, Over, group_of, acts, is_active, is_asking, is_early, is_reset, is_settling}
+use Rattle.driver_progress.proofs.Callers.{interrupt_fits}
 
 -- ---- nothing is left to do
 
@@ -44,10 +44,10 @@ still_led task state seen tally Ready asking reset settling early silent = ap (�
 still_led task state seen tally phase asking reset settling early silent = refl
 
 -- a stretch that reads no clock is no run
-pub none_read : (was : Ran) (m : Measures) (total : ℕ) (stretch : Stretch) (tally : Tally) → taken_up_if was [] m total stretch tally ≡ tally
-none_read ran.Playing m total stretch tally = refl
-none_read ran.Drained m total stretch tally = refl
-none_read (ran.Late from to limit) m total stretch tally = refl
+pub clock_unread : (was : Ran) (m : Measures) (total : ℕ) (stretch : Stretch) (tally : Tally) → taken_up_if was [] m total stretch tally ≡ tally
+clock_unread ran.Playing m total stretch tally = refl
+clock_unread ran.Drained m total stretch tally = refl
+clock_unread (ran.Late from to limit) m total stretch tally = refl
 
 pub still_stretch : (task : Task) (state : State) (budget : ℕ) → is_asking state.phase ≡ false → is_reset state.phase ≡ false → is_settling state.phase ≡ false → is_early state.phase ≡ true
     → (state.phase ≡ Ready → task.plays ≡ false) → IsStretch task state (Some (run_of budget)) [] false state
@@ -56,7 +56,7 @@ still_stretch task state budget asking reset settling early silent =
     let tally = tally_next task state (Some (run_of budget)) seen in record {
       fits = sym (still_runs task state budget seen tally state.phase asking reset settling early silent);
       leads = sym (ap (λ (after : State). record after { tally = tally }) (still_led task state seen tally state.phase asking reset settling early silent)
-          ∙ ap (λ (tally : Tally). record state { tally = tally }) (none_read state.tally.course.ran _ _ _ state.tally));
+          ∙ ap (λ (tally : Tally). record state { tally = tally }) (clock_unread state.tally.course.ran _ _ _ state.tally));
     }
 
 -- ---- the last call
@@ -88,7 +88,7 @@ shut_stretch task state asking reset early =
     let tally = tally_next task state None seen in record {
       fits = sym (shut_closes task state seen state.phase asking reset early);
       leads = sym (ap (λ (after : State). record after { tally = tally }) (shut_closed task state seen tally state.phase asking reset early)
-          ∙ ap (λ (tally : Tally). record state { tally = tally }) (none_read state.tally.course.ran _ _ _ state.tally));
+          ∙ ap (λ (tally : Tally). record state { tally = tally }) (clock_unread state.tally.course.ran _ _ _ state.tally));
     }
 
 pub none_stretch : (task : Task) (state : State) → is_reset state.phase ≡ true → IsStretch task state None [] false state
@@ -97,7 +97,7 @@ none_stretch task state reset =
     let tally = tally_next task state None seen in record {
       fits = sym (reset_closes task state seen state.phase reset);
       leads = sym (ap (λ (after : State). record after { tally = tally }) (reset_closed task state seen tally state.phase reset)
-          ∙ ap (λ (tally : Tally). record state { tally = tally }) (none_read state.tally.course.ran _ _ _ state.tally));
+          ∙ ap (λ (tally : Tally). record state { tally = tally }) (clock_unread state.tally.course.ran _ _ _ state.tally));
     }
 
 -- ---- calls for an interrupt
@@ -146,7 +146,7 @@ inactive_stretch task state budget inactive =
     let seen = seen_by (values_of []) false in
     let tally = tally_next task state (Some (irq_of budget)) seen in record {
       fits = sym (ap (λ (active : Bool). interrupted_if active seen (runs task state budget seen tally state.phase)) inactive ∙ inactive_runs task state budget seen tally state.phase inactive);
-      leads = sym (ap (λ (tally : Tally). record state { tally = tally }) (none_read state.tally.course.ran _ _ _ state.tally));
+      leads = sym (ap (λ (tally : Tally). record state { tally = tally }) (clock_unread state.tally.course.ran _ _ _ state.tally));
     }
 
 -- there is none
@@ -157,7 +157,7 @@ no_interrupt task state budget interrupts none active =
       fits = sym (ap (λ (active : Bool). interrupted_if active seen (runs task state budget seen tally state.phase)) active
           ∙ ap (λ (on : Bool). Gets INTSTS Four ∷ (if on then clears seen ++ runs task state budget seen tally state.phase else [])) none);
       leads = sym (ap (λ (on : Bool). record (if not on then state else led task state seen tally state.phase) { tally = tally }) none
-          ∙ ap (λ (tally : Tally). record state { tally = tally }) (none_read state.tally.course.ran _ _ _ state.tally));
+          ∙ ap (λ (tally : Tally). record state { tally = tally }) (clock_unread state.tally.course.ran _ _ _ state.tally));
     }
 
 pub none_stretch_of : (task : Task) (state : State) (budget interrupts stream : ℕ) → has_bit interrupts 31 ≡ false → is_active state.phase ≡ true → IsStretch task state (Some (irq_of budget)) (interrupt_accesses interrupts stream) false state

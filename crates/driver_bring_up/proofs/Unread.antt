@@ -23,7 +23,7 @@ use Rattle.driver_progress.specs.Expected.{has_settled}
 use Rattle.driver_progress.specs.Beginning.{CanReset, IsSettling}
 use Rattle.driver_progress.specs.Announcing.{AreCodecs, IsStarted}
 use Rattle.driver_progress.specs.Interrupts.{interrupt_accesses}
-use Rattle.driver_progress.proofs.StretchCallers.{can_reset_looked, settling_looked, addresses_looked, looked_untaken}
+use Rattle.driver_progress.proofs.Callers.{can_reset_looked, settling_looked, addresses_looked, looked_untaken}
 use Rattle.driver_bring_up.specs.Commanding.{answer_in}
 use Rattle.driver_bring_up.specs.declared.bringing.BringUp.{BringUp}
 use Rattle.driver_bring_up.specs.Told.{found_none, ResetsTo, SettlesTo}

@@ -9,6 +9,7 @@ use Rattle.driver_progress.specs.Tasks.{Task, DriverLine}
 use Rattle.driver_progress.specs.Progress.{Course, course_opened, course_after, course_of, noted, is_answered, with_access, FitsAt, Conforms}
 use Rattle.driver_progress.specs.Noting.{IsPlain, ArePlain, with_accesses}
 use Rattle.driver_progress.proofs.CourseLaws.{course_append, conforms_both}
+use Rattle.driver_progress.proofs.AccessRows.{access_fits, plain_access}
 
 -- that the journal conforms, by what is told
 abbrev pub ConformsTo : Task → List DriverLine → Telling → Type 0
@@ -60,15 +61,6 @@ noted_plain task course world (Write at width value) plain = written_plain (at =
 noted_plain task course world (DmaRead at bytes) plain = refl
 noted_plain task course world (DmaWrite at bytes) plain = refl
 
-plain_fits : (task : Task) (course : Course) (event : Event) → IsPlain event → FitsAt task course event
-plain_fits task course (Stepped step) plain = tt
-plain_fits task course Begin plain = tt
-plain_fits task course End plain = absurd plain
-plain_fits task course (Read at width value) plain = tt
-plain_fits task course (Write at width value) plain = tt
-plain_fits task course (DmaRead at bytes) plain = tt
-plain_fits task course (DmaWrite at bytes) plain = tt
-
 row_by : (task : Task) (lines : List DriverLine) (made : List Event) (old new : Telling) → MakesBy made old new → ArePlain made
     → (course_of task lines new ≡ with_accesses (course_of task lines old) made) × (ConformsTo task lines old → ConformsTo task lines new)
 row_by task lines [] old new none plain = (
@@ -82,7 +74,7 @@ row_by task lines (event ∷ made) old new (middle, first, more) plain =
     ∙ course_stepped task first.steps event (world_of old) (course_of task lines old)
     ∙ noted_plain task (course_of task lines old) (after (map Stepped first.steps) (world_of old)) event plain.0 in
     let go = conforms_went task lines old middle (map Stepped first.steps ++ event ∷ []) first.went
-    (conforms_stepped task first.steps event (world_of old) (course_of task lines old) (plain_fits task (course_of task lines old) event plain.0)) in (
+    (conforms_stepped task first.steps event (world_of old) (course_of task lines old) (access_fits task (course_of task lines old) event (plain_access event plain.0))) in (
       rest.0 ∙ ap (λ (course : Course). with_accesses course made) here
           ∙ ap (λ (all : List Event). record (course_of task lines old) { made = all }) (append_assoc (course_of task lines old).made (event ∷ []) made),
       λ conforms. rest.1 (go conforms),

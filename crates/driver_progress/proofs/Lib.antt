@@ -1,8 +1,8 @@
 pub mod CourseLaws
 pub mod CourseRows
 pub mod PhaseCases
+pub mod AccessRows
 pub mod Callers
-pub mod StretchCallers
 pub mod Fitting
 pub mod Time
 pub mod ResetWorlds

@@ -22,7 +22,7 @@ use Rattle.command_engine.specs.Polling.{PollReads, asked_of, entry_reads, batch
 use Rattle.driver_progress.specs.Tasks.{Task, DriverLine}
 use Rattle.driver_progress.specs.Progress.{Course, course_of, is_answered}
 use Rattle.driver_progress.specs.Noting.{ArePlain, with_accesses}
-use Rattle.driver_progress.proofs.Callers.{ConformsTo, course_went, conforms_went, course_stepped, conforms_stepped, course_row}
+use Rattle.driver_progress.proofs.CourseRows.{ConformsTo, course_went, conforms_went, course_stepped, conforms_stepped, course_row}
 
 -- ---- RINTFL is a bit, and while it is 1 nothing is written
 

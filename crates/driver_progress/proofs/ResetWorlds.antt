@@ -1,11 +1,11 @@
 -- What a reset leads to.
-use Rattle.std.proofs.Common.{◌≡◌, ◌+◌, ◌*◌, ◌/◌, ◌%◌, ◌==◌, ℕ, true, not, ◌&&◌, List, [], ◌∷◌, map, refl, sym, ap, subst, ◌∙◌, arith, rules, tests}
+use Rattle.std.proofs.Common.{◌≡◌, ◌+◌, ◌*◌, ◌/◌, ◌%◌, ◌==◌, ℕ, true, List, [], ◌∷◌, map, refl, sym, ap, subst, ◌∙◌, arith, rules, tests}
 use Rattle.verb_codes.specs.Words.{has_bit}
 use Rattle.codec_graph.specs.declared.raw.RawCodec.{RawCodec}
 use Rattle.codec_graph.specs.CodecStates.{CodecState, cleared}
 use Rattle.hda_registers.specs.declared.shapes.Width.TheVariants.{Four}
 use Rattle.hda_registers.specs.Fields.{Fields, Global, is_out_of_reset}
-use Rattle.hda_registers.specs.Access.{written, effects_of, value_at}
+use Rattle.hda_registers.specs.Access.{written, value_at}
 use Rattle.hda_registers.proofs.Callers.{read-global_control}
 use Rattle.world_steps.specs.declared.Step.{Step}
 use Rattle.hda_world.specs.Worlds.{World}
@@ -18,7 +18,7 @@ use Rattle.hda_world.proofs.Callers.{world_of-went, kept_steps, steps_leave, res
 use Rattle.hda_world.proofs.Callers.{after-stepped, honest-stepped}
 use Rattle.command_engine.specs.Courses.{HasBlocks, AscendFrom}
 use Rattle.command_engine.specs.Quiet.{IsQuiet}
-use Rattle.command_engine.proofs.Callers.{quiet_steps, can_start_steps, reset_quiet, risen_can_start, reset_registers, risen_registers, control-written, resets, no_reset}
+use Rattle.command_engine.proofs.Callers.{quiet_steps, can_start_steps, reset_quiet, risen_can_start, reset_registers, risen_registers, control-written, resets, no_reset, leaves_reset}
 use Rattle.driver_progress.specs.Beginning.{AreOnly, HasOnly, KeepsTime, CanReset, IsSettling}
 use Rattle.driver_progress.specs.Resetting.{reset_accesses}
 use Rattle.driver_progress.proofs.Time.{keeps_time, keeps_only, keeps_held, IsHeld}
@@ -83,16 +83,10 @@ settling_steps corb rirb steps world is = record {
   only = kept_steps HasOnly keeps_only steps world is.only;
 }
 
-left : (fields : Fields) → fields.global.controller_reset ≡ 0 → (effects_of fields 0x08 Four 0x101).left_reset ≡ true
-unfolding effects_of
-left fields held =
-    ap (λ (reset : ℕ). not (reset == 1) && is_out_of_reset (written fields 0x08 Four 0x101).global) held
-    ∙ ap (λ (f : Fields). not (0 == 1) && is_out_of_reset f.global) (risen_registers fields 0x101 refl).1
-
 rise_leads : (corb rirb : ℕ) (world : World) → InReset corb rirb world → IsSettling corb rirb (after_write 0x08 Four 0x101 world)
 rise_leads corb rirb world in_reset =
     let is = (risen_registers world.registers 0x101 refl).1 in
-    let whole = rising_write world 0x08 0x101 Four (no_reset world.registers 0x101 refl) (left world.registers in_reset.held.held) in
+    let whole = rising_write world 0x08 0x101 Four (no_reset world.registers 0x101 refl) (leaves_reset world.registers in_reset.held.held) in
     record {
       can_start = risen_can_start corb rirb 0x101 world refl in_reset.quiet;
       discovered = subst IsDiscovered (sym whole) (λ late. absurd (omega (arith, late)));

@@ -21,7 +21,7 @@ use Rattle.hda_world.specs.Tellings.{Telling, world_of, Accessed, MakesBy, Makes
 use Rattle.hda_world.specs.Kept.{Kept}
 use Rattle.hda_world.specs.Discovery.{addresses_of, AreSet}
 use Rattle.hda_world.specs.Leaving.{StepsLeave}
-use Rattle.hda_world.proofs.Callers.{kept_steps, steps_leave, frames_after}
+use Rattle.hda_world.proofs.Callers.{kept_steps, steps_leave, kept_frames}
 use Rattle.command_engine.specs.declared.ring_places.RingPlaces.{RingPlaces}
 use Rattle.command_engine.specs.Sizes.{largest_size}
 use Rattle.command_engine.specs.Starting.{StartReads, codecs_in, codecs_if, rings_of, start_accesses}
@@ -41,28 +41,7 @@ abbrev IsLate : World → Type 0
 IsLate world = 25 ≤ world.frames
 
 keeps_late : Kept IsLate
-keeps_late = record {
-  codecs = record {
-    hands = λ world holds can free. holds;
-    sends = λ world address item rest holds out room are. holds;
-    loses = λ world address holds out. holds;
-    plugs = λ world address nid present holds. holds;
-  };
-  responds = λ world response rest holds can are. holds;
-  bytes = record {
-    comes = λ world holds can room good is. holds;
-    ends = λ world holds can room good is. holds;
-    breaks = λ world holds can room bad. holds;
-    refuses = λ world holds must. holds;
-  };
-  passes = λ world holds out still. let one : 25 ≤ world.frames + 1 = omega (arith, holds) in one;
-  frames = frames_after IsLate (λ world holds out. let one : 25 ≤ world.frames + 1 = omega (arith, holds) in one) (record {
-    gaps = λ world holds can none. holds;
-    sends = λ world holds can some enough. holds;
-    misses = λ world holds can short. holds;
-    stops = λ world holds must. holds;
-  });
-}
+keeps_late = kept_frames (λ (frames : ℕ). 25 ≤ frames) (λ frames late. omega (arith, late))
 
 late_by : (kept clock frames : ℕ) → kept + 12500 ≤ clock → clock ≡ 500 * frames % 2 ^ 32 → 25 ≤ frames
 late_by kept clock frames had is = let less = mod-le (500 * frames) (2 ^ 32) in by (500 * frames % 2 ^ 32) less is

@@ -10,15 +10,16 @@ use Rattle.codec_graph.specs.CodecStates.{CodecState, plugged}
 use Rattle.hda_registers.specs.declared.shapes.Raise.TheVariants as event
 use Rattle.hda_registers.specs.Fields.{Fields, is_out_of_reset}
 use Rattle.hda_registers.specs.Moves.{framed, raised}
+use Rattle.codec_graph.proofs.Callers.{graph-plugged}
 use Rattle.world_rings.specs.declared.response.Response.{Response}
 use Rattle.world_rings.specs.Entries.{after_response, after_responses}
+use Rattle.world_rings.proofs.Callers.{status_responded}
 use Rattle.hda_world.specs.declared.step.TheConstants.{FRAMES_TO_DISCOVERY}
 use Rattle.hda_world.specs.Worlds.{World, with_codec}
 use Rattle.hda_world.specs.Steps.{discovered, passed}
 use Rattle.hda_world.specs.Kept.{Kept}
 use Rattle.hda_world.specs.Discovery.{addresses_of}
 use Rattle.hda_world.proofs.Callers.{frames_after, passed_global, graphs-with_codec}
-use Rattle.hda_world.proofs.Callers.{graph-plugged}
 use Rattle.driver_progress.specs.Beginning.{AreOnly, HasOnly, KeepsTime}
 
 -- addresses are those of the graphs
@@ -109,10 +110,6 @@ only_if false codecs fields only = only
 only_passes : (world : World) → HasOnly world → is_out_of_reset world.registers.global ≡ true → HasOnly (passed world)
 only_passes world holds out = only_if (world.frames + 1 == FRAMES_TO_DISCOVERY) world.codecs (framed world.registers) holds
 
-status_after : (responses : List Response) (fields : Fields) → (after_responses fields responses).global.state_status ≡ fields.global.state_status
-status_after [] fields = refl
-status_after (response ∷ responses) fields = status_after responses (after_response fields)
-
 only_changed : (world : World) (address : ℕ) (change : CodecState → CodecState) → ((codec : CodecState) → (change codec).graph ≡ codec.graph) → HasOnly world
     → AreOnly world.registers.global.state_status (addresses_of (with_codec address change world.codecs))
 only_changed world address change keeps holds = subst (AreOnly world.registers.global.state_status) (sym (addresses_stay address change keeps world.codecs)) holds
@@ -125,7 +122,7 @@ keeps_only = record {
     loses = λ world address holds out. only_changed world _ _ (λ codec. refl) holds;
     plugs = λ world address nid present holds. only_changed world address (λ codec. plugged codec nid present) (graph-plugged nid present) holds;
   };
-  responds = λ world response rest holds can are. subst (λ (status : ℕ). AreOnly status (addresses_of world.codecs)) (sym (status_after (response ∷ rest) world.registers)) holds;
+  responds = λ world response rest holds can are. subst (λ (status : ℕ). AreOnly status (addresses_of world.codecs)) (sym (status_responded (response ∷ rest) world.registers)) holds;
   bytes = record {
     comes = λ world holds can room good is. holds;
     ends = λ world holds can room good is. holds;

@@ -1,21 +1,17 @@
 -- While no command is outstanding, no answer stands unread.
-use Rattle.std.proofs.Common.{◌≡◌, ◌+◌, ◌*◌, ℕ, Bool, true, false, not, ◌&&◌, ◌||◌, List, [], ◌∷◌, length, drop, Option, None, inl, inr, refl, sym, ap, subst, ◌∙◌, arith}
+use Rattle.std.proofs.Common.{◌≡◌, ◌+◌, ◌*◌, ℕ, Bool, true, false, not, ◌&&◌, ◌||◌, List, [], ◌∷◌, length, drop, Option, None, refl, sym, ap, subst, ◌∙◌, arith}
 use Rattle.std.specs.Prelude.{cond}
 use Rattle.std.proofs.lemmas.List.Sums.{sum_by-cons}
 use Rattle.world_rings.specs.declared.response.Response.{Response}
 use Rattle.world_rings.specs.Memory.{word_at}
 use Rattle.world_rings.specs.declared.entries.TheConstants.{COMMAND_BYTES}
-use Rattle.hda_world.specs.Worlds.{World, TakenCommand}
+use Rattle.hda_world.specs.Worlds.{World}
 use Rattle.command_engine.specs.declared.ring_places.RingPlaces.{RingPlaces}
 use Rattle.command_engine.specs.declared.answers.Outstanding.{Outstanding}
-use Rattle.command_engine.specs.Courses.{RingPart, part_of, Course, solicited, Stands}
+use Rattle.command_engine.specs.Courses.{part_of, Course, solicited, Stands}
 use Rattle.command_engine.specs.Entries.{answers_it, is_from}
+use Rattle.command_engine.proofs.Callers.{none_gained}
 use Rattle.driver_progress.specs.Answers.{has_answer, AnswersAgree}
-
-none_taken : (part : RingPart) (word : ℕ) (gained : List TakenCommand) → Course None part word gained → gained ≡ []
-none_taken part word [] course = refl
-none_taken part word (taken ∷ more) (inl fetched) = absurd fetched.taken
-none_taken part word (taken ∷ more) (inr next) = absurd next.is
 
 first_none : (asked : Option ℕ) (response : Response) (responses : List Response) (unsolicited : Bool) → response.unsolicited ≡ unsolicited → solicited (response ∷ responses) ≡ 0
     → (solicited responses ≡ 0 → has_answer asked responses ≡ false) → has_answer asked (response ∷ responses) ≡ false
@@ -37,7 +33,7 @@ none_answers asked (response ∷ responses) none = first_none asked response res
 pub unread_none : (from read corb rirb : ℕ) (rings : RingPlaces) (world : World) (asked : Option ℕ) → Stands from read corb rirb rings world → rings.outstanding ≡ None
     → has_answer asked (drop read world.written) ≡ false
 unread_none from read corb rirb rings world asked stands free =
-    let gained = none_taken (part_of world.registers) (word_at world.memory (corb + COMMAND_BYTES * rings.submitted)) (drop from world.commands) (subst (λ (outstanding : Option Outstanding). Course outstanding (part_of world.registers) (word_at world.memory (corb + COMMAND_BYTES * rings.submitted)) (drop from world.commands)) free stands.course) in
+    let gained = none_gained (part_of world.registers) (word_at world.memory (corb + COMMAND_BYTES * rings.submitted)) (drop from world.commands) (subst (λ (outstanding : Option Outstanding). Course outstanding (part_of world.registers) (word_at world.memory (corb + COMMAND_BYTES * rings.submitted)) (drop from world.commands)) free stands.course) in
     let few = stands.on_its_way.few in
     let long : length (drop from world.commands) ≡ 0 = ap length gained in
     none_answers asked (drop read world.written) (omega (arith, few, long))

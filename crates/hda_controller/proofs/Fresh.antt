@@ -4,7 +4,7 @@ use Rattle.std.specs.Prelude.{Contains, slice_get, MatchOption, option_map}
 use Rattle.std.specs.Option.{unwrap_or}
 use Rattle.std.specs.List.{list_any}
 use Rattle.std.proofs.lemmas.Map.Views.{Contains-from_any}
-use Rattle.std.proofs.lemmas.Bool.{eqb-true}
+use Rattle.std.proofs.lemmas.Bool.{eqb-true, or_right}
 use Rattle.std.proofs.lemmas.List.{length-append}
 use Rattle.std.proofs.lemmas.List.Elements.{All-nil, All-push}
 use Rattle.codec_graph.specs.Candidates.{is_candidate}
@@ -19,17 +19,13 @@ use Rattle.hda_controller.specs.Keeping.{signal_set, IsKeptFor}
 use Rattle.hda_controller.specs.Openings.{IsFresh, AreFresh}
 use Rattle.hda_controller.proofs.Renewed.{by-set, with-agree}
 
-or_true : (a b : Bool) → b ≡ true → (a || b) ≡ true
-or_true true b h = refl
-or_true false b h = h
-
 same_test : (a : ℕ) → (a == a) ≡ true
 same_test a = eq-eqb a a refl
 
 any_from : (pin : ℕ) (pins : List ℕ) (k : ℕ) → k < length pins → get_or pins k pin ≡ pin → list_any (λ other. pin == other) pins ≡ true
 any_from pin [] k within is = absurd (omega (arith, within))
 any_from pin (p ∷ pins) zero within is = subst (λ (q : ℕ). ((pin == q) || list_any (λ other. pin == other) pins) ≡ true) (sym is) (ap (λ (b : Bool). b || list_any (λ other. pin == other) pins) (same_test pin))
-any_from pin (p ∷ pins) (suc k) within is = or_true (pin == p) (list_any (λ other. pin == other) pins) (any_from pin pins k (omega (arith, within)) is)
+any_from pin (p ∷ pins) (suc k) within is = or_right (pin == p) (list_any (λ other. pin == other) pins) (any_from pin pins k (omega (arith, within)) is)
 
 -- a pin that is there exactly where this test says so is found by it
 found_by : (pin : ℕ) (pins : List ℕ) (test found : Bool) → list_any (λ other. pin == other) pins ≡ found → (Contains pins pin ↔ (test ≡ true)) → found ≡ test

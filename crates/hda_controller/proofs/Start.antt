@@ -1,5 +1,5 @@
 -- A machine's codecs at the start, and the place of a codec by its address.
-use Rattle.std.proofs.Common.{◌≡◌, ◌≤◌, ◌<◌, ◌==◌, ℕ, Bool, true, false, cond, nat_lt, List, [], ◌∷◌, length, map, get_or, Some, None, refl, sym, ap, subst, ◌∙◌, arith, lt-ltb, eq-eqb, suc, if◌then◌else◌}
+use Rattle.std.proofs.Common.{◌≡◌, ◌≤◌, ◌<◌, ◌==◌, ℕ, Bool, true, false, List, [], ◌∷◌, length, map, get_or, Some, refl, sym, ap, subst, ◌∙◌, arith, eq-eqb, suc, if◌then◌else◌}
 use Rattle.std.specs.Prelude.{All, Contains}
 use Rattle.std.specs.List.{position_or_len}
 use Rattle.std.specs.List.Sorted.{IsStrictlyIncreasing}
@@ -13,6 +13,7 @@ use Rattle.hda_files.specs.Machines.{IsSound}
 use Rattle.device_core.specs.Codecs.{AreAddresses, AreIdle, addresses_of, place_of}
 use Rattle.hda_world.specs.Worlds.{codec_at}
 use Rattle.std.proofs.lemmas.Bool.{eqb-true}
+use Rattle.device_core.proofs.Callers.{place_by}
 use Rattle.hda_controller.specs.Controllers.{is_candidate_in, is_candidate_of}
 use Rattle.hda_controller.specs.Openings.{codec_in, codecs_in}
 
@@ -30,9 +31,6 @@ pub nothing_waits : (files : List CodecFile) → AreIdle (codecs_in files)
 nothing_waits files = All-map (λ (codec : CodecState). codec.waiting ≡ []) codec_in files (λ k d within. refl)
 
 -- ---- places
-
-place_by : (first size place : ℕ) → first ≡ place → place < size → cond (nat_lt first size) (Some first) None ≡ Some place
-place_by first size place is within = rw is (let inside : nat_lt place size ≡ true = lt-ltb place size within in rw inside refl)
 
 pub found_is : (address : ℕ) (codecs : List CodecState) (place : ℕ) (codec : CodecState) → place < length codecs → ((k : ℕ) (d : CodecState) → k < place → ((get_or codecs k d).graph.address == address) ≡ false)
     → codec ≡ get_or codecs place codec → codec.graph.address ≡ address → place_of address codecs ≡ Some place

@@ -4,7 +4,8 @@
 //! contract: it can be compared, written out and changed field by field. This project's own.
 #![tactic(auto)]
 
-ghost use Rattle.std.specs.Prelude.{◌≡◌, ◌==◌, List, [], ◌∷◌, ◌++◌, length, OnOk, IfErr, IfOk, OnErr};
+ghost use Rattle.std.specs.Prelude.{◌≡◌, ◌==◌, ◌<◌, ◌≤◌, ◌+◌, List, [], ◌∷◌, ◌++◌, length, OnOk, IfErr, IfOk, OnErr};
+ghost use Rattle.std.specs.Prelude.{vec_len, vec_capacity};
 
 use std::alloc::{AllocError, AllocFailed, Global};
 use std::marker::Model;
@@ -108,5 +109,29 @@ impl<T: Copy> Items<T> {
         ensures { IfOk result (λ copy. copy ≡ self.now) }
     {
         Items::from_slice(self.allocator(), self.as_slice())
+    }
+}
+
+/// Puts an item last, for which there is room.
+pub fn push_within_capacity<T: Copy>(items: &mut Vec<T>, item: T)
+    requires { vec_len items.old < vec_capacity items.old }
+    ensures items { items.new.items ≡ items.old.items ++ item ∷ [] }
+    ensures length { vec_len items.new ≡ vec_len items.old + 1 }
+    ensures capacity { vec_capacity items.old ≤ vec_capacity items.new }
+{
+    if items.push(item).is_err() {
+        unreachable!();
+    }
+}
+
+/// Puts items last, for which there is room.
+pub fn extend_within_capacity<T: Copy>(items: &mut Vec<T>, more: &[T])
+    requires { vec_len items.old + length more.now ≤ vec_capacity items.old }
+    ensures items { items.new.items ≡ items.old.items ++ more.now }
+    ensures length { vec_len items.new ≡ vec_len items.old + length more.now }
+    ensures capacity { vec_capacity items.old ≤ vec_capacity items.new }
+{
+    if items.extend_from_slice(more).is_err() {
+        unreachable!();
     }
 }

@@ -8,6 +8,7 @@ use Rattle.sound_report.specs.PlanLines.{plans_lines}
 use Rattle.stream_format.specs.declared.format.Format.{Format}
 use Rattle.route_planner.specs.declared.routes.Plan.{Plan}
 use Rattle.hda_outside.specs.Shelf.{Files}
+use Rattle.stream_format.proofs.Callers.{one_format}
 use Rattle.hda_files.specs.declared.machine.Machine.{Machine}
 use Rattle.schedule_reader.specs.declared.schedule.Schedule.{Schedule}
 use Rattle.program_words.specs.Asked.{Asked, bits_of, hertz, play, route, walk, make}
@@ -37,7 +38,7 @@ use Rattle.hda_program.specs.Complete.{CanPlay, CanRoute, CanWalk, HasPlayedOn, 
 use Rattle.hda_program.specs.Meanings.{Meant, end_status, fault_status, of_run, status_of, telling, unrouted}
 use Rattle.driver_agenda.specs.Planned.{have_route}
 use Rattle.hda_program.proofs.Endings.{never_short, not_route_and_play, not_route_and_walk, same_asked}
-use Rattle.hda_program.proofs.OneReading.{codec_unrefused, one_format, one_machine, one_plans, one_wav_format, schedule_unrefused, wav_unrefused}
+use Rattle.hda_program.proofs.OneReading.{codec_unrefused, one_machine, one_plans, one_wav_format, schedule_unrefused, wav_unrefused}
 
 -- ---- the statuses of runs
 

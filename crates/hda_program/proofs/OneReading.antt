@@ -1,11 +1,11 @@
 -- Where a shelf tells its files, a name has one reading.
-use Rattle.std.proofs.Common.{◌≡◌, ◌≢◌, ◌∙◌, ◌%◌, ℕ, ◌≤◌, List, [], ◌∷◌, inl, inr, Some, Ok, Err, refl, sym, ap, subst, length, arith}
-use Rattle.std.proofs.Props.{props}
+use Rattle.std.proofs.Common.{◌≡◌, ◌≢◌, ◌∙◌, ℕ, List, [], ◌∷◌, inl, inr, Some, Ok, Err, refl, sym, ap, subst, length, arith}
 use Rattle.stream_format.specs.declared.format.Format.{Format}
-use Rattle.stream_format.specs.Layouts.{Layout, layout}
+use Rattle.stream_format.specs.Layouts.{layout}
 use Rattle.route_planner.specs.declared.routes.Plan.{Plan}
 use Rattle.route_planner.proofs.Callers.{only_plan}
 use Rattle.hda_outside.specs.Shelf.{Files, file_of}
+use Rattle.stream_format.proofs.Callers.{one_format}
 use Rattle.hda_files.specs.declared.machine.CodecFile.{CodecFile}
 use Rattle.hda_files.specs.declared.machine.Machine.{Machine}
 use Rattle.hda_files.specs.declared.fault.FileFault.{FileFault}
@@ -66,27 +66,6 @@ layout_of_bytes : (bytes : List ℕ) (one other : WavHead) → head_of bytes ≡
 layout_of_bytes bytes one other h k =
     let both : Ok (head_in_file other) ≡ Ok (head_in_file one) = sym k ∙ h in
     let same : head_in_file other ≡ head_in_file one = cc in ap (λ (head : Head). head.format) same
-
--- formats that say the same are one
-made : (l : Layout) → l.channels % 2 ≡ 0 → 2 ≤ l.channels → l.channels ≤ 8 → Format
-made l even some few = record { rate = l.rate; bits = l.bits; channels = l.channels; even = even; some = some; few = few }
-
-made_once : (l : Layout) (e even : l.channels % 2 ≡ 0) (s some : 2 ≤ l.channels) (f few : l.channels ≤ 8) → made l e s f ≡ made l even some few
-made_once l e even s some f few =
-    let even_is : e ≡ even = (let p : IsProp (l.channels % 2 ≡ 0) = hlevel props in p e even) in
-    let some_is : s ≡ some = (let p : IsProp (2 ≤ l.channels) = hlevel props in p s some) in
-    let few_is : f ≡ few = (let p : IsProp (l.channels ≤ 8) = hlevel props in p f few) in
-    ap (λ (x : l.channels % 2 ≡ 0). made l x s f) even_is ∙ (ap (λ (x : 2 ≤ l.channels). made l even x f) some_is ∙ ap (λ (x : l.channels ≤ 8). made l even some x) few_is)
-
-format_as : (format : Format) (l : Layout) → layout format ≡ l → (even : l.channels % 2 ≡ 0) (some : 2 ≤ l.channels) (few : l.channels ≤ 8) → format ≡ made l even some few
-unfolding made
-format_as format l same =
-    subst (λ (l : Layout). (even : l.channels % 2 ≡ 0) (some : 2 ≤ l.channels) (few : l.channels ≤ 8) → format ≡ made l even some few) same
-    (λ even some few. made_once (layout format) format.even even format.some some format.few few)
-
-pub one_format : (one other : Format) → layout other ≡ layout one → other ≡ one
-unfolding made
-one_format one other same = format_as other (layout one) same one.even one.some one.few
 
 pub one_wav_format : (files : Files) (name : List ℕ) (one other : WavHead) → IsHeadIn files name one → IsHeadIn files name other → other.format ≡ one.format
 one_wav_format files name one other h k =

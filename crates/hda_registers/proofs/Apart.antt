@@ -25,7 +25,7 @@ words_beside : (at : ℕ) → (at < 0x40) ⊎ (0x60 ≤ at) → IsOtherWord (at 
 words_beside at (inl below) = record { corb_base = omega arith; corb_pointers = omega arith; corb_control = omega arith; rirb_base = omega arith; rirb_pointers = omega arith; rirb_control = omega arith }
 words_beside at (inr above) = record { corb_base = omega arith; corb_pointers = omega arith; corb_control = omega arith; rirb_base = omega arith; rirb_pointers = omega arith; rirb_control = omega arith }
 
-not_control : (at : ℕ) → (at < 0x08) ⊎ (0x0C ≤ at) → at / 4 ≢ 2
+pub not_control : (at : ℕ) → (at < 0x08) ⊎ (0x0C ≤ at) → at / 4 ≢ 2
 not_control at (inl below) = omega arith
 not_control at (inr above) = omega arith
 

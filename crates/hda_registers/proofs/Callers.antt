@@ -29,6 +29,22 @@ pub use Rattle.hda_registers.proofs.Keeping.{keeps-status}
 pub use Rattle.hda_registers.proofs.Keeping.{keeps-shape}
 -- what holds in reset holds after each write
 pub use Rattle.hda_registers.proofs.Keeping.{stays-held}
+-- what a write leaves of CORB's pointers
+pub use Rattle.hda_registers.proofs.CorbPointers.{KeepsPointers}
+-- a write beside GCTL and CORB's pointers leaves both
+pub use Rattle.hda_registers.proofs.CorbPointers.{written_pointers}
+-- a ring has an entry
+pub use Rattle.hda_registers.proofs.RingSizes.{some_entries}
+-- and 256 at most
+pub use Rattle.hda_registers.proofs.RingSizes.{few_entries}
+-- what lies beside GCTL
+pub use Rattle.hda_registers.proofs.Apart.{not_control}
+-- CRST and the wall clock are the same
+pub use Rattle.hda_registers.proofs.Clocks.{SameTime}
+-- they are where no register is written
+pub use Rattle.hda_registers.proofs.Clocks.{same_time}
+-- and after a write elsewhere than at GCTL
+pub use Rattle.hda_registers.proofs.Clocks.{written_time}
 
 -- GCTL reads CRST and UNSOL
 pub read-global_control : (f : Fields) → value_at f 0x08 Four ≡ f.global.controller_reset + f.global.unsolicited * 2 ^ 8

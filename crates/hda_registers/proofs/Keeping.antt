@@ -1,7 +1,7 @@
 -- What a write leaves.
-use Rattle.std.proofs.Common.{◌≡◌, ◌≢◌, ◌<◌, ◌≤◌, ◌-◌, ◌/◌, ◌%◌, ◌==◌, ◌&&◌, ◌||◌, ◌⊎◌, inl, inr, ℕ, Bool, true, false, refl, sym, subst, ◌∙◌, if◌then◌else◌, arith}
+use Rattle.std.proofs.Common.{◌≡◌, ◌≢◌, ◌<◌, ◌≤◌, ◌-◌, ◌/◌, ◌%◌, ◌==◌, ◌||◌, ◌⊎◌, inl, inr, ℕ, Bool, true, false, refl, sym, subst, ◌∙◌, if◌then◌else◌, arith}
 use Rattle.std.specs.Prelude.{nat_lt}
-use Rattle.std.proofs.lemmas.Bool.{ne_eqb, ltb-true, ltb-false}
+use Rattle.std.proofs.lemmas.Bool.{ne_eqb, ltb-true, ltb-false, and_parts}
 use Rattle.hda_registers.specs.declared.shapes.Width.{Width}
 use Rattle.hda_registers.specs.declared.shapes.Shape.{Shape}
 use Rattle.hda_registers.specs.declared.accesses.Access.{Access}
@@ -20,18 +20,13 @@ pub after : (P : Fields → Type 0) (f : Fields) (at : ℕ) (w : Width) (v : ℕ
 unfolding written
 after P f at w v old p = by-cases P f (placed f at w v) (is_taken f at w) (is_taken f at w) refl old p
 
--- a write that is taken elsewhere than at GCTL finds the controller out of reset, and leaves it so
-right : (a b : Bool) → (a && b) ≡ true → b ≡ true
-right true b h = h
-right false b h = cc
-
 left-or : (a b : Bool) → b ≡ false → (a || b) ≡ true → a ≡ true
 left-or true b e h = refl
 left-or false b e h = cc
 
 pub taken-out : (f : Fields) (at : ℕ) (w : Width) → at / 4 ≢ 2 → is_taken f at w ≡ true → is_out_of_reset f.global ≡ true
 taken-out f at w other taken =
-    left-or (is_out_of_reset f.global) (at / 4 == 2) (ne_eqb (at / 4) 2 other) (right (at % bytes_of w == 0) (is_out_of_reset f.global || (at / 4 == 2)) taken)
+    left-or (is_out_of_reset f.global) (at / 4 == 2) (ne_eqb (at / 4) 2 other) ((and_parts (at % bytes_of w == 0) (is_out_of_reset f.global || (at / 4 == 2)) taken).1)
 
 pub stays-out : (shape : Shape) (a : Access) (g : Global) → a.word ≢ 2 → is_out_of_reset (global_written shape a g) ≡ is_out_of_reset g
 unfolding global_written

@@ -10,4 +10,7 @@ pub mod StreamWrites
 pub mod Apart
 pub mod Dispatch
 pub mod Keeping
+pub mod CorbPointers
+pub mod RingSizes
+pub mod Clocks
 pub mod Callers

@@ -5,7 +5,7 @@ use Rattle.std.specs.Int.{bit_at}
 use Rattle.std.proofs.lemmas.Nat.{pow_pos, and_mask, and_comm, and_assoc, or_disjoint, and_le_l}
 use Rattle.std.proofs.lemmas.Nat.Bits.{bit_at_and, bit_at_or, bit_at-zero, same_from_bits, and_high, and_pow}
 use Rattle.std.proofs.Math.Nat.{mod-eq_of_lt}
-use Rattle.std.proofs.lemmas.Bool.{eqb-true}
+use Rattle.std.proofs.lemmas.Bool.{eqb-true, and_parts}
 use Rattle.std.proofs.lemmas.Bool.Decides.{nat_tests}
 use Rattle.hda_registers.specs.declared.accesses.Access.{Access}
 use Rattle.hda_registers.specs.declared.shapes.RingSize.{RingSize}
@@ -62,15 +62,11 @@ pub and_plus : (x m n : ℕ) → bit_and m n ≡ 0 → bit_and x (m + n) ≡ bit
 and_plus x m n h =
     ap (bit_and x) (sym (or_disjoint m n h)) ∙ and_or x m n ∙ or_disjoint (bit_and x m) (bit_and x n) (and-apart x m n h)
 
-both : (a b : Bool) → (a && b) ≡ true → (a ≡ true) × (b ≡ true)
-both true b h = (refl, h)
-both false b h = cc
-
 summed : (places : List (ℕ × ℕ)) (x named sum : ℕ) → sum ≡ bit_and x named → are_apart named places ≡ true
     → fold (λ (s : ℕ) (p : ℕ × ℕ). s + part_at x p) sum places ≡ bit_and x (named_bits named places)
 summed [] x named sum e apart = e
 summed (place ∷ places) x named sum e apart =
-    let split = both (bit_and named (ones_of place) == 0) (are_apart (named + ones_of place) places) apart in
+    let split = and_parts (bit_and named (ones_of place) == 0) (are_apart (named + ones_of place) places) apart in
     let none : bit_and named (ones_of place) ≡ 0 = eqb-true (bit_and named (ones_of place)) 0 split.0 in
     let more : sum + part_at x place ≡ bit_and x (named + ones_of place) =
     ap (λ z. z + part_at x place) e ∙ ap (λ z. bit_and x named + z) (sym (and_high x place.1 place.0)) ∙ sym (and_plus x named (ones_of place) none) in

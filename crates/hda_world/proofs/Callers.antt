@@ -68,8 +68,6 @@ pub use Rattle.hda_world.proofs.Leaving.{beside_write}
 pub use Rattle.hda_world.proofs.Leaving.{beside_rings}
 -- a change of one codec leaves the others
 pub use Rattle.hda_world.proofs.Leaving.{found_apart}
--- what is plugged in leaves a codec's graph
-pub use Rattle.hda_world.proofs.Leaving.{graph-plugged}
 -- and the graphs, where it keeps its own
 pub use Rattle.hda_world.proofs.Leaving.{graphs-with_codec}
 -- a step leaves the codecs that it does not name
@@ -126,3 +124,19 @@ pub use Rattle.hda_world.proofs.Passing.{passed_global}
 pub use Rattle.hda_world.proofs.Passing.{kept_both}
 -- the codec that is found at an address has it, and what all codecs have; where none is found, a change there changes nothing
 pub use Rattle.hda_world.proofs.Found.{is_address, found_address, found_all, absent}
+-- a weaving of a row that goes on is one of its front and one of its back
+pub use Rattle.hda_world.proofs.Moments.{woven_split}
+-- no responses change nothing
+pub use Rattle.hda_world.proofs.Stepping.{responded_none}
+-- streams stay where nothing happens
+pub use Rattle.hda_world.proofs.Streaming.{streams_same}
+-- steps as events lead where the steps lead
+pub use Rattle.hda_world.proofs.Telling.{steps_after}
+-- what all events of a row have, all of its front have
+pub use Rattle.hda_world.proofs.Telling.{events_front}
+-- and all of its back
+pub use Rattle.hda_world.proofs.Telling.{events_back}
+-- a relation of the link frames alone is kept where one more keeps it
+pub use Rattle.hda_world.proofs.Passing.{kept_frames}
+-- and one of the codecs alone where their moves keep it
+pub use Rattle.hda_world.proofs.Passing.{kept_codecs}

@@ -7,18 +7,17 @@ use Rattle.codec_graph.specs.CodecStates.{CodecState, plugged}
 use Rattle.hda_registers.specs.declared.shapes.Raise.TheVariants as event
 use Rattle.hda_registers.specs.Fields.{Fields, is_out_of_reset}
 use Rattle.hda_registers.specs.Moves.{framed, raised}
-use Rattle.world_rings.specs.declared.response.Response.{Response}
-use Rattle.world_rings.specs.Entries.{after_response, after_responses}
 use Rattle.world_steps.specs.declared.Step.{Step}
 use Rattle.hda_world.specs.declared.step.TheConstants.{FRAMES_TO_DISCOVERY}
 use Rattle.world_streams.specs.Output.{frame_of}
 use Rattle.hda_world.specs.Worlds.{World, with_codec, output_of}
 use Rattle.world_steps.specs.declared.Step.TheVariants as step
+use Rattle.codec_graph.proofs.Callers.{graph-plugged}
+use Rattle.world_rings.proofs.Callers.{status_responded}
 use Rattle.hda_world.specs.Steps.{discovered, passed, output_framed, frame_step, times, after_step, after_steps}
 use Rattle.hda_world.specs.Kept.{Kept}
 use Rattle.hda_world.specs.Discovery.{addresses_of, AreSet, IsDiscovered}
 use Rattle.hda_world.proofs.Stepping.{kept_step, kept_steps, frames_after, passed_out}
-use Rattle.hda_world.proofs.Leaving.{graph-plugged}
 
 -- a bit that is 1 stays so, and the codec's own becomes 1
 bit_stays : (status bit address : ℕ) → bit_at status bit ≡ 1 → bit_at (bit_or status (2 ^ address)) bit ≡ 1
@@ -60,10 +59,6 @@ frame_by : (now : Bool) (world : World) → (world.frames + 1 == FRAMES_TO_DISCO
 frame_by true world is holds late = all_come world.codecs (framed world.registers)
 frame_by false world is holds late = holds (at_most world.frames is late)
 
-status_after : (responses : List Response) (fields : Fields) → (after_responses fields responses).global.state_status ≡ fields.global.state_status
-status_after [] fields = refl
-status_after (response ∷ responses) fields = status_after responses (after_response fields)
-
 addresses-with_codec : (address : ℕ) (change : CodecState → CodecState) → ((codec : CodecState) → (change codec).graph ≡ codec.graph) → (codecs : List CodecState) → addresses_of (with_codec address change codecs) ≡ addresses_of codecs
 addresses-with_codec address change keeps [] = refl
 addresses-with_codec address change keeps (codec ∷ codecs) =
@@ -83,7 +78,7 @@ keeps_discovery = record {
     plugs = λ world address nid present holds. changed world address (λ codec. plugged codec nid present) (graph-plugged nid present) holds;
   };
   responds = λ world response rest holds can are late.
-      subst (λ (status : ℕ). AreSet status (addresses_of world.codecs)) (sym (status_after (response ∷ rest) world.registers)) (holds late);
+      subst (λ (status : ℕ). AreSet status (addresses_of world.codecs)) (sym (status_responded (response ∷ rest) world.registers)) (holds late);
   bytes = record {
     comes = λ world holds can room good is. holds;
     ends = λ world holds can room good is. holds;

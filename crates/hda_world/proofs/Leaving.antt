@@ -1,9 +1,9 @@
 -- What the device's steps leave alone.
-use Rattle.std.proofs.Common.{◌≡◌, ◌≢◌, ◌<◌, ◌≤◌, ◌⊎◌, ℕ, ◌+◌, ◌*◌, ◌/◌, ◌^◌, bit_or, Bool, true, false, cond, List, [], ◌∷◌, ◌++◌, length, map, fold, append-nil, refl, sym, ap, subst, ◌∙◌, append_assoc, Option, Some, None, if◌then◌else◌, ◌==◌, inl, inr, arith, rules, tests, lit<, length-append}
+use Rattle.std.proofs.Common.{◌≡◌, ◌≢◌, ◌<◌, ℕ, ◌+◌, ◌*◌, ◌^◌, bit_or, Bool, true, false, cond, List, [], ◌∷◌, ◌++◌, length, map, fold, append-nil, refl, sym, ap, subst, ◌∙◌, append_assoc, Option, Some, if◌then◌else◌, ◌==◌, inl, inr, arith, rules, tests, lit<, length-append}
 use Rattle.std.proofs.Math.Nat.{mod-lt}
 use Rattle.std.proofs.lemmas.Bool.{true≢false}
 use Rattle.byteorder.specs.Numbers.{length-bytes_low_first}
-use Rattle.codec_graph.specs.CodecStates.{CodecState, plugged, pin_plugged, node_plugged, cleared}
+use Rattle.codec_graph.specs.CodecStates.{CodecState, plugged, cleared}
 use Rattle.hda_registers.specs.declared.shapes.RingSize.{RingSize}
 use Rattle.hda_registers.specs.declared.shapes.RingSize.TheVariants.{Two, Sixteen, Full}
 use Rattle.hda_registers.specs.declared.shapes.Raise.TheVariants as event
@@ -13,8 +13,6 @@ use Rattle.hda_registers.specs.Moves.{raised, moved, framed}
 use Rattle.hda_registers.specs.declared.shapes.Moved.TheVariants.{CorbRp, RirbWp}
 use Rattle.hda_registers.specs.declared.shapes.Shape.{Shape}
 use Rattle.codec_graph.specs.declared.raw.RawCodec.{RawCodec}
-use Rattle.codec_graph.specs.declared.raw.RawNode.{RawNode}
-use Rattle.codec_graph.specs.Widget.{node_at, is_pin}
 use Rattle.world_rings.specs.Memory.{IsOutside}
 use Rattle.world_rings.proofs.Callers.{stored_outside}
 use Rattle.world_rings.specs.Entries.{response_bytes, response_stored, response_place, responses_stored, after_response, after_responses}
@@ -25,8 +23,9 @@ use Rattle.hda_world.specs.declared.step.TheConstants.{FRAMES_TO_DISCOVERY}
 use Rattle.hda_world.specs.Steps.{discovered, passed, after_steps}
 use Rattle.hda_registers.specs.declared.shapes.Width.{Width}
 use Rattle.hda_registers.specs.Laws.{IsBesideRings, LeavesRings}
-use Rattle.hda_registers.proofs.Callers.{keeps-reset, keeps-left, leaves-rings}
+use Rattle.hda_registers.proofs.Callers.{keeps-reset, keeps-left, leaves-rings, not_control}
 use Rattle.hda_registers.specs.Access.{written, effects_of}
+use Rattle.codec_graph.proofs.Callers.{graph-plugged}
 use Rattle.hda_world.specs.Events.{reset_if, counted_anew_if, streams_settled, registers_written, after_write}
 use Rattle.hda_world.specs.Kept.{Kept, KeptByBytes, KeptByFrames, unmoved}
 use Rattle.hda_world.specs.Leaving.{DescriptorStays, RegistersStay, MemoryStays, IsOutsideRirb, StepsLeave, WentOn, AccessLeaves}
@@ -98,17 +97,6 @@ graphs-with_codec address change keeps [] = refl
 graphs-with_codec address change keeps (codec ∷ codecs) =
     let first : (named : Bool) → (if named then change codec else codec).graph ≡ codec.graph = λ named. elim named as (λ b. (if b then change codec else codec).graph ≡ codec.graph) [ true ↦ keeps codec | false ↦ refl ] in
     ap (λ (graph : RawCodec). graph ∷ map (λ codec. codec.graph) (with_codec address change codecs)) (first _) ∙ ap (λ (graphs : List RawCodec). codec.graph ∷ graphs) (graphs-with_codec address change keeps codecs)
-
-pin_graph : (codec : CodecState) (nid : ℕ) (present : Bool) (node : RawNode) (pin : Bool) → (if pin then pin_plugged codec nid present node else codec).graph ≡ codec.graph
-pin_graph codec nid present node true = refl
-pin_graph codec nid present node false = refl
-
-node_graph : (codec : CodecState) (nid : ℕ) (present : Bool) (node : Option RawNode) → (node_plugged codec nid present node).graph ≡ codec.graph
-node_graph codec nid present None = refl
-node_graph codec nid present (Some node) = pin_graph codec nid present node (is_pin node)
-
-pub graph-plugged : (nid : ℕ) (present : Bool) (codec : CodecState) → (plugged codec nid present).graph ≡ codec.graph
-graph-plugged nid present codec = node_graph codec nid present (node_at codec.graph nid)
 
 went_on : {A : Type 0} (old new more : List A) → WentOn old new → WentOn old (new ++ more)
 went_on old new more before = (before.0 ++ more, ap (λ xs. xs ++ more) before.1 ∙ append_assoc old before.0 more)
@@ -362,10 +350,6 @@ pub rising_write : (world : World) (at value : ℕ) (width : Width) → (effects
 rising_write world at value width none risen =
     ap (counted_anew_if (effects_of world.registers at width value).left_reset) (no_reset (effects_of world.registers at width value).reset (registers_written (written world.registers at width value) world) none)
     ∙ rises (effects_of world.registers at width value).left_reset _ risen
-
-not_control : (at : ℕ) → (at < 0x08) ⊎ (0x0C ≤ at) → at / 4 ≢ 2
-not_control at (inl below) = omega arith
-not_control at (inr above) = omega arith
 
 pub beside_write : (world : World) (at value : ℕ) (width : Width) → IsBesideRings at
     → after_write at width value world ≡ registers_written (written world.registers at width value) world

@@ -76,7 +76,7 @@ AtEach-append Holds [] second world none more = more
 AtEach-append Holds (event ∷ first) second world before more = (before.0, AtEach-append Holds first second (happens world event) before.1 more)
 
 -- the events of two rows of accesses are those of the first and then those of the second
-woven_split : (first second events : List Event) → AreWoven (first ++ second) events
+pub woven_split : (first second events : List Event) → AreWoven (first ++ second) events
     → (front : List Event) × (back : List Event) × (events ≡ front ++ back) × AreWoven first front × AreWoven second back
 woven_split [] second events made = ([], events, refl, refl, made)
 woven_split (access ∷ first) second events (steps, rest, are, made) =

@@ -7,11 +7,12 @@ use Rattle.world_rings.specs.Engines.{next_word}
 use Rattle.world_rings.specs.declared.response.TheConstants.{MOST_WAITING}
 use Rattle.world_steps.specs.declared.Step.{Step}
 use Rattle.world_steps.specs.declared.Step.TheVariants as step
+use Rattle.codec_graph.proofs.Callers.{graph-plugged}
 use Rattle.world_streams.specs.Output.{frame_of}
 use Rattle.hda_world.specs.Worlds.{World, codec_at, output_of}
 use Rattle.hda_world.specs.Steps.{address_of, handed, handed_next, is_busy, sent_first, items_of, lost, passed, output_framed, output_fetched, frame_step, times, after_step, after_steps}
 use Rattle.hda_world.specs.Leaving.{AddressesOther, NamesOthers, NameOthers}
-use Rattle.hda_world.proofs.Leaving.{found_apart, graph-plugged}
+use Rattle.hda_world.proofs.Leaving.{found_apart}
 
 module _ (address : ℕ) where
   either : (test : Bool) (new old : World) → codec_at address new.codecs ≡ codec_at address old.codecs

@@ -1,13 +1,13 @@
 -- What link frames pass by, and relations that are kept together.
-use Rattle.std.proofs.Common.{◌≡◌, ◌+◌, ◌==◌, Bool, true, false, List, [], ◌∷◌, refl, if◌then◌else◌}
+use Rattle.std.proofs.Common.{◌≡◌, ◌+◌, ◌==◌, ℕ, Bool, true, false, List, [], ◌∷◌, refl, if◌then◌else◌}
 use Rattle.codec_graph.specs.CodecStates.{CodecState}
 use Rattle.hda_registers.specs.Fields.{Fields}
 use Rattle.hda_registers.specs.Moves.{framed, raised}
 use Rattle.hda_registers.specs.declared.shapes.Raise.TheVariants as event
 use Rattle.hda_world.specs.declared.step.TheConstants.{FRAMES_TO_DISCOVERY}
-use Rattle.hda_world.specs.Worlds.{World}
+use Rattle.hda_world.specs.Worlds.{World, TakenCommand}
 use Rattle.hda_world.specs.Steps.{discovered, passed}
-use Rattle.hda_world.specs.Kept.{Kept}
+use Rattle.hda_world.specs.Kept.{KeptByCodecs, Kept}
 
 -- the discovery changes the state change status alone
 discovered_global : (codecs : List CodecState) (fields : Fields) → (discovered codecs fields).global ≡ record fields.global { state_status = (discovered codecs fields).global.state_status }
@@ -46,5 +46,52 @@ kept_both One Other one other = record {
     sends = λ world holds can some enough. (one.frames.sends world holds.0 can some enough, other.frames.sends world holds.1 can some enough);
     misses = λ world holds can short. (one.frames.misses world holds.0 can short, other.frames.misses world holds.1 can short);
     stops = λ world holds must. (one.frames.stops world holds.0 must, other.frames.stops world holds.1 must);
+  };
+}
+
+-- ---- relations of a part of the world
+
+-- what link frames alone change is kept where it holds one link frame later
+pub kept_frames : (Holds : ℕ → Type 0) → ((frames : ℕ) → Holds frames → Holds (frames + 1)) → Kept (λ (world : World). Holds world.frames)
+kept_frames Holds next = record {
+  codecs = record {
+    hands = λ world holds can free. holds;
+    sends = λ world address item rest holds out room are. holds;
+    loses = λ world address holds out. holds;
+    plugs = λ world address nid present holds. holds;
+  };
+  responds = λ world response rest holds can are. holds;
+  bytes = record {
+    comes = λ world holds can room good is. holds;
+    ends = λ world holds can room good is. holds;
+    breaks = λ world holds can room bad. holds;
+    refuses = λ world holds must. holds;
+  };
+  passes = λ world holds out still. next world.frames holds;
+  frames = record {
+    gaps = λ world holds can none. next world.frames holds;
+    sends = λ world holds can some enough. next world.frames holds;
+    misses = λ world holds can short. next world.frames holds;
+    stops = λ world holds must. next world.frames holds;
+  };
+}
+
+-- what the codecs' moves alone change is kept where they keep it
+pub kept_codecs : (Holds : List CodecState → List TakenCommand → Type 0) → KeptByCodecs (λ (world : World). Holds world.codecs world.commands) → Kept (λ (world : World). Holds world.codecs world.commands)
+kept_codecs Holds codecs = record {
+  codecs = codecs;
+  responds = λ world response rest holds can are. holds;
+  bytes = record {
+    comes = λ world holds can room good is. holds;
+    ends = λ world holds can room good is. holds;
+    breaks = λ world holds can room bad. holds;
+    refuses = λ world holds must. holds;
+  };
+  passes = λ world holds out still. holds;
+  frames = record {
+    gaps = λ world holds can none. holds;
+    sends = λ world holds can some enough. holds;
+    misses = λ world holds can short. holds;
+    stops = λ world holds must. holds;
   };
 }

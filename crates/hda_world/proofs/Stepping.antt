@@ -13,6 +13,7 @@ use Rattle.world_streams.specs.Streams.{Stream, held, due, is_usable, broke}
 use Rattle.world_streams.specs.Output.{has_room, byte_came, fetched_one, fetch_move, moves, Frame, Stopped, Broken, Gap, Blocks, Hole, frame_of}
 use Rattle.world_steps.specs.declared.Step.{Step}
 use Rattle.world_steps.specs.declared.Step.TheVariants as step
+use Rattle.world_rings.proofs.Callers.{batch_none}
 use Rattle.hda_world.specs.declared.step.TheConstants.{FRAMES_TO_DISCOVERY}
 use Rattle.hda_world.specs.Worlds.{World, CarriedFrame, codec_at, output_of, with_output}
 use Rattle.hda_world.specs.Steps.{address_of, is_busy, handed_next, items_of, sent_first, responded, discovered, passed, output_framed, frame_step, fetch_step, times, answer_step, lose_step, rirb_step, after_step, after_steps}
@@ -25,9 +26,6 @@ after_steps-append (step ∷ first) second world = after_steps-append first seco
 -- a batch of no response changes nothing
 pub responded_none : (world : World) → responded [] world ≡ world
 responded_none world = ap (λ (written : List Response). record world { written = written }) (append-nil world.written)
-
-pub batch_none : (fields : Fields) (waiting : List Response) → can_respond fields ≡ false → batch fields waiting ≡ []
-batch_none fields waiting cannot = ap (λ (can : Bool). if can then take (batch_of fields) waiting else []) cannot
 
 pub batch_some : (fields : Fields) (waiting : List Response) → can_respond fields ≡ true → batch fields waiting ≡ take (batch_of fields) waiting
 batch_some fields waiting can = ap (λ (can : Bool). if can then take (batch_of fields) waiting else []) can

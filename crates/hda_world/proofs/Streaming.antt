@@ -208,7 +208,7 @@ streams_both first second third one other = record {
   carried = other.carried ∙ one.carried;
 }
 
-streams_same : (world : World) → StreamsStay world world
+pub streams_same : (world : World) → StreamsStay world world
 streams_same world = record { input_registers = refl; output_registers = refl; input = refl; output = refl; carried = refl }
 
 streams_if : (test : Bool) (old one other : World) → StreamsStay old one → StreamsStay old other → StreamsStay old (if test then one else other)

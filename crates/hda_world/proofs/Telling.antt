@@ -1,9 +1,12 @@
 -- How the relations of what is told go together.
 use Rattle.std.proofs.Common.{◌≡◌, List, [], ◌∷◌, ◌++◌, map, refl, sym, ap, subst, ◌∙◌, append_assoc, append-nil, Option, Some, None}
+use Rattle.std.specs.Prelude.{All}
+use Rattle.std.proofs.lemmas.List.Elements.{All-nil, All-cons, All-head, All-tail}
 use Rattle.world_steps.specs.declared.Step.{Step}
 use Rattle.hda_world.specs.Worlds.{World}
 use Rattle.hda_world.specs.Events.{Event, Stepped, happens, after, AreHonest}
 use Rattle.hda_world.specs.Tellings.{Telling, world_of, Went, Accessed, Grew, Between, BetweenBy, Then}
+use Rattle.hda_world.specs.Steps.{after_step, after_steps}
 
 pub after-append : (first second : List Event) (world : World) → after (first ++ second) world ≡ after second (after first world)
 after-append [] second world = refl
@@ -75,3 +78,17 @@ accessed_after old middle new step event stepped later = record {
   steps = step ∷ later.steps;
   went = went_both old middle new (Stepped step ∷ []) (map Stepped later.steps ++ event ∷ []) stepped later.went;
 }
+
+-- steps as events lead where the steps lead
+pub steps_after : (steps : List Step) (world : World) → after (map Stepped steps) world ≡ after_steps steps world
+steps_after [] world = refl
+steps_after (one ∷ steps) world = steps_after steps (after_step one world)
+
+-- what all events of a row have, all of its front and all of its back have
+pub events_front : (P : Event → Type 0) (front back : List Event) → All P (front ++ back) → All P front
+events_front P [] back all = All-nil P
+events_front P (event ∷ front) back all = All-cons P event front (All-head P event (front ++ back) all) (events_front P front back (All-tail P event (front ++ back) all))
+
+pub events_back : (P : Event → Type 0) (front back : List Event) → All P (front ++ back) → All P back
+events_back P [] back all = all
+events_back P (event ∷ front) back all = events_back P front back (All-tail P event (front ++ back) all)

@@ -1,5 +1,5 @@
 -- How far the driver has read is kept by every move of the device.
-use Rattle.std.proofs.Common.{◌≡◌, ◌<◌, ◌+◌, ◌==◌, ℕ, Bool, true, false, List, [], ◌∷◌, ◌++◌, length, min, if◌then◌else◌, refl, sym, ap, subst, ◌∙◌, arith, rules, tests, lit<, length-append}
+use Rattle.std.proofs.Common.{◌≡◌, ◌<◌, ◌+◌, ◌==◌, ℕ, Bool, true, false, List, [], ◌∷◌, ◌++◌, length, min, if◌then◌else◌, refl, sym, ap, subst, ◌∙◌, arith, lit<, length-append}
 use Rattle.std.proofs.lemmas.List.{length-take}
 use Rattle.codec_graph.specs.CodecStates.{CodecState}
 use Rattle.hda_registers.specs.declared.shapes.RingSize.{RingSize}
@@ -8,9 +8,9 @@ use Rattle.hda_registers.specs.declared.shapes.Raise.TheVariants as event
 use Rattle.hda_registers.specs.Fields.{Fields, entries_of, is_out_of_reset}
 use Rattle.hda_registers.specs.Moves.{framed, raised}
 use Rattle.world_rings.specs.declared.response.Response.{Response}
-use Rattle.world_rings.specs.Entries.{after_response, after_responses}
 use Rattle.world_rings.specs.Engines.{can_respond, batch_of, batch}
 use Rattle.world_steps.specs.declared.Step.{Step}
+use Rattle.world_rings.proofs.Callers.{shape_responded, flag_clear}
 use Rattle.hda_world.specs.declared.step.TheConstants.{FRAMES_TO_DISCOVERY}
 use Rattle.hda_world.specs.Worlds.{World}
 use Rattle.hda_world.specs.Steps.{discovered, passed, after_steps}
@@ -23,11 +23,6 @@ some_entries Two = lit< tt
 some_entries Sixteen = lit< tt
 some_entries Full = lit< tt
 
--- neither responses nor the discovery move RIRB's size
-size_after : (responses : List Response) (fields : Fields) → (after_responses fields responses).shape ≡ fields.shape
-size_after [] fields = refl
-size_after (response ∷ responses) fields = size_after responses (after_response fields)
-
 flag-discovered : (codecs : List CodecState) (fields : Fields) → (discovered codecs fields).global.response_flag ≡ fields.global.response_flag
 flag-discovered [] fields = refl
 flag-discovered (codec ∷ codecs) fields = flag-discovered codecs (raised fields (event.Codec codec.graph.address))
@@ -35,10 +30,6 @@ flag-discovered (codec ∷ codecs) fields = flag-discovered codecs (raised field
 flag-frame : (now : Bool) (codecs : List CodecState) (fields : Fields) → (if now then discovered codecs fields else fields).global.response_flag ≡ fields.global.response_flag
 flag-frame true codecs fields = flag-discovered codecs fields
 flag-frame false codecs fields = refl
-
--- the engine writes only while the flag is 0
-flag_clear : (fields : Fields) → can_respond fields ≡ true → (fields.global.response_flag == 1) ≡ false
-flag_clear fields can = search (rules, tests)
 
 batch_small : (fields : Fields) (waiting responses : List Response) → can_respond fields ≡ true → batch fields waiting ≡ responses → length responses < entries_of fields.shape.rirb
 batch_small fields waiting responses can are =
@@ -67,7 +58,7 @@ keeps_reading read = record {
     plugs = λ world address nid present holds. holds;
   };
   responds = λ world response rest holds can are. (
-      let size = size_after (response ∷ rest) world.registers in
+      let size = shape_responded (response ∷ rest) world.registers in
       subst (λ shape. IsReadTo read (length (world.written ++ response ∷ rest)) 1 (entries_of shape.rirb)) (sym size)
       (read_on read world (response ∷ rest) holds (flag_clear world.registers can) (batch_small world.registers world.waiting (response ∷ rest) can are)));
   bytes = record {

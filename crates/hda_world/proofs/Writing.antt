@@ -1,5 +1,6 @@
 -- What writes of registers do to the streams.
-use Rattle.std.proofs.Common.{◌≡◌, ◌≢◌, ◌≤◌, ◌<◌, ◌/◌, ◌&&◌, not, inl, inr, nat_lt, ℕ, Bool, true, false, length, if◌then◌else◌, refl, sym, ap, subst, ◌∙◌, arith, rules, tests}
+use Rattle.std.proofs.Common.{◌≡◌, ◌≢◌, ◌≤◌, ◌<◌, ◌/◌, inl, inr, nat_lt, ℕ, Bool, true, false, length, if◌then◌else◌, refl, sym, ap, subst, ◌∙◌, arith, rules, tests}
+use Rattle.std.proofs.Math.Bool.{not-and_self, and-not_self}
 use Rattle.hda_registers.specs.declared.shapes.Width.{Width}
 use Rattle.hda_registers.specs.declared.shapes.Shape.{Shape}
 use Rattle.hda_registers.specs.Fields.{Global, Descriptor, Fields, reset_fields, is_out_of_reset, is_running}
@@ -22,20 +23,11 @@ parts true false world = (refl, refl, refl)
 parts false true world = (refl, refl, refl)
 parts false false world = (refl, refl, refl)
 
--- RUN that stays neither rises nor falls
-no_rise : (runs : Bool) → (not runs && runs) ≡ false
-no_rise true = refl
-no_rise false = refl
-
-no_fall : (runs : Bool) → (runs && not runs) ≡ false
-no_fall true = refl
-no_fall false = refl
-
 settled_same : (d : Descriptor) → settled d d ≡ d
-settled_same d = rw (no_rise (is_running d), no_fall (is_running d)) refl
+settled_same d = rw (not-and_self (is_running d), and-not_self (is_running d)) refl
 
 state_same : (d : Descriptor) (state : StreamState) → settled_state d d state ≡ state
-state_same d state = rw (no_rise (is_running d)) refl
+state_same d state = rw (not-and_self (is_running d)) refl
 
 -- a write that leaves both descriptors leaves both streams
 descriptors_left : (world : World) (at value : ℕ) (width : Width) → LeavesStreams world.registers (written world.registers at width value) → StreamsStay world (after_write at width value world)

@@ -7,6 +7,7 @@ ghost use Rattle.hda_world.specs.Journals.{Used, event_of, pieces_named};
 
 use crate::entry::{Entry, MemoryPiece};
 use crate::step::Step;
+use hda_items::{extend_within_capacity, push_within_capacity};
 use hda_registers::Width;
 use std::alloc::{AllocError, Global};
 use std::marker::Model;
@@ -175,7 +176,7 @@ impl Journal {
             ≡ events_of self.old ++ event_of self.old.pieces self.old.bytes entry ∷ [] }
         ensures used { Used 1 0 self.old self.new }
     {
-        push_entry(&mut self.entries, entry);
+        push_within_capacity(&mut self.entries, entry);
         self.spare_entries -= 1;
     }
 
@@ -202,8 +203,8 @@ impl Journal {
     {
         let from = self.bytes.len() as u64;
         let len = piece.len();
-        append(&mut self.bytes, piece);
-        push_piece(
+        extend_within_capacity(&mut self.bytes, piece);
+        push_within_capacity(
             &mut self.pieces,
             MemoryPiece {
                 at,
@@ -211,7 +212,7 @@ impl Journal {
                 from,
             },
         );
-        push_entry(&mut self.entries, entry);
+        push_within_capacity(&mut self.entries, entry);
         self.spare_entries -= 1;
         self.spare_bytes -= len;
     }
@@ -250,40 +251,4 @@ fn has_numbers(pieces: usize, more: usize) -> bool
     ensures { result ≡ nat_le (pieces + more) (2 ^ 32) }
 {
     pieces <= MOST_PIECES && more <= MOST_PIECES - pieces
-}
-
-/// Puts an entry last, for which there is room.
-fn push_entry(entries: &mut Vec<Entry>, entry: Entry)
-    requires { vec_len entries.old < vec_capacity entries.old }
-    ensures items { entries.new.items ≡ entries.old.items ++ entry ∷ [] }
-    ensures length { vec_len entries.new ≡ vec_len entries.old + 1 }
-    ensures capacity { vec_capacity entries.old ≤ vec_capacity entries.new }
-{
-    if entries.push(entry).is_err() {
-        unreachable!();
-    }
-}
-
-/// Puts a piece last, for which there is room.
-fn push_piece(pieces: &mut Vec<MemoryPiece>, piece: MemoryPiece)
-    requires { vec_len pieces.old < vec_capacity pieces.old }
-    ensures items { pieces.new.items ≡ pieces.old.items ++ piece ∷ [] }
-    ensures length { vec_len pieces.new ≡ vec_len pieces.old + 1 }
-    ensures capacity { vec_capacity pieces.old ≤ vec_capacity pieces.new }
-{
-    if pieces.push(piece).is_err() {
-        unreachable!();
-    }
-}
-
-/// Puts bytes last, for which there is room.
-fn append(bytes: &mut Vec<u8>, more: &[u8])
-    requires { vec_len bytes.old + length more.now ≤ vec_capacity bytes.old }
-    ensures items { bytes.new.items ≡ bytes.old.items ++ more.now }
-    ensures length { vec_len bytes.new ≡ vec_len bytes.old + length more.now }
-    ensures capacity { vec_capacity bytes.old ≤ vec_capacity bytes.new }
-{
-    if bytes.extend_from_slice(more).is_err() {
-        unreachable!();
-    }
 }

@@ -8,7 +8,7 @@ ghost use Rattle.stream_format.specs.Cadence.{block_bytes};
 ghost use Rattle.stream_format.specs.Layouts.{layout};
 ghost use Rattle.codec_sound.specs.Signals.{IsAmong};
 ghost use Rattle.heard_lists.specs.Listings.{Listing, forgotten, with_blocks, HasRoom, AreListsOf, AreEmpty};
-ghost use Rattle.heard_lists.specs.Listings.{graphs_in, pins_of, empty_lists, handed_out, list_of, with_items};
+ghost use Rattle.heard_lists.specs.Listings.{graphs_in, pins_of, handed_out, list_of, with_items};
 ghost use Rattle.heard_lists.specs.declared.pieces.Piece.{Piece};
 ghost use Rattle.heard_lists.specs.Pieces.{signalled, pieces_items, pieces_size, empty_pins, without_room, HaveRoom};
 ghost use Rattle.heard_lists.specs.Pieces.{without_signals, AreAsIn, GoesOn, TookIn};
@@ -22,6 +22,7 @@ use crate::sounds::Sounds;
 use crate::stretches::{Stretch, put_pieces};
 use codec_sound::{Heard, Signal};
 use hda_files::Machine;
+use hda_items::{extend_within_capacity, push_within_capacity};
 use route_planner::order;
 use std::alloc::{AllocError, AllocFailed, Global};
 use std::marker::Model;
@@ -295,7 +296,7 @@ impl HeardLists {
         );
         self.holes = 0;
         self.count += blocks;
-        append(&mut self.bytes, &bytes[..blocks * size]);
+        extend_within_capacity(&mut self.bytes, &bytes[..blocks * size]);
         self.room -= blocks;
     }
 
@@ -370,7 +371,7 @@ fn take_in<S: Sounds>(
         lengthen(pieces, blocks);
         return;
     }
-    push_piece(
+    push_within_capacity(
         pieces,
         Piece {
             holes,
@@ -433,30 +434,6 @@ fn lengthen(pieces: &mut Vec<Piece>, blocks: usize)
 {
     let last = pieces.len() - 1;
     pieces[last].blocks += blocks;
-}
-
-/// Puts a piece last, for which there is room.
-fn push_piece(pieces: &mut Vec<Piece>, piece: Piece)
-    requires { vec_len pieces.old < vec_capacity pieces.old }
-    ensures items { pieces.new.items ≡ pieces.old.items ++ piece ∷ [] }
-    ensures length { vec_len pieces.new ≡ vec_len pieces.old + 1 }
-    ensures capacity { vec_capacity pieces.old ≤ vec_capacity pieces.new }
-{
-    if pieces.push(piece).is_err() {
-        unreachable!();
-    }
-}
-
-/// Puts bytes last, for which there is room.
-fn append(bytes: &mut Vec<u8>, more: &[u8])
-    requires { vec_len bytes.old + length more.now ≤ vec_capacity bytes.old }
-    ensures items { bytes.new.items ≡ bytes.old.items ++ more.now }
-    ensures length { vec_len bytes.new ≡ vec_len bytes.old + length more.now }
-    ensures capacity { vec_capacity bytes.old ≤ vec_capacity bytes.new }
-{
-    if bytes.extend_from_slice(more).is_err() {
-        unreachable!();
-    }
 }
 
 /// Adds to each pin its signal in a new piece.

@@ -4,44 +4,23 @@ use Rattle.verb_codes.specs.Words.{has_bit}
 use Rattle.hda_registers.specs.declared.places.TheConstants.{RIRBSTS}
 use Rattle.hda_registers.specs.declared.shapes.Width.TheVariants.{One}
 use Rattle.hda_registers.specs.Fields.{entries_of}
-use Rattle.hda_world.specs.Events.{Event, Stepped, Begin, End, Read, Write, DmaRead, DmaWrite}
+use Rattle.hda_world.specs.Events.{Event, Write}
 use Rattle.hda_world.specs.Tellings.{Telling}
 use Rattle.command_engine.specs.declared.ring_places.RingPlaces.{RingPlaces}
 use Rattle.command_engine.specs.Polling.{PollReads, entry_reads, batch_accesses}
-use Rattle.driver_progress.specs.Noting.{IsPlain, ArePlain}
+use Rattle.driver_progress.specs.Noting.{ArePlain}
 use Rattle.driver_progress.specs.Tasks.{Order}
 use Rattle.driver_progress.specs.Commands.{ask_accesses}
 use Rattle.driver_progress.specs.Shutting.{shut_accesses}
-use Rattle.driver_progress.specs.Unread.{IsAccess, AreAccesses, IsUnread, AreUnread}
+use Rattle.driver_progress.specs.Unread.{AreAccesses, AreUnread}
+use Rattle.driver_progress.proofs.Callers.{accesses_both, entry_accesses, unread_access, plain_access}
 use Rattle.driver_bring_up.specs.Commanding.{submit_made}
 use Rattle.driver_bring_up.specs.declared.bringing.BringUp.{BringUp}
 use Rattle.driver_bring_up.specs.Told.{Looked}
 
-pub accesses_both : (front back : List Event) → AreAccesses front → AreAccesses back → AreAccesses (front ++ back)
-accesses_both [] back first second = second
-accesses_both (event ∷ front) back first second = (first.0, accesses_both front back first.1 second)
-
-unread_access : (event : Event) → IsUnread event → IsAccess event
-unread_access (Stepped step) unread = unread
-unread_access Begin unread = unread
-unread_access End unread = unread
-unread_access (Read at width value) unread = tt {0}
-unread_access (Write at width value) unread = tt {0}
-unread_access (DmaRead at bytes) unread = tt {0}
-unread_access (DmaWrite at bytes) unread = tt {0}
-
 pub unread_accesses : (events : List Event) → AreUnread events → AreAccesses events
 unread_accesses [] unread = tt {0}
 unread_accesses (event ∷ events) unread = (unread_access event unread.0, unread_accesses events unread.1)
-
-plain_access : (event : Event) → IsPlain event → IsAccess event
-plain_access (Stepped step) plain = plain
-plain_access Begin plain = plain
-plain_access End plain = plain
-plain_access (Read at width value) plain = tt {0}
-plain_access (Write at width value) plain = tt {0}
-plain_access (DmaRead at bytes) plain = tt {0}
-plain_access (DmaWrite at bytes) plain = tt {0}
 
 plain_accesses : (events : List Event) → ArePlain events → AreAccesses events
 plain_accesses [] plain = tt {0}
@@ -49,13 +28,9 @@ plain_accesses (event ∷ events) plain = (plain_access event plain.0, plain_acc
 
 -- ---- a look for an answer, and what comes after it
 
-entries_are : (rirb size place : ℕ) (entries : List (List ℕ)) → AreAccesses (entry_reads rirb size place entries)
-entries_are rirb size place [] = tt {0}
-entries_are rirb size place (entry ∷ entries) = (tt {0}, entries_are rirb size (place + 1) entries)
-
 batch_are : (some : Bool) (rirb : ℕ) (rings : RingPlaces) (reads : PollReads) → AreAccesses (if some then batch_accesses rirb rings reads.pointer reads.entries else [])
 batch_are true rirb rings reads =
-    (tt {0}, accesses_both (entry_reads rirb (entries_of rings.rirb) (rings.read + 1) reads.entries) (Write RIRBSTS One 1 ∷ []) (entries_are rirb (entries_of rings.rirb) (rings.read + 1) reads.entries) (tt {0}, tt {0}))
+    (tt {0}, accesses_both (entry_reads rirb (entries_of rings.rirb) (rings.read + 1) reads.entries) (Write RIRBSTS One 1 ∷ []) (entry_accesses rirb (entries_of rings.rirb) (rings.read + 1) reads.entries) (tt {0}, tt {0}))
 batch_are false rirb rings reads = tt {0}
 
 pub submit_are : (corb : ℕ) (rings : RingPlaces) (order : Option Order) → AreAccesses (submit_made corb rings order)

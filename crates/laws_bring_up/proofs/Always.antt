@@ -5,11 +5,11 @@ use Rattle.hda_world.specs.Worlds.{World}
 use Rattle.hda_world.specs.Steps.{after_step, after_steps}
 use Rattle.hda_world.specs.Events.{Event, Stepped, happens, after}
 use Rattle.hda_world.specs.Tellings.{Telling, world_of, Went, Accessed}
+use Rattle.hda_world.proofs.Callers.{steps_after}
 use Rattle.driver_progress.specs.Tasks.{Task, DriverLine}
 use Rattle.driver_progress.specs.Progress.{Course, course_of, course_after, course_opened, noted}
 use Rattle.laws_bring_up.specs.SettingUp.{Always}
 use Rattle.laws_bring_up.proofs.Grows.{world_after}
-use Rattle.laws_bring_up.proofs.Looking.{steps_are}
 use Rattle.laws_bring_up.proofs.Rows.{course_access}
 
 always_both : (Holds : World → Course → Type 0) (task : Task) (front back : List Event) (world : World) (course : Course) → Always Holds task front world course → Always Holds task back (after front world) (course_after task front world course)
@@ -51,7 +51,7 @@ access_always Holds task lines event old new accessed each last before =
 pub course_there : (task : Task) (lines : List DriverLine) (event : Event) (old new : Telling) (accessed : Accessed old new event)
     → course_of task lines new ≡ noted task (course_of task lines old) (after_steps accessed.steps (world_of old)) event
 course_there task lines event old new accessed =
-    course_access task lines event old new accessed ∙ ap (λ (world : World). noted task (course_of task lines old) world event) (steps_are accessed.steps (world_of old))
+    course_access task lines event old new accessed ∙ ap (λ (world : World). noted task (course_of task lines old) world event) (steps_after accessed.steps (world_of old))
 
 -- what holds there, of what is told after it
 pub at_access : (Holds : World → Course → Type 0) (task : Task) (lines : List DriverLine) (event : Event) (old new : Telling) (accessed : Accessed old new event)

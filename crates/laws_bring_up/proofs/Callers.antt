@@ -16,7 +16,6 @@ pub use Rattle.laws_bring_up.proofs.Rows.{rest_stays, rest_progress}
 pub use Rattle.laws_bring_up.proofs.Always.{steps_always}
 -- the world after an access, and after steps
 pub use Rattle.laws_bring_up.proofs.Grows.{world_after}
-pub use Rattle.laws_bring_up.proofs.Looking.{steps_are}
 -- accesses that submit no command
 pub use Rattle.laws_bring_up.proofs.Calm.{AreCalm, calm_both, calm_front, calm_back, polls_calm, shuts_calm, interrupted_calm}
 -- the laws that a bring-up goes by, as they are handed in
@@ -34,3 +33,5 @@ pub use Rattle.laws_bring_up.proofs.Following.{Later, row_remembers, stage_on}
 pub use Rattle.laws_bring_up.proofs.Staying.{asking_in}
 -- rows of accesses
 pub use Rattle.laws_bring_up.proofs.Accesses.{unread_accesses, submit_are, shut_are, looked_accesses}
+-- an empty list goes on with none
+pub use Rattle.laws_bring_up.proofs.Walked.{none_next}

@@ -1,16 +1,14 @@
 -- While CORB has no command that was not fetched, no codec takes one: over steps of the device and over accesses that submit none.
-use Rattle.std.proofs.Common.{◌≡◌, ◌≢◌, ◌⊎◌, inl, inr, ◌-◌, ◌/◌, ◌==◌, ◌&&◌, ℕ, Bool, true, false, not, if◌then◌else◌, List, [], ◌∷◌, refl, sym, ap, subst, ◌∙◌, rules, tests}
-use Rattle.std.specs.Prelude.{nat_lt}
-use Rattle.std.proofs.lemmas.Bool.{ne_eqb}
-use Rattle.hda_registers.specs.declared.shapes.Shape.{Shape}
+use Rattle.std.proofs.Common.{◌≡◌, ◌≢◌, ◌⊎◌, inl, inr, ◌/◌, ◌==◌, ℕ, false, not, List, [], ◌∷◌, refl, sym, ap, ◌∙◌, rules, tests}
 use Rattle.hda_registers.specs.declared.shapes.Width.{Width}
 use Rattle.hda_registers.specs.declared.shapes.Width.TheVariants.{Four}
-use Rattle.hda_registers.specs.Fields.{Fields, Global, Descriptor, reset_fields, is_out_of_reset}
-use Rattle.hda_registers.specs.Access.{access_of, written, placed, is_taken, global_written, stream_written}
-use Rattle.hda_registers.proofs.Callers.{ignored}
+use Rattle.hda_registers.specs.Fields.{Fields, Global, is_out_of_reset}
+use Rattle.hda_registers.specs.Access.{written}
+use Rattle.hda_registers.proofs.Callers.{written_pointers}
 use Rattle.world_rings.specs.declared.response.Response.{Response}
 use Rattle.world_rings.specs.Entries.{after_response, after_responses}
 use Rattle.world_steps.specs.declared.Step.{Step}
+use Rattle.world_rings.proofs.Callers.{none_fetched}
 use Rattle.hda_world.specs.Worlds.{World, TakenCommand}
 use Rattle.hda_world.specs.Steps.{passed, after_steps}
 use Rattle.hda_world.specs.Events.{after_write}
@@ -34,17 +32,6 @@ pointers_after (response ∷ responses) fields idle = pointers_after responses (
 passed_idle : (world : World) → IsIdle world → IsIdle (passed world)
 passed_idle world idle =
     ap (λ (global : Global). global.corb_read_pointer) (passed_global world) ∙ idle ∙ sym (ap (λ (global : Global). global.corb_write_pointer) (passed_global world))
-
--- an idle CORB has nothing to fetch
-none_fetched : {A : Type 0} (out run reset : Bool) (read write : ℕ) → read ≡ write → (out && run && reset && not (read == write)) ≡ true → A
-none_fetched {A} out run reset read write same can = by out run reset (read == write) (search (rules, same)) can
-  where
-    by : {A : Type 0} (a b c d : Bool) → d ≡ true → (a && b && c && not d) ≡ true → A
-    by true true true true is can = cc
-    by true true true false is can = cc
-    by true true false d is can = cc
-    by true false c d is can = cc
-    by false b c d is can = cc
 
 keeps_idle : (commands : List TakenCommand) → Kept (IsIdleSince commands)
 keeps_idle commands = record {
@@ -88,47 +75,6 @@ pub record IsReset (at : ℕ) (width : Width) (value : ℕ) : Type 0 where
 
 abbrev pub SubmitsNone : (at : ℕ) → Width → (value : ℕ) → Type 0
 SubmitsNone at width value = IsBesidePointers at ⊎ IsReset at width value
-
--- both pointers are the same
-record KeepsPointers (old new : Fields) : Type 0 where
-  read : new.global.corb_read_pointer ≡ old.global.corb_read_pointer
-  write : new.global.corb_write_pointer ≡ old.global.corb_write_pointer
-
-global_pointers : (shape : Shape) (at : ℕ) (w : Width) (v : ℕ) (g : Global) → (18 == at / 4) ≡ false
-    → ((global_written shape (access_of at w v) g).corb_read_pointer ≡ g.corb_read_pointer) × ((global_written shape (access_of at w v) g).corb_write_pointer ≡ g.corb_write_pointer)
-unfolding global_written
-global_pointers shape at w v g elsewhere = (rw elsewhere refl, rw elsewhere refl)
-
-global_reset : (shape : Shape) (at : ℕ) (w : Width) (v : ℕ) (g : Global) → (2 == at / 4) ≡ false → (global_written shape (access_of at w v) g).controller_reset ≡ g.controller_reset
-unfolding global_written
-global_reset shape at w v g elsewhere = rw elsewhere refl
-
-with_pointers : (f : Fields) (g : Global) (out : Bool) → out ≡ true → (g.corb_read_pointer ≡ f.global.corb_read_pointer) × (g.corb_write_pointer ≡ f.global.corb_write_pointer)
-    → KeepsPointers f (if out then record f { global = g } else reset_fields f.shape g.state_status)
-with_pointers f g true is same = record { read = same.0; write = same.1 }
-with_pointers f g false is same = cc
-
-placed_pointers : (f : Fields) (at : ℕ) (w : Width) (v : ℕ) → at / 4 ≢ 2 → at / 4 ≢ 18 → is_out_of_reset f.global ≡ true → (low : Bool) → nat_lt at 0x80 ≡ low → KeepsPointers f (placed f at w v)
-unfolding placed
-placed_pointers f at w v control corb out true is =
-    let same = global_pointers f.shape at w v f.global (ne_eqb 18 (at / 4) (λ e. corb (sym e))) in
-    let still = ap (λ n. n == 1) (global_reset f.shape at w v f.global (ne_eqb 2 (at / 4) (λ e. control (sym e)))) ∙ out in
-    rw is (with_pointers f (global_written f.shape (access_of at w v) f.global) _ still same)
-placed_pointers f at w v control corb out false is = rw is (beyond f (stream_written (access_of (at - 0x80) w v) f.input) (stream_written (access_of (at - 0xA0) w v) f.output) (nat_lt at 0xA0) (nat_lt at 0xC0))
-  where
-    beyond : (f : Fields) (input output : Descriptor) (a b : Bool) → KeepsPointers f (if a then record f { input = input } else (if b then record f { output = output } else f))
-    beyond f input output true b = record { read = refl; write = refl }
-    beyond f input output false true = record { read = refl; write = refl }
-    beyond f input output false false = record { read = refl; write = refl }
-
-taken_or : (f new : Fields) (taken : Bool) → KeepsPointers f new → KeepsPointers f (if taken then new else f)
-taken_or f new true keeps = keeps
-taken_or f new false keeps = record { read = refl; write = refl }
-
-written_pointers : (f : Fields) (at : ℕ) (w : Width) (v : ℕ) → at / 4 ≢ 2 → at / 4 ≢ 18 → (out : Bool) → is_out_of_reset f.global ≡ out → KeepsPointers f (written f at w v)
-unfolding written
-written_pointers f at w v control corb true is = taken_or f (placed f at w v) (is_taken f at w) (placed_pointers f at w v control corb is (nat_lt at 0x80) refl)
-written_pointers f at w v control corb false is = subst (KeepsPointers f) (sym (ignored f at w v is control)) (record { read = refl; write = refl })
 
 differs : (a b : ℕ) → (a == b) ≡ false → a ≢ b
 differs a b is = search (rules, tests)

@@ -1,17 +1,16 @@
 -- The course of a call that looks for an answer.
-use Rattle.std.proofs.Common.{◌≡◌, ◌≤◌, ◌+◌, ◌*◌, ℕ, List, [], ◌∷◌, ◌++◌, map, length, Option, Some, None, refl, sym, ap, subst, ◌∙◌, append_assoc, append-nil}
+use Rattle.std.proofs.Common.{◌≡◌, ◌≤◌, ◌+◌, ◌*◌, ℕ, List, [], ◌∷◌, ◌++◌, map, length, Option, Some, None, sym, ap, subst, ◌∙◌, append_assoc, append-nil}
 use Rattle.std.specs.Option.{is_some}
 use Rattle.byteorder.specs.Endian.{little_bytes}
 use Rattle.hda_registers.specs.declared.shapes.Width.TheVariants.{Two, Four}
 use Rattle.hda_registers.specs.declared.places.TheConstants.{WALCLK, CORBWP}
 use Rattle.world_rings.specs.declared.response.Response.{Response}
 use Rattle.world_rings.specs.declared.entries.TheConstants.{COMMAND_BYTES}
-use Rattle.world_steps.specs.declared.Step.{Step}
 use Rattle.hda_world.specs.Worlds.{World}
 use Rattle.hda_world.specs.Steps.{after_steps}
-use Rattle.hda_world.specs.Events.{Event, Stepped, Read, Write, DmaWrite, after}
+use Rattle.hda_world.specs.Events.{Event, Read, Write, DmaWrite}
 use Rattle.hda_world.specs.Tellings.{Telling, world_of, Makes}
-use Rattle.hda_world.proofs.Callers.{kept_steps, access_leaves}
+use Rattle.hda_world.proofs.Callers.{kept_steps, access_leaves, steps_after}
 use Rattle.command_engine.specs.declared.ring_places.RingPlaces.{RingPlaces}
 use Rattle.command_engine.specs.declared.answers.Outstanding.{Outstanding}
 use Rattle.command_engine.specs.Belonging.{as_held}
@@ -91,10 +90,6 @@ none_next task lines asked read old new makes agree = record {
   agree = subst (λ (telling : Telling). AnswersAgree asked (course_of task lines old).written read (world_of telling).written) (sym makes.by) agree;
 }
 
-pub steps_are : (steps : List Step) (world : World) → after (map Stepped steps) world ≡ after_steps steps world
-steps_are [] world = refl
-steps_are (step ∷ steps) world = steps_are steps (after_steps (step ∷ []) world)
-
 -- a command is submitted where none is outstanding
 pub one_next : AgreeSubmitted → (task : Task) (lines : List DriverLine) (from read corb rirb : ℕ) (rings : RingPlaces) (order : Order) (clock : ℕ) (asked : Option ℕ) (old new : Telling) → rings.outstanding ≡ None
     → Makes (submit_made corb rings (Some order)) old new → Stands from read corb rirb rings (world_of old) → NextNoted task lines (submit_made corb rings (Some order)) asked read old new
@@ -119,7 +114,7 @@ one_next submitted task lines from read corb rirb rings order clock asked old ne
     let ends = makes.by.2.2 in record {
       written = length there.written;
       course = ap (course_of task lines) ends ∙ next
-          ∙ ap (λ (world : World). record (with_accesses (course_of task lines middle) (point ∷ [])) { written = length world.written }) (steps_are second.steps (world_of middle))
+          ∙ ap (λ (world : World). record (with_accesses (course_of task lines middle) (point ∷ [])) { written = length world.written }) (steps_after second.steps (world_of middle))
           ∙ ap (λ (course : Course). record (with_accesses course (point ∷ [])) { written = length there.written }) here
           ∙ ap (λ (all : List Event). record (course_of task lines old) { made = all; written = length there.written }) (append_assoc (course_of task lines old).made (store ∷ []) (point ∷ []));
       conforms = λ conforms. subst (ConformsTo task lines) (sym ends) (conforms_access task lines point middle last second (tt {0}) (conforms_access task lines store old middle first (tt {0}) conforms));

@@ -25,7 +25,7 @@ use Rattle.driver_progress.specs.declared.phase.Phase.TheVariants.{Unanswered, F
 use Rattle.driver_progress.specs.Tasks.{Task, IsTaskFor}
 use Rattle.driver_progress.specs.Answers.{AnswersAgree}
 use Rattle.driver_progress.specs.Beginning.{CanReset, IsSettling}
-use Rattle.driver_progress.proofs.StretchCallers.{untaken_steps}
+use Rattle.driver_progress.proofs.Callers.{untaken_steps}
 use Rattle.driver_bring_up.specs.declared.bringing.BringUp.{BringUp}
 use Rattle.laws_bring_up.specs.Standing.{IsAsking, CanBegin, Announce, StandsIn}
 use Rattle.laws_bring_up.proofs.Grows.{steps_on}

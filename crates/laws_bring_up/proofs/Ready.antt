@@ -1,8 +1,7 @@
 -- Once all commands are answered, each codec is as its verbs set it.
-use Rattle.std.proofs.Common.{◌≡◌, ◌≤◌, ◌<◌, ◌+◌, ◌*◌, ◌==◌, ℕ, zero, suc, Bool, true, false, List, [], ◌∷◌, ◌++◌, map, length, if◌then◌else◌, nat_le, Option, Some, None, refl, sym, ap, subst, ◌∙◌, arith, rules, tests, inl, inr, length-append}
+use Rattle.std.proofs.Common.{◌≡◌, ◌≤◌, ◌<◌, ◌+◌, ◌*◌, ◌==◌, ℕ, zero, suc, Bool, true, false, List, [], ◌∷◌, map, length, if◌then◌else◌, nat_le, Option, Some, None, refl, sym, ap, subst, ◌∙◌, arith, rules, tests, inl, inr, length-append}
 use Rattle.std.specs.Prelude.{All, Contains, drop, get_or, cond}
 use Rattle.std.specs.List.{flat_map}
-use Rattle.std.proofs.lemmas.Grind.{flat_map-append}
 use Rattle.std.proofs.lemmas.List.{length-map, length-drop, take_all}
 use Rattle.std.proofs.lemmas.List.Elements.{All-nil, All-cons, All-head, All-tail, All-contains}
 use Rattle.std.proofs.lemmas.Option.{slice_get_within, same_Some}
@@ -21,10 +20,10 @@ use Rattle.world_rings.specs.declared.entries.TheConstants.{COMMAND_BYTES}
 use Rattle.world_rings.specs.Memory.{word_at}
 use Rattle.hda_world.specs.Worlds.{World, TakenCommand, codec_at}
 use Rattle.command_engine.specs.declared.answers.Outstanding.{Outstanding}
-use Rattle.command_engine.specs.Courses.{RingPart, part_of, Course, AreOf, IsWordOf, AscendFrom, graphs_in, graph_at}
-use Rattle.command_engine.proofs.Callers.{graph_there}
+use Rattle.command_engine.specs.Courses.{RingPart, part_of, Course, IsWordOf, AscendFrom, graphs_in, graph_at}
+use Rattle.command_engine.proofs.Callers.{graph_there, none_gained}
 use Rattle.driver_agenda.specs.declared.agenda.Agenda.{Agenda}
-use Rattle.driver_agenda.specs.Following.{commands_of, FollowsWalk, FollowsBy}
+use Rattle.driver_agenda.specs.Following.{commands_of, FollowsBy}
 use Rattle.driver_agenda.specs.Planned.{ArePlansBy}
 use Rattle.laws_settings.specs.Histories.{FoundTaken, HasTaken, words_of}
 use Rattle.laws_settings.specs.Readings.{KeepsDefaults}
@@ -34,6 +33,7 @@ use Rattle.driver_progress.specs.declared.phase.Phase.{Phase}
 use Rattle.driver_progress.specs.declared.phase.Phase.TheVariants.{Walking, SettingUp, Ready}
 use Rattle.driver_progress.specs.Phases.{goes_on}
 use Rattle.driver_progress.specs.Tasks.{Task, Order}
+use Rattle.driver_agenda.proofs.Callers.{walks_on}
 use Rattle.driver_bring_up.specs.Standing.{answers_of}
 use Rattle.driver_bring_up.specs.declared.bringing.BringUp.{BringUp}
 use Rattle.laws_bring_up.specs.Standing.{IsTaskOfCodecs, IsLastSent, HaveTaken, IsAsking, StandsIn, IsBroughtUp}
@@ -58,14 +58,6 @@ none_left orders sent (Some command) last all =
     let is = last.1 in
     absurd (omega (arith, within, is, all))
 
-none_of : (gained : List TakenCommand) → AreOf None gained → gained ≡ []
-none_of [] are = refl
-none_of (taken ∷ more) are = absurd are
-
-none_gained : (part : RingPart) (word : ℕ) (gained : List TakenCommand) → Course None part word gained → gained ≡ []
-none_gained part word gained (inl all) = none_of gained all.taken
-none_gained part word gained (inr next) = next.none
-
 nothing_gained : (outstanding : Option Outstanding) (part : RingPart) (word : ℕ) (gained : List TakenCommand) → outstanding ≡ None → Course outstanding part word gained → gained ≡ []
 nothing_gained None part word gained none course = none_gained part word gained course
 nothing_gained (Some command) part word gained none course = absurd (some_none command none)
@@ -77,16 +69,6 @@ nothing_gained (Some command) part word gained none course = absurd (some_none c
 all_fetched : (outstanding : Option Outstanding) (part : RingPart) (word : ℕ) (gained : List TakenCommand) → outstanding ≡ None → Course outstanding part word gained → part.corb_read_pointer ≡ part.corb_write_pointer
 all_fetched outstanding part word gained none (inl all) = all.pointers
 all_fetched outstanding part word gained none (inr next) = absurd (subst (λ (outstanding : Option Outstanding). IsWordOf outstanding word) none next.is)
-
--- a walk that is not at its end has commands left
-pub walk_left : (graphs : List RawCodec) (count : ℕ) (agenda : Agenda) (under_way : Walk) → FollowsWalk graphs count agenda under_way → count < length (flat_map walk_commands graphs)
-walk_left graphs count agenda under_way stands =
-    let long = ap (λ (graphs : List RawCodec). length (flat_map walk_commands graphs)) stands.split ∙ ap length (flat_map-append walk_commands stands.done (stands.current ∷ stands.rest))
-    ∙ length-append (flat_map walk_commands stands.done) (walk_commands stands.current ++ flat_map walk_commands stands.rest) in
-    let later = length-append (walk_commands stands.current) (flat_map walk_commands stands.rest) in
-    let few = stands.few in
-    let is = stands.count_is in
-    omega (arith, long, later, few, is)
 
 -- ---- a codec by its address
 
@@ -194,7 +176,7 @@ module _ (means : Means) (verbs : RawCodec → List Command) (graphs : List RawC
   pub can_be_sent : (count : ℕ) (agenda : Agenda) (walks : Option Walk) → FollowsBy means verbs graphs count agenda walks → length task.orders ≤ count + 1 → All (λ (graph : RawCodec). All (IsCommandOf graph) (verbs graph)) graphs
   can_be_sent count agenda None stands all = commands_by graphs agenda.plans.items stands.plans of.right.well_formed of.right.verbs_are
   can_be_sent count agenda (Some under_way) stands all =
-      let few = walk_left graphs count agenda under_way stands in
+      let few = walks_on graphs count agenda under_way stands in
       let long = total in
       no_commands graphs (omega (arith, few, long, all))
 

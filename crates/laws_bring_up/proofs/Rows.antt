@@ -13,7 +13,7 @@ use Rattle.driver_progress.specs.Seen.{seen_by, values_of}
 use Rattle.driver_progress.specs.Next.{next}
 use Rattle.driver_progress.specs.Progress.{Conforms, IsProgress, FitsIf, ended_if, state_of, Course, course_of, course_after, course_opened, is_answered, noted, seen_in, Fits, FitsAt}
 use Rattle.driver_progress.specs.Noting.{with_accesses}
-use Rattle.driver_progress.proofs.Callers.{ConformsTo, steps_leave_course, steps_conform, course_went, conforms_went, course_stepped, conforms_stepped}
+use Rattle.driver_progress.proofs.Callers.{ConformsTo, steps_leave_course, steps_conform, course_went, conforms_went, course_stepped, conforms_stepped, access_fits, unread_access}
 use Rattle.driver_progress.specs.Unread.{IsAccess, AreAccesses, IsUnread, AreUnread}
 use Rattle.driver_bring_up.specs.Commanding.{IsStretch}
 use Rattle.laws_bring_up.proofs.Grows.{event_on}
@@ -69,15 +69,6 @@ one_noted task course world (Write at width value) unread = (if at == CORBWP the
 one_noted task course world (DmaRead at bytes) unread = absurd unread
 one_noted task course world (DmaWrite at bytes) unread = (course.written, refl)
 
-unread_fits : (task : Task) (course : Course) (event : Event) → IsUnread event → FitsAt task course event
-unread_fits task course (Stepped step) unread = tt {0}
-unread_fits task course Begin unread = tt {0}
-unread_fits task course End unread = absurd unread
-unread_fits task course (Read at width value) unread = tt {0}
-unread_fits task course (Write at width value) unread = tt {0}
-unread_fits task course (DmaRead at bytes) unread = tt {0}
-unread_fits task course (DmaWrite at bytes) unread = tt {0}
-
 -- what they made, and how many responses were written when CORBWP was last written
 pub record Rowed (task : Task) (lines : List DriverLine) (made : List Event) (old new : Telling) : Type 0 where
   pub written : ℕ
@@ -98,7 +89,7 @@ unread_row task lines (event ∷ made) old new makes unread =
       course = rest.course
           ∙ ap (λ (course : Course). record (with_accesses course made) { written = rest.written }) here
           ∙ ap (λ (all : List Event). record (course_of task lines old) { made = all; written = rest.written }) (append_assoc (course_of task lines old).made (event ∷ []) made);
-      conforms = λ conforms. rest.conforms (conforms_access task lines event old makes.0 makes.1 (unread_fits task (course_of task lines old) event unread.0) conforms);
+      conforms = λ conforms. rest.conforms (conforms_access task lines event old makes.0 makes.1 (access_fits task (course_of task lines old) event (unread_access event unread.0)) conforms);
     }
 
 -- ---- accesses of any kind

@@ -17,10 +17,11 @@ use Rattle.driver_progress.specs.declared.phase.Phase.TheVariants.{Walking, Sett
 use Rattle.driver_progress.specs.Phases.{goes_on}
 use Rattle.driver_progress.specs.Next.{phase_of_answers}
 use Rattle.driver_progress.specs.Tasks.{Task, Order, walks_over}
+use Rattle.driver_agenda.proofs.Callers.{walks_on}
 use Rattle.driver_bring_up.specs.Standing.{answers_of}
 use Rattle.driver_bring_up.specs.declared.bringing.BringUp.{BringUp}
 use Rattle.laws_bring_up.specs.Standing.{IsTaskOfCodecs, AreWalked, HasWalked, WalkedIn}
-use Rattle.laws_bring_up.proofs.Ready.{walk_left, all_answered, at_most}
+use Rattle.laws_bring_up.proofs.Ready.{all_answered, at_most}
 
 not_true : false ≡ true → ⊥
 not_true is = cc
@@ -60,7 +61,7 @@ walks_answered true walked is = cc
 walks_answered false true is = refl
 walks_answered false false is = cc
 
-none_next : (next : RawCodec) (later : List RawCodec) → [] ≡ next ∷ later → ⊥
+pub none_next : (next : RawCodec) (later : List RawCodec) → [] ≡ next ∷ later → ⊥
 none_next next later is = cc
 
 same_next : (one other : RawCodec) (rest later : List RawCodec) → one ∷ rest ≡ other ∷ later → one ≡ other
@@ -96,7 +97,7 @@ module _ (means : Means) (verbs : RawCodec → List Command) (graphs : List RawC
   walked_all : (count : ℕ) (agenda : Agenda) (walks : Option Walk) → FollowsBy means verbs graphs count agenda walks → task.walks ≤ count → agenda.graphs.items ≡ graphs
   walked_all count agenda None stands all = stands.graphs_are
   walked_all count agenda (Some under_way) stands all =
-      let few = walk_left graphs count agenda under_way stands in
+      let few = walks_on graphs count agenda under_way stands in
       let walks = of.is_for.walks in
       absurd (omega (arith, few, walks, all))
 

@@ -4,7 +4,7 @@ use Rattle.std.specs.Prelude.{drop, slice_get}
 use Rattle.codec_graph.specs.Settings.{Entries}
 use Rattle.hda_world.specs.Events.{Event, Stepped}
 use Rattle.hda_world.specs.Tellings.{Went, Accessed}
-use Rattle.hda_world.proofs.Callers.{world_of-went}
+use Rattle.hda_world.proofs.Callers.{world_of-went, steps_after}
 use Rattle.driver_progress.specs.declared.phase.Phase.TheVariants.{Ready}
 use Rattle.driver_progress.specs.Phases.{is_asking, is_early, are_set_up}
 use Rattle.driver_progress.specs.States.{State, state_opened}
@@ -13,7 +13,6 @@ use Rattle.driver_progress.proofs.Callers.{course_went, steps_leave_course}
 use Rattle.driver_bring_up.specs.Calls.{state_of, IsKept, Leads, Ends}
 use Rattle.laws_bring_up.specs.Stretches.{IsAtRest, IsDone}
 use Rattle.laws_bring_up.specs.SettingUp.{are_answered, Always, SetUpAt, StaysSetUp, RemainSetUp}
-use Rattle.laws_bring_up.proofs.Looking.{steps_are}
 use Rattle.laws_bring_up.proofs.Ready.{SetterLaws, ready_for_good}
 use Rattle.laws_bring_up.proofs.Same.{steps_for_good}
 use Rattle.laws_bring_up.proofs.Always.{steps_always, access_always}
@@ -96,7 +95,7 @@ module _ (means : Means) (verbs : RawCodec → List Command) (graphs : List RawC
   steps_told : (lines left : List DriverLine) (bring_up : BringUp) (steps : List Step) (old new : Telling) → Went old new (map Stepped steps) → IsUnderWay means verbs graphs task lines left bring_up old
       → IsUnderWay means verbs graphs task lines left bring_up new
   steps_told lines left bring_up steps old new went way =
-      let world = world_of-went old new (map Stepped steps) went ∙ steps_are steps (world_of old) in
+      let world = world_of-went old new (map Stepped steps) went ∙ steps_after steps (world_of old) in
       let course = course_went task lines old new (map Stepped steps) went ∙ steps_leave_course task steps (world_of old) (course_of task lines old) in record {
         rest = rest_stays task lines left (state_of bring_up) steps old new went way.rest;
         stands = marked means verbs graphs task lines bring_up old new steps (λ written steps world is. stays written bring_up steps world is) world (ap (λ (course : Course). course.written) course) way.stands;

@@ -17,9 +17,9 @@ use Rattle.driver_progress.specs.declared.phase.Phase.TheVariants.{Reset, Settli
 use Rattle.driver_progress.specs.Tasks.{Task, DriverLine}
 use Rattle.driver_progress.specs.Seen.{Seen, seen_by, values_of}
 use Rattle.driver_progress.specs.States.{State}
-use Rattle.driver_progress.specs.Progress.{Course, course_of, is_answered, noted, FitsAt}
+use Rattle.driver_progress.specs.Progress.{Course, course_of, is_answered, noted}
 use Rattle.driver_progress.specs.Noting.{with_accesses}
-use Rattle.driver_progress.proofs.Callers.{ConformsTo}
+use Rattle.driver_progress.proofs.Callers.{ConformsTo, access_fits}
 use Rattle.driver_progress.specs.Unread.{IsAccess, AreAccesses}
 use Rattle.driver_progress.specs.Phases.{are_set_up}
 use Rattle.driver_bring_up.specs.Commanding.{IsStretch, answer_in, entries_in}
@@ -73,15 +73,6 @@ one_noted task course world (Write at width value) is none unanswered = (
 )
 one_noted task course world (DmaRead at bytes) is none unanswered = (course.written, ap (λ (answered : Bool). record (with_accesses course (DmaRead at bytes ∷ [])) { answered = answered }) unanswered)
 one_noted task course world (DmaWrite at bytes) is none unanswered = (course.written, ap (λ (answered : Bool). record (with_accesses course (DmaWrite at bytes ∷ [])) { answered = answered }) unanswered)
-
-access_fits : (task : Task) (course : Course) (event : Event) → IsAccess event → FitsAt task course event
-access_fits task course (Stepped step) is = tt {0}
-access_fits task course Begin is = tt {0}
-access_fits task course End is = absurd is
-access_fits task course (Read at width value) is = tt {0}
-access_fits task course (Write at width value) is = tt {0}
-access_fits task course (DmaRead at bytes) is = tt {0}
-access_fits task course (DmaWrite at bytes) is = tt {0}
 
 record Rowed (task : Task) (lines : List DriverLine) (made : List Event) (old new : Telling) : Type 0 where
   written : ℕ

@@ -10,7 +10,7 @@ use Rattle.stream_format.specs.declared.format.Format.{Format}
 use Rattle.hda_world.specs.Worlds.{World}
 use Rattle.hda_world.specs.Events.{Event, Stepped, Begin, End, happens, after, IsNoStep}
 use Rattle.hda_world.specs.Tellings.{Telling, world_of, Went, Accessed}
-use Rattle.hda_world.proofs.Callers.{world_of-went, went_both, Weaving, woven}
+use Rattle.hda_world.proofs.Callers.{world_of-went, went_both, Weaving, woven, events_front, events_back}
 use Rattle.period_writer.specs.declared.geometry.Geometry.{Geometry}
 use Rattle.period_writer.specs.Runs.{Tally, tally_opened}
 use Rattle.period_writer.specs.Outcomes.{HasNotWrapped}
@@ -31,7 +31,7 @@ use Rattle.audio_driver.specs.Sounding as sounding
 use Rattle.laws_stream.specs.Resting.{Rests}
 use Rattle.laws_stream.specs.Lives.{IsStopped, Along}
 use Rattle.laws_stream.specs.Ending.{HearTheLine}
-use Rattle.laws_stream.proofs.Callers.{went_same, all_front, all_back, Along-end, Along-front}
+use Rattle.laws_stream.proofs.Callers.{went_same, Along-end, Along-front}
 use Rattle.laws_driver.specs.Sounding.{Parts, state_in, ring_in, tally_in, Sounds}
 use Rattle.laws_driver.specs.Keeping.{IsSilent, IsHeard, Closes, WasNeverHeard, WasHeard, HasGone}
 use Rattle.laws_driver.proofs.Given.{Given}
@@ -176,7 +176,7 @@ module _ (means : Means) (verbs : RawCodec → List Command) (graphs : List RawC
           (Along-front HasNotWrapped (front ++ calling.events) back (world_of before) (subst (λ (events : List Event). Along HasNotWrapped events (world_of before)) last_is small)))
 
       alone_then : All IsNoStep last → All IsNoStep calling.events
-      alone_then alone = all_back IsNoStep front calling.events (all_front IsNoStep (front ++ calling.events) back (subst (All IsNoStep) last_is alone))
+      alone_then alone = events_back IsNoStep front calling.events (events_front IsNoStep (front ++ calling.events) back (subst (All IsNoStep) last_is alone))
 
       pub heard_end : Gone
       heard_end =

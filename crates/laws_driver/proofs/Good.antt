@@ -9,12 +9,12 @@ use Rattle.hda_world.specs.Worlds.{World}
 use Rattle.hda_world.specs.Steps.{after_steps}
 use Rattle.hda_world.specs.Events.{Event, Stepped, Begin, End, Read, Write, DmaRead, DmaWrite, happens, after}
 use Rattle.hda_world.specs.Tellings.{Telling, world_of, Went, Accessed, MakesBy}
-use Rattle.hda_world.proofs.Callers.{world_of-went}
+use Rattle.hda_world.proofs.Callers.{world_of-went, steps_after}
 use Rattle.driver_progress.specs.Requests.{requests_in, requests_of}
 use Rattle.driver_progress.specs.Tasks.{Task, DriverLine}
 use Rattle.driver_progress.specs.Progress.{Course, course_of, course_after, course_opened, noted}
 use Rattle.laws_bring_up.specs.SettingUp.{are_answered, Always, SetUpAt, StaysSetUp, AreSetUpForGood, IsIdle}
-use Rattle.laws_bring_up.proofs.Callers.{world_after, access_always, steps_always, steps_for_good, write_for_good, steps_are, AreCalm, calm_front, calm_back}
+use Rattle.laws_bring_up.proofs.Callers.{world_after, access_always, steps_always, steps_for_good, write_for_good, AreCalm, calm_front, calm_back}
 
 always_end : (Holds : World → Course → Type 0) (task : Task) (events : List Event) (world : World) (course : Course) → Always Holds task events world course → Holds (after events world) (course_after task events world course)
 always_end Holds task [] world course all = all
@@ -54,7 +54,7 @@ module _ (means : Means) (graphs : List RawCodec) (task : Task) (lines : List Dr
   steps_good steps old new went before =
       let each : (done : List Step) → AreSetUpForGood means graphs (after_steps done (world_of old)) = λ done. steps_for_good means graphs done (world_of old) before.good in record {
         set_up = steps_always (SetUpAt means graphs task) task lines steps old new went (λ done answered. (each done).set_up) before.set_up;
-        good = subst (AreSetUpForGood means graphs) (sym (world_of-went old new (map Stepped steps) went ∙ steps_are steps (world_of old))) (each steps);
+        good = subst (AreSetUpForGood means graphs) (sym (world_of-went old new (map Stepped steps) went ∙ steps_after steps (world_of old))) (each steps);
       }
 
   event_good : (event : Event) (world : World) → AreCalm (requests_in event) → AreSetUpForGood means graphs world → AreSetUpForGood means graphs (happens world event)

@@ -1,5 +1,5 @@
 -- Once all commands are answered: where the engine of commands stands, and what was walked.
-use Rattle.std.proofs.Common.{◌≡◌, ◌≤◌, ℕ, List, [], ◌∷◌, length, Option, None, sym, ap, subst, ◌∙◌, append-nil}
+use Rattle.std.proofs.Common.{◌≡◌, ◌≤◌, ℕ, List, [], length, Option, None, sym, ap, subst, ◌∙◌, append-nil}
 use Rattle.verb_codes.specs.declared.verbs.Command.{Command}
 use Rattle.codec_graph.specs.declared.raw.RawCodec.{RawCodec}
 use Rattle.codec_graph.specs.Settings.{Entries}
@@ -16,7 +16,7 @@ use Rattle.driver_bring_up.specs.Standing.{answers_of}
 use Rattle.driver_bring_up.specs.declared.bringing.BringUp.{BringUp}
 use Rattle.laws_bring_up.specs.Standing.{IsTaskOfCodecs, IsAsking, StandsIn, IsBroughtUp, WalkedIn, IsEnded}
 use Rattle.laws_bring_up.specs.SettingUp.{AreSetUpForGood}
-use Rattle.laws_bring_up.proofs.Callers.{AgendaLaws, SetterLaws, all_taken, ready_for_good, walked_by, walked_in}
+use Rattle.laws_bring_up.proofs.Callers.{AgendaLaws, SetterLaws, all_taken, ready_for_good, walked_by, walked_in, none_next}
 
 module _ (means : Means) (verbs : RawCodec → List Command) (graphs : List RawCodec) (task : Task)
     (laws : AgendaLaws means verbs graphs) (of : IsTaskOfCodecs means verbs graphs task) (setter : SetterLaws means) where
@@ -47,10 +47,6 @@ module _ (means : Means) (verbs : RawCodec → List Command) (graphs : List RawC
             (subst (λ (walked : List RawCodec). length (walks_over walked) ≤ answers) all told);
         good = ready_for_good means verbs graphs task laws of setter written bring_up world was stands;
       }
-
--- what is left at the end, where all were walked
-none_next : (next : RawCodec) (later : List RawCodec) → [] ≡ next ∷ later → ⊥
-none_next next later is = cc
 
 pub ended_ready : (graphs : List RawCodec) (task : Task) (bring_up : BringUp) → bring_up.phase ≡ Ready → bring_up.agenda.graphs.items ≡ graphs → bring_up.engine.rings.outstanding ≡ None → length (walks_over graphs) ≤ bring_up.sent → IsEnded graphs task bring_up
 ended_ready graphs task bring_up was walked none enough = record {

@@ -3,18 +3,19 @@ use Rattle.std.proofs.Common.{◌≡◌, ◌==◌, not, ℕ, List, [], ◌∷◌
 use Rattle.std.specs.Prelude.{All}
 use Rattle.std.proofs.lemmas.List.Elements.{All-head, All-tail}
 use Rattle.codec_graph.specs.CodecStates.{CodecState, plugged, without_first, without_answer}
-use Rattle.codec_graph.specs.Widget.{node_at}
 use Rattle.hda_registers.specs.Fields.{Fields, Global, is_out_of_reset}
-use Rattle.hda_registers.proofs.Callers.{keeps-reset, keeps-left}
+use Rattle.hda_registers.proofs.Callers.{keeps-reset, keeps-left, written_pointers}
 use Rattle.hda_registers.specs.declared.shapes.Width.{Width}
+use Rattle.codec_graph.proofs.Callers.{graph-plugged, settings-plugged}
+use Rattle.world_rings.proofs.Callers.{batch_registers, none_fetched}
 use Rattle.hda_world.specs.Worlds.{World}
 use Rattle.hda_world.specs.Steps.{passed}
 use Rattle.hda_world.specs.Events.{Event, Stepped, Begin, End, Read, Write, DmaRead, DmaWrite, happens, after, after_write}
 use Rattle.hda_world.specs.Kept.{Kept}
 use Rattle.hda_world.proofs.Callers.{kept_step, frames_after, passed_global, plain_write}
 use Rattle.laws_hearing.specs.Steady.{settings_of, AreIdleBy, AreIdle, LeavesCommands}
-use Rattle.laws_hearing.proofs.Steadying.{settings_with, plugged_same, batch_registers, no_fetch}
-use Rattle.laws_hearing.proofs.SteadyEvents.{written_pointers, not_pointers}
+use Rattle.laws_hearing.proofs.Steadying.{settings_with}
+use Rattle.laws_hearing.proofs.SteadyEvents.{not_pointers}
 
 module _ (codecs : List CodecState) where
   abbrev Idle : World → Type 0
@@ -32,11 +33,11 @@ module _ (codecs : List CodecState) where
   idle_kept = record {
     codecs = record {
       hands = λ world idle can free.
-          no_fetch (is_out_of_reset world.registers.global) (world.registers.global.corb_run == 1) (not (world.registers.global.corb_pointer_reset == 1)) world.registers.global.corb_read_pointer world.registers.global.corb_write_pointer idle.idle can;
+          none_fetched (is_out_of_reset world.registers.global) (world.registers.global.corb_run == 1) (not (world.registers.global.corb_pointer_reset == 1)) world.registers.global.corb_read_pointer world.registers.global.corb_write_pointer idle.idle can;
       sends = λ world address item rest idle out room are. same_settings world _ (settings_with address without_first (λ codec. refl) (λ codec. refl) world.codecs) idle;
       loses = λ world address idle out. same_settings world _ (settings_with address without_answer (λ codec. refl) (λ codec. refl) world.codecs) idle;
       plugs = λ world address nid present idle.
-          same_settings world _ (settings_with address (λ codec. plugged codec nid present) (λ codec. (plugged_same codec nid present (node_at codec.graph nid)).0) (λ codec. (plugged_same codec nid present (node_at codec.graph nid)).1) world.codecs) idle;
+          same_settings world _ (settings_with address (λ codec. plugged codec nid present) (graph-plugged nid present) (settings-plugged nid present) world.codecs) idle;
     };
     responds = λ world response rest idle can are.
         subst (λ (fields : Fields). AreIdleBy codecs world.codecs fields.global.corb_read_pointer fields.global.corb_write_pointer) (sym (batch_registers response rest world.registers)) idle;

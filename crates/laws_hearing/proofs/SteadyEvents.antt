@@ -1,16 +1,15 @@
 -- Accesses beside the rings and the stream keep what is steady.
-use Rattle.std.proofs.Common.{◌≡◌, ◌≢◌, ◌≤◌, ◌<◌, ◌-◌, ◌/◌, ◌==◌, ◌&&◌, not, if◌then◌else◌, ◌⊎◌, inl, inr, ℕ, Bool, true, false, List, [], ◌∷◌, length, drop, Some, refl, sym, ap, subst, ◌∙◌, arith}
-use Rattle.std.specs.Prelude.{All, nat_lt}
-use Rattle.std.proofs.lemmas.Bool.{ne_eqb}
+use Rattle.std.proofs.Common.{◌≡◌, ◌≢◌, ◌≤◌, ◌<◌, ◌/◌, ◌==◌, ◌&&◌, not, ◌⊎◌, inl, inr, ℕ, Bool, true, false, List, [], ◌∷◌, length, drop, Some, refl, sym, ap, subst, ◌∙◌, arith}
+use Rattle.std.specs.Prelude.{All}
 use Rattle.std.proofs.lemmas.List.Elements.{All-head, All-tail}
+use Rattle.std.proofs.Math.Bool.{not-and_self}
 use Rattle.codec_graph.specs.CodecStates.{CodecState}
-use Rattle.hda_registers.specs.declared.shapes.Shape.{Shape}
 use Rattle.hda_registers.specs.declared.shapes.Width.{Width}
 use Rattle.hda_registers.specs.declared.shapes.Width.TheVariants.{One}
-use Rattle.hda_registers.specs.Fields.{Fields, Global, Descriptor, reset_fields, is_out_of_reset, is_running}
-use Rattle.hda_registers.specs.Access.{access_of, written, placed, is_taken, global_written, stream_written, rose}
+use Rattle.hda_registers.specs.Fields.{Fields, Descriptor, is_out_of_reset, is_running}
+use Rattle.hda_registers.specs.Access.{written, placed, stream_written, rose}
 use Rattle.hda_registers.specs.Laws.{IsBesideStreams}
-use Rattle.hda_registers.proofs.Callers.{leaves-streams, changes-input, status-output, ignored, keeps-reset, keeps-left}
+use Rattle.hda_registers.proofs.Callers.{leaves-streams, changes-input, status-output, ignored, keeps-reset, keeps-left, written_pointers}
 use Rattle.stream_format.specs.Layouts.{Layout, layout_of}
 use Rattle.hda_world.specs.Worlds.{World}
 use Rattle.hda_world.specs.Events.{Event, Stepped, Begin, End, Read, Write, DmaRead, DmaWrite, happens, after, after_write}
@@ -26,16 +25,12 @@ record KeepsStream (old new : Fields) : Type 0 where
   format : new.output.format ≡ old.output.format
   still : rose old.output new.output ≡ false
 
-not_both : (runs : Bool) → (not runs && runs) ≡ false
-not_both true = refl
-not_both false = refl
-
 not_then : (ran : Bool) → (not ran && false) ≡ false
 not_then true = refl
 not_then false = refl
 
 same_run : (old new : Descriptor) → new.run ≡ old.run → rose old new ≡ false
-same_run old new same = ap (λ (run : ℕ). not (is_running old) && (run == 1)) same ∙ not_both (is_running old)
+same_run old new same = ap (λ (run : ℕ). not (is_running old) && (run == 1)) same ∙ not-and_self (is_running old)
 
 same_output : (old new : Fields) → new.output ≡ old.output → KeepsStream old new
 same_output old new same = record {
@@ -72,46 +67,6 @@ written_keeps f at value width other (inr (one, inr (inr (control, none)))) =
     (subst (λ (v : ℕ). KeepsStream f (written f 0xA0 One v)) (sym none) (stop_keeps f (is_out_of_reset f.global) refl)))
 
 -- ---- CORB's pointers
-
--- both pointers are the same
-pub record KeepsPointers (old new : Fields) : Type 0 where
-  pub read : new.global.corb_read_pointer ≡ old.global.corb_read_pointer
-  pub write : new.global.corb_write_pointer ≡ old.global.corb_write_pointer
-
-global_pointers : (shape : Shape) (at : ℕ) (w : Width) (v : ℕ) (g : Global) → (18 == at / 4) ≡ false
-    → ((global_written shape (access_of at w v) g).corb_read_pointer ≡ g.corb_read_pointer) × ((global_written shape (access_of at w v) g).corb_write_pointer ≡ g.corb_write_pointer)
-unfolding global_written
-global_pointers shape at w v g elsewhere = (rw elsewhere refl, rw elsewhere refl)
-
-global_reset : (shape : Shape) (at : ℕ) (w : Width) (v : ℕ) (g : Global) → (2 == at / 4) ≡ false → (global_written shape (access_of at w v) g).controller_reset ≡ g.controller_reset
-unfolding global_written
-global_reset shape at w v g elsewhere = rw elsewhere refl
-
-with_pointers : (f : Fields) (g : Global) (out : Bool) → out ≡ true → (g.corb_read_pointer ≡ f.global.corb_read_pointer) × (g.corb_write_pointer ≡ f.global.corb_write_pointer)
-    → KeepsPointers f (if out then record f { global = g } else reset_fields f.shape g.state_status)
-with_pointers f g true is same = record { read = same.0; write = same.1 }
-with_pointers f g false is same = cc
-
-placed_pointers : (f : Fields) (at : ℕ) (w : Width) (v : ℕ) → at / 4 ≢ 2 → at / 4 ≢ 18 → is_out_of_reset f.global ≡ true → (low : Bool) → nat_lt at 0x80 ≡ low → KeepsPointers f (placed f at w v)
-unfolding placed
-placed_pointers f at w v control corb out true is =
-    let same = global_pointers f.shape at w v f.global (ne_eqb 18 (at / 4) (λ e. corb (sym e))) in
-    let still = ap (λ n. n == 1) (global_reset f.shape at w v f.global (ne_eqb 2 (at / 4) (λ e. control (sym e)))) ∙ out in
-    rw is (with_pointers f (global_written f.shape (access_of at w v) f.global) _ still same)
-placed_pointers f at w v control corb out false is = rw is (beyond f (stream_written (access_of (at - 0x80) w v) f.input) (stream_written (access_of (at - 0xA0) w v) f.output) (nat_lt at 0xA0) (nat_lt at 0xC0)) where
-  beyond : (f : Fields) (input output : Descriptor) (a b : Bool) → KeepsPointers f (if a then record f { input = input } else (if b then record f { output = output } else f))
-  beyond f input output true b = record { read = refl; write = refl }
-  beyond f input output false true = record { read = refl; write = refl }
-  beyond f input output false false = record { read = refl; write = refl }
-
-taken_or : (f new : Fields) (taken : Bool) → KeepsPointers f new → KeepsPointers f (if taken then new else f)
-taken_or f new true keeps = keeps
-taken_or f new false keeps = record { read = refl; write = refl }
-
-pub written_pointers : (f : Fields) (at : ℕ) (w : Width) (v : ℕ) → at / 4 ≢ 2 → at / 4 ≢ 18 → (out : Bool) → is_out_of_reset f.global ≡ out → KeepsPointers f (written f at w v)
-unfolding written
-written_pointers f at w v control corb true is = taken_or f (placed f at w v) (is_taken f at w) (placed_pointers f at w v control corb is (nat_lt at 0x80) refl)
-written_pointers f at w v control corb false is = subst (KeepsPointers f) (sym (ignored f at w v is control)) (record { read = refl; write = refl })
 
 pub not_pointers : (at : ℕ) → (at < 0x40) ⊎ (0x50 ≤ at) → at / 4 ≢ 18
 not_pointers at (inl low) is = absurd (omega (arith, low, is))

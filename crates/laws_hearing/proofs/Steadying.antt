@@ -1,24 +1,19 @@
 -- The device keeps what is steady.
-use Rattle.std.proofs.Common.{◌≡◌, ◌≤◌, ◌*◌, ◌==◌, ◌&&◌, ℕ, Bool, true, false, not, List, [], ◌∷◌, ◌++◌, length, take, drop, Option, Some, None, refl, sym, ap, ap₂, subst, ◌∙◌, arith, rules, if◌then◌else◌, length-append, length-drop}
+use Rattle.std.proofs.Common.{◌≡◌, ◌≤◌, ◌*◌, ◌==◌, ℕ, Bool, true, false, not, List, [], ◌∷◌, ◌++◌, length, take, drop, Option, Some, refl, sym, ap, ap₂, subst, ◌∙◌, arith, if◌then◌else◌, length-append, length-drop}
 use Rattle.std.specs.Prelude.{All}
 use Rattle.std.proofs.lemmas.List.{length-take-le, drop-append-le}
 use Rattle.std.proofs.lemmas.List.Elements.{All-push}
 use Rattle.codec_graph.specs.declared.raw.RawCodec.{RawCodec}
-use Rattle.codec_graph.specs.declared.raw.RawNode.{RawNode}
-use Rattle.codec_graph.specs.Widget.{node_at, is_pin}
-use Rattle.codec_graph.specs.CodecStates.{CodecState, plugged, node_plugged, pin_plugged, without_first, without_answer}
+use Rattle.codec_graph.specs.CodecStates.{CodecState, plugged, without_first, without_answer}
 use Rattle.codec_graph.specs.Settings.{Entries}
 use Rattle.hda_registers.specs.Fields.{Fields, Global, Descriptor, is_out_of_reset}
-use Rattle.hda_registers.specs.Moves.{raised}
-use Rattle.hda_registers.specs.declared.shapes.Raise.TheVariants as event
-use Rattle.world_rings.specs.declared.response.Response.{Response}
-use Rattle.world_rings.specs.Entries.{after_response, after_responses}
-use Rattle.world_rings.specs.Engines.{after_batch}
 use Rattle.stream_format.specs.Layouts.{Layout, layout_of}
 use Rattle.stream_format.specs.Cadence.{blocks_of}
 use Rattle.world_streams.specs.Streams.{Stream, due, due_by, held, held_bytes}
 use Rattle.world_streams.specs.Output.{Carriage, Sent, Missed}
 use Rattle.world_steps.specs.declared.Step.{Step}
+use Rattle.codec_graph.proofs.Callers.{graph-plugged, settings-plugged}
+use Rattle.world_rings.proofs.Callers.{batch_registers, none_fetched}
 use Rattle.hda_world.specs.Worlds.{World, CarriedFrame, with_codec, output_of}
 use Rattle.hda_world.specs.Steps.{passed, after_steps}
 use Rattle.hda_world.specs.Kept.{Kept, KeptByFrames, unmoved}
@@ -41,35 +36,6 @@ settings_with address change graph settings (codec ∷ codecs) =
       first : (named : Bool) → pair_of (if named then change codec else codec) ≡ pair_of codec
       first true = ap₂ (λ (g : RawCodec) (s : Entries). let pair : RawCodec × Entries = (g, s) in pair) (graph codec) (settings codec)
       first false = refl
-
-pin_same : (codec : CodecState) (nid : ℕ) (present : Bool) (node : RawNode) (pin : Bool) → ((if pin then pin_plugged codec nid present node else codec).graph ≡ codec.graph) × ((if pin then pin_plugged codec nid present node else codec).settings ≡ codec.settings)
-pin_same codec nid present node true = (refl, refl)
-pin_same codec nid present node false = (refl, refl)
-
-pub plugged_same : (codec : CodecState) (nid : ℕ) (present : Bool) (node : Option RawNode) → ((node_plugged codec nid present node).graph ≡ codec.graph) × ((node_plugged codec nid present node).settings ≡ codec.settings)
-plugged_same codec nid present None = (refl, refl)
-plugged_same codec nid present (Some node) = pin_same codec nid present node (is_pin node)
-
--- ---- registers
-
-responses_registers : (responses : List Response) (fields : Fields) → after_responses fields responses
-    ≡ record fields { global = record fields.global { rirb_write_pointer = (after_responses fields responses).global.rirb_write_pointer } }
-responses_registers [] fields = refl
-responses_registers (response ∷ responses) fields = responses_registers responses (after_response fields)
-
-pub batch_registers : (response : Response) (rest : List Response) (fields : Fields) → after_batch fields (response ∷ rest)
-    ≡ record fields { global = record fields.global { rirb_write_pointer = (after_responses fields (response ∷ rest)).global.rirb_write_pointer; response_flag = 1 } }
-batch_registers response rest fields = ap (λ (fields : Fields). raised fields event.Response) (responses_registers (response ∷ rest) fields)
-
--- an idle CORB has nothing to fetch
-pub no_fetch : {A : Type 0} (out run reset : Bool) (read write : ℕ) → read ≡ write → (out && run && reset && not (read == write)) ≡ true → A
-no_fetch out run reset read write same can = by out run reset (read == write) (search (rules, same)) can where
-  by : {A : Type 0} (a b c d : Bool) → d ≡ true → (a && b && c && not d) ≡ true → A
-  by true true true true is can = cc
-  by true true true false is can = cc
-  by true true false d is can = cc
-  by true false c d is can = cc
-  by false b c d is can = cc
 
 -- ---- link frames
 
@@ -122,11 +88,11 @@ module _ (codecs : List CodecState) (tag word : ℕ) (layout : Layout) (from : �
   steady_kept = record {
     codecs = record {
       hands = λ world steady can free.
-          no_fetch (is_out_of_reset world.registers.global) (world.registers.global.corb_run == 1) (not (world.registers.global.corb_pointer_reset == 1)) world.registers.global.corb_read_pointer world.registers.global.corb_write_pointer steady.idle can;
+          none_fetched (is_out_of_reset world.registers.global) (world.registers.global.corb_run == 1) (not (world.registers.global.corb_pointer_reset == 1)) world.registers.global.corb_read_pointer world.registers.global.corb_write_pointer steady.idle can;
       sends = λ world address item rest steady out room are. with_settings world _ (settings_with address without_first (λ codec. refl) (λ codec. refl) world.codecs) steady;
       loses = λ world address steady out. with_settings world _ (settings_with address without_answer (λ codec. refl) (λ codec. refl) world.codecs) steady;
       plugs = λ world address nid present steady.
-          with_settings world _ (settings_with address (λ codec. plugged codec nid present) (λ codec. (plugged_same codec nid present (node_at codec.graph nid)).0) (λ codec. (plugged_same codec nid present (node_at codec.graph nid)).1) world.codecs) steady;
+          with_settings world _ (settings_with address (λ codec. plugged codec nid present) (graph-plugged nid present) (settings-plugged nid present) world.codecs) steady;
     };
     responds = λ world response rest steady can are.
         subst (λ (fields : Fields). SteadyBy codecs tag word (block_size layout) from world.codecs fields.global.corb_read_pointer fields.global.corb_write_pointer fields.output world.carried) (sym (batch_registers response rest world.registers)) steady;

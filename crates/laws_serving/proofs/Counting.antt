@@ -7,20 +7,20 @@ use Rattle.codec_graph.specs.declared.waiting.Waiting.{Waiting}
 use Rattle.world_steps.specs.declared.Step.{Step}
 use Rattle.world_steps.specs.declared.Step.TheVariants as step
 use Rattle.hda_registers.specs.Fields.{Global, is_out_of_reset}
-use Rattle.hda_registers.specs.Access.{written, effects_of}
 use Rattle.world_rings.specs.Engines.{next_word}
 use Rattle.world_streams.specs.Output.{frame_of}
 use Rattle.schedule_reader.specs.declared.schedule.Group.{Group}
 use Rattle.schedule_reader.specs.Counts.{step_frames, group_frames}
 use Rattle.hda_world.specs.Worlds.{World, codec_at, output_of}
 use Rattle.hda_world.specs.Steps.{address_of, is_busy, handed, handed_next, sent_first, items_of as waiting_of, lost, passed, output_framed, frame_step, times, output_fetched, after_step, after_steps}
-use Rattle.hda_world.specs.Events.{Event, Stepped, Begin, End, Read, Write, DmaRead, DmaWrite, happens, after, reset_if, counted_anew_if, registers_written}
+use Rattle.hda_world.specs.Events.{Event, Stepped, Begin, End, Read, Write, DmaRead, DmaWrite, happens, after}
 use Rattle.hda_world.specs.Leaving.{StepsLeave, graphs_of}
 use Rattle.hda_world.proofs.Callers.{kept_steps, steps_leave, access_leaves}
 use Rattle.driver_progress.specs.Beginning.{KeepsTime}
-use Rattle.driver_progress.proofs.StretchCallers.{keeps_time}
-use Rattle.rig.specs.Stretches.{is_access, steps_in, all_steps_in, woven}
+use Rattle.rig.specs.Stretches.{steps_in, all_steps_in, woven}
 use Rattle.rig.specs.Follows.{AreAccesses}
+use Rattle.rig.proofs.Callers.{step_frames_bounded, event_frames, event_frames_bounded, access_frames}
+use Rattle.driver_progress.proofs.Callers.{keeps_time}
 use Rattle.laws_serving.specs.Rounds.{frames_of_steps}
 use Rattle.laws_serving.proofs.Requests.{IsAccess}
 use Rattle.laws_serving.proofs.Rows.{within_call, within_alone}
@@ -28,97 +28,24 @@ use Rattle.laws_serving.proofs.Worlds.{IsTimed}
 
 -- ---- a step counts no more than its frames
 
-level : (n : ℕ) → n ≤ n + 0
-level n = omega arith
-
-if_counts : (b : Bool) (one other : World) (most : ℕ) → one.frames ≤ most → other.frames ≤ most → (if b then one else other).frames ≤ most
-if_counts true one other most first second = first
-if_counts false one other most first second = second
-
-handed_counts : (word : Option ℕ) (world : World) → (handed_next word world).frames ≤ world.frames + 0
-handed_counts None world = level world.frames
-handed_counts (Some word) world = if_counts (is_busy (codec_at (address_of word) world.codecs)) world (handed word world) (world.frames + 0) (level world.frames) (level world.frames)
-
-sent_counts : (address : ℕ) (items : List Waiting) (world : World) → (sent_first address items world).frames ≤ world.frames + 0
-sent_counts address [] world = level world.frames
-sent_counts address (item ∷ items) world = level world.frames
-
-frame_counts : (world : World) → (frame_step world).frames ≤ world.frames + 1
-frame_counts world =
-    if_counts (is_out_of_reset world.registers.global) (output_framed (frame_of (output_of world)) (passed world)) world (world.frames + 1) (omega arith) (omega arith)
-
-times_count : (n : ℕ) (world : World) → (times n frame_step world).frames ≤ world.frames + n
-times_count zero world = level world.frames
-times_count (suc n) world = (let rest = times_count n (frame_step world) in let one = frame_counts world in omega (arith, rest, one))
-
-step_counts : (step : Step) (world : World) → (after_step step world).frames ≤ world.frames + step_frames step
-step_counts step.Corb world = handed_counts (next_word world.registers world.memory) world
-step_counts (step.Answer codec) world = if_counts _ (sent_first codec (waiting_of (codec_at codec world.codecs)) world) world (world.frames + 0) (sent_counts codec (waiting_of (codec_at codec world.codecs)) world) (level world.frames)
-step_counts (step.Lose codec) world = if_counts (is_out_of_reset world.registers.global) (lost codec world) world (world.frames + 0) (level world.frames) (level world.frames)
-step_counts step.Rirb world = level world.frames
-step_counts (step.Fetch stream most) world = if_counts _ (output_fetched most world) world (world.frames + 0) (level world.frames) (level world.frames)
-step_counts (step.Link frames) world = times_count frames world
-step_counts (step.Plug codec nid) world = level world.frames
-step_counts (step.Unplug codec nid) world = level world.frames
-
 pub steps_count : (steps : List Step) (world : World) → (after_steps steps world).frames ≤ world.frames + frames_of_steps steps
-steps_count [] world = level world.frames
+steps_count [] world = omega arith
 steps_count (one ∷ steps) world =
     let rest = steps_count steps (after_step one world) in
-    let first = step_counts one world in
+    let first = step_frames_bounded one world in
     let all = sum_by-cons step_frames one steps in omega (arith, rest, first, all)
 
 -- ---- and so an event
 
-abbrev pub event_frames : Event → ℕ
-event_frames (Stepped step) = step_frames step
-event_frames Begin = 0
-event_frames End = 0
-event_frames (Read at width value) = 0
-event_frames (Write at width value) = 0
-event_frames (DmaRead at bytes) = 0
-event_frames (DmaWrite at bytes) = 0
-
-reset_counts : (resets : Bool) (world : World) → (reset_if resets world).frames ≤ world.frames
-reset_counts true world = omega arith
-reset_counts false world = omega arith
-
-anew_counts : (anew : Bool) (world : World) → (counted_anew_if anew world).frames ≤ world.frames
-anew_counts true world = omega arith
-anew_counts false world = omega arith
-
-event_counts : (world : World) (event : Event) → (happens world event).frames ≤ world.frames + event_frames event
-event_counts world (Stepped step) = step_counts step world
-event_counts world (Write at width value) =
-    let effects = effects_of world.registers at width value in
-    let new = registers_written (written world.registers at width value) world in
-    let first : (reset_if effects.reset new).frames ≤ world.frames = reset_counts effects.reset new in
-    let second : (happens world (Write at width value)).frames ≤ (reset_if effects.reset new).frames = anew_counts effects.left_reset (reset_if effects.reset new) in
-    omega (arith, first, second)
-event_counts world (DmaWrite at bytes) = level world.frames
-event_counts world Begin = level world.frames
-event_counts world End = level world.frames
-event_counts world (Read at width value) = level world.frames
-event_counts world (DmaRead at bytes) = level world.frames
-
 pub events_count : (events : List Event) (world : World) → (after events world).frames ≤ world.frames + sum_by event_frames events
-events_count [] world = level world.frames
+events_count [] world = omega arith
 events_count (event ∷ events) world =
     let rest = events_count events (happens world event) in
-    let one = event_counts world event in
+    let one = event_frames_bounded world event in
     let all = sum_by-cons event_frames event events in
     omega (arith, rest, one, all)
 
 -- ---- a call counts those of its groups
-
-access_none : (event : Event) → is_access event ≡ true → event_frames event ≡ 0
-access_none (Stepped step) is = cc
-access_none Begin is = cc
-access_none End is = cc
-access_none (Read at width value) is = refl
-access_none (Write at width value) is = refl
-access_none (DmaRead at bytes) is = refl
-access_none (DmaWrite at bytes) is = refl
 
 steps_frames : (steps : List Step) → sum_by event_frames (map Stepped steps) ≡ sum_by step_frames steps
 steps_frames [] = refl
@@ -139,12 +66,12 @@ pub call_frames : (groups : List Group) (accesses : List Event) → AreAccesses 
 call_frames groups [] are = groups_frames groups
 call_frames [] (access ∷ accesses) are =
     let rest = call_frames [] accesses (All-tail IsAccess access accesses are) in
-    let none = access_none access (All-head IsAccess access accesses are) in
+    let none = access_frames access (All-head IsAccess access accesses are) in
     let alone = ap (sum_by event_frames) (within_alone access accesses) in
     let cons = sum_by-cons event_frames access (within_call [] accesses) in omega (arith, rest, none, cons, alone)
 call_frames (group ∷ groups) (access ∷ accesses) are =
     let rest = call_frames groups accesses (All-tail IsAccess access accesses are) in
-    let none = access_none access (All-head IsAccess access accesses are) in
+    let none = access_frames access (All-head IsAccess access accesses are) in
     let one = steps_frames group.steps in
     let cons = sum_by-cons group_frames group groups in
     let here = sum_by-cons event_frames access (woven groups accesses) in

@@ -17,7 +17,7 @@ use Rattle.hda_world.specs.Steps.{after_steps}
 use Rattle.hda_world.specs.Events.{Event, Stepped, Begin, End, Read, Write, DmaRead, DmaWrite, happens, after}
 use Rattle.hda_world.specs.Leaving.{graphs_of}
 use Rattle.hda_world.specs.Tellings.{Telling}
-use Rattle.hda_world.proofs.Callers.{after-append}
+use Rattle.hda_world.proofs.Callers.{after-append, steps_after}
 use Rattle.laws_stream.specs.Lives.{HasStopped}
 use Rattle.period_writer.specs.Runs.{measures}
 use Rattle.driver_progress.specs.Tasks.{Task}
@@ -29,7 +29,7 @@ use Rattle.schedule_reader.specs.declared.schedule.Group.{Group}
 use Rattle.laws_serving.specs.Rounds.{rounds_of}
 use Rattle.laws_serving.specs.ServingSchedules.{HasStreamsAlone, IsCalmRound, ServesCommands, ServesSound, MayFillTheRing}
 use Rattle.laws_serving.specs.Runs.{IsTaskTo, IsStartFor, IsRunOf, calls_of}
-use Rattle.laws_serving.proofs.Callers.{IsCalm, IsNoRise, within_call, calm_call, accesses_are, stretch_is, steps_after, RanRound, round_in, rest_events, Laws, Onward, IsLeft, state_over, world_after, laid_run, come_up, SoundServed, served_later, first_served, IsReady}
+use Rattle.laws_serving.proofs.Callers.{IsCalm, IsNoRise, within_call, calm_call, accesses_are, stretch_is, RanRound, round_in, rest_events, Laws, Onward, IsLeft, state_over, world_after, laid_run, come_up, SoundServed, served_later, first_served, IsReady}
 use Rattle.laws_serving.specs.Feeding.{is_begin, calls_in, HasSentBefore}
 use Rattle.laws_serving.proofs.Rolling.{StreamLaws}
 use Rattle.laws_serving.proofs.Moments.{by_accesses}

@@ -29,7 +29,8 @@ use Rattle.driver_progress.specs.Requests.{Request, Gets, Puts, Fetches, Stores,
 use Rattle.driver_progress.specs.Expected.{fetches, polls}
 use Rattle.rig.specs.Stretches.{is_access, accesses_of}
 use Rattle.rig.specs.Follows.{AreAccesses}
-use Rattle.laws_serving.proofs.Callers.{IsAccess, honest_back, event_frames, events_count}
+use Rattle.rig.proofs.Callers.{event_frames}
+use Rattle.laws_serving.proofs.Callers.{IsAccess, honest_back, events_count}
 use Rattle.laws_serving.proofs.Full.{IsWhole, whole_add}
 use Rattle.laws_serving.proofs.Moments.{split_body, IsNoStop, runs_at, by_accesses}
 use Rattle.laws_serving.proofs.Rolling.{Moves, IsBesideSound, StreamLaws, Rolls, rolls_on, events_move}

@@ -14,7 +14,7 @@ use Rattle.hda_world.specs.Worlds.{World}
 use Rattle.hda_world.specs.Steps.{after_steps}
 use Rattle.hda_world.specs.Events.{Event, Stepped, Begin, End, Read, AreHonest, after}
 use Rattle.hda_world.specs.Streaming.{carried_bytes}
-use Rattle.hda_world.proofs.Callers.{after-append}
+use Rattle.hda_world.proofs.Callers.{after-append, steps_after}
 use Rattle.laws_stream.specs.Lives.{Runs, Along, stops}
 use Rattle.period_writer.specs.declared.registers.TheConstants.{POSITION}
 use Rattle.period_writer.specs.declared.course.Ran.{Ran}
@@ -30,8 +30,9 @@ use Rattle.driver_progress.specs.Expected.{stops as asked_stops}
 use Rattle.driver_progress.specs.Next.{led, closed, phase_played, tally_next}
 use Rattle.driver_progress.specs.Progress.{Course, seen_in}
 use Rattle.rig.specs.Stretches.{accesses_of, stretch}
-use Rattle.laws_serving.proofs.Callers.{IsTimed, event_frames, call_frames, steps_count, timed_steps, frames_so, none_asked, within_call, accesses_are, course_made, leads_so, plainly_led, RanRound, rest_events, honest_front, alone_is, stretch_is, ends_there, steps_after, IsLeft, IsNext, next_round, last_round, line_in, state_over, world_after, HasPlayedOn, later_run, last_run, ArePrompt, prompt_later, PlaysOn, later_in_time}
-use Rattle.laws_serving.proofs.Positions.{position_there}
+use Rattle.rig.proofs.Callers.{event_frames}
+use Rattle.period_writer.proofs.Callers.{position_there}
+use Rattle.laws_serving.proofs.Callers.{IsTimed, call_frames, steps_count, timed_steps, frames_so, none_asked, within_call, accesses_are, course_made, leads_so, plainly_led, RanRound, rest_events, honest_front, alone_is, stretch_is, ends_there, IsLeft, IsNext, next_round, last_round, line_in, state_over, world_after, HasPlayedOn, later_run, last_run, ArePrompt, prompt_later, PlaysOn, later_in_time}
 use Rattle.laws_serving.proofs.Full.{IsWhole, AreWhole, IsFull, BeginsLate, le_cases, next_full, full_high, drained_high}
 use Rattle.laws_serving.proofs.Moments.{IsNoStop, by_accesses}
 use Rattle.laws_serving.proofs.Rolling.{Moves, IsBesideSound, StreamLaws, Rolls, rolls_on, events_move}

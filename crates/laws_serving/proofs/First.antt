@@ -19,7 +19,7 @@ use Rattle.hda_world.specs.Steps.{after_steps}
 use Rattle.hda_world.specs.Events.{Event, Stepped, Begin, End, Read, Write, DmaRead, DmaWrite, AreHonest, happens, after, after_write}
 use Rattle.hda_world.specs.Streaming.{HasPosition, HasSent}
 use Rattle.hda_world.specs.Tellings.{Telling}
-use Rattle.hda_world.proofs.Callers.{after-append, access_leaves}
+use Rattle.hda_world.proofs.Callers.{after-append, access_leaves, steps_after, events_front, events_back}
 use Rattle.command_engine.specs.declared.answers.Outstanding.{Outstanding}
 use Rattle.command_engine.specs.Courses.{Course as RingCourse, IsWordOf, RingPart}
 use Rattle.laws_hearing.specs.Steady.{AreIdle, IsBesideCommands, IsSteadyFrame, LeavesCommands}
@@ -33,21 +33,13 @@ use Rattle.driver_progress.specs.Progress.{Course, seen_in}
 use Rattle.schedule_reader.specs.declared.schedule.Group.{Group}
 use Rattle.rig.specs.Stretches.{is_access, accesses_of, stretch}
 use Rattle.rig.specs.Follows.{AreAccesses}
-use Rattle.laws_serving.proofs.Callers.{IsAccess, alone_is, IsNoRise, IsCalm, CalmRow, row_of, IsBeside, timed_row, timed_steps, steps_count, frames_so, event_frames_stay, write_is, within_call, calm_call, accesses_are, honest_front, stretch_is, course_made, RanRound, rest_events, IsLeft, IsNext, next_round, line_in, world_after, IsReady, first_run, ArePrompt, prompt_later, state_over, steps_after}
+use Rattle.laws_serving.proofs.Callers.{IsAccess, alone_is, IsNoRise, IsCalm, CalmRow, row_of, IsBeside, timed_row, timed_steps, steps_count, frames_so, event_frames_stay, write_is, within_call, calm_call, accesses_are, honest_front, stretch_is, course_made, RanRound, rest_events, IsLeft, IsNext, next_round, line_in, world_after, IsReady, first_run, ArePrompt, prompt_later, state_over}
 use Rattle.laws_serving.proofs.Full.{IsFull, first_full}
 use Rattle.laws_serving.proofs.Moments.{split_body, by_accesses, one_rise, along_end, never_begun}
 use Rattle.laws_serving.proofs.Rolling.{Moves, IsBesideSound, StreamLaws, Rolls, rolls_on, events_move, position_events}
 use Rattle.laws_serving.proofs.Setting.{IsStore, SetsGoing, goes_first, goes_as, sets, RestsWith, set_up}
 use Rattle.laws_serving.proofs.Fed.{others_beside, steps_beside, all_go_on}
 use Rattle.laws_serving.proofs.FedRounds.{Ground, IsFed, IsFedSoon, AreGenerous, PlayedAll, pace_on, feeds}
-
-all_front : (P : Event → Type 0) (front back : List Event) → All P (front ++ back) → All P front
-all_front P [] back all = All-nil P
-all_front P (event ∷ front) back all = All-cons P event front (All-head P event (front ++ back) all) (all_front P front back (All-tail P event (front ++ back) all))
-
-all_back : (P : Event → Type 0) (front back : List Event) → All P (front ++ back) → All P back
-all_back P [] back all = all
-all_back P (event ∷ front) back all = all_back P front back (All-tail P event (front ++ back) all)
 
 -- what events have, said one after another
 abbrev Each : (Event → Type 0) → List Event → Type 0
@@ -206,7 +198,7 @@ module _ (laws : StreamLaws) (rise_laws : RiseLaws) (task : Task) (graphs : List
   alone_behind : (groups : List Group) (accesses before behind : List Event) → groups ≡ [] → AreAccesses accesses → within_call groups accesses ≡ before ++ sets_going ∷ behind → behind ≡ accesses_of behind
   alone_behind groups accesses before behind none are is =
       let whole : accesses ≡ before ++ sets_going ∷ behind = sym (ap (λ (groups : List Group). within_call groups accesses) none ∙ alone_is accesses) ∙ is in
-      let back = All-tail IsAccess sets_going behind (all_back IsAccess before (sets_going ∷ behind) (subst (All IsAccess) whole are)) in
+      let back = All-tail IsAccess sets_going behind (events_back IsAccess before (sets_going ∷ behind) (subst (All IsAccess) whole are)) in
       sym (ap accesses_of (sym (alone_is behind)) ∙ accesses_are [] behind back)
 
   -- where it was set going, and what is known there
@@ -242,7 +234,7 @@ module _ (laws : StreamLaws) (rise_laws : RiseLaws) (task : Task) (graphs : List
       let there = after split.before world in
       let whole = subst (λ (events : List Event). AreHonest events world) (stretch_is groups one.accesses) (honest_front (stretch groups one.accesses) tail world left.rest.honest) in
       let honest = honest_front split.before (sets_going ∷ split.behind) world (subst (λ (events : List Event). AreHonest events world) split.is (honest_front body (End ∷ []) world whole.1)) in
-      let calm = all_front IsCalm split.before (sets_going ∷ split.behind) (subst (All IsCalm) split.is (calm_call groups one.accesses next.calm.line.groups next.are)) in
+      let calm = events_front IsCalm split.before (sets_going ∷ split.behind) (subst (All IsCalm) split.is (calm_call groups one.accesses next.calm.line.groups next.are)) in
       let row = subst (λ (accesses : List Event). CalmRow accesses world there) split.front_is (row_of split.before world calm honest) in
       let rests = set_up task.geometry task.blocks.list from going.in_reset going.ready going.stores world there going.are ready.timed.out row in
       let up = rises (m.ring % 2 ^ 32) (format_word task.geometry.format % 2 ^ 16) there rests in
@@ -276,7 +268,7 @@ module _ (laws : StreamLaws) (rise_laws : RiseLaws) (task : Task) (graphs : List
       let start_still : HasPosition telling.start = λ runs. absurd (let stopped_now = (never_begun before telling.start rise.silent).stopped in let z : true ≡ false = sym runs ∙ stopped_now in cc) in
       let size_is : m.ring % 2 ^ 32 ≡ m.ring = mod-eq_of_lt fits.size in
       let frames_up = (timed_row front world there world.frames
-      (All-cons IsBeside (Read WALCLK Four from) first (tt, tt) (all_front IsBeside first (sets_going ∷ []) (subst (All IsBeside) going.is beside))) row
+      (All-cons IsBeside (Read WALCLK Four from) first (tt, tt) (events_front IsBeside first (sets_going ∷ []) (subst (All IsBeside) going.is beside))) row
       (record { out = ready.timed.out; time = ready.timed.time; later = omega arith })).later in
       let frames_same = up.frames in
       record {

@@ -9,19 +9,19 @@ use Rattle.schedule_reader.specs.declared.schedule.Item.{Item}
 use Rattle.schedule_reader.specs.declared.schedule.Item.TheVariants.{Device, Drive}
 use Rattle.schedule_reader.specs.Counts.{group_frames}
 use Rattle.hda_world.specs.Worlds.{World}
-use Rattle.hda_world.specs.Steps.{after_step, after_steps}
+use Rattle.hda_world.specs.Steps.{after_steps}
 use Rattle.hda_world.specs.Events.{Event, Stepped, Begin, End, happens, after, AreHonest}
-use Rattle.hda_world.proofs.Callers.{after-append}
+use Rattle.hda_world.proofs.Callers.{after-append, steps_after}
 use Rattle.driver_progress.specs.Tasks.{Task}
 use Rattle.driver_progress.specs.Progress.{Course, course_after, noted, Conforms}
-use Rattle.driver_progress.proofs.Callers.{steps_leave_course}
+use Rattle.driver_progress.proofs.Callers.{steps_leave_course, conforms_back, conforms_front}
 use Rattle.laws_bring_up.specs.Stretches.{FindsAll}
 use Rattle.rig.specs.Stretches.{all_steps_in, woven, stretch}
 use Rattle.rig.specs.Follows.{Piece, AreAccesses, laid_out}
 use Rattle.laws_serving.specs.Rounds.{Round, Rounds, rounds_with, rounds_of}
 use Rattle.laws_serving.specs.ServingSchedules.{HasStreamsAlone}
 use Rattle.laws_serving.proofs.Rows.{CalmRow, row_of, within_call, within_alone, calm_call, accesses_are}
-use Rattle.laws_serving.proofs.Notes.{IsNoted, call_noted, conforms_back, finds_back}
+use Rattle.laws_serving.proofs.Notes.{IsNoted, call_noted, finds_back}
 use Rattle.laws_serving.proofs.Counting.{call_counts}
 
 -- ---- the rounds of a journal
@@ -99,10 +99,6 @@ pub honest_back : (front back : List Event) (world : World) → AreHonest (front
 honest_back [] back world honest = honest
 honest_back (event ∷ front) back world honest = honest_back front back (happens world event) honest.1
 
-conforms_front : (task : Task) (front back : List Event) (world : World) (course : Course) → Conforms task (front ++ back) world course → Conforms task front world course
-conforms_front task [] back world course all = tt
-conforms_front task (event ∷ front) back world course all = (all.0, conforms_front task front back (happens world event) (noted task course world event) all.1)
-
 finds_front : (task : Task) (front back : List Event) (world : World) (course : Course) → FindsAll task (front ++ back) world course → FindsAll task front world course
 finds_front task [] back world course all = tt
 finds_front task (event ∷ front) back world course all = (all.0, finds_front task front back (happens world event) (noted task course world event) all.1)
@@ -120,10 +116,6 @@ rest_back task front back world course rest = record {
   conforms = conforms_back task front back world course rest.conforms;
   finds = finds_back task front back world course rest.finds;
 }
-
-pub steps_after : (steps : List Step) (world : World) → after (map Stepped steps) world ≡ after_steps steps world
-steps_after [] world = refl
-steps_after (one ∷ steps) world = steps_after steps (after_step one world)
 
 -- over steps of the device
 pub rest_steps : (task : Task) (steps : List Step) (events : List Event) (world : World) (course : Course) → IsRest task (map Stepped steps ++ events) world course → IsRest task events (after_steps steps world) course

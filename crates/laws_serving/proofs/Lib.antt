@@ -1,4 +1,3 @@
-pub mod Lower
 pub mod Steps
 pub mod RoundTrips
 pub mod Polled
@@ -20,7 +19,6 @@ pub mod Whole
 pub mod Over
 pub mod Sounding
 pub mod Callers
-pub mod Positions
 pub mod Full
 pub mod Moments
 pub mod Rolling

@@ -24,7 +24,7 @@ use Rattle.driver_progress.specs.Tasks.{Task}
 use Rattle.driver_progress.specs.Progress.{Course, begun, ended, noted, with_access, course_after, Conforms, Fits}
 use Rattle.driver_progress.specs.Requests.{Request, Gets, Puts, Fetches, Stores, requests_of}
 use Rattle.driver_progress.specs.Seen.{values_of}
-use Rattle.driver_progress.proofs.Callers.{course_append}
+use Rattle.driver_progress.proofs.Callers.{course_append, conforms_back}
 use Rattle.laws_bring_up.specs.Stretches.{Finds, FindsAll}
 use Rattle.laws_serving.specs.ServingSchedules.{IsOfStreams}
 use Rattle.laws_serving.proofs.Requests.{IsAccess}
@@ -249,10 +249,6 @@ pub submission_written : (all : List Response) (course : Course) (front : List E
 submission_written all course front corb word rings = ap (λ (course : Course). course.written) (notes_both all course front (submit_accesses corb rings word))
 
 -- ---- a whole call
-
-pub conforms_back : (task : Task) (front back : List Event) (world : World) (course : Course) → Conforms task (front ++ back) world course → Conforms task back (after front world) (course_after task front world course)
-conforms_back task [] back world course all = all
-conforms_back task (event ∷ front) back world course all = conforms_back task front back (happens world event) (noted task course world event) all.1
 
 -- the course when the accesses of a call were made, before its end
 abbrev pub course_made : World → Course → List Event → Course

@@ -17,6 +17,7 @@ use Rattle.hda_world.specs.Steps.{after_steps}
 use Rattle.hda_world.specs.Events.{Event, Stepped, End, after}
 use Rattle.hda_world.specs.Leaving.{graphs_of}
 use Rattle.hda_world.specs.Tellings.{Telling}
+use Rattle.hda_world.proofs.Callers.{steps_after}
 use Rattle.driver_progress.specs.Tasks.{Task, DriverLine}
 use Rattle.driver_progress.specs.States.{State}
 use Rattle.driver_progress.specs.Progress.{Course, begun, course_opened, course_after, course_of, state_of, ended_if}
@@ -29,7 +30,7 @@ use Rattle.laws_serving.specs.Runs.{IsTaskTo, IsStartFor, IsRunOf, call_of, call
 use Rattle.laws_serving.proofs.Counting.{steps_count, steps_graphs}
 use Rattle.laws_serving.proofs.Rows.{within_call}
 use Rattle.laws_serving.proofs.Resetting.{can_be_steps}
-use Rattle.laws_serving.proofs.Laid.{RanRound, round_in, HasAccesses, round_events, IsLaid, lay, stretch_is, rest_events, rest_is, IsRest, rest_steps, steps_after}
+use Rattle.laws_serving.proofs.Laid.{RanRound, round_in, HasAccesses, round_events, IsLaid, lay, stretch_is, rest_events, rest_is, IsRest, rest_steps}
 use Rattle.laws_serving.proofs.Whole.{Laws, AreThere, line_in, ran_frames, IsCalmRan, IsLeft, state_over, AnswersOn, Onward, comes_over}
 
 -- ---- the rounds of a schedule

@@ -13,10 +13,10 @@ use Rattle.command_engine.specs.declared.answers.Outstanding.{Outstanding}
 use Rattle.command_engine.specs.Belonging.{from_after}
 use Rattle.command_engine.specs.Submitting.{command_place}
 use Rattle.command_engine.specs.Courses.{AreOf, RingPart, Course, IsWordOf, part_of, solicited, waiting_answers}
-use Rattle.laws_serving.proofs.Lower.{some_entries, few_entries}
 use Rattle.std.specs.Prelude.{cond, not, ◌&&◌, map}
 use Rattle.std.specs.List.{list_any, find}
 use Rattle.std.proofs.lemmas.List.Sums.{sum_by-cons}
+use Rattle.hda_registers.proofs.Callers.{some_entries, few_entries}
 use Rattle.command_engine.specs.Entries.{answers_it, is_from, answer_among}
 use Rattle.command_engine.specs.Polling.{asked_of}
 use Rattle.command_engine.specs.Belonging.{as_held}

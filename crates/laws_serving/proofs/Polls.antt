@@ -1,15 +1,14 @@
 -- How the engine stands to a served device after a poll and after a submission.
-use Rattle.std.proofs.Common.{◌≡◌, ◌≤◌, ◌<◌, inr, ℕ, ◌%◌, ◌^◌, List, [], ◌∷◌, length, map, drop, Option, None, refl, sym, ap, subst, ◌∙◌, arith, lit≤}
+use Rattle.std.proofs.Common.{◌≡◌, ◌<◌, inr, ℕ, ◌%◌, ◌^◌, List, [], ◌∷◌, length, map, drop, Option, None, refl, sym, ap, subst, ◌∙◌, arith}
 use Rattle.std.specs.Prelude.{All}
 use Rattle.std.proofs.Math.Nat.{mod-eq_of_lt}
 use Rattle.std.proofs.lemmas.List.Elements.{All-head, All-tail}
 use Rattle.codec_graph.specs.CodecStates.{CodecState}
-use Rattle.hda_registers.specs.declared.shapes.RingSize.{RingSize}
-use Rattle.hda_registers.specs.declared.shapes.RingSize.TheVariants.{Two, Sixteen, Full}
 use Rattle.hda_registers.specs.Fields.{Global, entries_of}
 use Rattle.world_rings.specs.declared.response.Response.{Response}
 use Rattle.world_rings.specs.Entries.{next_place}
 use Rattle.world_steps.specs.declared.Step.{Step}
+use Rattle.hda_registers.proofs.Callers.{few_entries}
 use Rattle.hda_world.specs.Worlds.{World, TakenCommand}
 use Rattle.hda_world.specs.Steps.{after_step, after_steps}
 use Rattle.hda_world.specs.Tellings.{Telling, world_of}
@@ -125,11 +124,6 @@ abbrev pub SubmissionsCome : Type 0
 SubmissionsCome = (from read corb rirb : ℕ) (rings : RingPlaces) (world : World) → StandsServed from read corb rirb rings world → rings.outstanding ≡ None
     → next_place world.registers.global.corb_read_pointer (entries_of world.registers.shape.corb) ≡ command_place rings % 2 ^ 8 % entries_of world.registers.shape.corb
 
-entries_few : (size : RingSize) → entries_of size ≤ 256
-entries_few Two = lit≤ tt
-entries_few Sixteen = lit≤ tt
-entries_few Full = lit≤ tt
-
 module _ (comes : SubmissionsCome) (from read corb rirb place least : ℕ) (rings : RingPlaces) (command : Outstanding) where
   comes_next : (old new : World) → StandsServed from read corb rirb rings old → rings.outstanding ≡ None → old.registers.global.corb_read_pointer ≡ place → new.registers.global.corb_read_pointer ≡ place
       → Stands from read corb rirb (rings_submitted rings command) new → IsComing from new
@@ -138,7 +132,7 @@ module _ (comes : SubmissionsCome) (from read corb rirb place least : ℕ) (ring
       let had : entries_of old.registers.shape.corb ≡ entries_of rings.corb = ap entries_of served.stands.has_rings.corb_size in
       let has : entries_of new.registers.shape.corb ≡ entries_of rings.corb = ap entries_of stands.has_rings.corb_size in
       let below : command_place rings < entries_of rings.corb = stands.has_rings.submitted_within in
-      let few = entries_few rings.corb in
+      let few = few_entries rings.corb in
       let low : command_place rings % 2 ^ 8 ≡ command_place rings = mod-eq_of_lt (omega (arith, below, few)) in
       let small : command_place rings % entries_of rings.corb ≡ command_place rings = mod-eq_of_lt below in
       inr (

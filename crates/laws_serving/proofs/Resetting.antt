@@ -26,7 +26,7 @@ use Rattle.hda_world.specs.Leaving.{StepsLeave}
 use Rattle.hda_world.proofs.Callers.{steps_leave, reset_write, found_all}
 use Rattle.command_engine.specs.Courses.{HasBlocks, AscendFrom, AscendByAddress}
 use Rattle.command_engine.specs.Quiet.{IsQuiet, CanStart}
-use Rattle.command_engine.proofs.Callers.{can_start_steps, reset_quiet, risen_can_start, reset_registers, risen_registers, resets as resets_it, no_reset}
+use Rattle.command_engine.proofs.Callers.{can_start_steps, reset_quiet, risen_can_start, reset_registers, risen_registers, resets as resets_it, no_reset, leaves_reset}
 use Rattle.period_writer.specs.Runs.{Tally, tally_opened}
 use Rattle.driver_progress.specs.declared.phase.Phase.TheVariants.{Settling}
 use Rattle.driver_progress.specs.Tasks.{Task, DriverLine}
@@ -154,12 +154,6 @@ rising : (world : World) (value : ℕ) → value % 2 ≡ 1 → (effects_of world
 rising world value odd left =
     ap (λ (reset : Bool). counted_anew_if (effects_of world.registers 0x08 Four value).left_reset (reset_if reset (registers_written (written world.registers 0x08 Four value) world))) (no_reset world.registers value odd)
     ∙ ap (λ (left : Bool). counted_anew_if left (registers_written (written world.registers 0x08 Four value) world)) left
-
-leaves_reset : (fields : Fields) → fields.global.controller_reset ≡ 0 → (effects_of fields 0x08 Four 0x101).left_reset ≡ true
-unfolding effects_of
-leaves_reset fields held =
-    ap (λ (reset : ℕ). not (reset == 1) && is_out_of_reset (written fields 0x08 Four 0x101).global) held
-    ∙ ap (λ (f : Fields). not (0 == 1) && is_out_of_reset f.global) (risen_registers fields 0x101 refl).1
 
 rises : (corb rirb : ℕ) (world : World) → IsHeld corb rirb world → IsOut corb rirb 0 (after_write 0x08 Four 0x101 world)
 rises corb rirb world held =

@@ -1,16 +1,14 @@
 -- The numbers of a ring that was accepted, and of its format.
-use Rattle.std.proofs.Common.{◌≡◌, ◌≤◌, ◌<◌, ◌⊎◌, inl, inr, ◌+◌, ◌-◌, ◌*◌, ◌%◌, ◌^◌, ◌==◌, ◌||◌, ℕ, Bool, true, false, nat_lt, nat_le, None, Some, length, refl, sym, ap, subst, ◌∙◌, arith, rules, lit≤, lit<, if◌then◌else◌}
+use Rattle.std.proofs.Common.{◌≡◌, ◌≤◌, ◌<◌, ◌⊎◌, inl, inr, ◌-◌, ◌*◌, ◌%◌, ◌^◌, ◌==◌, ◌||◌, ℕ, Bool, true, false, nat_lt, nat_le, None, Some, length, refl, sym, ap, subst, ◌∙◌, arith, rules, if◌then◌else◌}
 use Rattle.std.proofs.Math.Nat.{mod-eq_of_lt, mul-div-le}
 use Rattle.std.proofs.lemmas.Nat.{mul-le}
 use Rattle.stream_format.specs.declared.format.Format.{Format}
-use Rattle.stream_format.specs.declared.format.Rate.{Rate}
-use Rattle.stream_format.specs.declared.format.Rate.TheVariants.{R8, R16, R44, R48, R96, R192}
 use Rattle.stream_format.specs.declared.format.Bits.{Bits}
 use Rattle.stream_format.specs.declared.format.Bits.TheVariants.{B16, B24, B32}
-use Rattle.stream_format.specs.Cadence.{block_bytes, bytes_of_block, container_bytes, most_blocks, most_bytes}
+use Rattle.stream_format.specs.Cadence.{block_bytes, bytes_of_block, most_bytes}
 use Rattle.stream_format.specs.Layouts.{layout, layout_of}
-use Rattle.stream_format.specs.Words.{format_word, rate_bits, rate_code, size_code}
-use Rattle.stream_format.proofs.Callers.{read_back}
+use Rattle.stream_format.specs.Words.{format_word}
+use Rattle.stream_format.proofs.Callers.{read_back, word_small, some_block, some_most}
 use Rattle.world_streams.specs.Streams.{most_by}
 use Rattle.period_writer.specs.declared.geometry.Geometry.{Geometry}
 use Rattle.period_writer.specs.declared.geometry.GeometryFault.TheVariants.{FifoTooSmall, RingTooSmall}
@@ -21,25 +19,6 @@ use Rattle.laws_serving.proofs.FedRounds.{Ground}
 use Rattle.laws_serving.proofs.First.{FitsRegisters}
 
 -- ---- words
-
-rate_small : (rate : Rate) → rate_bits (rate_code rate) < 2 ^ 15
-rate_small R8 = lit< tt
-rate_small R16 = lit< tt
-rate_small R44 = lit< tt
-rate_small R48 = lit< tt
-rate_small R96 = lit< tt
-rate_small R192 = lit< tt
-
-size_small : (bits : Bits) → size_code bits ≤ 4
-size_small B16 = lit≤ tt
-size_small B24 = lit≤ tt
-size_small B32 = lit≤ tt
-
-word_small : (format : Format) → format_word format < 2 ^ 16
-word_small format = by_numbers (rate_bits (rate_code format.rate)) (size_code format.bits) format.channels (rate_small format.rate) (size_small format.bits) format.few
-  where
-    by_numbers : (rate size channels : ℕ) → rate < 2 ^ 15 → size ≤ 4 → channels ≤ 8 → rate + 2 ^ 4 * size + (channels - 1) < 2 ^ 16
-    by_numbers rate size channels a b c = omega (arith, a, b, c)
 
 pub word_reads : (format : Format) → layout_of (format_word format % 2 ^ 16) ≡ Some (layout format)
 word_reads format = ap layout_of (mod-eq_of_lt (word_small format)) ∙ read_back format
@@ -75,25 +54,6 @@ times_whole : (block unit times : ℕ) → IsWhole block unit → IsWhole block 
 times_whole block unit times whole =
     let is = whole.is in
     let wide : unit * times ≡ whole.count * block * times = ap (λ (n : ℕ). n * times) is in record { count = whole.count * times; is = omega (arith, wide) }
-
-some_container : (bits : Bits) → 1 ≤ container_bytes bits
-some_container B16 = lit≤ tt
-some_container B24 = lit≤ tt
-some_container B32 = lit≤ tt
-
-some_block : (format : Format) → 1 ≤ block_bytes format
-some_block format = let wide = mul-le 2 1 format.channels (container_bytes format.bits) format.some (some_container format.bits) in omega (arith, wide)
-
-some_rate : (rate : Rate) → 1 ≤ most_blocks rate
-some_rate R8 = lit≤ tt
-some_rate R16 = lit≤ tt
-some_rate R44 = lit≤ tt
-some_rate R48 = lit≤ tt
-some_rate R96 = lit≤ tt
-some_rate R192 = lit≤ tt
-
-some_most : (format : Format) → 1 ≤ most_bytes format
-some_most format = let wide = mul-le 1 1 (most_blocks format.rate) (block_bytes format) (some_rate format.rate) (some_block format) in omega (arith, wide)
 
 -- ---- the ring
 

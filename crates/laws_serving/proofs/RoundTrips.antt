@@ -22,6 +22,7 @@ use Rattle.world_rings.specs.Entries.{next_place, next_command}
 use Rattle.world_rings.specs.Engines.{can_fetch, can_respond, batch, batch_of}
 use Rattle.world_steps.specs.declared.Step.{Step}
 use Rattle.world_steps.specs.declared.Step.TheVariants as step
+use Rattle.world_rings.proofs.Callers.{batch_first}
 use Rattle.hda_world.specs.Worlds.{World, TakenCommand, codec_at, with_codec}
 use Rattle.hda_world.specs.Steps.{address_of, is_busy, handed, handed_next, items_of, sent_first, corb_step, answer_step, rirb_step, after_step, after_steps}
 use Rattle.hda_world.proofs.Callers.{found_all}
@@ -30,7 +31,7 @@ use Rattle.command_engine.specs.declared.answers.Outstanding.{Outstanding}
 use Rattle.command_engine.specs.Sizes.{half_of}
 use Rattle.command_engine.specs.Entries.{answers_it}
 use Rattle.command_engine.specs.Courses.{Course, AreOf, ItemCanCome, CodecCanSend, ResponseCanCome, part_of, solicited, waiting_answers}
-use Rattle.laws_serving.proofs.Lower.{batch_first, changed_sum}
+use Rattle.command_engine.proofs.Callers.{changed_sum}
 use Rattle.laws_serving.specs.ServingDevices.{keeps_answers, ComeInOrder, round_trip, HasItsCodec, HasAnswersAlone, StandsServed, taken_since, unread_answers, IsComing, KeepAnswers}
 use Rattle.laws_serving.proofs.Steps.{ComesNearer, step_kept, served_on, has_after, taken_now, its_codec, fetched_word, count-append, most_solicited}
 

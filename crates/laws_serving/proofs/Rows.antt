@@ -11,6 +11,7 @@ use Rattle.hda_world.specs.Tellings.{Telling, world_of, MakesBy}
 use Rattle.hda_world.proofs.Callers.{after_steps-append, after-append, after-stepped}
 use Rattle.rig.specs.Stretches.{is_access, accesses_of, steps_in, all_steps_in, woven}
 use Rattle.rig.specs.Follows.{AreAccesses}
+use Rattle.rig.proofs.Callers.{groups_none}
 use Rattle.laws_serving.specs.ServingSchedules.{IsOfStreams, HasStreamsAlone}
 use Rattle.laws_serving.proofs.Requests.{IsAccess}
 
@@ -167,15 +168,11 @@ no_steps : (steps : List Step) (rest : List Event) → accesses_of (map Stepped 
 no_steps [] rest = refl
 no_steps (one ∷ steps) rest = no_steps steps rest
 
-no_groups : (groups : List Group) → accesses_of (all_steps_in groups) ≡ []
-no_groups [] = refl
-no_groups (group ∷ groups) = no_steps group.steps (all_steps_in groups) ∙ no_groups groups
-
 access_first : (event : Event) (rest : List Event) → is_access event ≡ true → accesses_of (event ∷ rest) ≡ event ∷ accesses_of rest
 access_first event rest is = ap (λ (access : Bool). if access then event ∷ accesses_of rest else accesses_of rest) is
 
 pub accesses_are : (groups : List Group) (accesses : List Event) → AreAccesses accesses → accesses_of (within_call groups accesses) ≡ accesses
-accesses_are groups [] made = no_groups groups
+accesses_are groups [] made = groups_none groups
 accesses_are [] (access ∷ accesses) made =
     ap accesses_of (within_alone access accesses) ∙ access_first access (within_call [] accesses) (All-head IsAccess access accesses made) ∙ ap (λ (rest : List Event). access ∷ rest) (accesses_are [] accesses (All-tail IsAccess access accesses made))
 accesses_are (group ∷ groups) (access ∷ accesses) made =

@@ -9,16 +9,13 @@ use Rattle.hda_world.specs.Worlds.{World}
 use Rattle.hda_world.specs.Steps.{after_step}
 use Rattle.hda_world.specs.Events.{Event, Stepped, Begin, End, Read, Write, DmaRead, DmaWrite, happens, after}
 use Rattle.hda_world.specs.Leaving.{StepsLeave, StreamsStay}
-use Rattle.hda_world.proofs.Callers.{steps_leave, beside_streams, access_leaves, write_registers, after-append}
+use Rattle.hda_world.proofs.Callers.{steps_leave, beside_streams, access_leaves, write_registers, after-append, streams_same}
 use Rattle.rig.specs.Stretches.{is_access, stretch}
 use Rattle.rig.specs.Follows.{AreAccesses}
 use Rattle.laws_serving.proofs.Callers.{IsAccess, RanRound, rest_events, world_after, alone_is, stretch_is, ends_there, within_call}
 use Rattle.laws_serving.proofs.SoundCallers.{IsBesideSound, rest_splits, body_leads, round_body}
 
 -- ---- the stream
-
-streams_same : (world : World) → StreamsStay world world
-streams_same world = record { input_registers = refl; output_registers = refl; input = refl; output = refl; carried = refl }
 
 streams_then : (old middle new : World) → StreamsStay old middle → StreamsStay middle new → StreamsStay old new
 streams_then old middle new first second = record {

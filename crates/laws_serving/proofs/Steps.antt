@@ -17,14 +17,14 @@ use Rattle.world_steps.specs.declared.Step.{Step}
 use Rattle.world_steps.specs.declared.Step.TheVariants as step
 use Rattle.hda_world.specs.Worlds.{World, TakenCommand, codec_at, with_codec, output_of}
 use Rattle.hda_world.specs.Steps.{address_of, taking, is_busy, handed, handed_next, items_of, responses_of, sent_first, sent, responded, passed, output_framed, frame_step, output_fetched, times, corb_step, rirb_step, after_step}
-use Rattle.laws_serving.proofs.Lower.{responded_none, batch_none, batch_first, changed_all, changed_sum}
-use Rattle.hda_world.proofs.Callers.{absent, found_all, kept_step, passed_global}
+use Rattle.hda_world.proofs.Callers.{absent, found_all, kept_step, passed_global, responded_none}
 use Rattle.command_engine.specs.declared.ring_places.RingPlaces.{RingPlaces}
 use Rattle.std.specs.Option.{is_some}
 use Rattle.world_rings.specs.Memory.{word_at}
+use Rattle.world_rings.proofs.Callers.{shape_responded, batch_none, batch_first}
 use Rattle.command_engine.specs.declared.answers.Outstanding.{Outstanding}
 use Rattle.command_engine.specs.Courses.{AscendByAddress, Stands, HasRings, Course, IsWordOf, part_of, solicited, waiting_answers}
-use Rattle.command_engine.proofs.Callers.{keeps_standing, responses_apart}
+use Rattle.command_engine.proofs.Callers.{keeps_standing, responses_apart, changed_all, changed_sum}
 use Rattle.laws_serving.specs.ServingDevices.{keeps_answers, HasItsCodec, HasAnswersAlone, ServesBy, Serves, StandsServed, taken_since, unread_answers, IsComing}
 
 -- the outstanding command comes nearer to its answer, or stays where it is, and the codecs stay on the link
@@ -270,10 +270,6 @@ globals_after : (responses : List Response) (fields : Fields) → (after_respons
 globals_after [] fields = refl
 globals_after (response ∷ responses) fields = globals_after responses (after_response fields)
 
-shapes_after : (responses : List Response) (fields : Fields) → (after_responses fields responses).shape ≡ fields.shape
-shapes_after [] fields = refl
-shapes_after (response ∷ responses) fields = shapes_after responses (after_response fields)
-
 pub most_solicited : (responses : List Response) → solicited responses ≤ length responses
 most_solicited [] = omega arith
 most_solicited (response ∷ responses) = by response.unsolicited (most_solicited responses) (sum_by-cons (λ (response : Response). cond (not response.unsolicited) 1 0) response responses)
@@ -285,7 +281,7 @@ most_solicited (response ∷ responses) = by response.unsolicited (most_solicite
 coming_written : (from : ℕ) (world : World) (responses : List Response) → IsComing from world
     → (1 ≤ taken_since from world) ⊎ (next_place (after_responses world.registers responses).global.corb_read_pointer (entries_of (after_responses world.registers responses).shape.corb) ≡ (after_responses world.registers responses).global.corb_write_pointer)
 coming_written from world responses coming =
-    subst (λ shape. (1 ≤ taken_since from world) ⊎ (next_place (after_responses world.registers responses).global.corb_read_pointer (entries_of shape.corb) ≡ (after_responses world.registers responses).global.corb_write_pointer)) (sym (shapes_after responses world.registers))
+    subst (λ shape. (1 ≤ taken_since from world) ⊎ (next_place (after_responses world.registers responses).global.corb_read_pointer (entries_of shape.corb) ≡ (after_responses world.registers responses).global.corb_write_pointer)) (sym (shape_responded responses world.registers))
     (subst (λ (global : Global). (1 ≤ taken_since from world) ⊎ (next_place global.corb_read_pointer (entries_of world.registers.shape.corb) ≡ global.corb_write_pointer)) (sym (globals_after responses world.registers)) coming)
 
 written_kept : (from read : ℕ) (world : World) (response : Response) (rest : List Response) → can_respond world.registers ≡ true → batch world.registers world.waiting ≡ response ∷ rest → read ≤ length world.written → Serves from read world

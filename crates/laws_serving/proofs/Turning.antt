@@ -4,7 +4,7 @@ use Rattle.std.specs.Prelude.{All, sum, slice_get}
 use Rattle.std.proofs.lemmas.Nat.{mul-le}
 use Rattle.std.proofs.lemmas.List.{length-append}
 use Rattle.std.proofs.lemmas.List.Sums.{sum_by-cons}
-use Rattle.std.proofs.lemmas.List.Elements.{All-nil, All-cons, All-head, All-tail, All-append}
+use Rattle.std.proofs.lemmas.List.Elements.{All-nil, All-cons, All-append}
 use Rattle.std.proofs.lemmas.Option.{slice_get_within}
 use Rattle.codec_graph.specs.declared.raw.RawCodec.{RawCodec}
 use Rattle.codec_graph.specs.CodecStates.{CodecState}
@@ -21,7 +21,7 @@ use Rattle.hda_world.specs.Worlds.{World}
 use Rattle.hda_world.specs.Steps.{after_steps}
 use Rattle.hda_world.specs.Events.{Event, Read, after}
 use Rattle.hda_world.specs.Leaving.{StepsLeave, StreamsStay}
-use Rattle.hda_world.proofs.Callers.{steps_leave}
+use Rattle.hda_world.proofs.Callers.{steps_leave, events_front}
 use Rattle.laws_stream.specs.Lives.{Runs, Along}
 use Rattle.period_writer.specs.declared.registers.TheConstants.{POSITION}
 use Rattle.period_writer.specs.declared.course.Ran.{Ran}
@@ -41,10 +41,6 @@ use Rattle.laws_serving.proofs.SoundCallers.{IsFull, IsBesideSound, StreamLaws, 
 use Rattle.laws_serving.specs.Turns.{IsTurn, IsLastCall, AreInTurns, CarriedBytes}
 use Rattle.laws_serving.proofs.Serving.{Serves, turn_serves}
 use Rattle.laws_serving.proofs.Standing.{accesses_stand, accesses_carry, closing_carries, rest_on, KeepShapes, events_shape}
-
-all_front : (P : Event → Type 0) (front back : List Event) → All P (front ++ back) → All P front
-all_front P [] back all = All-nil P
-all_front P (event ∷ front) back all = All-cons P event front (All-head P event (front ++ back) all) (all_front P front back (All-tail P event (front ++ back) all))
 
 -- each call of turns may write a ring
 pub generous_turns : (ring block fifo : ℕ) (lengths : List ℕ) (ran : List RanRound) → AreInTurns ring block fifo lengths (map round_in ran) → AreGenerous ring ran
@@ -139,7 +135,7 @@ module _ (laws : StreamLaws) (shapes : KeepShapes) (task : Task) (graphs : List 
       let finds = call.looks.finds in
       let back = Read POSITION Four call.run.shape.lpib ∷ finds.behind in
       let body : one.accesses ≡ finds.before ++ back = sym (ap (λ (groups : List Group). within_call groups one.accesses) alone ∙ alone_is one.accesses) ∙ finds.is in
-      let are = all_front IsAccess finds.before back (subst (All IsAccess) body call.on_next.are) in
+      let are = events_front IsAccess finds.before back (subst (All IsAccess) body call.on_next.are) in
       let stands = accesses_stand finds.before world are finds.beside in
       call.looks.at_is ∙ ap (λ (state : StreamState). state.left) stands.output ∙ turning.left
 

@@ -15,6 +15,7 @@ use Rattle.hda_world.specs.Worlds.{World, codec_at}
 use Rattle.hda_world.specs.Steps.{address_of, after_steps}
 use Rattle.hda_world.specs.Events.{Event, Stepped, Begin, End, AreHonest, after}
 use Rattle.hda_world.specs.Leaving.{graphs_of}
+use Rattle.hda_world.proofs.Callers.{steps_after}
 use Rattle.command_engine.specs.declared.ring_places.RingPlaces.{RingPlaces}
 use Rattle.command_engine.specs.declared.answers.Outstanding.{Outstanding}
 use Rattle.command_engine.specs.Entries.{answers_it}
@@ -40,7 +41,7 @@ use Rattle.laws_serving.proofs.Polls.{LooksServe, SubmissionsCome}
 use Rattle.laws_serving.proofs.Quiet.{IsNoRise, asking_left, call_sets_none}
 use Rattle.laws_serving.proofs.Asking.{ServesOn, leads_so, plainly_led, FindsAnswers, IsFree, IsSent, IsReady, answers_since, call_sends, call_readies, last_call_finds}
 use Rattle.laws_serving.proofs.Counting.{steps_count, timed_steps, events_graphs, steps_graphs}
-use Rattle.laws_serving.proofs.Laid.{RanRound, HasAccesses, rest_events, IsRest, rest_front, rest_steps, IsCalled, called, after_call, world_called, course_called, stretch_is, steps_after, ends_there, honest_alone}
+use Rattle.laws_serving.proofs.Laid.{RanRound, HasAccesses, rest_events, IsRest, rest_front, rest_steps, IsCalled, called, after_call, world_called, course_called, stretch_is, ends_there, honest_alone}
 use Rattle.laws_serving.proofs.Rows.{within_call}
 use Rattle.laws_serving.proofs.Notes.{notes_stay, course_made}
 use Rattle.laws_serving.proofs.Resetting.{CanBeReset, IsOut, out_on, HasBegun, first_call}

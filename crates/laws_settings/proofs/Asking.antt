@@ -18,12 +18,12 @@ use Rattle.codec_graph.specs.Settings.{Entries}
 use Rattle.codec_graph.specs.VerbMeaning.{after, writes_of}
 use Rattle.codec_graph.specs.Listed.{HasReadableList}
 use Rattle.codec_graph.specs.Cycles.{IsWellFormed}
+use Rattle.codec_graph.proofs.Callers.{counted}
 use Rattle.codec_walk.specs.declared.words.CodecWord.{CodecWord}
 use Rattle.codec_walk.specs.declared.words.CodecWord.TheVariants.{Vendor, Revision, Groups, GroupType, Widgets, GroupPcm, GroupFormats, GroupAmpIn, GroupAmpOut, GroupPower}
 use Rattle.codec_walk.specs.declared.words.NodeWord.{NodeWord}
 use Rattle.codec_walk.specs.declared.words.NodeWord.TheVariants.{Pcm, Formats, PinCaps, Default, AmpIn, AmpOut}
 use Rattle.codec_walk.specs.Words.{command_to, list_command, codec_words, codec_command, node_words, applies, word_command, words_for}
-use Rattle.codec_walk.proofs.Callers.{counted}
 use Rattle.codec_walk.specs.Commands.{entry_commands, node_commands, nodes_commands, walk_commands}
 use Rattle.laws_settings.specs.Readings.{IsReading}
 use Rattle.laws_settings.specs.Histories.{after_reading}

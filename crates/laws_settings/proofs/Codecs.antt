@@ -1,12 +1,10 @@
 -- Codecs that stand in the place of others, and a change of one among them.
-use Rattle.std.proofs.Common.{◌≡◌, ◌==◌, ℕ, Bool, true, false, List, [], ◌∷◌, ◌++◌, map, Option, None, Some, refl, sym, ap, ◌∙◌, arith, if◌then◌else◌}
+use Rattle.std.proofs.Common.{◌≡◌, ◌==◌, ℕ, Bool, true, false, List, [], ◌∷◌, ◌++◌, map, Some, refl, sym, ap, ◌∙◌, arith, if◌then◌else◌}
 use Rattle.std.proofs.lemmas.Bool.Decides.{nat_tests}
 use Rattle.verb_codes.specs.Verbs.{reading_of}
-use Rattle.codec_graph.specs.declared.raw.RawNode.{RawNode}
 use Rattle.codec_graph.specs.declared.raw.RawCodec.{RawCodec}
 use Rattle.codec_graph.specs.Settings.{Entries}
-use Rattle.codec_graph.specs.Widget.{node_at, is_pin}
-use Rattle.codec_graph.specs.CodecStates.{CodecState, taken, plugged, node_plugged, pin_plugged}
+use Rattle.codec_graph.specs.CodecStates.{CodecState, taken}
 use Rattle.hda_world.specs.Worlds.{TakenCommand, codec_at, with_codec}
 use Rattle.laws_settings.specs.Histories.{after_reading, settings_since, FoundTaken}
 use Rattle.laws_settings.proofs.Words.{made_of, settings_since-push}
@@ -22,18 +20,6 @@ part-with_codec {A} part address change keeps (codec ∷ codecs) =
     by : (named : Bool) → part (if named then change codec else codec) ≡ part codec
     by true = keeps codec
     by false = refl
-
--- what is plugged in leaves a codec's settings
-pub settings-plugged : (nid : ℕ) (present : Bool) (codec : CodecState) → (plugged codec nid present).settings ≡ codec.settings
-settings-plugged nid present codec = by (node_at codec.graph nid)
-  where
-    pin : (node : RawNode) (is : Bool) → (if is then pin_plugged codec nid present node else codec).settings ≡ codec.settings
-    pin node true = refl
-    pin node false = refl
-
-    by : (node : Option RawNode) → (node_plugged codec nid present node).settings ≡ codec.settings
-    by None = refl
-    by (Some node) = pin node (is_pin node)
 
 -- ---- codecs that came of others
 

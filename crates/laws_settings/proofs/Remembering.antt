@@ -10,13 +10,14 @@ use Rattle.hda_registers.specs.declared.shapes.Width.{Width}
 use Rattle.hda_registers.specs.Fields.{is_running}
 use Rattle.world_rings.specs.Entries.{next_command}
 use Rattle.world_steps.specs.declared.Step.{Step}
+use Rattle.codec_graph.proofs.Callers.{graph-plugged, settings-plugged}
 use Rattle.hda_world.specs.Worlds.{World, TakenCommand, codec_at, with_codec}
 use Rattle.hda_world.specs.Steps.{address_of, taking, after_steps}
 use Rattle.hda_world.specs.Events.{Event, Stepped, Begin, End, Read, Write, DmaRead, DmaWrite, after_write, happens, after}
 use Rattle.hda_world.specs.Kept.{Kept}
-use Rattle.hda_world.proofs.Callers.{kept_steps, frames_after, access_leaves, graphs-with_codec, graph-plugged, found_address, absent}
+use Rattle.hda_world.proofs.Callers.{kept_steps, access_leaves, graphs-with_codec, found_address, absent, kept_codecs}
 use Rattle.laws_settings.specs.Histories.{settings_since, FoundTaken, WasTaken, WereTaken, RemembersBy, Remembers}
-use Rattle.laws_settings.proofs.Codecs.{part-with_codec, settings-plugged, found_taken, all_handed}
+use Rattle.laws_settings.proofs.Codecs.{part-with_codec, found_taken, all_handed}
 
 -- ---- the last of some commands
 
@@ -98,31 +99,15 @@ module _ (start : List CodecState) (from : ℕ) where
   }
 
   keeps_remembering : Kept (Remembers start from)
-  keeps_remembering = record {
-    codecs = record {
-      hands = λ world holds can free. (
-          let word = next_command world.registers world.memory in
-          handed word (length world.carried) (is_running world.registers.output) world.codecs world.commands (codec_at (address_of word) world.codecs) refl holds);
-      sends = λ world address item rest holds out room are. changed address without_first world.codecs world.commands (λ codec. refl) (λ codec. refl) holds;
-      loses = λ world address holds out. changed address without_answer world.codecs world.commands (λ codec. refl) (λ codec. refl) holds;
-      plugs = λ world address nid present holds.
-          changed address (λ codec. plugged codec nid present) world.codecs world.commands (graph-plugged nid present) (settings-plugged nid present) holds;
-    };
-    responds = λ world response rest holds can are. holds;
-    bytes = record {
-      comes = λ world holds can room good is. holds;
-      ends = λ world holds can room good is. holds;
-      breaks = λ world holds can room bad. holds;
-      refuses = λ world holds must. holds;
-    };
-    passes = λ world holds out still. holds;
-    frames = frames_after (Remembers start from) (λ world holds out. holds) (record {
-      gaps = λ world holds can none. holds;
-      sends = λ world holds can some enough. holds;
-      misses = λ world holds can short. holds;
-      stops = λ world holds must. holds;
-    });
-  }
+  keeps_remembering = kept_codecs (RemembersBy start from) (record {
+    hands = λ world holds can free. (
+        let word = next_command world.registers world.memory in
+        handed word (length world.carried) (is_running world.registers.output) world.codecs world.commands (codec_at (address_of word) world.codecs) refl holds);
+    sends = λ world address item rest holds out room are. changed address without_first world.codecs world.commands (λ codec. refl) (λ codec. refl) holds;
+    loses = λ world address holds out. changed address without_answer world.codecs world.commands (λ codec. refl) (λ codec. refl) holds;
+    plugs = λ world address nid present holds.
+        changed address (λ codec. plugged codec nid present) world.codecs world.commands (graph-plugged nid present) (settings-plugged nid present) holds;
+  })
 
   pub steps_remember : (steps : List Step) (world : World) → Remembers start from world → Remembers start from (after_steps steps world)
   steps_remember steps world is = kept_steps (Remembers start from) keeps_remembering steps world is

@@ -1,10 +1,9 @@
 -- The blocks of a driver lie apart.
 use Rattle.std.proofs.Common.{◌≡◌, ◌<◌, ◌%◌, ◌/◌, inl, inr, ℕ, zero, suc, List, [], ◌∷◌, length, subst, sym, arith}
 use Rattle.std.specs.Prelude.{Contains, slice_index}
-use Rattle.std.proofs.lemmas.List.Elements.{Contains-append_left, Contains-append_right, Contains-push}
 use Rattle.dma_pool.specs.declared.blocks.Lent.{Lent}
 use Rattle.dma_pool.specs.declared.runs.Run.{Run}
-use Rattle.dma_pool.specs.Pools.{PoolState, AddsRun, IsApart, granules_for}
+use Rattle.dma_pool.specs.Pools.{PoolState, IsApart, granules_for}
 use Rattle.dma_pool.specs.Blocks.{run_at}
 use Rattle.dma_pool.specs.Several.{TakesAll}
 use Rattle.command_engine.specs.Blocks.{rirb_bytes}
@@ -12,14 +11,10 @@ use Rattle.period_writer.specs.declared.geometry.Geometry.{Geometry}
 use Rattle.period_writer.specs.Blocks.{addresses_of}
 use Rattle.period_writer.specs.Rings.{period_bytes, list_bytes}
 use Rattle.period_writer.specs.Writers.{WriterState, periods_of, ring_of}
-use Rattle.period_writer.proofs.Callers.{adds_keeps}
+use Rattle.period_writer.proofs.Callers.{adds_keeps, adds_has}
 use Rattle.driver_bring_up.specs.declared.bringing.BringUp.{BringUp}
 use Rattle.audio_driver.specs.Opening.{Opens}
 use Rattle.laws_stream.specs.Resting.{IsApartFrom, AreApartFrom}
-
-adds_has : (old : List Run) (run : Run) (new : List Run) → AddsRun old run new → Contains new run
-adds_has old run new adds =
-    subst (λ (runs : List Run). Contains runs run) (sym adds.becomes) (Contains-append_right adds.front (run ∷ adds.back) run (Contains-append_left (run ∷ []) adds.back run (Contains-push [] run)))
 
 -- a block whose run is apart from RIRB's has none of its bytes
 runs_apart : (rirb address bytes : ℕ) → rirb % 128 ≡ 0 → address % 128 ≡ 0 → IsApart (address / 128) (granules_for bytes) (run_at rirb rirb_bytes) → IsApartFrom rirb address bytes

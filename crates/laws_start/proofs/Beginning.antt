@@ -43,7 +43,7 @@ zeros_length : (size : ℕ) → length (zeros size) ≡ size
 unfolding zeros
 zeros_length size = length-replicate size 0
 
-graphs_there : (files : List CodecFile) → graphs_in (codecs_in files) ≡ graphs_of files
+pub graphs_there : (files : List CodecFile) → graphs_in (codecs_in files) ≡ graphs_of files
 graphs_there [] = refl
 graphs_there (file ∷ files) = ap (λ (graphs : List RawCodec). file.graph ∷ graphs) (graphs_there files)
 

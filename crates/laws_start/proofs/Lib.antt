@@ -6,3 +6,4 @@ pub mod Tasked
 pub mod Beginning
 pub mod Room
 pub mod Apart
+pub mod Callers

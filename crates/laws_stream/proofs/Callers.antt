@@ -1,7 +1,7 @@
 -- What proofs of the layers above cite.
 
 -- what holds of all events of a row of accesses, of parts of it, and of marks and steps before them
-pub use Rattle.laws_stream.proofs.Rows.{all_map, woven_all, went_same, all_front, all_back}
+pub use Rattle.laws_stream.proofs.Rows.{all_map, woven_all, went_same}
 -- what holds at every moment: over more events, at the end, and in the front
 pub use Rattle.laws_stream.proofs.Lives.{Along-append, Along-end, Along-front}
 -- what holds of reads, and of a write of the output stream's status, holds of a look for interrupts

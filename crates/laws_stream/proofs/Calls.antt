@@ -36,6 +36,7 @@ use Rattle.driver_bring_up.specs.declared.bringing.BringUp.{BringUp}
 use Rattle.driver_bring_up.specs.Told.{IsBefore, found_none}
 use Rattle.audio_driver.specs.States.{state_of, is_open, was_late, phase_if, played_as, IsLeft}
 use Rattle.audio_driver.specs.Sounding.{IsStill, GoesOn, SoundTells, StaysSet}
+use Rattle.audio_driver.proofs.Callers.{open_playing}
 use Rattle.laws_stream.specs.Lives.{Lives}
 use Rattle.laws_stream.specs.Sounding.{StreamIs, Sounds}
 use Rattle.laws_stream.proofs.Rows.{woven_all}
@@ -150,11 +151,6 @@ same_rings g g' l l' p p' a b c = cc
 pub ring_same : (old new : BringUp) (writer writer' : WriterState) → StaysSet old new writer writer' → ring_of writer' ≡ ring_of writer
 ring_same old new writer writer' stays = same_rings _ _ _ _ _ _ stays.geometry (ap (λ list. list.address) stays.list) (ap addresses_of stays.periods)
 
-pub open_plays : (was : Ran) → is_open was ≡ true → was ≡ ran.Playing
-open_plays ran.Playing is = refl
-open_plays ran.Drained is = absurd (not_true is)
-open_plays (ran.Late from to limit) is = absurd (not_true is)
-
 module _ (laws : Laws) (codecs : List CodecState) (pcm : List ℕ) (irq : Bool) (budget : ℕ) (old new : BringUp) (writer writer' : WriterState) (supply : List ℕ) (made : List Event) (before after : Telling) where
   still_sounds : (task : Task) (found : Bool) → IsStill irq old new writer writer' made → Makes made before after
       → IsStretch task (state_of old writer) (Some (record { irq = irq; budget = budget })) made found (state_of new writer')
@@ -167,7 +163,7 @@ module _ (laws : Laws) (codecs : List CodecState) (pcm : List ℕ) (irq : Bool) 
       → Sounds codecs (ring_of writer) pcm (tally_of writer) before → Sounds codecs (ring_of writer') pcm (tally_of writer') after
   goes_sounds goes stays left small sounds =
       let poll = poll_accesses old.engine.rirb.address old.engine.rings goes.reads in
-      let plays : writer.course.ran ≡ ran.Playing = open_plays writer.course.ran goes.more in
+      let plays : writer.course.ran ≡ ran.Playing = open_playing writer.course.ran goes.more in
       let here = row_sounds laws codecs (ring_of writer) pcm (tally_of writer) (goes.first ++ poll_accesses old.engine.rirb.address old.engine.rings goes.reads) before goes.begins goes.first_made
       (All-append IsBeside goes.first (poll_accesses old.engine.rirb.address old.engine.rings goes.reads) (before_beside irq goes.first goes.is_before) (poll_beside old.engine.rirb.address old.engine.rings goes.reads)) sounds in
       let playing = subst (λ (was : Ran). StreamIs was (ring_of writer) pcm (tally_of writer) (world_of goes.begins)) plays here.stream in

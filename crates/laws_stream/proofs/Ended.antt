@@ -1,10 +1,11 @@
 -- The last run stops the stream, and pins heard the line.
-use Rattle.std.proofs.Common.{◌≡◌, inl, inr, ◌≤◌, ◌+◌, ◌-◌, ◌*◌, ◌/◌, ◌==◌, ◌&&◌, ◌||◌, not, ℕ, min, Bool, true, false, if◌then◌else◌, List, [], ◌∷◌, ◌++◌, append_assoc, length, map, drop, Some, refl, sym, ap, subst, ◌∙◌, arith, rules}
+use Rattle.std.proofs.Common.{◌≡◌, inl, inr, ◌≤◌, ◌+◌, ◌-◌, ◌*◌, ◌/◌, ◌==◌, ◌&&◌, not, ℕ, min, Bool, true, false, if◌then◌else◌, List, [], ◌∷◌, ◌++◌, append_assoc, length, map, drop, Some, refl, sym, ap, subst, ◌∙◌, arith, rules}
 use Rattle.std.specs.Prelude.{All, nat_lt}
 use Rattle.std.specs.List.{range_with_len}
 use Rattle.std.proofs.Math.Nat.{mod-eq_of_lt, div-mul-le_self}
 use Rattle.std.proofs.lemmas.Nat.{le-div}
 use Rattle.std.proofs.lemmas.List.Elements.{All-from_recursion}
+use Rattle.std.proofs.lemmas.Bool.{or_parts}
 use Rattle.codec_graph.specs.CodecStates.{CodecState}
 use Rattle.hda_registers.specs.declared.shapes.Width.TheVariants.{One, Four}
 use Rattle.hda_registers.specs.declared.places.TheConstants.{WALCLK}
@@ -22,7 +23,7 @@ use Rattle.hda_world.specs.Worlds.{World, CarriedFrame, codec_at}
 use Rattle.hda_world.specs.Events.{Event, Read, Write, happens, AreHonest, IsNoStep}
 use Rattle.hda_world.specs.Streaming.{HasSent}
 use Rattle.hda_world.specs.Tellings.{Telling, world_of, Went, Makes}
-use Rattle.hda_world.proofs.Callers.{world_of-went, went_both, Weaving, woven}
+use Rattle.hda_world.proofs.Callers.{world_of-went, went_both, Weaving, woven, events_front, events_back}
 use Rattle.command_engine.specs.Polling.{poll_accesses}
 use Rattle.period_writer.specs.declared.course.Course.{Course}
 use Rattle.period_writer.specs.declared.course.Ran.{Ran}
@@ -39,20 +40,22 @@ use Rattle.period_writer.specs.Owning.{IsPlaying}
 use Rattle.period_writer.specs.Beside.{LeavesStopped}
 use Rattle.period_writer.specs.Writers.{WriterState, tally_of, ring_of}
 use Rattle.period_writer.specs.Outcomes.{HasNotWrapped, HasDrained, WasStopped, EndsLast, FinishTells, allowed_in}
+use Rattle.period_writer.proofs.Callers.{started_by}
 use Rattle.driver_progress.specs.Shutting.{shut_accesses}
 use Rattle.driver_bring_up.specs.declared.bringing.BringUp.{BringUp}
 use Rattle.laws_hearing.specs.Plays.{Plays, PlaysBelow, WasSent, IsSilent, without_holes}
 use Rattle.laws_hearing.specs.Steady.{Steady}
 use Rattle.audio_driver.specs.States.{is_open, was_late, IsLeft}
 use Rattle.audio_driver.specs.Sounding.{ShutsAlone, StopsSound, EndTells}
+use Rattle.audio_driver.proofs.Callers.{open_playing}
 use Rattle.laws_stream.specs.Lives.{Along, IsStopped, IsGoing, HasStopped, Lives}
 use Rattle.laws_stream.specs.Sounding.{StreamIs, IsHeardBy, Sounds}
 use Rattle.laws_stream.specs.Ending.{HeardAs, HearTheLine}
-use Rattle.laws_stream.proofs.Rows.{woven_all, woven_alone, carried_alone, all_front, all_back, went_same}
+use Rattle.laws_stream.proofs.Rows.{woven_all, woven_alone, carried_alone, went_same}
 use Rattle.laws_stream.proofs.Lives.{Along-end, Along-front, stays_stopped}
 use Rattle.laws_stream.proofs.Beside.{Laws, heard_row, drained_stopped, stopped_along}
 use Rattle.laws_stream.proofs.Runs.{finish_steady, finish_is, stopped_by}
-use Rattle.laws_stream.proofs.Calls.{row_sounds, poll_beside, open_plays}
+use Rattle.laws_stream.proofs.Calls.{row_sounds, poll_beside}
 
 not_true : false ≡ true → ⊥
 not_true is = cc
@@ -147,11 +150,6 @@ ends_stopped ran.Playing ring pcm tally tally' facts world recorded is ends = en
 ends_stopped ran.Drained ring pcm tally tally' facts world recorded is ends = drained_stopped ring pcm tally' world ends
 ends_stopped (ran.Late from to limit) ring pcm tally tally' facts world recorded is ends = ends
 
--- a run leaves the stream set going in its tally
-still_going : (late : Bool) (m : Measures) (tally : Tally) (facts : RunFacts) → tally.course.started ≡ true → (tally_if late m tally facts).course.started ≡ true
-still_going true m tally facts is = is
-still_going false m tally facts is = refl
-
 -- the clock that it reads last, where the device makes no step
 row_read : (bytes : ℕ) (periods : List ℕ) (from to : ℕ) (written : List ℕ) (xs : List ℕ) (rest : List Event) (world : World) {A : Type 0}
     → ((later : World) → later.registers ≡ world.registers → AreHonest rest later → A) → AreHonest (map (piece_write bytes periods from to written) xs ++ rest) world → A
@@ -164,10 +162,6 @@ clock_read bytes periods start sound reach reach' pcm clock later world honest =
     row_read bytes periods start (min reach (start + sound)) _ (range_with_len (start / bytes) (touched bytes start (min reach (start + sound)))) (line_writes bytes periods reach reach' (sound_and_silence (sound - (min reach (start + sound) - start)) (reach' - reach) (drop (min reach (start + sound) - start) pcm)) ++ (Read WALCLK Four clock ∷ later)) world
     (λ middle same honest. row_read bytes periods reach reach' _ (range_with_len (reach / bytes) (touched bytes reach reach')) (Read WALCLK Four clock ∷ later) middle (λ last same' honest. honest.0 ∙ ap (λ (fields : Fields). value_at fields WALCLK Four) (same' ∙ same)) honest)
     (subst (λ (events : List Event). AreHonest events world) (append_assoc (line_writes bytes periods start (min reach (start + sound)) (sound_and_silence (min reach (start + sound) - start) (min reach (start + sound) - start) pcm)) (line_writes bytes periods reach reach' (sound_and_silence (sound - (min reach (start + sound) - start)) (reach' - reach) (drop (min reach (start + sound) - start) pcm))) (Read WALCLK Four clock ∷ later)) honest)
-
-or_first : (a b : Bool) → (a || b) ≡ false → a ≡ false
-or_first true b e = cc
-or_first false b e = refl
 
 -- with a budget of 0 nothing is taken back
 no_budget : (m : Measures) (course : Course) (facts : RunFacts) → facts.budget ≡ 0 → takes_back m course facts ≡ false
@@ -228,7 +222,7 @@ module _ (laws : HearLaws) (codecs : List CodecState) (ring : Ring) (pcm : List 
     few : 500 * (world_of begins).frames ≤ tally.course.from + 500 * limit_in ring
     few =
         let late : nat_lt (500 * m.limit) (run.facts.to - tally.course.from) ≡ false =
-        (let first = or_first (is_late_since m tally.course run.facts) (is_slow m tally.course run.facts) in_time in sym (ap (λ (started : Bool). started && nat_lt (500 * m.limit) (run.facts.to - tally.course.from)) playing.started) ∙ first) in
+        (let first = (or_parts (is_late_since m tally.course run.facts) (is_slow m tally.course run.facts) in_time).0 in sym (ap (λ (started : Bool). started && nat_lt (500 * m.limit) (run.facts.to - tally.course.from)) playing.started) ∙ first) in
         few_frames (world_of begins).frames run.facts.to tally.course.from (limit_in ring) clock_is (not_more (500 * limit_in ring) (run.facts.to - tally.course.from) late)
 
     playing_heard : (address pin pair : ℕ) → signal_with (codec_at address codecs) 1 (format_word ring.geometry.format) (Some (layout ring.geometry.format)) pin ≡ Pair pair
@@ -312,7 +306,7 @@ module _ (on : Laws) (laws : HearLaws) (codecs : List CodecState) (pcm : List �
     open_is = sym (ap (λ (started : Bool). started && is_open writer.course.ran) sounds.started) ∙ stops_sound.plays
 
     plays : writer.course.ran ≡ ran.Playing
-    plays = open_plays writer.course.ran open_is
+    plays = open_playing writer.course.ran open_is
 
     playing : IsPlaying ring pcm tally (world_of begins)
     playing = subst (λ (was : Ran). StreamIs was ring pcm tally (world_of begins)) plays here.stream
@@ -322,7 +316,7 @@ module _ (on : Laws) (laws : HearLaws) (codecs : List CodecState) (pcm : List �
 
     module _ (answer : Ran) (is : answer ≡ tally'.course.ran) (run : FinishTells ring pcm tally answer tally' begins ends) where
       set_going : tally'.course.started ≡ true
-      set_going = ap (λ (tally : Tally). tally.course.started) run.recorded ∙ still_going (is_late (measures ring.geometry) tally.course run.facts) (measures ring.geometry) tally run.facts sounds.started
+      set_going = ap (λ (tally : Tally). tally.course.started) run.recorded ∙ started_by (is_late (measures ring.geometry) tally.course run.facts) (measures ring.geometry) tally run.facts sounds.started
 
       stopped : WasStopped ring pcm tally' (world_of ends)
       stopped = ends_stopped answer ring pcm tally tally' run.facts (world_of ends) run.recorded is run.ends
@@ -341,17 +335,17 @@ module _ (on : Laws) (laws : HearLaws) (codecs : List CodecState) (pcm : List �
           (finish_steady ring tally run.facts (drop tally.course.used pcm)) here.heard
 
     alone_ends : All IsNoStep last → All IsNoStep (polled.events ++ ran_on.events)
-    alone_ends alone = all_front IsNoStep (polled.events ++ ran_on.events) shut.events (subst (All IsNoStep) last_is alone)
+    alone_ends alone = events_front IsNoStep (polled.events ++ ran_on.events) shut.events (subst (All IsNoStep) last_is alone)
 
     carried_ends : All IsNoStep last → (world_of after).carried ≡ (world_of ends).carried
     carried_ends alone =
         ap (λ (world : World). world.carried) (world_of-went ends after shut.events shut.went)
-        ∙ carried_alone shut.events (world_of ends) (all_back IsNoStep (polled.events ++ ran_on.events) shut.events (subst (All IsNoStep) last_is alone))
+        ∙ carried_alone shut.events (world_of ends) (events_back IsNoStep (polled.events ++ ran_on.events) shut.events (subst (All IsNoStep) last_is alone))
 
     carried_begins : All IsNoStep last → (world_of after).carried ≡ (world_of begins).carried
     carried_begins alone =
         carried_ends alone ∙ ap (λ (world : World). world.carried) (world_of-went begins ends ran_on.events ran_on.went)
-        ∙ carried_alone ran_on.events (world_of begins) (all_back IsNoStep polled.events ran_on.events (alone_ends alone))
+        ∙ carried_alone ran_on.events (world_of begins) (events_back IsNoStep polled.events ran_on.events (alone_ends alone))
 
     abbrev HeardAt : Ran → Type 0
     HeardAt was =
@@ -363,7 +357,7 @@ module _ (on : Laws) (laws : HearLaws) (codecs : List CodecState) (pcm : List �
       set_going ran.Playing is run,
       has_stopped ran.Playing is run,
       λ alone. hear laws codecs ring pcm tally' (world_of begins) here.heard (world_of after).carried (carried_begins alone)
-          (playing_heard laws codecs ring pcm tally tally' (length writer.runs) stops_sound.course_is begins ends playing here.heard small_begins run is ran_on.events ran_on.went (all_back IsNoStep polled.events ran_on.events (alone_ends alone)))
+          (playing_heard laws codecs ring pcm tally tally' (length writer.runs) stops_sound.course_is begins ends playing here.heard small_begins run is ran_on.events ran_on.went (events_back IsNoStep polled.events ran_on.events (alone_ends alone)))
           (λ drained. absurd (never_drained ran.Playing refl (is ∙ drained))),
     )
     ends_by ran.Drained is run = (

@@ -7,7 +7,7 @@ use Rattle.hda_world.specs.Worlds.{World}
 use Rattle.hda_world.specs.Steps.{passed}
 use Rattle.hda_world.specs.Kept.{Kept}
 use Rattle.hda_world.proofs.Callers.{passed_global}
-use Rattle.driver_progress.proofs.StretchCallers.{keeps_time}
+use Rattle.driver_progress.proofs.Callers.{keeps_time}
 use Rattle.laws_stream.specs.Resting.{Rests}
 
 not_true : false ≡ true → ⊥

@@ -42,14 +42,6 @@ woven_last front last events woven =
 pub went_same : (old new : Telling) (one other : List Event) → Went old new one → Went old new other → one ≡ other
 went_same old new one other first second = append_cancel_left old.journal one other (sym first.journal ∙ second.journal)
 
-pub all_front : (P : Event → Type 0) (front back : List Event) → All P (front ++ back) → All P front
-all_front P [] back all = All-nil P
-all_front P (event ∷ front) back all = All-cons P event front (All-head P event (front ++ back) all) (all_front P front back (All-tail P event (front ++ back) all))
-
-pub all_back : (P : Event → Type 0) (front back : List Event) → All P (front ++ back) → All P back
-all_back P [] back all = all
-all_back P (event ∷ front) back all = all_back P front back (All-tail P event (front ++ back) all)
-
 -- ---- where the device makes no step
 
 -- the events are the accesses

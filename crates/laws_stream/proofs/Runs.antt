@@ -1,5 +1,5 @@
 -- A run leaves a stream that played as it ended.
-use Rattle.std.proofs.Common.{◌≡◌, ◌+◌, ◌-◌, min, inr, ℕ, Bool, true, false, List, [], ◌∷◌, ◌++◌, drop, refl, sym, ap, subst, ◌∙◌, append_assoc, arith}
+use Rattle.std.proofs.Common.{◌≡◌, ◌+◌, ◌-◌, min, inr, ℕ, true, List, [], ◌∷◌, ◌++◌, drop, refl, sym, ap, subst, ◌∙◌, append_assoc, arith}
 use Rattle.std.specs.Prelude.{All}
 use Rattle.std.proofs.lemmas.List.Elements.{All-append, All-cons, All-nil}
 use Rattle.std.specs.List.{range_with_len}
@@ -15,13 +15,14 @@ use Rattle.period_writer.specs.declared.course.Ran.{Ran}
 use Rattle.period_writer.specs.declared.course.Ran.TheVariants as ran
 use Rattle.period_writer.specs.declared.registers.TheConstants.{CONTROL, POSITION}
 use Rattle.period_writer.specs.Rings.{period_bytes}
-use Rattle.period_writer.specs.Runs.{RunFacts, Tally, Measures, measures, run_sure, is_late, tally_if, tally_after, run_start, run_sound, run_reach}
+use Rattle.period_writer.specs.Runs.{RunFacts, Tally, measures, run_sure, run_start, run_sound, run_reach}
 use Rattle.period_writer.specs.Lines.{line_of, sound_and_silence}
 use Rattle.period_writer.specs.Places.{line_writes, piece_write}
 use Rattle.period_writer.specs.Playing.{run_writes, turn_accesses, play_accesses, finish_accesses, stop_accesses}
 use Rattle.period_writer.specs.Standing.{Ring}
 use Rattle.period_writer.specs.Owning.{IsOwned, Allowed, IsPlaying}
 use Rattle.period_writer.specs.Outcomes.{RunTells, allowed_in}
+use Rattle.period_writer.proofs.Callers.{still_on}
 use Rattle.laws_hearing.specs.Steady.{LeavesSteady}
 use Rattle.audio_driver.specs.States.{is_open}
 use Rattle.laws_stream.specs.Lives.{Runs, IsStopped, Along, stops, IsGoing, HasStopped, Lives}
@@ -107,15 +108,6 @@ stopped_by ring line sure clock allowed made front events old new makes ends wen
     (runs_before ring line sure clock allowed during stops (world_of old) (subst (λ (events : List Event). AtEach (Owned ring line sure clock allowed) events (world_of old)) same moments))
     stopped
 
--- ---- what is recorded
-
-started_if : (late : Bool) (m : Measures) (tally : Tally) (facts : RunFacts) → tally.course.started ≡ true → (tally_if late m tally facts).course.started ≡ true
-started_if true m tally facts started = started
-started_if false m tally facts started = refl
-
-pub still_started : (m : Measures) (tally tally' : Tally) (facts : RunFacts) → tally' ≡ tally_after m tally facts → tally.course.started ≡ true → tally'.course.started ≡ true
-still_started m tally tally' facts recorded started = ap (λ (tally : Tally). tally.course.started) recorded ∙ started_if (is_late m tally.course facts) m tally facts started
-
 -- ---- a run
 
 module _ (laws : Laws) (codecs : List CodecState) (ring : Ring) (pcm : List ℕ) (budget : ℕ) (tally tally' : Tally) (old new : Telling) (started : tally.course.started ≡ true) (heard : IsHeardBy codecs ring (world_of old)) (going : IsGoing old) where
@@ -153,7 +145,7 @@ module _ (laws : Laws) (codecs : List CodecState) (ring : Ring) (pcm : List ℕ)
   pub run_sounds : (answer : Ran) → answer ≡ tally'.course.ran → RunTells ring pcm budget tally answer tally' old new → Sounds codecs ring pcm tally' new
   run_sounds answer is run =
       let led = stream_after answer is run in record {
-        started = still_started (measures ring.geometry) tally tally' run.facts run.recorded started;
+        started = still_on (measures ring.geometry) tally tally' run.facts run.recorded started;
         heard = heard_after answer run;
         stream = subst (λ (was : Ran). StreamIs was ring pcm tally' (world_of new)) is led.0;
         lives = subst (λ (was : Ran). Lives (is_open was) new) is led.1;

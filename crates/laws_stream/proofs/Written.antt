@@ -5,13 +5,13 @@ use Rattle.hda_registers.specs.declared.shapes.Width.TheVariants.{One, Four}
 use Rattle.hda_registers.specs.Fields.{Fields, Global, Descriptor, is_running, is_out_of_reset}
 use Rattle.hda_registers.specs.Access.{written, effects_of}
 use Rattle.hda_registers.specs.Laws.{IsBesideStreams}
-use Rattle.hda_registers.proofs.Callers.{keeps-reset, keeps-left, keeps-shape, leaves-streams, changes-input, changes-output, status-input, status-output, ignored}
+use Rattle.hda_registers.proofs.Callers.{keeps-reset, keeps-left, keeps-shape, leaves-streams, changes-input, changes-output, status-input, status-output, ignored, written_time}
 use Rattle.hda_world.specs.Worlds.{World}
 use Rattle.hda_world.specs.Events.{Event, Stepped, Begin, End, Read, Write, DmaRead, DmaWrite, happens, after_write}
 use Rattle.hda_world.proofs.Callers.{plain_write, reset_write, rising_write, kept_step}
 use Rattle.command_engine.proofs.Callers.{reset_registers, risen_registers, resets, no_reset}
 use Rattle.period_writer.specs.Beside.{IsStatusWrite}
-use Rattle.period_writer.proofs.Callers.{keeps_time, status_error}
+use Rattle.period_writer.proofs.Callers.{status_error}
 use Rattle.laws_stream.specs.Resting.{Rests, IsResetWrite, LeavesRest}
 use Rattle.laws_stream.proofs.Kept.{rests_kept}
 
@@ -46,7 +46,7 @@ rests_over fifo world at value width other same rests =
 
 beside_same : (f : Fields) (at value : ℕ) (width : Width) → at / 4 ≢ 2 → IsBesideStreams at → (out : Bool) → is_out_of_reset f.global ≡ out → Same f (written f at width value)
 beside_same f at value width other beside true out =
-    let time = keeps_time f at width value other beside out in
+    let time = written_time f at width value other out in
     let streams = leaves-streams f at width value other beside in record {
       fifo = ap (λ shape. shape.fifo) (keeps-shape f at width value);
       clock = time.clock;

@@ -2,14 +2,8 @@
 use Rattle.std.proofs.Common.{◌≡◌, ℕ, zero, suc, ◌+◌, ◌*◌, ◌%◌, List, [], ◌∷◌, ◌++◌, length, replicate, refl, sym, ap, subst, ◌∙◌, add-one, append_assoc, append-nil, length-append, arith}
 use Rattle.std.specs.List.{flat_map, range_with_len}
 use Rattle.std.proofs.lemmas.Grind.{flat_map-append}
+use Rattle.verb_codes.proofs.Callers.{range_more}
 use Rattle.made_inputs.specs.MadeSound.{made_frame, frames_for, first_frames, made_pcm, made_wav, wav_head}
-
-range_more : (a n : ℕ) → range_with_len a (n + 1) ≡ range_with_len a n ++ (a + n) ∷ []
-range_more a zero = ap (λ (k : ℕ). k ∷ []) (omega arith)
-range_more a (suc n) =
-    ap (range_with_len a) (add-one (suc n))
-    ∙ ap (λ (more : List ℕ). a ∷ more) (ap (range_with_len (a + 1)) (sym (add-one n)) ∙ range_more (a + 1) n)
-    ∙ ap (λ (k : ℕ). a ∷ (range_with_len (a + 1) n ++ k ∷ [])) (omega arith)
 
 pub frames_more : (number count : ℕ) → first_frames number (count + 1) ≡ first_frames number count ++ made_frame number count
 frames_more number count =

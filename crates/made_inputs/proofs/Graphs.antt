@@ -1,10 +1,11 @@
 -- The graph of the made machine has no fault.
 use Rattle.std.proofs.Common.{◌≡◌, ◌≤◌, ◌<◌, ◌^◌, ◌++◌, ℕ, zero, suc, length, replicate, Ok, lit<, lit≤, Bool, true, false, cond, List, [], ◌∷◌, Option, Some, None, refl, sym, ap, subst, ◌∙◌, arith}
-use Rattle.std.specs.Prelude.{◌&&◌, slice_get, Contains, nat_lt, ◌-◌}
+use Rattle.std.specs.Prelude.{slice_get, Contains, nat_lt, ◌-◌}
 use Rattle.std.specs.List.{list_all}
 use Rattle.std.specs.Prelude.{All}
 use Rattle.std.proofs.lemmas.List.Sums.{AllPass-from_list_all}
 use Rattle.std.proofs.lemmas.List.Elements.{All-nil, All-cons}
+use Rattle.std.proofs.lemmas.Bool.{and_parts}
 use Rattle.verb_codes.specs.Lists.{entry_width, expansion_of}
 use Rattle.codec_graph.specs.declared.raw.RawNode.{RawNode}
 use Rattle.codec_graph.specs.declared.raw.RawCodec.{RawCodec}
@@ -34,17 +35,13 @@ ends_after_one node = list_all (λ (to : ℕ). is_none (inner_list made_codec to
 all_end : list_all ends_after_one widgets ≡ true
 all_end = refl
 
-both_true : (a b : Bool) → (a && b) ≡ true → (a ≡ true) × (b ≡ true)
-both_true true b all = (refl, all)
-both_true false b all = cc
-
 some_inj : {X : Type 0} (x y : X) → slice_get (x ∷ []) 0 ≡ Some y → x ≡ y
 some_inj x y is = cc
 
 holds_in : {X : Type 0} (p : X → Bool) (xs : List X) (k : ℕ) (x : X) → list_all p xs ≡ true → slice_get xs k ≡ Some x → p x ≡ true
 holds_in p [] k x all there = cc
-holds_in p (y ∷ xs) zero x all there = ap p (sym (some_inj y x there)) ∙ (both_true (p y) (list_all p xs) all).0
-holds_in p (y ∷ xs) (suc k) x all there = holds_in p xs k x (both_true (p y) (list_all p xs) all).1 there
+holds_in p (y ∷ xs) zero x all there = ap p (sym (some_inj y x there)) ∙ (and_parts (p y) (list_all p xs) all).0
+holds_in p (y ∷ xs) (suc k) x all there = holds_in p xs k x (and_parts (p y) (list_all p xs) all).1 there
 
 holds_at : (p : ℕ → Bool) (xs : List ℕ) (x : ℕ) → list_all p xs ≡ true → Contains xs x → p x ≡ true
 holds_at p xs x all in' =

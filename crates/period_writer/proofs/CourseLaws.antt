@@ -1,14 +1,15 @@
 -- What is kept of the course of runs.
-use Rattle.std.proofs.Common.{◌≡◌, ◌≤◌, ◌<◌, ◌+◌, ◌-◌, ◌*◌, ◌/◌, ◌^◌, ◌==◌, ◌∙◌, ◌⊎◌, inl, inr, min, ℕ, Bool, true, false, refl, ap, subst, sym, arith, rules, if◌then◌else◌}
-use Rattle.std.proofs.Math.Nat.{mul-le-mul_left, zero-div, mod-lt}
+use Rattle.std.proofs.Common.{◌≡◌, ◌≤◌, ◌<◌, ◌+◌, ◌-◌, ◌*◌, ◌/◌, ◌^◌, ◌==◌, ◌∙◌, min, ℕ, Bool, true, false, refl, ap, subst, sym, arith, rules, if◌then◌else◌}
+use Rattle.std.proofs.Math.Nat.{mul-le-mul_left, zero-div}
 use Rattle.std.specs.Prelude.{nat_lt}
-use Rattle.std.proofs.lemmas.Nat.{div_below, div-mul-add, div-add-mod'}
+use Rattle.std.proofs.lemmas.Nat.{div_below, div-mul-add}
 use Rattle.period_writer.specs.declared.course.Course.{Course}
 use Rattle.period_writer.specs.declared.course.Ran.{Ran}
 use Rattle.period_writer.specs.Courses.{IsCourse}
 use Rattle.period_writer.specs.Rings.{period_bytes, ring_bytes}
 use Rattle.period_writer.specs.Places.{touched}
 use Rattle.period_writer.proofs.LineSteps.{div_gt}
+use Rattle.period_writer.proofs.RingPlaces.{div_up}
 
 sound_ends : (last start sound reach : ℕ) → last ≤ start → start + sound ≤ reach → (if sound == 0 then last else start + sound) ≤ reach
 sound_ends last start sound reach high fits = by_test (sound == 0) where
@@ -51,23 +52,6 @@ pub ring_some : (periods period : ℕ) → 2 ≤ periods → 1 ≤ period → 1 
 ring_some periods period some some' =
     let wide : period_bytes period * 2 ≤ period_bytes period * periods = mul-le-mul_left (period_bytes period) some in
     omega (arith, wide, some')
-
--- quotients ascend
-div_up : (b m n : ℕ) → 1 ≤ b → m ≤ n → m / b ≤ n / b
-div_up b m n some le = by (order (m / b) (n / b)) where
-  order : (a c : ℕ) → (a ≤ c) ⊎ (c + 1 ≤ a)
-  order a c = search (rules, arith)
-
-  by : (m / b ≤ n / b) ⊎ (n / b + 1 ≤ m / b) → m / b ≤ n / b
-  by (inl fine) = fine
-  by (inr more) =
-      let wide : b * (n / b + 1) ≤ b * (m / b) = mul-le-mul_left b more in
-      let one = div-add-mod' m b in
-      let other = div-add-mod' n b in
-      let small = mod-lt n some in
-      let e1 : m / b * b ≡ b * (m / b) = omega arith in
-      let e2 : b * (n / b + 1) ≡ n / b * b + b = omega arith in
-      absurd (omega (arith, wide, one, other, small, e1, e2, le))
 
 -- a part of at most a ring touches at most one period more than the ring has
 touched_few : (b k from to : ℕ) → 1 ≤ b → to - from ≤ b * k → touched b from to ≤ k + 1

@@ -3,7 +3,7 @@ use Rattle.std.proofs.Common.{◌≡◌, ◌≤◌, ◌+◌, ◌*◌, ◌==◌, 
 use Rattle.period_writer.specs.Courses.{IsCourse}
 use Rattle.period_writer.specs.Runs.{Measures, RunFacts, Tally, position_from, run_reach, run_turn, run_start, run_sound, takes_back, tally_if, tally_opened}
 use Rattle.period_writer.proofs.LineRuns.{run_ends, run_longer, start_high}
-use Rattle.period_writer.proofs.RunRooms.{position_soon}
+use Rattle.period_writer.proofs.RunTimes.{position_soon}
 
 pub course_opens : (ring : ℕ) → IsCourse ring 0 tally_opened.course
 course_opens ring = record { bounded = omega arith; reach = refl; fresh = λ e. refl; used = omega arith; sound_end = omega arith; sure = omega arith }

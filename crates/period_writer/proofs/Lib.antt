@@ -44,5 +44,6 @@ pub mod RunClause
 pub mod RegistersBeside
 pub mod BetweenRuns
 pub mod StoppedStreams
+pub mod RingExtents
 pub mod Callers
 pub mod Shapes

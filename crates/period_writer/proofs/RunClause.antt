@@ -1,10 +1,6 @@
 -- What a later run tells, by how it ends.
-use Rattle.std.proofs.Common.{◌≡◌, ◌≤◌, ◌*◌, ℕ, Bool, true, false, List, [], ◌∷◌, Option, length, drop, refl, sym, ap, subst, ◌∙◌, arith, if◌then◌else◌}
-use Rattle.std.proofs.Math.Nat.{mul-le-mul_left}
-use Rattle.stream_format.specs.declared.format.Format.{Format}
-use Rattle.stream_format.specs.declared.format.Bits.{Bits}
-use Rattle.stream_format.specs.declared.format.Bits.TheVariants.{B16, B24, B32}
-use Rattle.stream_format.specs.Cadence.{container_bytes, block_bytes}
+use Rattle.std.proofs.Common.{◌≡◌, ℕ, Bool, true, false, List, [], ◌∷◌, Option, length, drop, refl, sym, ap, subst, ◌∙◌, if◌then◌else◌}
+use Rattle.stream_format.proofs.Callers.{some_block}
 use Rattle.hda_world.specs.Tellings.{Telling, Makes, Between, world_of}
 use Rattle.hda_world.proofs.Callers.{told_map}
 use Rattle.period_writer.specs.Playing.{Plays, Finishes}
@@ -24,17 +20,6 @@ use Rattle.period_writer.specs.Playing.{stop_accesses, turn_with}
 use Rattle.period_writer.specs.Owning.{Agrees, IsPlaying}
 use Rattle.period_writer.specs.Outcomes.{AgreesAs, WasStopped, TurnTells, RunTells, RunTellsOf, FinishTellsOf, EndsLast}
 use Rattle.period_writer.proofs.RunTelling.{tells_playing, tells_late, tells_more, tells_drained}
-
-some_product : (a b : ℕ) → 1 ≤ a → 1 ≤ b → 1 ≤ a * b
-some_product a b one other = let wide : a * 1 ≤ a * b = mul-le-mul_left a other in omega (arith, wide, one)
-
-some_container : (bits : Bits) → 1 ≤ container_bytes bits
-some_container B16 = omega arith
-some_container B24 = omega arith
-some_container B32 = omega arith
-
-pub some_block : (format : Format) → 1 ≤ block_bytes format
-some_block format = let channels = format.some in some_product format.channels (container_bytes format.bits) (omega (arith, channels)) (some_container format.bits)
 
 module _ (ring : Ring) (pcm : List ℕ) (runs : ℕ) (tally : Tally) (facts : RunFacts) (is : IsCourse (size_of ring) runs tally.course) (left_is : facts.left ≡ length (drop tally.course.used pcm))
     (old new : Telling) (playing : IsPlaying ring pcm tally (world_of old)) (small : HasNotWrapped (world_of new)) where

@@ -32,6 +32,7 @@ use Rattle.period_writer.specs.Playing.{run_writes}
 use Rattle.period_writer.specs.Owning.{Allowed, WritesAllowed, IsOwned, GoesOn}
 use Rattle.period_writer.proofs.RowsWritten.{writes_are}
 use Rattle.period_writer.proofs.RingPieces.{IsPart, part_of, piece_over, row_led}
+use Rattle.period_writer.proofs.RingExtents.{with_extent}
 
 -- ---- from what stands to what is owned
 
@@ -118,20 +119,12 @@ goes_step ring world step is = record { frames = frames_step ring world step is;
 -- the ring holds another line that is the same so far
 pub relined : (ring : Ring) (line line' : List ℕ) (from from' upto sure sure' : ℕ) (world : World) → ((at : ℕ) → at < upto → slice_index line' at ≡ slice_index line at)
     → from ≤ from' → from' ≤ world.output.left → sure' ≤ sure → Stands ring (extent_of line from upto sure) world → Stands ring (extent_of line' from' upto sure') world
-relined ring line line' from from' upto sure sure' world same later behind less stands = record {
-  set = stands.set;
-  ring_is = stands.ring_is;
-  clock_is = stands.clock_is;
-  position = stands.position;
-  beside = stands.beside;
-  list_stands = stands.list_stands;
-  fifo = stands.fifo;
-  place = stands.place;
-  behind = behind;
-  ordered = let ordered = stands.ordered in omega (arith, ordered, less);
-  standing = λ at low high. stands.standing at (omega (arith, later, low)) high ∙ sym (same at high);
-  fetched = λ at below under. let ordered = stands.ordered in stands.fetched at below (omega (arith, under, less)) ∙ sym (same at (omega (arith, under, less, ordered)));
-}
+relined ring line line' from from' upto sure sure' world same later behind less stands =
+    let ordered = stands.ordered in
+    with_extent ring (extent_of line from upto sure) (extent_of line' from' upto sure') world behind (omega (arith, ordered, less))
+    (λ at low high. stands.standing at (omega (arith, later, low)) high ∙ sym (same at high))
+    (λ at below under. stands.fetched at below (omega (arith, under, less)) ∙ sym (same at (omega (arith, under, less, ordered))))
+    stands
 
 module _ (ring : Ring) (pcm : List ℕ) (runs : ℕ) (tally : Tally) (facts : RunFacts) (some_block : 1 ≤ block_bytes ring.geometry.format) (is : IsCourse (size_of ring) runs tally.course) (started : tally.course.started ≡ true)
     (written : IsWritten pcm tally) (enough : run_sound (measures ring.geometry) tally.course facts ≤ length (drop tally.course.used pcm)) (since : ℕ) (clock_from : tally.course.from ≡ 500 * since) where

@@ -9,7 +9,7 @@ use Rattle.stream_format.specs.Cadence.{block_bytes}
 use Rattle.hda_world.specs.Worlds.{World}
 use Rattle.hda_world.specs.Events.{Event, Stepped, Read, happens, after, AreHonest}
 use Rattle.hda_world.specs.Moments.{AreWoven, AtEach}
-use Rattle.hda_world.proofs.Callers.{Lead, lead_none, lead_more, lead_both, lead_some}
+use Rattle.hda_world.proofs.Callers.{Lead, lead_none, lead_more, lead_both, lead_some, woven_split}
 use Rattle.period_writer.specs.declared.registers.TheConstants.{POSITION}
 use Rattle.period_writer.specs.Standing.{Ring, limit_in, bytes_in, size_of}
 use Rattle.period_writer.specs.Runs.{RunFacts, Tally, run_sound}
@@ -37,18 +37,6 @@ AtEach-append Holds (event ∷ first) second world before more = (before.0, AtEa
 pub AtEach-map : (Holds Weaker : World → Event → Type 0) → ((world : World) (event : Event) → Holds world event → Weaker world event) → (events : List Event) (world : World) → AtEach Holds events world → AtEach Weaker events world
 AtEach-map Holds Weaker weaker [] world all = tt
 AtEach-map Holds Weaker weaker (event ∷ events) world all = (weaker world event all.0, AtEach-map Holds Weaker weaker events (happens world event) all.1)
-
-woven_split : (first second events : List Event) → AreWoven (first ++ second) events
-    → (front : List Event) × (back : List Event) × (events ≡ front ++ back) × AreWoven first front × AreWoven second back
-woven_split [] second events made = ([], events, refl, refl, made)
-woven_split (access ∷ first) second events (steps, rest, are, made) =
-    let (front, back, both, one, other) = woven_split first second rest made in (
-      map Stepped steps ++ access ∷ front,
-      back,
-      are ∙ ap (λ (more : List Event). map Stepped steps ++ access ∷ more) both ∙ sym (append_assoc (map Stepped steps) (access ∷ front) back),
-      (steps, front, refl, one),
-      other,
-    )
 
 -- the last of two accesses is the last event
 last_of_two : (one two : Event) (events : List Event) → AreWoven (one ∷ two ∷ []) events → (early : List Event) × (events ≡ early ++ two ∷ [])

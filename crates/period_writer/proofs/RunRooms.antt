@@ -1,13 +1,10 @@
 -- The cut is never before the link, and the room is at most a ring.
-use Rattle.std.proofs.Common.{◌≡◌, ◌≤◌, ◌<◌, ◌+◌, ◌-◌, ◌%◌, ℕ, min, max, Bool, true, false, arith, if◌then◌else◌}
-use Rattle.std.proofs.Math.Nat.{mod-lt}
+use Rattle.std.proofs.Common.{◌≡◌, ◌≤◌, ◌+◌, ◌-◌, ℕ, min, max, Bool, true, false, arith, if◌then◌else◌}
 use Rattle.period_writer.specs.declared.course.Course.{Course}
 use Rattle.period_writer.specs.Runs.{Measures, RunFacts, position_from, run_at, run_cut, run_start, run_room, takes_back}
 use Rattle.period_writer.specs.Courses.{IsCourse}
 use Rattle.period_writer.proofs.LineRuns.{cut_low}
-
-pub position_soon : (ring earlier lpib : ℕ) → 1 ≤ ring → position_from ring earlier lpib < earlier + ring
-position_soon ring earlier lpib some = let small = mod-lt (lpib + (ring - earlier % ring)) some in omega (arith, small)
+use Rattle.period_writer.proofs.RunTimes.{position_soon}
 
 -- the cut is never before the link, so the room is a ring at most
 pub cut_past : (m : Measures) (runs : ℕ) (course : Course) (facts : RunFacts) → 1 ≤ m.ring → IsCourse m.ring runs course → run_at m course facts ≤ run_cut m course facts

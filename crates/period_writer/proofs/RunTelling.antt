@@ -32,6 +32,7 @@ use Rattle.period_writer.specs.Outcomes.{HasDrained, WasStopped, TurnTells}
 use Rattle.period_writer.proofs.RunMoments as moments
 use Rattle.period_writer.proofs.RunParts as parts_of
 use Rattle.period_writer.proofs.RunParts.{AtEach-append, AtEach-map, frames_up, fetched_up}
+use Rattle.period_writer.proofs.RingExtents.{with_extent}
 
 small_clock : (clock frames : ℕ) → clock ≡ (500 * frames) % 2 ^ 32 → 500 * frames < 2 ^ 32 → clock ≡ 500 * frames
 small_clock clock frames is small = is ∙ mod-eq_of_lt small
@@ -164,20 +165,9 @@ module _ (ring : Ring) (pcm : List ℕ) (runs : ℕ) (tally : Tally) (facts : Ru
 
   -- all that was fetched is the line, now up to the new reach
   sure_all : (world : World) → Stands ring (extent_of line' at' reach' sure) world → length world.output.entered ≤ sure → Stands ring (extent_of line' at' reach' reach') world
-  sure_all world stands few = record {
-    set = stands.set;
-    ring_is = stands.ring_is;
-    clock_is = stands.clock_is;
-    position = stands.position;
-    beside = stands.beside;
-    list_stands = stands.list_stands;
-    fifo = stands.fifo;
-    place = stands.place;
-    behind = stands.behind;
-    ordered = omega arith;
-    standing = stands.standing;
-    fetched = λ at below under. stands.fetched at below (omega (arith, below, few));
-  }
+  sure_all world stands few =
+      with_extent ring (extent_of line' at' reach' sure) (extent_of line' at' reach' reach') world stands.behind (omega arith) stands.standing
+      (λ at below under. stands.fetched at below (omega (arith, below, few))) stands
 
   -- ---- from the parts to the whole
 

@@ -26,7 +26,7 @@ start_by m course facts sound = if is_back course (run_cut m course facts) sound
 -- ---- how it ends
 
 -- so many bytes are sound
-sound_most : (block budget room left : ℕ) → whole_blocks block (min budget (min room left)) ≤ left
+pub sound_most : (block budget room left : ℕ) → whole_blocks block (min budget (min room left)) ≤ left
 sound_most block budget room left = grind arith
 
 -- by whether a run before was, and how many bytes it wrote

@@ -3,7 +3,7 @@ use Rattle.std.proofs.Common.{◌≡◌, ◌≤◌, ◌+◌, ◌-◌, ◌∙◌,
 use Rattle.std.specs.Prelude.{min, zero, suc, take, drop, replicate}
 use Rattle.std.proofs.lemmas.List.{length-append}
 use Rattle.wav_reader.specs.Supplies.{Supplied, MayGive, Suffices, EndsWith, without}
-use Rattle.wav_reader.proofs.Callers.{with_taken, given_before, rest_after, first_of}
+use Rattle.wav_reader.proofs.Callers.{with_taken, given_before, rest_after, first_of, held_most}
 use Rattle.period_writer.specs.declared.course.Course.{Course}
 use Rattle.period_writer.specs.Courses.{IsCourse}
 use Rattle.period_writer.specs.Lines.{sound_and_silence}
@@ -14,11 +14,6 @@ use Rattle.period_writer.specs.Places.{line_writes}
 use Rattle.period_writer.specs.Playing.{writes_by}
 use Rattle.period_writer.proofs.SameRuns.{tally_same, sound_same, start_by}
 use Rattle.period_writer.proofs.FirstRuns.{first_in_time}
-
-held_most : (supply : Supplied) (sound : List ℕ) → MayGive supply sound → length supply.held ≤ length sound
-held_most supply sound may =
-    let is = ap length may.is in
-    let both = length-append supply.held may.later in omega (arith, is, both)
 
 sound_within : (block budget ring room left held : ℕ) → room ≤ ring → min budget (min ring left) ≤ held → whole_blocks block (min budget (min room left)) ≤ held
 sound_within block budget ring room left held fits enough = grind arith
@@ -132,12 +127,12 @@ one_more m tally tally' facts is =
     let same = ap (λ (tally : Tally). length tally.runs) is in
     omega (arith, more, same)
 
-on_by : (late : Bool) (m : Measures) (tally : Tally) (facts : RunFacts) → tally.course.started ≡ true → (tally_if late m tally facts).course.started ≡ true
-on_by true m tally facts started = started
-on_by false m tally facts started = refl
+pub started_by : (late : Bool) (m : Measures) (tally : Tally) (facts : RunFacts) → tally.course.started ≡ true → (tally_if late m tally facts).course.started ≡ true
+started_by true m tally facts started = started
+started_by false m tally facts started = refl
 
 pub still_on : (m : Measures) (tally tally' : Tally) (facts : RunFacts) → tally' ≡ tally_after m tally facts → tally.course.started ≡ true → tally'.course.started ≡ true
-still_on m tally tally' facts is started = ap (λ (tally : Tally). tally.course.started) is ∙ on_by (is_late m tally.course facts) m tally facts started
+still_on m tally tally' facts is started = ap (λ (tally : Tally). tally.course.started) is ∙ started_by (is_late m tally.course facts) m tally facts started
 
 pub now_on : (m : Measures) (runs : ℕ) (tally tally' : Tally) (facts : RunFacts) → IsCourse m.ring runs tally.course → tally' ≡ tally_after m tally facts → tally.course.started ≡ false → tally'.course.started ≡ true
 now_on m runs tally tally' facts course is fresh =

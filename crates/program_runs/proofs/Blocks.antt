@@ -1,25 +1,17 @@
 -- Blocks that are first fits in a region lie in it, and apart.
-use Rattle.std.proofs.Common.{◌≡◌, ◌≤◌, inl, inr, ◌+◌, ◌*◌, ◌/◌, ◌%◌, ◌||◌, ℕ, Bool, true, false, nat_le, List, [], ◌∷◌, refl, sym, ap, subst, arith, rules}
-use Rattle.std.specs.Prelude.{Contains}
-use Rattle.std.proofs.lemmas.List.Elements.{All-contains, Contains-append_left, Contains-append_right, Contains-push}
-use Rattle.dma_pool.specs.declared.runs.Run.{Run}
-use Rattle.dma_pool.specs.Pools.{AddsRun, IsApart, granules_for}
+use Rattle.std.proofs.Common.{◌≡◌, ◌≤◌, inl, inr, ◌+◌, ◌*◌, ◌/◌, ◌%◌, ◌||◌, ℕ, Bool, true, nat_le, refl, ap, arith, rules}
+use Rattle.std.proofs.lemmas.List.Elements.{All-contains}
+use Rattle.std.proofs.lemmas.Bool.{or_right}
+use Rattle.dma_pool.specs.Pools.{IsApart, granules_for}
 use Rattle.dma_pool.specs.Blocks.{run_at}
 use Rattle.hda_world.specs.declared.world.TheConstants.{REGION_BYTES}
 use Rattle.command_engine.specs.Blocks.{corb_bytes, rirb_bytes, are_apart}
 use Rattle.command_engine.specs.Courses.{HasBlocks}
 use Rattle.command_engine.specs.Quiet.{IsBlockAddress}
 use Rattle.period_writer.specs.declared.geometry.Geometry.{Geometry}
+use Rattle.period_writer.proofs.Callers.{adds_has}
 use Rattle.driver_progress.specs.Tasks.{Blocks}
 use Rattle.program_runs.specs.FirstFits.{AreFirstFits}
-
-added : (old : List Run) (run : Run) (new : List Run) → AddsRun old run new → Contains new run
-added old run new adds =
-    subst (λ (runs : List Run). Contains runs run) (sym adds.becomes) (Contains-append_right adds.front (run ∷ adds.back) run (Contains-append_left (run ∷ []) adds.back run (Contains-push [] run)))
-
-or_true : (a b : Bool) → b ≡ true → (a || b) ≡ true
-or_true true b is = refl
-or_true false b is = is
 
 lie_apart : (corb rirb : ℕ) → corb % 128 ≡ 0 → rirb % 128 ≡ 0 → IsApart (rirb / 128) (granules_for rirb_bytes) (run_at corb corb_bytes) → are_apart corb rirb ≡ true
 lie_apart corb rirb aligned aligned' (inl before) =
@@ -28,7 +20,7 @@ lie_apart corb rirb aligned aligned' (inl before) =
     ap (λ (b : Bool). b || nat_le (rirb + rirb_bytes) corb) is
 lie_apart corb rirb aligned aligned' (inr behind) =
     let less : rirb + rirb_bytes ≤ corb = omega (arith, behind, aligned, aligned') in
-    or_true (nat_le (corb + corb_bytes) rirb) (nat_le (rirb + rirb_bytes) corb) (search (rules, less))
+    or_right (nat_le (corb + corb_bytes) rirb) (nat_le (rirb + rirb_bytes) corb) (search (rules, less))
 
 -- both rings lie so
 pub record LieWell (blocks : Blocks) : Type 0 where
@@ -48,7 +40,7 @@ lie_well geometry blocks fits =
     let whole = fits.all_free.granules in
     let below : corb + corb_bytes ≤ REGION_BYTES = inside corb corb_bytes (granules_for corb_bytes) fits.free.granules fits.corb_aligned first.fits.free.within refl whole in
     let above : rirb + rirb_bytes ≤ REGION_BYTES = inside rirb rirb_bytes (granules_for rirb_bytes) fits.free.granules fits.rirb_aligned second.fits.free.within refl whole in
-    let beside = All-contains (IsApart (rirb / 128) (granules_for rirb_bytes)) fits.opens.engine.middle (run_at corb corb_bytes) second.fits.free.apart (added fits.free.taken (run_at corb corb_bytes) fits.opens.engine.middle first.adds) in
+    let beside = All-contains (IsApart (rirb / 128) (granules_for rirb_bytes)) fits.opens.engine.middle (run_at corb corb_bytes) second.fits.free.apart (adds_has fits.free.taken (run_at corb corb_bytes) fits.opens.engine.middle first.adds) in
     record {
       blocks_are = record { corb_inside = below; rirb_inside = above; apart = lie_apart corb rirb fits.corb_aligned fits.rirb_aligned beside };
       corb = record { aligned = fits.corb_aligned; narrow = omega (arith, below) };

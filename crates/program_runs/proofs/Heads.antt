@@ -5,6 +5,7 @@ use Rattle.hda_outside.specs.MemoryShelf.{fault_count}
 use Rattle.hda_outside.specs.Shelf.{Files, file_of}
 use Rattle.stream_format.specs.Layouts.{layout}
 use Rattle.stream_format.specs.declared.format.Rate.TheVariants.{R48}
+use Rattle.stream_format.proofs.Callers.{one_format}
 use Rattle.route_setup.specs.Means.{Meaning}
 use Rattle.wav_reader.specs.declared.fault.WavFault.{WavFault}
 use Rattle.wav_reader.specs.declared.opened.WavHead.{WavHead}
@@ -18,7 +19,6 @@ use Rattle.wav_reader.specs.Wavs.{Meaning, meaning_by, wav_of}
 use Rattle.made_inputs.specs.MadeSound.{made_format, made_pcm, made_wav}
 use Rattle.made_inputs.proofs.Callers.{length_pcm, wav_short}
 use Rattle.program_runs.specs.Shelves.{IsMadeHead, sound_name, made_files}
-use Rattle.program_runs.proofs.Formats.{one_format}
 
 -- what the file means
 abbrev pub meant : ℕ → Meaning

@@ -1,9 +1,8 @@
 -- Pins of codecs that are set up hear as their plans say.
-use Rattle.std.proofs.Common.{◌≡◌, ◌==◌, ◌&&◌, ◌||◌, ◌<◌, ℕ, Bool, true, false, List, [], ◌∷◌, length, map, get_or, refl, sym, ap, subst, ◌∙◌, inl, inr, arith}
-use Rattle.std.specs.Prelude.{All, AllPairs, Contains, Option, None, Some, not, nat_le, nat_lt}
+use Rattle.std.proofs.Common.{◌≡◌, ◌==◌, ◌&&◌, ◌<◌, ℕ, Bool, true, false, List, [], ◌∷◌, length, map, get_or, refl, sym, ap, subst, ◌∙◌, inl, inr, arith}
+use Rattle.std.specs.Prelude.{All, AllPairs, Contains, Option, None, Some, not, nat_le}
 use Rattle.std.specs.List.{AllZip}
 use Rattle.std.proofs.lemmas.Bool.{cases_order}
-use Rattle.std.proofs.lemmas.Bool.Decides.{nat_tests}
 use Rattle.std.proofs.lemmas.List.{get_or-map, get_or_default, length-map}
 use Rattle.std.proofs.lemmas.List.Elements.{Contains-append_right}
 use Rattle.stream_format.specs.declared.format.Format.{Format}
@@ -23,9 +22,10 @@ use Rattle.route_planner.specs.declared.routes.Outcome.{Outcome}
 use Rattle.route_planner.specs.declared.routes.Outcome.TheVariants as outcome
 use Rattle.route_planner.specs.declared.routes.PinPlan.{PinPlan}
 use Rattle.route_planner.specs.declared.routes.Plan.{Plan}
-use Rattle.route_planner.specs.Order.{association_of, sequence_of, comes_before}
+use Rattle.route_planner.specs.Order.{comes_before}
 use Rattle.route_planner.specs.Paths.{passes}
 use Rattle.route_planner.specs.Plans.{IsPlan}
+use Rattle.route_planner.proofs.Callers.{not_before}
 use Rattle.route_setup.specs.Means.{analog}
 use Rattle.setup_verbs.specs.SetUp.{IsSetUp, IsNoRoute, IsOutcomeOpen, HasNoRoute}
 use Rattle.hda_files.specs.declared.machine.CodecFile.{CodecFile}
@@ -54,13 +54,6 @@ pin_of (Some node) is =
 
 abbrev pin_in : PinPlan → ℕ
 pin_in entry = entry.pin
-
--- no pin comes before itself
-never_first : (group rank pin : ℕ) → (nat_lt group group || (group == group && (nat_lt rank rank || (rank == rank && nat_lt pin pin)))) ≡ true → ⊥
-never_first group rank pin is = grind (arith, nat_tests)
-
-not_before : (codec : RawCodec) (pin : ℕ) → comes_before codec pin pin ≡ true → ⊥
-not_before codec pin = never_first (association_of (node_at codec pin)) (sequence_of (node_at codec pin)) pin
 
 -- so two places with one pin are one
 same_place : (codec : RawCodec) (pins : List ℕ) (j k d : ℕ) → AllPairs (λ pin other. comes_before codec pin other ≡ true) pins → j < length pins → k < length pins → get_or pins j d ≡ get_or pins k d → j ≡ k

@@ -25,7 +25,6 @@ pub mod Starts
 pub mod Ends
 pub mod Plays
 pub mod Turns
-mod Formats
 mod Heads
 pub mod Machines
 pub mod Routes

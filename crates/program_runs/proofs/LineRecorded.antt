@@ -1,14 +1,14 @@
 -- The line that runs record is whole: no two silences of it touch, all else is the sound, and it is as long as its last run's reach.
 use Rattle.std.proofs.Common.{◌≤◌, ◌+◌, ◌-◌, ◌*◌, ℕ, Bool, true, false, List, [], ◌∷◌, length, drop, length-drop, arith}
-use Rattle.std.specs.Prelude.{min}
 use Rattle.std.proofs.Math.Nat.{mul-le-mul_left}
 use Rattle.period_writer.specs.declared.course.Ran.{Ran}
 use Rattle.period_writer.specs.declared.course.Ran.TheVariants as ran
 use Rattle.period_writer.specs.declared.geometry.Geometry.{Geometry}
 use Rattle.period_writer.specs.Courses.{IsCourse}
 use Rattle.period_writer.specs.Owning.{IsWritten}
-use Rattle.period_writer.specs.Rings.{period_bytes, whole_blocks}
+use Rattle.period_writer.specs.Rings.{period_bytes}
 use Rattle.period_writer.specs.Runs.{Measures, RunFacts, Stretch, Tally, measures, run_room, run_sound, tally_if, tally_of_stretches, tally_on, tally_opened, taken_up, taken_up_if}
+use Rattle.period_writer.proofs.Callers.{sound_most}
 
 -- what a run keeps
 pub record RunLaws : Type 0 where
@@ -28,10 +28,6 @@ ring_some geometry =
     let some' = geometry.some in
     let wide : period_bytes geometry.period * 2 ≤ period_bytes geometry.period * geometry.periods = mul-le-mul_left (period_bytes geometry.period) some in
     omega (arith, wide, some')
-
--- no more is written than is left
-sound_most : (block budget room left : ℕ) → whole_blocks block (min budget (min room left)) ≤ left
-sound_most block budget room left = grind arith
 
 -- the course and the line of some runs
 record HasLine (m : Measures) (pcm : List ℕ) (tally : Tally) : Type 0 where

@@ -1,94 +1,43 @@
 -- The link frames of journals: how many are counted, and that WALCLK does not wrap meanwhile.
-use Rattle.std.proofs.Common.{◌≡◌, ◌≤◌, ◌+◌, ℕ, zero, suc, Bool, true, false, if◌then◌else◌, List, [], ◌∷◌, ◌++◌, length, map, drop, All, refl, sym, ap, ◌∙◌, Option, Some, None, arith}
+use Rattle.std.proofs.Common.{◌≡◌, ◌≤◌, ◌+◌, ℕ, true, List, [], ◌∷◌, ◌++◌, length, map, drop, All, refl, sym, ap, subst, ◌∙◌, arith}
 use Rattle.std.specs.Prelude.{sum_by}
 use Rattle.std.specs.List.{flat_map}
 use Rattle.std.proofs.lemmas.List.Sums.{sum_by-cons, sum_by-append}
 use Rattle.std.proofs.lemmas.List.Elements.{All-head, All-tail}
 use Rattle.std.proofs.Math.Seq.{drop-nil}
 use Rattle.world_steps.specs.declared.Step.{Step}
-use Rattle.world_steps.specs.declared.Step.TheVariants as step
-use Rattle.hda_registers.specs.Fields.{is_out_of_reset}
-use Rattle.hda_registers.specs.Access.{written, effects_of}
-use Rattle.world_rings.specs.Engines.{next_word}
-use Rattle.codec_graph.specs.declared.waiting.Waiting.{Waiting}
 use Rattle.schedule_reader.specs.declared.schedule.Group.{Group}
 use Rattle.schedule_reader.specs.declared.schedule.Item.{Item}
 use Rattle.schedule_reader.specs.declared.schedule.Item.TheVariants.{Device, Drive}
 use Rattle.schedule_reader.specs.declared.schedule.Schedule.{Schedule}
 use Rattle.schedule_reader.specs.Counts.{items_of, step_frames, group_frames, item_frames, frames_of}
 use Rattle.schedule_reader.specs.Schedules.{most_frames}
-use Rattle.world_streams.specs.Output.{frame_of}
-use Rattle.hda_world.specs.Worlds.{World, codec_at, output_of}
-use Rattle.hda_world.specs.Steps.{address_of, is_busy, handed, handed_next, sent_first, items_of as waiting_of, lost, passed, output_framed, frame_step, times, output_fetched, after_step}
-use Rattle.hda_world.specs.Events.{Event, Stepped, Begin, End, Read, Write, DmaRead, DmaWrite, happens, after, reset_if, counted_anew_if, registers_written}
+use Rattle.hda_world.specs.Worlds.{World}
+use Rattle.hda_world.specs.Events.{Event, Stepped, Begin, End, Read, Write, DmaRead, DmaWrite, happens, after}
 use Rattle.hda_world.specs.Tellings.{Telling, Went, world_of}
 use Rattle.period_writer.specs.Outcomes.{HasNotWrapped}
 use Rattle.laws_stream.specs.Lives.{Along}
 use Rattle.rig.specs.Stretches.{is_access, steps_in, all_steps_in, woven, stretch}
 use Rattle.rig.specs.Follows.{Piece, AreAccesses, laid_out, FollowItems, Follows}
+use Rattle.rig.proofs.Callers.{event_frames as frames_over, event_frames_bounded, access_frames as none_over}
 use Rattle.program_runs.specs.LinkFrames.{event_frames, frames_in, IsShort}
 
--- ---- steps count no more than their frames
+-- ---- events count no more than their frames
 
-level : (n : ℕ) → n ≤ n + 0
-level n = omega arith
-
-if_counts : (b : Bool) (one other : World) (most : ℕ) → one.frames ≤ most → other.frames ≤ most → (if b then one else other).frames ≤ most
-if_counts true one other most first second = first
-if_counts false one other most first second = second
-
-handed_counts : (word : Option ℕ) (world : World) → (handed_next word world).frames ≤ world.frames + 0
-handed_counts None world = level world.frames
-handed_counts (Some word) world = if_counts (is_busy (codec_at (address_of word) world.codecs)) world (handed word world) (world.frames + 0) (level world.frames) (level world.frames)
-
-sent_counts : (address : ℕ) (items : List Waiting) (world : World) → (sent_first address items world).frames ≤ world.frames + 0
-sent_counts address [] world = level world.frames
-sent_counts address (item ∷ items) world = level world.frames
-
-frame_counts : (world : World) → (frame_step world).frames ≤ world.frames + 1
-frame_counts world =
-    if_counts (is_out_of_reset world.registers.global) (output_framed (frame_of (output_of world)) (passed world)) world (world.frames + 1) (omega arith) (omega arith)
-
-times_count : (n : ℕ) (world : World) → (times n frame_step world).frames ≤ world.frames + n
-times_count zero world = level world.frames
-times_count (suc n) world = (let rest = times_count n (frame_step world) in let one = frame_counts world in omega (arith, rest, one))
-
-pub step_counts : (step : Step) (world : World) → (after_step step world).frames ≤ world.frames + step_frames step
-step_counts step.Corb world = handed_counts (next_word world.registers world.memory) world
-step_counts (step.Answer codec) world = if_counts _ (sent_first codec (waiting_of (codec_at codec world.codecs)) world) world (world.frames + 0) (sent_counts codec (waiting_of (codec_at codec world.codecs)) world) (level world.frames)
-step_counts (step.Lose codec) world = if_counts (is_out_of_reset world.registers.global) (lost codec world) world (world.frames + 0) (level world.frames) (level world.frames)
-step_counts step.Rirb world = level world.frames
-step_counts (step.Fetch stream most) world = if_counts _ (output_fetched most world) world (world.frames + 0) (level world.frames) (level world.frames)
-step_counts (step.Link frames) world = times_count frames world
-step_counts (step.Plug codec nid) world = level world.frames
-step_counts (step.Unplug codec nid) world = level world.frames
-
--- ---- and so events
-
-reset_counts : (resets : Bool) (world : World) → (reset_if resets world).frames ≤ world.frames
-reset_counts true world = omega arith
-reset_counts false world = omega arith
-
-anew_counts : (anew : Bool) (world : World) → (counted_anew_if anew world).frames ≤ world.frames
-anew_counts true world = omega arith
-anew_counts false world = omega arith
+same_frames : (event : Event) → frames_over event ≡ event_frames event
+same_frames (Stepped step) = refl
+same_frames Begin = refl
+same_frames End = refl
+same_frames (Read at width value) = refl
+same_frames (Write at width value) = refl
+same_frames (DmaRead at bytes) = refl
+same_frames (DmaWrite at bytes) = refl
 
 event_counts : (world : World) (event : Event) → (happens world event).frames ≤ world.frames + event_frames event
-event_counts world (Stepped step) = step_counts step world
-event_counts world (Write at width value) =
-    let effects = effects_of world.registers at width value in
-    let new = registers_written (written world.registers at width value) world in
-    let first : (reset_if effects.reset new).frames ≤ world.frames = reset_counts effects.reset new in
-    let second : (happens world (Write at width value)).frames ≤ (reset_if effects.reset new).frames = anew_counts effects.left_reset (reset_if effects.reset new) in
-    omega (arith, first, second)
-event_counts world (DmaWrite at bytes) = level world.frames
-event_counts world Begin = level world.frames
-event_counts world End = level world.frames
-event_counts world (Read at width value) = level world.frames
-event_counts world (DmaRead at bytes) = level world.frames
+event_counts world event = subst (λ (frames : ℕ). (happens world event).frames ≤ world.frames + frames) (same_frames event) (event_frames_bounded world event)
 
 pub events_count : (events : List Event) (world : World) → (after events world).frames ≤ world.frames + frames_in events
-events_count [] world = level world.frames
+events_count [] world = omega arith
 events_count (event ∷ events) world =
     let rest = events_count events (happens world event) in
     let one = event_counts world event in
@@ -127,13 +76,7 @@ never_wrapped old new events went short =
 -- ---- the frames of a schedule
 
 access_frames : (event : Event) → is_access event ≡ true → event_frames event ≡ 0
-access_frames (Stepped step) is = cc
-access_frames Begin is = refl
-access_frames End is = refl
-access_frames (Read at width value) is = refl
-access_frames (Write at width value) is = refl
-access_frames (DmaRead at bytes) is = refl
-access_frames (DmaWrite at bytes) is = refl
+access_frames event is = sym (same_frames event) ∙ none_over event is
 
 steps_frames : (steps : List Step) → frames_in (map Stepped steps) ≡ sum_by step_frames steps
 steps_frames [] = refl

@@ -2,6 +2,7 @@
 use Rattle.std.proofs.Common.{◌≡◌, ◌==◌, ◌+◌, ◌-◌, ℕ, zero, suc, Bool, true, false, not, cond, List, [], ◌∷◌, map, Option, Some, None, refl, sym, ap, subst, ◌∙◌, arith, eqb-true}
 use Rattle.std.specs.Prelude.{◌&&◌, ◌||◌, Contains, slice_get, nat_lt}
 use Rattle.std.proofs.lemmas.List.Elements.{All-nil, All-cons}
+use Rattle.std.proofs.lemmas.Bool.{and_parts}
 use Rattle.codec_graph.specs.declared.raw.RawNode.{RawNode}
 use Rattle.codec_graph.specs.Candidates.{is_candidate, is_candidate_node}
 use Rattle.codec_graph.specs.Widget.{node_at, is_inner}
@@ -21,10 +22,6 @@ use Rattle.made_inputs.specs.MadeSound.{made_format}
 
 -- ---- the one candidate
 
-both_true : (a b : Bool) → (a && b) ≡ true → (a ≡ true) × (b ≡ true)
-both_true true b all = (refl, all)
-both_true false b all = cc
-
 -- each item passes a test with its place, counted from a number
 abbrev all_from : {X : Type 0} → (ℕ → X → Bool) → ℕ → List X → Bool
 all_from test from [] = true
@@ -34,9 +31,9 @@ passes_at : {X : Type 0} (test : ℕ → X → Bool) (from : ℕ) (xs : List X) 
 passes_at test from [] k x all there = cc
 passes_at test from (y ∷ xs) zero x all there =
     let same : y ≡ x = cc in
-    ap (λ (n : ℕ). test n x) (omega arith) ∙ ap (test from) (sym same) ∙ (both_true (test from y) (all_from test (from + 1) xs) all).0
+    ap (λ (n : ℕ). test n x) (omega arith) ∙ ap (test from) (sym same) ∙ (and_parts (test from y) (all_from test (from + 1) xs) all).0
 passes_at test from (y ∷ xs) (suc k) x all there =
-    ap (λ (n : ℕ). test n x) (omega arith) ∙ passes_at test (from + 1) xs k x (both_true (test from y) (all_from test (from + 1) xs) all).1 there
+    ap (λ (n : ℕ). test n x) (omega arith) ∙ passes_at test (from + 1) xs k x (and_parts (test from y) (all_from test (from + 1) xs) all).1 there
 
 abbrev is_pin_or_none : ℕ → RawNode → Bool
 is_pin_or_none place node = not (is_candidate_node node) || place == 18

@@ -22,13 +22,14 @@ use Rattle.hda_world.specs.Events.{Event}
 use Rattle.hda_controller.specs.Openings.{codec_in, codecs_in}
 use Rattle.heard_lists.specs.Listings.{graphs_in as graphs_of}
 use Rattle.rig.specs.Replays.{zeros, start_of, telling_from}
-use Rattle.command_engine.specs.Courses.{HasBlocks, AscendFrom, graphs_in}
+use Rattle.command_engine.specs.Courses.{HasBlocks, AscendFrom}
 use Rattle.driver_progress.specs.Tasks.{Task, DriverLine}
 use Rattle.driver_progress.specs.Progress.{IsProgress}
 use Rattle.laws_bring_up.specs.Stretches.{HasFound}
 use Rattle.program_runs.specs.Lines.{line_of, lines_in, lines_of}
 use Rattle.program_runs.specs.Histories.{IsHistory}
 use Rattle.laws_serving.specs.Runs.{calls_of, IsStartFor, IsRunOf}
+use Rattle.laws_start.proofs.Callers.{graphs_there}
 use Rattle.program_runs.specs.Served.{codec_address, machine_addresses}
 use Rattle.program_runs.proofs.Blocks.{LieWell}
 
@@ -47,10 +48,6 @@ stand_by_address low (file ∷ files) increasing sound above = (
   stand_by_address (file.graph.address + 1) files (increasing_tail file.graph.address (map codec_address files) increasing) (All-tail IsSoundCodec file files sound)
       (λ some. (let same = length-map files codec_address in let step = increasing 0 (omega (arith, some, same)) in omega (arith, step))),
 )
-
-graphs_there : (files : List CodecFile) → graphs_in (codecs_in files) ≡ graphs_of files
-graphs_there [] = refl
-graphs_there (file ∷ files) = ap (λ (graphs : List RawCodec). file.graph ∷ graphs) (graphs_there files)
 
 -- ---- codecs on the link
 

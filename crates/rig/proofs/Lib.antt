@@ -1,5 +1,6 @@
 pub mod Replayed
 pub mod Candidates
+pub mod LinkFrames
 pub mod Callers
 pub mod Weaving
 pub mod Where

@@ -5,6 +5,7 @@ use Rattle.std.specs.List.{find, AllZip, AllByRecursion}
 use Rattle.std.specs.Coded.{Coded-set, coded_bool}
 use Rattle.std.proofs.Math.Logic.{∥∥₁_elim}
 use Rattle.std.proofs.lemmas.List.Elements.{Contains-append_left, Contains-append_right, recursion_from_All}
+use Rattle.std.proofs.lemmas.Bool.{or_right}
 use Rattle.codec_sound.specs.HeardLists.{heard}
 use Rattle.route_planner.specs.Order.{IsOrder}
 use Rattle.hda_world.specs.Worlds.{CarriedFrame, codec_at}
@@ -33,10 +34,6 @@ here_at codec pin place is =
     let first : (place.0 == codec) ≡ true = eq-eqb place.0 codec (ap (λ (both : ℕ × ℕ). both.0) is) in
     let second : (place.1 == pin) ≡ true = eq-eqb place.1 pin (ap (λ (both : ℕ × ℕ). both.1) is) in
     ap (λ (one : Bool). one && (place.1 == pin)) first ∙ second
-
-or_right : (one other : Bool) → other ≡ true → (one || other) ≡ true
-or_right true other is = refl
-or_right false other is = is
 
 among : (codec pin : ℕ) (places : List (ℕ × ℕ)) → Contains places (codec, pin) → is_among codec pin places ≡ true
 unfolding is_among

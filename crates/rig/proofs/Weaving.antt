@@ -18,7 +18,7 @@ steps_none : (steps : List Step) → accesses_of (map Stepped steps) ≡ []
 steps_none [] = refl
 steps_none (step ∷ steps) = steps_none steps
 
-groups_none : (groups : List Group) → accesses_of (all_steps_in groups) ≡ []
+pub groups_none : (groups : List Group) → accesses_of (all_steps_in groups) ≡ []
 groups_none [] = refl
 groups_none (group ∷ groups) =
     filter-append is_access (steps_in group) (all_steps_in groups)

@@ -1,9 +1,8 @@
 -- What tables without a fault say of node identifiers and connection lists.
-use Rattle.std.proofs.Common.{◌≡◌, ◌<◌, ◌≤◌, ◌+◌, ◌-◌, ◌==◌, ◌||◌, ℕ, Bool, true, false, not, cond, List, [], ◌∷◌, ◌++◌, length, None, refl, sym, ap, subst, ◌∙◌, zero, suc, arith}
-use Rattle.std.specs.Prelude.{is_some, slice_get, nat_lt, nat_le}
+use Rattle.std.proofs.Common.{◌≡◌, ◌<◌, ◌≤◌, ◌+◌, ◌-◌, ◌||◌, ℕ, Bool, true, false, not, cond, List, [], ◌∷◌, ◌++◌, length, None, refl, sym, ap, subst, ◌∙◌, zero, suc, arith}
+use Rattle.std.specs.Prelude.{is_some, slice_get, nat_lt}
 use Rattle.std.proofs.lemmas.Bool.{ltb-false}
 use Rattle.std.specs.List.{list_all}
-use Rattle.std.proofs.lemmas.Bool.Decides.{nat_tests}
 use Rattle.codec_graph.specs.declared.raw.RawNode.{RawNode}
 use Rattle.codec_graph.specs.declared.raw.RawCodec.{RawCodec}
 use Rattle.codec_graph.specs.declared.fault.GraphFault.{GraphFault}
@@ -11,39 +10,13 @@ use Rattle.codec_graph.specs.declared.fault.GraphFault.TheVariants.{NoAudioGroup
 use Rattle.codec_graph.specs.Widget.{node_at, is_widget, is_mixer}
 use Rattle.codec_graph.specs.Faults.{fault_if, nodes_faults, node_faults, has_bad_count, has_bad_offset, is_no_audio_group, most_connections}
 use Rattle.codec_graph.specs.Cycles.{HasSoundTables}
+use Rattle.codec_graph.proofs.Callers.{faultless_left, faultless_right, faultless_test, counted_by}
 use Rattle.route_planner.specs.Paths.{list_of}
 use Rattle.route_planner.specs.Search.{IsBounded}
 
-none_left : (xs ys : List GraphFault) → xs ++ ys ≡ [] → xs ≡ []
-none_left [] ys e = refl
-none_left (x ∷ xs) ys e = cc
-
-none_right : (xs ys : List GraphFault) → xs ++ ys ≡ [] → ys ≡ []
-none_right [] ys e = e
-none_right (x ∷ xs) ys e = cc
-
-no_fault : (holds : Bool) (fault : GraphFault) → fault_if holds fault ≡ [] → holds ≡ false
-no_fault true fault e = cc
-no_fault false fault e = refl
-
-or_left : (a b : Bool) → (a || b) ≡ false → a ≡ false
-or_left true b e = e
-or_left false b e = refl
-
-or_right : (a b : Bool) → (a || b) ≡ false → b ≡ false
-or_right true b e = cc
-or_right false b e = e
-
 -- the widgets end below 128 and are as many as the nodes
 ends_below : (codec : RawCodec) → has_bad_count codec ≡ false → codec.first + length codec.nodes ≤ 128
-ends_below codec e =
-    let a = or_left _ (is_widget codec codec.group) e in
-    let b = or_left _ (nat_le 128 codec.group) a in
-    let c = or_left _ (codec.group == 0) b in
-    let many = or_right _ (not (length codec.nodes == codec.count)) c in
-    let d = or_left _ (not (length codec.nodes == codec.count)) c in
-    let end = or_right _ (nat_lt 128 (codec.first + codec.count)) d in
-    grind (arith, nat_tests)
+ends_below codec e = let is = counted_by codec e in let ends = is.ends in let many = is.as_many in omega (arith, ends, many)
 
 short_list : (node : RawNode) → nat_lt (most_connections node) (length node.list) ≡ false → length node.list ≤ 64
 short_list node e =
@@ -54,11 +27,11 @@ short_list node e =
 short_lists : (codec : RawCodec) (nid : ℕ) (nodes : List RawNode) → nodes_faults codec nid nodes ≡ [] → (i : ℕ) → length (list_of (slice_get nodes i)) ≤ 64
 short_lists codec nid [] e i = omega arith
 short_lists codec nid (node ∷ nodes) e zero =
-    let here = none_left (node_faults codec nid node) (nodes_faults codec (nid + 1) nodes) e in
-    let listed = none_right (fault_if (not (list_all (is_widget codec) node.list)) (ConnectionOutside nid)) (fault_if (nat_lt (most_connections node) (length node.list)) (ListTooLong nid) ++ fault_if (has_bad_offset node.amp_in || has_bad_offset node.amp_out) (AmpOffset nid)) here in
-    let long = none_left (fault_if (nat_lt (most_connections node) (length node.list)) (ListTooLong nid)) (fault_if (has_bad_offset node.amp_in || has_bad_offset node.amp_out) (AmpOffset nid)) listed in
-    short_list node (no_fault (nat_lt (most_connections node) (length node.list)) (ListTooLong nid) long)
-short_lists codec nid (node ∷ nodes) e (suc i) = short_lists codec (nid + 1) nodes (none_right (node_faults codec nid node) (nodes_faults codec (nid + 1) nodes) e) i
+    let here = faultless_left (node_faults codec nid node) (nodes_faults codec (nid + 1) nodes) e in
+    let listed = faultless_right (fault_if (not (list_all (is_widget codec) node.list)) (ConnectionOutside nid)) (fault_if (nat_lt (most_connections node) (length node.list)) (ListTooLong nid) ++ fault_if (has_bad_offset node.amp_in || has_bad_offset node.amp_out) (AmpOffset nid)) here in
+    let long = faultless_left (fault_if (nat_lt (most_connections node) (length node.list)) (ListTooLong nid)) (fault_if (has_bad_offset node.amp_in || has_bad_offset node.amp_out) (AmpOffset nid)) listed in
+    short_list node (faultless_test (nat_lt (most_connections node) (length node.list)) (ListTooLong nid) long)
+short_lists codec nid (node ∷ nodes) e (suc i) = short_lists codec (nid + 1) nodes (faultless_right (node_faults codec nid node) (nodes_faults codec (nid + 1) nodes) e) i
 
 abbrev after_count : RawCodec → List GraphFault
 after_count codec =
@@ -86,11 +59,11 @@ node_short codec nid short before e =
 
 pub IsBounded-from_sound : (codec : RawCodec) → HasSoundTables codec → IsBounded codec
 IsBounded-from_sound codec sound =
-    let rest = none_right (fault_if (is_no_audio_group codec) (NoAudioGroup codec.group)) (after_group codec) sound.no_fault in
-    let count = none_left (fault_if (has_bad_count codec) (BadCount 0)) (after_count codec) rest in
-    let words = none_right (fault_if (has_bad_count codec) (BadCount 0)) (after_count codec) rest in
-    let nodes = none_right (fault_if (has_bad_offset codec.group_words.amp_in || has_bad_offset codec.group_words.amp_out) (AmpOffset codec.group)) (nodes_faults codec codec.first codec.nodes) words in
-    let end = ends_below codec (no_fault (has_bad_count codec) (BadCount 0) count) in
+    let rest = faultless_right (fault_if (is_no_audio_group codec) (NoAudioGroup codec.group)) (after_group codec) sound.no_fault in
+    let count = faultless_left (fault_if (has_bad_count codec) (BadCount 0)) (after_count codec) rest in
+    let words = faultless_right (fault_if (has_bad_count codec) (BadCount 0)) (after_count codec) rest in
+    let nodes = faultless_right (fault_if (has_bad_offset codec.group_words.amp_in || has_bad_offset codec.group_words.amp_out) (AmpOffset codec.group)) (nodes_faults codec codec.first codec.nodes) words in
+    let end = ends_below codec (faultless_test (has_bad_count codec) (BadCount 0) count) in
     record {
       within = λ nid there. node_below codec nid 128 end (nat_lt nid codec.first) refl there;
       short = λ nid. node_short codec nid (short_lists codec codec.first codec.nodes nodes) (nat_lt nid codec.first) refl;

@@ -15,6 +15,10 @@ use Rattle.route_planner.proofs.PlanParts as parts
 pub use Rattle.route_planner.proofs.OnlyPlan.{only_plan}
 -- what holds of a number that is there
 pub use Rattle.route_planner.proofs.Bridge.{match_some}
+-- the entries of a plan are admissible
+pub use Rattle.route_planner.proofs.OnlyPlan.{admissible_entries}
+-- no pin comes before itself
+pub use Rattle.route_planner.proofs.Sorted.{not_before}
 
 -- in a graph whose tables have no fault, widgets have node identifiers below 128 and at most 64 connections each
 pub IsBounded-from_sound : (codec : RawCodec) → HasSoundTables codec → IsBounded codec

@@ -118,7 +118,7 @@ admissible_outcome codec format earlier pair pin (outcome.Route route) is = is.0
 admissible_outcome codec format earlier pair pin outcome.Blocked is = tt
 admissible_outcome codec format earlier pair pin outcome.NoPath is = tt
 
-admissible_entries : (codec : RawCodec) (format : Format) (earlier entries : List PinPlan) → HaveOutcomes codec format earlier entries → All (λ (entry : PinPlan). IsAdmissibleOutcome codec format entry.pin entry.outcome) entries
+pub admissible_entries : (codec : RawCodec) (format : Format) (earlier entries : List PinPlan) → HaveOutcomes codec format earlier entries → All (λ (entry : PinPlan). IsAdmissibleOutcome codec format entry.pin entry.outcome) entries
 admissible_entries codec format earlier [] have = All-nil (λ (entry : PinPlan). IsAdmissibleOutcome codec format entry.pin entry.outcome)
 admissible_entries codec format earlier (entry ∷ entries) have =
     All-cons (λ (entry : PinPlan). IsAdmissibleOutcome codec format entry.pin entry.outcome) entry entries (admissible_outcome codec format earlier entry.pair entry.pin entry.outcome have.0) (admissible_entries codec format (earlier ++ entry ∷ []) entries have.1)

@@ -58,3 +58,10 @@ IsOrder-sorted codec places sorted are moved up =
           rw (at_p, at_q) (comes codec p q (each i dp in_i) (each j dp in_j) far ne);
       exactly = λ nid. (λ h. (are.exactly nid).0 (Contains-permutation (nids sorted) (nids places) nid (IsPermutation-sym (nids places) (nids sorted) moved_nids) h), λ e. Contains-permutation (nids places) (nids sorted) nid moved_nids ((are.exactly nid).1 e));
     }
+
+-- no pin comes before itself
+never_first : (group rank pin : ℕ) → (nat_lt group group || (group == group && (nat_lt rank rank || (rank == rank && nat_lt pin pin)))) ≡ true → ⊥
+never_first group rank pin is = grind (arith, nat_tests)
+
+pub not_before : (codec : RawCodec) (pin : ℕ) → comes_before codec pin pin ≡ true → ⊥
+not_before codec pin = never_first (association_of (node_at codec pin)) (sequence_of (node_at codec pin)) pin

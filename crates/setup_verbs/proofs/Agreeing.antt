@@ -19,13 +19,13 @@ use Rattle.route_planner.specs.declared.routes.PinPlan.{PinPlan}
 use Rattle.route_planner.specs.declared.routes.Plan.{Plan}
 use Rattle.route_planner.specs.Paths.{passes, IsPath, IsAdmissible, IsCompatible}
 use Rattle.route_planner.specs.Plans.{LeavesOpen, IsOutcome, IsPlan, IsAdmissibleOutcome}
-use Rattle.route_planner.proofs.Callers.{outcome_at}
+use Rattle.route_planner.proofs.Callers.{outcome_at, admissible_entries}
 use Rattle.setup_verbs.specs.declared.roles.Role.{Role}
 use Rattle.setup_verbs.specs.declared.roles.Role.TheVariants.{Unused, Passed, Source}
 use Rattle.setup_verbs.specs.Roles.{hop_uses, outcome_uses, entry_uses, uses_of, role_among, role_of}
 use Rattle.setup_verbs.specs.SetUp.{IsNoRoute, HasNoRoute}
 use Rattle.setup_verbs.proofs.Members.{has_mapped}
-use Rattle.setup_verbs.proofs.RoleFacts.{role_all, all_uses, admissible_entries}
+use Rattle.setup_verbs.proofs.RoleFacts.{role_all, all_uses}
 use Rattle.setup_verbs.proofs.Fitting.{pins_apart}
 use Rattle.setup_verbs.proofs.Sharing.{IsSolid, role_found, inner_no_pin, inner_no_converter, pin_no_converter, path_alike, hop_kind}
 

@@ -1,8 +1,8 @@
 -- What tables without a fault say of each widget: its inputs, its amplifiers, and that the function group is none.
-use Rattle.std.proofs.Common.{◌≡◌, ◌<◌, ◌≤◌, ◌+◌, ◌-◌, ◌==◌, ◌&&◌, ◌||◌, ℕ, zero, suc, Bool, true, false, not, cond, List, [], ◌∷◌, ◌++◌, length, Some, None, refl, sym, subst, ◌∙◌, arith}
+use Rattle.std.proofs.Common.{◌≡◌, ◌<◌, ◌≤◌, ◌+◌, ◌-◌, ◌&&◌, ◌||◌, ℕ, zero, suc, Bool, true, false, not, cond, List, [], ◌∷◌, ◌++◌, length, Some, None, refl, sym, subst, ◌∙◌, arith}
 use Rattle.std.specs.Prelude.{slice_get, nat_lt, nat_le}
 use Rattle.std.specs.List.{list_all}
-use Rattle.std.proofs.lemmas.Bool.{ltb-false, true≢false}
+use Rattle.std.proofs.lemmas.Bool.{ltb-false, true≢false, or_parts}
 use Rattle.std.proofs.lemmas.Bool.Decides.{nat_tests}
 use Rattle.std.proofs.lemmas.Option.{none-some}
 use Rattle.codec_graph.specs.declared.raw.RawNode.{RawNode}
@@ -12,26 +12,7 @@ use Rattle.codec_graph.specs.declared.fault.GraphFault.TheVariants.{NoAudioGroup
 use Rattle.codec_graph.specs.Widget.{node_at, is_widget, is_mixer, overrides_amplifiers, input_amplifier_word, output_amplifier_word, amplifier_offset, amplifier_steps}
 use Rattle.codec_graph.specs.Faults.{fault_if, nodes_faults, node_faults, has_bad_count, has_bad_offset, is_no_audio_group, most_connections}
 use Rattle.codec_graph.specs.Cycles.{IsWellFormed}
-
-none_left : (xs ys : List GraphFault) → xs ++ ys ≡ [] → xs ≡ []
-none_left [] ys e = refl
-none_left (x ∷ xs) ys e = cc
-
-none_right : (xs ys : List GraphFault) → xs ++ ys ≡ [] → ys ≡ []
-none_right [] ys e = e
-none_right (x ∷ xs) ys e = cc
-
-no_fault : (holds : Bool) (fault : GraphFault) → fault_if holds fault ≡ [] → holds ≡ false
-no_fault true fault e = cc
-no_fault false fault e = refl
-
-pub or_left : (a b : Bool) → (a || b) ≡ false → a ≡ false
-or_left true b e = e
-or_left false b e = refl
-
-pub or_right : (a b : Bool) → (a || b) ≡ false → b ≡ false
-or_right true b e = cc
-or_right false b e = e
+use Rattle.codec_graph.proofs.Callers.{faultless_left, faultless_right, faultless_test, IsCounted, counted}
 
 offset_fits : (word : ℕ) → has_bad_offset word ≡ false → amplifier_offset word ≤ amplifier_steps word
 offset_fits word e = ltb-false (amplifier_steps word) (amplifier_offset word) e
@@ -48,22 +29,22 @@ few_inputs false n e is = cc
 
 faultless : (codec : RawCodec) (nid : ℕ) (node : RawNode) → node_faults codec nid node ≡ [] → IsFaultless node
 faultless codec nid node e =
-    let rest = none_right (fault_if (not (list_all (is_widget codec) node.list)) (ConnectionOutside nid)) (fault_if (nat_lt (most_connections node) (length node.list)) (ListTooLong nid) ++ fault_if (has_bad_offset node.amp_in || has_bad_offset node.amp_out) (AmpOffset nid)) e in
-    let long = none_left (fault_if (nat_lt (most_connections node) (length node.list)) (ListTooLong nid)) (fault_if (has_bad_offset node.amp_in || has_bad_offset node.amp_out) (AmpOffset nid)) rest in
-    let amps = no_fault (has_bad_offset node.amp_in || has_bad_offset node.amp_out) (AmpOffset nid) (none_right (fault_if (nat_lt (most_connections node) (length node.list)) (ListTooLong nid)) (fault_if (has_bad_offset node.amp_in || has_bad_offset node.amp_out) (AmpOffset nid)) rest) in
+    let rest = faultless_right (fault_if (not (list_all (is_widget codec) node.list)) (ConnectionOutside nid)) (fault_if (nat_lt (most_connections node) (length node.list)) (ListTooLong nid) ++ fault_if (has_bad_offset node.amp_in || has_bad_offset node.amp_out) (AmpOffset nid)) e in
+    let long = faultless_left (fault_if (nat_lt (most_connections node) (length node.list)) (ListTooLong nid)) (fault_if (has_bad_offset node.amp_in || has_bad_offset node.amp_out) (AmpOffset nid)) rest in
+    let amps = faultless_test (has_bad_offset node.amp_in || has_bad_offset node.amp_out) (AmpOffset nid) (faultless_right (fault_if (nat_lt (most_connections node) (length node.list)) (ListTooLong nid)) (fault_if (has_bad_offset node.amp_in || has_bad_offset node.amp_out) (AmpOffset nid)) rest) in
     record {
-      inputs = few_inputs (is_mixer node) (length node.list) (no_fault (nat_lt (most_connections node) (length node.list)) (ListTooLong nid) long);
-      amp_in = offset_fits node.amp_in (or_left (has_bad_offset node.amp_in) (has_bad_offset node.amp_out) amps);
-      amp_out = offset_fits node.amp_out (or_right (has_bad_offset node.amp_in) (has_bad_offset node.amp_out) amps);
+      inputs = few_inputs (is_mixer node) (length node.list) (faultless_test (nat_lt (most_connections node) (length node.list)) (ListTooLong nid) long);
+      amp_in = offset_fits node.amp_in ((or_parts (has_bad_offset node.amp_in) (has_bad_offset node.amp_out) amps).0);
+      amp_out = offset_fits node.amp_out ((or_parts (has_bad_offset node.amp_in) (has_bad_offset node.amp_out) amps).1);
     }
 
 faultless_nodes : (codec : RawCodec) (nid : ℕ) (nodes : List RawNode) → nodes_faults codec nid nodes ≡ [] → (i : ℕ) (node : RawNode) → slice_get nodes i ≡ Some node → IsFaultless node
 faultless_nodes codec nid [] e i node there = absurd (none-some node there)
 faultless_nodes codec nid (first ∷ nodes) e zero node there =
     let same : first ≡ node = cc in
-    subst IsFaultless same (faultless codec nid first (none_left (node_faults codec nid first) (nodes_faults codec (nid + 1) nodes) e))
+    subst IsFaultless same (faultless codec nid first (faultless_left (node_faults codec nid first) (nodes_faults codec (nid + 1) nodes) e))
 faultless_nodes codec nid (first ∷ nodes) e (suc i) node there =
-    faultless_nodes codec (nid + 1) nodes (none_right (node_faults codec nid first) (nodes_faults codec (nid + 1) nodes) e) i node there
+    faultless_nodes codec (nid + 1) nodes (faultless_right (node_faults codec nid first) (nodes_faults codec (nid + 1) nodes) e) i node there
 
 abbrev after_count : RawCodec → List GraphFault
 after_count codec =
@@ -74,19 +55,16 @@ abbrev after_group : RawCodec → List GraphFault
 after_group codec = fault_if (has_bad_count codec) (BadCount 0) ++ after_count codec
 
 rest_of : (codec : RawCodec) → IsWellFormed codec → after_group codec ≡ []
-rest_of codec well = none_right (fault_if (is_no_audio_group codec) (NoAudioGroup codec.group)) (after_group codec) well.tables.no_fault
-
-pub good_count : (codec : RawCodec) → IsWellFormed codec → has_bad_count codec ≡ false
-good_count codec well = no_fault (has_bad_count codec) (BadCount 0) (none_left (fault_if (has_bad_count codec) (BadCount 0)) (after_count codec) (rest_of codec well))
+rest_of codec well = faultless_right (fault_if (is_no_audio_group codec) (NoAudioGroup codec.group)) (after_group codec) well.tables.no_fault
 
 count_faults : (codec : RawCodec) → IsWellFormed codec → after_count codec ≡ []
-count_faults codec well = none_right (fault_if (has_bad_count codec) (BadCount 0)) (after_count codec) (rest_of codec well)
+count_faults codec well = faultless_right (fault_if (has_bad_count codec) (BadCount 0)) (after_count codec) (rest_of codec well)
 
 pub faultless_at : (codec : RawCodec) (nid : ℕ) (node : RawNode) → IsWellFormed codec → node_at codec nid ≡ Some node → IsFaultless node
 faultless_at codec nid node well there = by (nat_lt nid codec.first) there
   where
     nodes : nodes_faults codec codec.first codec.nodes ≡ []
-    nodes = none_right (fault_if (has_bad_offset codec.group_words.amp_in || has_bad_offset codec.group_words.amp_out) (AmpOffset codec.group)) (nodes_faults codec codec.first codec.nodes) (count_faults codec well)
+    nodes = faultless_right (fault_if (has_bad_offset codec.group_words.amp_in || has_bad_offset codec.group_words.amp_out) (AmpOffset codec.group)) (nodes_faults codec codec.first codec.nodes) (count_faults codec well)
 
     by : (b : Bool) → cond b None (slice_get codec.nodes (nid - codec.first)) ≡ Some node → IsFaultless node
     by true e = absurd (none-some node e)
@@ -94,8 +72,8 @@ faultless_at codec nid node well there = by (nat_lt nid codec.first) there
 
 group_offsets : (codec : RawCodec) → IsWellFormed codec → (has_bad_offset codec.group_words.amp_in || has_bad_offset codec.group_words.amp_out) ≡ false
 group_offsets codec well =
-    no_fault (has_bad_offset codec.group_words.amp_in || has_bad_offset codec.group_words.amp_out) (AmpOffset codec.group)
-    (none_left (fault_if (has_bad_offset codec.group_words.amp_in || has_bad_offset codec.group_words.amp_out) (AmpOffset codec.group)) (nodes_faults codec codec.first codec.nodes) (count_faults codec well))
+    faultless_test (has_bad_offset codec.group_words.amp_in || has_bad_offset codec.group_words.amp_out) (AmpOffset codec.group)
+    (faultless_left (fault_if (has_bad_offset codec.group_words.amp_in || has_bad_offset codec.group_words.amp_out) (AmpOffset codec.group)) (nodes_faults codec codec.first codec.nodes) (count_faults codec well))
 
 by_own : (P : ℕ → Type 0) (own : Bool) (here group : ℕ) → P here → P group → P (cond own here group)
 by_own P true here group h g = h
@@ -105,41 +83,12 @@ by_own P false here group h g = g
 pub input_offset : (codec : RawCodec) (nid : ℕ) (node : RawNode) → IsWellFormed codec → node_at codec nid ≡ Some node → amplifier_offset (input_amplifier_word codec node) ≤ amplifier_steps (input_amplifier_word codec node)
 input_offset codec nid node well there =
     by_own (λ w. amplifier_offset w ≤ amplifier_steps w) (overrides_amplifiers node) node.amp_in codec.group_words.amp_in (faultless_at codec nid node well there).amp_in
-    (offset_fits codec.group_words.amp_in (or_left (has_bad_offset codec.group_words.amp_in) (has_bad_offset codec.group_words.amp_out) (group_offsets codec well)))
+    (offset_fits codec.group_words.amp_in ((or_parts (has_bad_offset codec.group_words.amp_in) (has_bad_offset codec.group_words.amp_out) (group_offsets codec well)).0))
 
 pub output_offset : (codec : RawCodec) (nid : ℕ) (node : RawNode) → IsWellFormed codec → node_at codec nid ≡ Some node → amplifier_offset (output_amplifier_word codec node) ≤ amplifier_steps (output_amplifier_word codec node)
 output_offset codec nid node well there =
     by_own (λ w. amplifier_offset w ≤ amplifier_steps w) (overrides_amplifiers node) node.amp_out codec.group_words.amp_out (faultless_at codec nid node well there).amp_out
-    (offset_fits codec.group_words.amp_out (or_right (has_bad_offset codec.group_words.amp_in) (has_bad_offset codec.group_words.amp_out) (group_offsets codec well)))
-
--- where the group is, and where the widgets are
-pub record HasPlaces (codec : RawCodec) : Type 0 where
-  pub some : 1 ≤ codec.group
-  pub below : codec.group < 128
-  pub apart : is_widget codec codec.group ≡ false
-  pub first : 1 ≤ codec.first
-  pub counted : length codec.nodes ≡ codec.count
-
-pub places : (codec : RawCodec) → IsWellFormed codec → HasPlaces codec
-places codec well =
-    let e = good_count codec well in
-    let a = or_left _ (is_widget codec codec.group) e in
-    let apart = or_right _ (is_widget codec codec.group) e in
-    let below = or_right _ (nat_le 128 codec.group) a in
-    let b = or_left _ (nat_le 128 codec.group) a in
-    let some = or_right _ (codec.group == 0) b in
-    let c = or_left _ (codec.group == 0) b in
-    let many = or_right _ (not (length codec.nodes == codec.count)) c in
-    let d = or_left _ (not (length codec.nodes == codec.count)) c in
-    let f = or_left _ (nat_lt 128 (codec.first + codec.count)) d in
-    let first = or_right (codec.count == 0) (codec.first == 0) f in
-    record {
-      some = grind (arith, nat_tests);
-      below = grind (arith, nat_tests);
-      apart = apart;
-      first = grind (arith, nat_tests);
-      counted = grind (arith, nat_tests);
-    }
+    (offset_fits codec.group_words.amp_out ((or_parts (has_bad_offset codec.group_words.amp_in) (has_bad_offset codec.group_words.amp_out) (group_offsets codec well)).1))
 
 within_of : (nodes : List RawNode) (i : ℕ) (node : RawNode) → slice_get nodes i ≡ Some node → i < length nodes
 within_of [] i node e = absurd (none-some node e)
@@ -154,19 +103,19 @@ pub record IsApart (codec : RawCodec) (nid : ℕ) : Type 0 where
 pub apart_at : (codec : RawCodec) (nid : ℕ) (node : RawNode) → IsWellFormed codec → node_at codec nid ≡ Some node → IsApart codec nid
 apart_at codec nid node well there = by (nat_lt nid codec.first) refl there
   where
-    p : HasPlaces codec
-    p = places codec well
+    p : IsCounted codec
+    p = counted codec well
 
     by : (b : Bool) → nat_lt nid codec.first ≡ b → cond b None (slice_get codec.nodes (nid - codec.first)) ≡ Some node → IsApart codec nid
     by true t e = absurd (none-some node e)
     by false t e =
         let low : codec.first ≤ nid = ltb-false nid codec.first t in
         let within : nid - codec.first < length codec.nodes = within_of codec.nodes (nid - codec.first) node e in
-        let high : nid < codec.first + codec.count = omega (arith, p.counted) in
+        let high : nid < codec.first + codec.count = omega (arith, p.as_many) in
         record {
-          some = omega (arith, p.first);
+          some = omega (arith, p.begins);
           other = λ same.
-              let apart = p.apart in
+              let apart = p.group_apart in
               let inside : is_widget codec codec.group ≡ true = rw (← same) (both low high) in
               absurd (true≢false (sym inside ∙ apart));
         }

@@ -25,12 +25,12 @@ use Rattle.route_planner.specs.declared.routes.PinPlan.{PinPlan}
 use Rattle.route_planner.specs.declared.routes.Plan.{Plan}
 use Rattle.route_planner.specs.Paths.{passes, list_of, connection, LeadsTo, is_analog_stereo, can_be_left}
 use Rattle.route_planner.specs.Plans.{IsPlan, IsAdmissibleOutcome}
-use Rattle.route_planner.proofs.Callers.{match_some}
+use Rattle.route_planner.proofs.Callers.{match_some, admissible_entries}
 use Rattle.setup_verbs.specs.declared.roles.Role.TheVariants.{Passed, Source}
 use Rattle.setup_verbs.specs.Roles.{role_of}
 use Rattle.setup_verbs.specs.VerbList.{has_choice, setup_verbs}
 use Rattle.setup_verbs.specs.SetUp.{IsOutcomeOpen, HasNoRoute, IsSetUp, settings_after, LeadToSetUp}
-use Rattle.setup_verbs.proofs.RoleFacts.{within_list, leads_by, IsPassedWell, IsSourceWell, IsUsedWell, role_well, admissible_entries}
+use Rattle.setup_verbs.proofs.RoleFacts.{within_list, leads_by, IsPassedWell, IsSourceWell, IsUsedWell, role_well}
 use Rattle.setup_verbs.proofs.Fitting.{fits_verbs}
 use Rattle.setup_verbs.proofs.Sharing.{AreInner}
 use Rattle.setup_verbs.proofs.Agreeing.{entry_is_pin, hop_role, end_role, unused_pin}

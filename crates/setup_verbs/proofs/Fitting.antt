@@ -1,8 +1,8 @@
 -- The arguments of the verbs fit: a graph has few pins, few inputs with an amplifier and few pairs.
-use Rattle.std.proofs.Common.{◌≡◌, ◌≢◌, ◌<◌, ◌≤◌, ◌==◌, ◌&&◌, ◌||◌, ℕ, zero, suc, Bool, true, false, cond, List, ◌∷◌, map, length, get_or, Option, Some, None, refl, sym, subst, ◌∙◌, arith}
-use Rattle.std.specs.Prelude.{All, AllPairs, Contains, nat_le, nat_lt}
+use Rattle.std.proofs.Common.{◌≡◌, ◌≢◌, ◌<◌, ◌≤◌, ◌&&◌, ℕ, zero, suc, Bool, true, false, cond, List, ◌∷◌, map, length, get_or, Option, Some, None, refl, sym, subst, arith}
+use Rattle.std.specs.Prelude.{All, AllPairs, Contains, nat_le}
 use Rattle.std.proofs.lemmas.Bool.{true≢false, and_parts, leb-true, eqb-true}
-use Rattle.std.proofs.lemmas.Bool.Decides.{nat_tests, Decides-eqb}
+use Rattle.std.proofs.lemmas.Bool.Decides.{Decides-eqb}
 use Rattle.std.proofs.lemmas.List.{length-map}
 use Rattle.std.proofs.lemmas.List.Elements.{All-cons, All-contains, Contains-get_or}
 use Rattle.std.proofs.lemmas.Map.Steps.{length-le_from_distinct_below}
@@ -13,18 +13,19 @@ use Rattle.codec_graph.specs.declared.raw.RawCodec.{RawCodec}
 use Rattle.codec_graph.specs.Widget.{node_at, is_selector, has_input_amplifier}
 use Rattle.codec_graph.specs.Candidates.{is_candidate_at}
 use Rattle.codec_graph.specs.Cycles.{IsWellFormed}
-use Rattle.codec_graph.proofs.Callers.{node_below}
+use Rattle.codec_graph.proofs.Callers.{node_below, counted}
 use Rattle.stream_format.specs.declared.format.Format.{Format}
 use Rattle.route_planner.specs.declared.routes.PinPlan.{PinPlan}
 use Rattle.route_planner.specs.declared.routes.Plan.{Plan}
-use Rattle.route_planner.specs.Order.{comes_before, association_of, sequence_of, IsOrder}
+use Rattle.route_planner.specs.Order.{comes_before, IsOrder}
 use Rattle.route_planner.specs.Paths.{passes, can_be_left}
 use Rattle.route_planner.specs.Plans.{IsPlan}
+use Rattle.route_planner.proofs.Callers.{not_before}
 use Rattle.setup_verbs.specs.declared.roles.Role.{Role}
 use Rattle.setup_verbs.specs.declared.roles.Role.TheVariants.{Unused, Passed, Source}
 use Rattle.setup_verbs.specs.Roles.{role_of}
 use Rattle.setup_verbs.specs.Steps.{FitsRole, FitsVerbs}
-use Rattle.setup_verbs.proofs.Faultless.{faultless_at, places, IsApart, apart_at}
+use Rattle.setup_verbs.proofs.Faultless.{faultless_at, IsApart, apart_at}
 use Rattle.setup_verbs.proofs.RoleFacts.{IsUsedWell, role_well}
 
 few_numbers : (xs : List ℕ) (n : ℕ) → AllPairs (λ x y. x ≢ y) xs → ((x : ℕ) → Contains xs x → x < n) → length xs ≤ n
@@ -37,16 +38,6 @@ pairs_cons x xs first rest zero zero d lt within = absurd (omega arith)
 pairs_cons x xs first rest zero (suc j) d lt within = first j d (omega arith)
 pairs_cons x xs first rest (suc i) zero d lt within = absurd (omega arith)
 pairs_cons x xs first rest (suc i) (suc j) d lt within = rest i j d (omega arith) (omega arith)
-
--- no pin comes before itself
-not_before : (codec : RawCodec) (pin : ℕ) → comes_before codec pin pin ≡ true → ⊥
-not_before codec pin h =
-    let P = association_of (node_at codec pin) in
-    let S = sequence_of (node_at codec pin) in
-    irreflexive P S pin h
-  where
-    irreflexive : (p s n : ℕ) → (nat_lt p p || (p == p && (nat_lt s s || (s == s && nat_lt n n)))) ≡ true → ⊥
-    irreflexive p s n e = let z : (nat_lt p p || (p == p && (nat_lt s s || (s == s && nat_lt n n)))) ≡ false = grind (arith, nat_tests) in absurd (true≢false (sym e ∙ z))
 
 pub pins_of : Plan → List ℕ
 pins_of plan = map (λ (entry : PinPlan). entry.pin) plan.pins
@@ -62,13 +53,13 @@ candidate_there (Some node) e = (node, refl)
 -- the order has at most 126 pins: they have identifiers below 128, none is 0 and none is the group
 few_pins : (codec : RawCodec) (pins : List ℕ) → IsWellFormed codec → IsOrder codec pins → length pins ≤ 126
 few_pins codec pins well order =
-    let p = places codec well in
+    let p = counted codec well in
     let all : length (0 ∷ codec.group ∷ pins) ≤ 128 = few_numbers (0 ∷ codec.group ∷ pins) 128
     (pairs_cons 0 (codec.group ∷ pins)
-    (All-cons (λ y. 0 ≢ y) codec.group pins (λ e. let z : 1 ≤ codec.group = p.some in absurd (omega arith)) (λ k d within e. let z = (apart (get_or pins k d) (Contains-get_or pins k d within)).some in absurd (omega arith)))
+    (All-cons (λ y. 0 ≢ y) codec.group pins (λ e. let z : 1 ≤ codec.group = p.has_group in absurd (omega arith)) (λ k d within e. let z = (apart (get_or pins k d) (Contains-get_or pins k d within)).some in absurd (omega arith)))
     (pairs_cons codec.group pins (λ k d within e. (apart (get_or pins k d) (Contains-get_or pins k d within)).other (sym e)) (pins_apart codec pins order)))
     (λ x has. All-contains (λ y. y < 128) (0 ∷ codec.group ∷ pins) x
-    (All-cons (λ y. y < 128) 0 (codec.group ∷ pins) (omega arith) (All-cons (λ y. y < 128) codec.group pins p.below (λ k d within. below (get_or pins k d) (Contains-get_or pins k d within)))) has)
+    (All-cons (λ y. y < 128) 0 (codec.group ∷ pins) (omega arith) (All-cons (λ y. y < 128) codec.group pins p.group_below (λ k d within. below (get_or pins k d) (Contains-get_or pins k d within)))) has)
     in omega arith
   where
     there : (pin : ℕ) → Contains pins pin → (node : RawNode) × (node_at codec pin ≡ Some node)

@@ -1,5 +1,5 @@
 -- Each set-up verb goes to the codec, and can be encoded where that is one of 0 to 14.
-use Rattle.std.proofs.Common.{◌≡◌, ◌<◌, ◌≤◌, ◌+◌, ◌*◌, ◌^◌, ◌-◌, ◌/◌, ◌==◌, ◌&&◌, not, ℕ, Bool, true, false, cond, List, [], ◌∷◌, map, length, get_or, zero-add, refl, sym, subst, ◌∙◌, arith, lit<}
+use Rattle.std.proofs.Common.{◌≡◌, ◌<◌, ◌≤◌, ◌+◌, ◌*◌, ◌^◌, ◌/◌, ◌==◌, ◌&&◌, not, ℕ, Bool, true, false, cond, List, [], ◌∷◌, map, length, get_or, zero-add, refl, sym, subst, ◌∙◌, arith, lit<}
 use Rattle.std.specs.Prelude.{All, nat_lt}
 use Rattle.std.specs.List.{range_with_len}
 use Rattle.std.proofs.lemmas.Bool.{and_parts, lt-ltb}
@@ -11,17 +11,14 @@ use Rattle.codec_graph.specs.declared.raw.RawCodec.{RawCodec}
 use Rattle.codec_graph.specs.Widget.{is_mixer, is_selector, is_pin, is_output_converter, has_power_control, has_input_amplifier, has_output_amplifier, input_amplifier_word, output_amplifier_word, amplifier_offset}
 use Rattle.codec_graph.specs.Settings.{has_eapd, detects_presence, sends_unsolicited}
 use Rattle.codec_graph.specs.Cycles.{IsWellFormed}
-use Rattle.codec_graph.proofs.Callers.{node_below}
+use Rattle.codec_graph.proofs.Callers.{node_below, counted}
 use Rattle.verb_codes.specs.declared.verbs.Verb.{Verb}
 use Rattle.verb_codes.specs.declared.verbs.Verb.TheVariants.{SetPower, SetStream, SetPin, SetUnsol, SetEapd, SetFormat}
 use Rattle.verb_codes.specs.Verbs.{is_verb_in_range}
 use Rattle.verb_codes.specs.Amplifiers as amplifiers
 use Rattle.stream_format.specs.declared.format.Format.{Format}
-use Rattle.stream_format.specs.declared.format.Rate.{Rate}
-use Rattle.stream_format.specs.declared.format.Rate.TheVariants.{R8, R16, R44, R48, R96, R192}
-use Rattle.stream_format.specs.declared.format.Bits.{Bits}
-use Rattle.stream_format.specs.declared.format.Bits.TheVariants.{B16, B24, B32}
-use Rattle.stream_format.specs.Words.{format_word, rate_bits, rate_code, size_code}
+use Rattle.stream_format.specs.Words.{format_word}
+use Rattle.stream_format.proofs.Callers.{word_small}
 use Rattle.route_planner.specs.declared.routes.Plan.{Plan}
 use Rattle.route_planner.specs.declared.routes.PinPlan.{PinPlan}
 use Rattle.route_planner.specs.Plans.{IsPlan}
@@ -34,7 +31,6 @@ use Rattle.setup_verbs.specs.Steps.{step_verbs, FitsWidget}
 use Rattle.setup_verbs.specs.SetUp.{IsCommandOf}
 use Rattle.setup_verbs.specs.VerbList.{only_if, command_to, input_setting, output_setting, pass_input, mute_input, mixer_input, mixer_verbs, has_choice, select_verbs, selector_verbs, output_verbs, drives_headphone, pin_control, event_tag, setup_verbs}
 use Rattle.setup_verbs.proofs.Members.{all_if, all_verbs}
-use Rattle.setup_verbs.proofs.Faultless.{places}
 use Rattle.route_planner.proofs.Callers.{IsBounded-from_sound}
 use Rattle.setup_verbs.proofs.RoleFacts.{IsUsedWell, role_well}
 use Rattle.setup_verbs.proofs.Fitting.{fits_verbs}
@@ -45,28 +41,6 @@ Fits verb = is_verb_in_range verb ≡ true
 
 short_fits : (n width : ℕ) → n < 2 ^ width → (nat_lt n (2 ^ width) && true) ≡ true
 short_fits n width h = rw (lt-ltb n (2 ^ width) h) refl
-
-rate_small : (rate : Rate) → rate_bits (rate_code rate) < 2 ^ 15
-rate_small R8 = lit< tt
-rate_small R16 = lit< tt
-rate_small R44 = lit< tt
-rate_small R48 = lit< tt
-rate_small R96 = lit< tt
-rate_small R192 = lit< tt
-
-size_small : (bits : Bits) → size_code bits < 2 ^ 3
-size_small B16 = lit< tt
-size_small B24 = lit< tt
-size_small B32 = lit< tt
-
-word_small : (format : Format) → format_word format < 2 ^ 16
-word_small format =
-    let r = rate_small format.rate in
-    let b = size_small format.bits in
-    sum (rate_bits (rate_code format.rate)) (size_code format.bits) format.channels r b format.few
-  where
-    sum : (r b n : ℕ) → r < 2 ^ 15 → b < 2 ^ 3 → n ≤ 8 → r + 2 ^ 4 * b + (n - 1) < 2 ^ 16
-    sum r b n hr hb hn = omega arith
 
 input_small : (place gain : ℕ) (mute : Bool) → place < 16 → gain < 128 → amplifiers.setting_payload (input_setting place mute gain) < 2 ^ 16
 input_small place gain true p g = omega arith
@@ -157,6 +131,6 @@ command_of codec nid verb below fits = record {
 -- each set-up verb goes to the codec, and can be encoded where that is one of 0 to 14
 pub all_commands_of : (codec : RawCodec) (plan : Plan) (format : Format) (tag : ℕ) → IsWellFormed codec → IsPlan codec format plan → tag ≤ 15 → All (IsCommandOf codec) (setup_verbs codec plan format tag)
 all_commands_of codec plan format tag well is few =
-    all_verbs (IsCommandOf codec) codec plan format tag (command_of codec codec.group (SetPower 0) (places codec well).below refl)
+    all_verbs (IsCommandOf codec) codec plan format tag (command_of codec codec.group (SetPower 0) (counted codec well).group_below refl)
     (λ s nid node there k d within. command_of codec nid (get_or (step_verbs codec plan format tag s nid node (role_of plan nid)) k d) (node_below codec nid node well there)
     (step_fits codec plan format tag nid node few s (role_of plan nid) ((fits_verbs codec format plan well is).at nid node there) (narrow_role codec format.channels nid (role_of plan nid) well (role_well codec format plan nid is)) k d within))

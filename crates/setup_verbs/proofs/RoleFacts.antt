@@ -1,5 +1,5 @@
 -- What holds of each node of a plan's routes.
-use Rattle.std.proofs.Common.{◌≡◌, ◌<◌, ◌≤◌, ◌+◌, ◌*◌, ◌/◌, ◌%◌, ◌==◌, ℕ, zero, suc, Bool, true, false, cond, List, [], ◌∷◌, ◌++◌, map, length, get_or, Some, refl, ap, subst, ◌∙◌, arith}
+use Rattle.std.proofs.Common.{◌≡◌, ◌<◌, ◌≤◌, ◌+◌, ◌*◌, ◌/◌, ◌%◌, ◌==◌, ℕ, zero, suc, Bool, true, false, cond, List, [], ◌∷◌, map, length, get_or, Some, refl, ap, subst, ◌∙◌, arith}
 use Rattle.std.specs.Prelude.{All, Contains, slice_get}
 use Rattle.std.proofs.Math.ListN.{get_or-map}
 use Rattle.std.proofs.lemmas.List.{length-map}
@@ -17,9 +17,9 @@ use Rattle.route_planner.specs.declared.routes.PinPlan.{PinPlan}
 use Rattle.route_planner.specs.declared.routes.Plan.{Plan}
 use Rattle.route_planner.specs.Order.{pair_of}
 use Rattle.route_planner.specs.Paths.{passes, list_of, connection, LeadsTo, nodes_of, is_analog_stereo, can_be_left}
-use Rattle.route_planner.specs.Plans.{IsOutcome, HaveOutcomes, IsPlan, IsAdmissibleOutcome}
+use Rattle.route_planner.specs.Plans.{IsPlan, IsAdmissibleOutcome}
 use Rattle.std.proofs.lemmas.Option.{none-some}
-use Rattle.route_planner.proofs.Callers.{match_some}
+use Rattle.route_planner.proofs.Callers.{match_some, admissible_entries}
 use Rattle.setup_verbs.specs.declared.roles.Role.{Role}
 use Rattle.setup_verbs.specs.declared.roles.Role.TheVariants.{Unused, Passed, Source}
 use Rattle.setup_verbs.specs.Roles.{Uses, hop_uses, outcome_uses, entry_uses, uses_of, first_role, role_among, role_of}
@@ -97,16 +97,6 @@ pub all_uses : (P : ℕ × Role → Type 0) (entries : List PinPlan) → All (λ
 all_uses P [] all = All-nil P
 all_uses P (entry ∷ entries) all =
     All-append P (entry_uses entry) (uses_of entries) (All-head (λ (e : PinPlan). All P (entry_uses e)) entry entries all) (all_uses P entries (All-tail (λ (e : PinPlan). All P (entry_uses e)) entry entries all))
-
-admissible_outcome : (codec : RawCodec) (format : Format) (earlier : List PinPlan) (pair pin : ℕ) (o : Outcome) → IsOutcome codec format earlier pair pin o → IsAdmissibleOutcome codec format pin o
-admissible_outcome codec format earlier pair pin (outcome.Route route) is = is.0.0
-admissible_outcome codec format earlier pair pin outcome.Blocked is = tt
-admissible_outcome codec format earlier pair pin outcome.NoPath is = tt
-
-pub admissible_entries : (codec : RawCodec) (format : Format) (earlier entries : List PinPlan) → HaveOutcomes codec format earlier entries → All (λ (entry : PinPlan). IsAdmissibleOutcome codec format entry.pin entry.outcome) entries
-admissible_entries codec format earlier [] have = All-nil (λ (entry : PinPlan). IsAdmissibleOutcome codec format entry.pin entry.outcome)
-admissible_entries codec format earlier (entry ∷ entries) have =
-    All-cons (λ (e : PinPlan). IsAdmissibleOutcome codec format e.pin e.outcome) entry entries (admissible_outcome codec format earlier entry.pair entry.pin entry.outcome have.0) (admissible_entries codec format (earlier ++ entry ∷ []) entries have.1)
 
 small : (rank channels pair : ℕ) → channels % 2 ≡ 0 → 2 ≤ channels → pair ≡ rank % (channels / 2) → 2 * pair + 1 < channels
 small rank channels pair even some is =

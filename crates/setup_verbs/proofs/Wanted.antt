@@ -4,6 +4,7 @@ use Rattle.std.specs.Prelude.{bit_and}
 use Rattle.std.specs.BTreeMap.{is_at}
 use Rattle.std.proofs.lemmas.List.Elements.{All-nil, All-cons, All-append}
 use Rattle.std.proofs.lemmas.List.Folds.{list_any-append}
+use Rattle.std.proofs.lemmas.Bool.{or_right}
 use Rattle.codec_graph.specs.declared.raw.RawNode.{RawNode}
 use Rattle.codec_graph.specs.declared.raw.RawCodec.{RawCodec}
 use Rattle.codec_graph.specs.declared.controls.Control.{Control}
@@ -132,10 +133,6 @@ or_left_true : (a b : Bool) → a ≡ true → (a || b) ≡ true
 or_left_true true b e = refl
 or_left_true false b e = cc
 
-or_right_true : (a b : Bool) → b ≡ true → (a || b) ≡ true
-or_right_true true b e = refl
-or_right_true false b e = e
-
 pub left_sets : (codec : RawCodec) (nid : ℕ) (verb : Verb) (left right : Control) (value : ℕ) → ((settings : Entries) → verb_writes codec settings nid verb ≡ two_written codec nid left right value) → has_control codec nid left ≡ true
     → Sets codec (command_to codec nid verb) nid left
 unfolding writes_of
@@ -156,7 +153,7 @@ right_sets codec nid verb left right value writes has = record { hit = λ settin
     go settings =
         ap (λ (ws : Entries). has_key (key nid right) ws) (writes settings)
         ∙ list_any-append (λ (w : ControlKey × ℕ). is_at (key_cmp (key nid right)) w.0) (written codec nid left value) (written codec nid right value)
-        ∙ or_right_true _ _ (hit_written codec nid right value has)
+        ∙ or_right _ _ (hit_written codec nid right value has)
 
 -- ---- amplifiers
 

@@ -1,4 +1,6 @@
 mod Cycles
 mod Bounds
 mod ReadBack
+pub mod OneFormat
+pub mod Sizes
 pub mod Callers

@@ -15,6 +15,8 @@ use Rattle.verb_codes.specs.Words.{has_bit}
 pub use Rattle.verb_codes.proofs.Commands.{reading_of-complete}
 -- the payload of an amplifier's setting in range reads as that setting
 pub use Rattle.verb_codes.proofs.Payloads.{setting_of-payload}
+-- one number more
+pub use Rattle.verb_codes.proofs.Packing.{range_more}
 
 -- the payload of a verb in range fits its width
 pub payload-lt : (verb : Verb) → IsTrue (is_verb_in_range verb) → (row_of verb).payload < 2 ^ (row_of verb).width

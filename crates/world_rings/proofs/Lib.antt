@@ -1,3 +1,4 @@
 pub mod Pieces
 pub mod Standing
+pub mod EngineMoves
 pub mod Callers

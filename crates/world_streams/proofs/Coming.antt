@@ -1,14 +1,9 @@
 -- When the next byte of a list comes, and what stays where none does.
 use Rattle.std.proofs.Common.{◌≡◌, ◌&&◌, ◌||◌, not, ℕ, zero, suc, Bool, true, false, List, if◌then◌else◌, refl, sym, ap, ◌∙◌}
-use Rattle.std.proofs.lemmas.Bool.{true≢false}
+use Rattle.std.proofs.lemmas.Bool.{true≢false, or_left, and_from}
 use Rattle.world_streams.specs.Lists.{is_good}
 use Rattle.world_streams.specs.Streams.{StreamState}
 use Rattle.world_streams.specs.Output.{has_room, next_of, with_byte, completes, can_come, next_byte, bytes_came, some_completes, some_breaks}
-
-both_true : (one other : Bool) → one ≡ true → other ≡ true → (one && other) ≡ true
-both_true true true a b = refl
-both_true true false a b = b
-both_true false other a b = a
 
 and_none : (one other : Bool) → one ≡ false → (one && other) ≡ false
 and_none false other h = refl
@@ -22,10 +17,6 @@ or_none : (one other : Bool) → one ≡ false → (one || other) ≡ other
 or_none false other h = refl
 or_none true other h = absurd (true≢false h)
 
-some_or : (one other : Bool) → one ≡ true → (one || other) ≡ true
-some_or true other h = refl
-some_or false other h = absurd (true≢false (sym h))
-
 turned : (one : Bool) → one ≡ true → not one ≡ false
 turned true h = refl
 turned false h = absurd (true≢false (sym h))
@@ -36,7 +27,7 @@ turned_on true h = absurd (true≢false h)
 
 module _ (fifo : ℕ) (memory : List ℕ) (base last : ℕ) where
   pub can : (state : StreamState) → has_room fifo state ≡ true → is_good memory (next_of memory base state) ≡ true → can_come fifo memory base state ≡ true
-  can state room good = both_true _ _ room good
+  can state room good = and_from _ _ room good
 
   pub cannot_full : (state : StreamState) → has_room fifo state ≡ false → can_come fifo memory base state ≡ false
   cannot_full state full = and_none _ _ full
@@ -67,7 +58,7 @@ module _ (fifo : ℕ) (memory : List ℕ) (base last : ℕ) where
 
   pub breaks_now : (n : ℕ) (state : StreamState) → has_room fifo state ≡ true → is_good memory (next_of memory base state) ≡ false
       → some_breaks (suc n) fifo memory base last state ≡ true
-  breaks_now n state room bad = some_or _ _ (both_true _ _ room (turned_on _ bad))
+  breaks_now n state room bad = or_left _ _ (and_from _ _ room (turned_on _ bad))
 
   -- after a byte that came
   pub breaks_later : (n : ℕ) (state : StreamState) → has_room fifo state ≡ true → is_good memory (next_of memory base state) ≡ true

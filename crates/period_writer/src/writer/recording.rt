@@ -10,8 +10,9 @@ ghost use Rattle.wav_reader.specs.Supplies.{without};
 use super::Writer;
 use crate::course::{Ran, Run, Span};
 use crate::pieces::{Part, write_parts};
-use crate::records::{cut_silences, note_run, note_silence};
+use crate::records::{cut_silences, note_silence};
 use crate::turns::{Facts, Turn, course_after, late_by, turn_of};
+use hda_items::push_within_capacity;
 use hda_platform::Platform;
 use wav_reader::Supply;
 
@@ -117,7 +118,7 @@ impl Writer {
             budget: facts.budget,
             written: turn.sound,
         };
-        note_run(&mut self.runs, run);
+        push_within_capacity(&mut self.runs, run);
         cut_silences(&mut self.silences, turn.start);
         note_rest(&mut self.silences, turn);
         self.course = course_after(before, turn, facts);

@@ -1,7 +1,7 @@
 use Rattle.std.proofs.Common.{◌≤◌, inl, inr, refl, arith, below_more}
 use Rattle.std.proofs.lemmas.Bool.{cases_lt}
 use Rattle.codec_graph.specs.Cycles.{IsOnCycle}
-use Rattle.codec_graph.proofs.Tables.{counted}
+use Rattle.codec_graph.proofs.Tables.{counted_by}
 use Rattle.codec_graph.proofs.Reaching.{no_cycle_past}
 use Rattle.codec_graph.proofs.cycles.check_cycles.Goals as goal
 
@@ -16,11 +16,11 @@ loop-nid-preserved c =
 pub returns-clause-acyclic : goal.returns-clause-acyclic
 returns-clause-acyclic c = λ nid cycle. elim (cases_lt nid 128) as (λ _. ⊥) [
   | inl lt ↦ c.loop-nid.invariant nid (omega (arith, lt)) cycle
-  | inr ge ↦ no_cycle_past c.args.codec.now (counted c.args.codec.now c.requires) nid ge cycle
+  | inr ge ↦ no_cycle_past c.args.codec.now (counted_by c.args.codec.now c.requires) nid ge cycle
 ]
 
 pub returns-then-are_safe-clause-acyclic : goal.returns-then-are_safe-clause-acyclic
 returns-then-are_safe-clause-acyclic c = λ nid cycle. elim (cases_lt nid 128) as (λ _. ⊥) [
   | inl lt ↦ c.if-are_safe.ensures refl nid lt cycle
-  | inr ge ↦ no_cycle_past c.args.codec.now (counted c.args.codec.now c.requires) nid ge cycle
+  | inr ge ↦ no_cycle_past c.args.codec.now (counted_by c.args.codec.now c.requires) nid ge cycle
 ]

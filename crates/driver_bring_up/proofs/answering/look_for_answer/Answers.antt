@@ -6,10 +6,10 @@ use Rattle.command_engine.specs.declared.answers.Poll.TheVariants as polls
 use Rattle.command_engine.specs.Polling.{answer_limit, found_by, poll_of}
 use Rattle.driver_progress.specs.Commands.{ask_accesses}
 use Rattle.driver_bring_up.specs.Commanding.{is_answer}
-use Rattle.driver_bring_up.proofs.CommandCallers.{on_err}
 use Rattle.command_engine.specs.declared.answers.Event.{Event}
 use Rattle.driver_bring_up.proofs.Events.{few_events}
 use Rattle.driver_bring_up.proofs.answering.look_for_answer.Goals as goal
+use Rattle.driver_bring_up.proofs.FailingLooks.{on_err}
 
 pub take_events-requires-clause-few : goal.take_events-requires-clause-few
 take_events-requires-clause-few g c =

@@ -4,12 +4,12 @@ use Rattle.driver_progress.specs.Commands.{ask_accesses}
 use Rattle.driver_progress.specs.Shutting.{shut_accesses}
 use Rattle.driver_progress.proofs.Callers.{asking_goes_on}
 use Rattle.driver_bring_up.specs.Commanding.{poll_by}
-use Rattle.driver_bring_up.proofs.CommandCallers.{on_err}
 use Rattle.driver_bring_up.specs.Calls.{state_of}
 use Rattle.driver_bring_up.proofs.Asks.{led_stays, led_early, led_unfailed, end_with, end_last, ended_there}
 use Rattle.driver_bring_up.proofs.Leading.{not_true, found_in, same_found, reads_look}
 use Rattle.driver_bring_up.proofs.Staying.{end_looks}
 use Rattle.driver_bring_up.proofs.bringing.BringUp.end_commands.Goals as goal
+use Rattle.driver_bring_up.proofs.FailingLooks.{on_err}
 
 pub invariant_of-self-2-clause-led : goal.invariant_of-self-2-clause-led
 invariant_of-self-2-clause-led g c = λ asking.

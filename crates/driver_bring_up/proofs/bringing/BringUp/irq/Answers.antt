@@ -5,10 +5,9 @@ use Rattle.std.proofs.lemmas.Result.{on_ok_weaker, on_err_weaker}
 use Rattle.command_engine.proofs.Callers.{made_none}
 use Rattle.hda_world.proofs.Callers.{row_both, told_both, told_map}
 use Rattle.driver_progress.specs.Interrupts.{interrupt_accesses}
-use Rattle.driver_progress.proofs.StretchCallers.{unread_both, interrupt_unread, looked_untaken}
 use Rattle.driver_bring_up.specs.Commanding.{IsStretch, answer_in}
 use Rattle.driver_progress.specs.Phases.{is_asking}
-use Rattle.driver_progress.proofs.Callers.{asking_active}
+use Rattle.driver_progress.proofs.Callers.{asking_active, unread_both, interrupt_unread, looked_untaken}
 use Rattle.hda_world.specs.Tellings.{Between, Makes}
 use Rattle.hda_world.specs.Events.{Event}
 use Rattle.driver_bring_up.specs.Calls.{state_of, Begins}

@@ -1,10 +1,11 @@
 use Rattle.std.proofs.Common.{List, length, arith, ap, refl, sym, subst, ◌++◌, ◌∙◌}
 use Rattle.command_engine.specs.declared.answers.Event.{Event}
 use Rattle.driver_bring_up.specs.Counted.{IsCount}
-use Rattle.driver_bring_up.proofs.CommandCallers.{few_events, told_same}
 use Rattle.driver_progress.specs.Phases.{is_asking}
 use Rattle.driver_bring_up.proofs.Leading.{not_true}
 use Rattle.driver_bring_up.proofs.bringing.BringUp.listen.Goals as goal
+use Rattle.driver_bring_up.proofs.Events.{few_events}
+use Rattle.driver_bring_up.proofs.Entries.{told_same}
 
 pub take_events-requires-clause-few : goal.take_events-requires-clause-few
 take_events-requires-clause-few g c =

@@ -8,8 +8,8 @@ use Rattle.driver_bring_up.proofs.Leading.{not_true}
 use Rattle.driver_bring_up.proofs.Unread.{walks_settles, walking_settles, reset_settles}
 use Rattle.driver_progress.specs.Expected.{has_settled}
 use Rattle.driver_progress.specs.Settling.{settle_accesses}
-use Rattle.driver_progress.proofs.StretchCallers.{settle_unread}
 use Rattle.driver_progress.specs.declared.settling.Settled.TheVariants.{TooEarly, NoCodec, Codecs}
+use Rattle.driver_progress.proofs.Callers.{settle_unread}
 use Rattle.driver_bring_up.specs.Calls.{state_of}
 use Rattle.driver_bring_up.proofs.Settles.{too_early, found_some, found_started, begins_phase, settle_with, begins_with, found_named}
 use Rattle.driver_bring_up.proofs.bringing.BringUp.settle.Goals as goal

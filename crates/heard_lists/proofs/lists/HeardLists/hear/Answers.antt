@@ -180,12 +180,12 @@ invariant_of-self g c =
     let counted = c.self.invariant.3 in
     let few = c.self.invariant.4 in
     let count_took = took.count in
-    let bytes_len = c.append.ensures.length in
-    let bytes_cap = c.append.ensures.capacity in
+    let bytes_len = c.extend_within_capacity.ensures.length in
+    let bytes_cap = c.extend_within_capacity.ensures.capacity in
     let pieces_len = c.take_in.ensures.length in
     let pieces_cap = c.take_in.ensures.capacity in (
-      subst (λ (p : List PinSignals). AreKept p c.take_in.new.pieces.items c.append.new.bytes.items (h.room - blocks)) (sym new_items)
-          (subst (λ (b : List ℕ). AreKept c.take_in.new.lists c.take_in.new.pieces.items b (h.room - blocks)) (sym c.append.ensures.items)
+      subst (λ (p : List PinSignals). AreKept p c.take_in.new.pieces.items c.extend_within_capacity.new.items.items (h.room - blocks)) (sym new_items)
+          (subst (λ (b : List ℕ). AreKept c.take_in.new.lists c.take_in.new.pieces.items b (h.room - blocks)) (sym c.extend_within_capacity.ensures.items)
           (took.kept h.bytes.items whole h.room are some fits long)),
       omega (arith, bytes_held, bytes_len, bytes_cap, long, most, fits),
       omega (arith, pieces_held, pieces_len, pieces_cap, some, fits),
@@ -215,8 +215,8 @@ returns-clause-lists g c =
     with_items_is h.lists c.take_in.new.lists (many ∙ (ap length value ∙ lists_ok)) in
     let on = took.lists h.bytes.items given h.room are count inside in
     let same : whole ≡ take (blocks * block_bytes c.args.format) given = ap (λ (n : ℕ). take (blocks * n) given) is in
-    ap (map (listing_of c.take_in.new.pieces.items c.append.new.bytes.items 0 (h.room - blocks))) new_items
-    ∙ (ap (λ (b : List ℕ). map (listing_of c.take_in.new.pieces.items b 0 (h.room - blocks)) c.take_in.new.lists) (c.append.ensures.items ∙ ap (λ (w : List ℕ). h.bytes.items ++ w) same)
+    ap (map (listing_of c.take_in.new.pieces.items c.extend_within_capacity.new.items.items 0 (h.room - blocks))) new_items
+    ∙ (ap (λ (b : List ℕ). map (listing_of c.take_in.new.pieces.items b 0 (h.room - blocks)) c.take_in.new.lists) (c.extend_within_capacity.ensures.items ∙ ap (λ (w : List ℕ). h.bytes.items ++ w) same)
     ∙ (on
     ∙ ap (map (with_blocks signal (layout c.args.format) given)) (ap (map (listing_of h.pieces.items h.bytes.items h.holes h.room)) value ∙ c.self.view_is)))
 
@@ -239,7 +239,7 @@ returns-clause-room g c more has =
     room-of h.pieces.items h.bytes.items h.holes h.room (length given / block_bytes c.args.format + more) h.lists.items
     (some_from (vec_len h.lists) h.lists.items c.is_empty.result empty_is no_list lists_ok)
     (subst (HasRoom (length given / block_bytes c.args.format + more)) (sym c.self.view_is) has) in
-    has-room c.take_in.new.pieces.items c.append.new.bytes.items 0 (h.room - blocks) more (vec.with_items h.lists c.take_in.new.lists).items
+    has-room c.take_in.new.pieces.items c.extend_within_capacity.new.items.items 0 (h.room - blocks) more (vec.with_items h.lists c.take_in.new.lists).items
     (omega (arith, more_room, count))
 
 pub returns-then-blocks-eq0-clause-lists : goal.returns-then-blocks-eq0-clause-lists
