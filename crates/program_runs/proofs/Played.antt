@@ -50,6 +50,7 @@ use Rattle.program_runs.proofs.Gone.{Gone, phase_left, played_phase, unplayed_en
 use Rattle.program_runs.proofs.Hearing.{all_hear, none_hear}
 use Rattle.program_runs.proofs.LineRecorded.{RunLaws, recorded_line}
 use Rattle.program_runs.proofs.Recorded.{recorded_is}
+use Rattle.program_runs.proofs.OpenRoutes.{stays_open}
 use Rattle.program_runs.proofs.WalkedIn.{walked_in}
 use Rattle.program_runs.proofs.Written.{drained_whole, written_within}
 
@@ -159,7 +160,7 @@ module _ (machine : Machine) (plans : List Plan) (wav : Wav) (geometry : Geometr
           all_walked = all_walked_if gone.tally.course.started gone.ended.phase gone.tally.course.ran (played.graphs ≡ graphs_in machine.codecs) gone.has.ready
               (subst (λ (walked : List RawCodec). WalkedIn gone.ended.phase (walked ≡ graphs_in machine.codecs)) (sym walked) gone.has.ended_is.by_phase);
         };
-        opened = gone.has.set_up;
+        opened = stays_open wav.format machine schedule task telling gone.has.set_up;
         runs = record {
           recorded = recorded;
           runs = runs ∙ gone.leaves.runs;

@@ -21,6 +21,7 @@ use Rattle.heard_lists.specs.Listings.{graphs_in}
 use Rattle.program_runs.specs.Ends.{can_end}
 use Rattle.program_runs.specs.Walks.{walk_format, IsWalkFault}
 use Rattle.program_runs.specs.Histories.{MakesProgress, StaysOpen, journal_of, told_by}
+use Rattle.program_runs.proofs.OpenRoutes.{stays_open}
 use Rattle.program_runs.proofs.WalkedIn.{walked_in}
 use Rattle.program_runs.proofs.Gone.{Gone, unplayed_phase, unplayed_ends, graphs_walked, graphs_by_phase}
 
@@ -66,7 +67,7 @@ module _ (machine : Machine) (play : Bool) (task : Task) (schedule : Schedule) (
               (subst (λ (phase : Phase). WalkedIn phase (played.graphs ≡ graphs_in machine.codecs)) left_is
               (subst (λ (walked : List RawCodec). WalkedIn gone.ended.phase (walked ≡ graphs_in machine.codecs)) (sym graphs) (graphs_by_phase machine walk_format play task schedule old closed journal gone)));
         };
-        opened = gone.has.set_up;
+        opened = stays_open walk_format machine schedule task (telling_from REGION_BYTES machine journal) gone.has.set_up;
         ended = subst (λ (phase : Phase). IsWalkFault phase gone.ended.sent played.commands played.fault) phase_is
             (subst (λ (sent : ℕ). IsWalkFault closed.phase sent played.commands played.fault) gone.leaves.sent fault);
       })
