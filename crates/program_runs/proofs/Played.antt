@@ -40,17 +40,18 @@ use Rattle.rig.specs.Replays.{telling_from}
 use Rattle.heard_lists.specs.Listings.{graphs_in}
 use Rattle.laws_start.specs.Tasks.{HavePlans}
 use Rattle.program_runs.specs.Lines.{lines_of}
-use Rattle.program_runs.specs.Ends.{can_end}
+use Rattle.program_runs.specs.Ends.{play_can_end}
 use Rattle.program_runs.specs.Histories.{MakesProgress, StaysOpen, journal_of, told_by}
 use Rattle.program_runs.specs.FrameCounts.{written_by}
 use Rattle.program_runs.specs.Hearing.{HasPlayedAll, HearTheirs, lists_heard}
 use Rattle.program_runs.specs.Stretches.{stretches_of}
-use Rattle.program_runs.specs.Plays.{AreRecorded, HasRunUpTo, IsHeard, IsPlayFault, Lived, played_task}
+use Rattle.program_runs.specs.Plays.{AreRecorded, HasRunUpTo, IsHeard, Lived, play_fault, played_task}
 use Rattle.program_runs.proofs.Gone.{Gone, phase_left, played_phase, unplayed_ends}
 use Rattle.program_runs.proofs.Hearing.{all_hear, none_hear}
 use Rattle.program_runs.proofs.LineRecorded.{RunLaws, recorded_line}
 use Rattle.program_runs.proofs.Recorded.{recorded_is}
 use Rattle.program_runs.proofs.OpenRoutes.{stays_open}
+use Rattle.program_runs.proofs.Phases.{plays_too}
 use Rattle.program_runs.proofs.WalkedIn.{walked_in}
 use Rattle.program_runs.proofs.Written.{drained_whole, written_within}
 
@@ -66,7 +67,7 @@ graph_among files file has =
 -- ---- phases
 
 -- it can end in any way in which a run does
-ran_ends : (was : Ran) → can_end false (played_as was) ≡ true
+ran_ends : (was : Ran) → play_can_end (played_as was) ≡ true
 ran_ends ran.Playing = refl
 ran_ends ran.Drained = refl
 ran_ends (ran.Late from to limit) = refl
@@ -100,7 +101,8 @@ pub record IsDriven (machine : Machine) (plans : List Plan) (wav : Wav) (schedul
   pub opened : StaysOpen wav.format machine schedule task telling
   pub runs : AreRecorded schedule task state.phase state.tally telling played
   pub heard : IsHeard machine plans wav state.tally (world_of telling).carried played.heard
-  pub ended : IsPlayFault state.phase state.sent played.commands (block_bytes wav.format) played.total state.tally.runs state.tally.silences played.fault
+  pub ends : play_can_end state.phase ≡ true
+  pub fault : played.fault ≡ play_fault state.phase state.sent played.commands (block_bytes wav.format) played.total state.tally.runs state.tally.silences
 
 module _ (machine : Machine) (plans : List Plan) (wav : Wav) (geometry : Geometry) (blocks : Blocks) (schedule : Schedule) (old : Parts) (closed : Closed) (journal : List Event)
     (gone : Gone machine wav.format true (played_task machine plans wav geometry blocks) schedule old closed journal) where
@@ -111,12 +113,12 @@ module _ (machine : Machine) (plans : List Plan) (wav : Wav) (geometry : Geometr
   telling = telling_from REGION_BYTES machine journal
 
   -- it can end in its phase
-  pub playing_ends : can_end false closed.phase ≡ true
+  pub playing_ends : play_can_end closed.phase ≡ true
   playing_ends = by gone.tally.course.started refl
     where
-      by : (started : Bool) → gone.tally.course.started ≡ started → can_end false closed.phase ≡ true
-      by true some = ap (can_end false) (played_phase machine wav.format true task schedule old closed journal gone some) ∙ ran_ends gone.tally.course.ran
-      by false none = unplayed_ends machine wav.format true task schedule old closed journal gone false none
+      by : (started : Bool) → gone.tally.course.started ≡ started → play_can_end closed.phase ≡ true
+      by true some = ap play_can_end (played_phase machine wav.format true task schedule old closed journal gone some) ∙ ran_ends gone.tally.course.ran
+      by false none = plays_too closed.phase (unplayed_ends machine wav.format true task schedule old closed journal gone none)
 
   -- no more was written than there is
   pub written_few : written_by closed.runs.items ≤ length wav.pcm
@@ -148,7 +150,7 @@ module _ (machine : Machine) (plans : List Plan) (wav : Wav) (geometry : Geometr
   -- what is told of it is that of the run that is kept
   pub driven : RunLaws → (played : Played) → journal_of played ≡ journal → geometry ≡ old.writer.geometry → geometry.format ≡ wav.format → HavePlans wav.format machine.codecs plans → played.graphs ≡ closed.graphs.items
       → played.runs ≡ closed.runs.items → played.silences ≡ closed.silences.items → played.heard ≡ lists_heard carried machine.codecs plans
-      → IsPlayFault closed.phase closed.sent played.commands (block_bytes wav.format) played.total closed.runs.items closed.silences.items played.fault
+      → played.fault ≡ play_fault closed.phase closed.sent played.commands (block_bytes wav.format) played.total closed.runs.items closed.silences.items
       → IsDriven machine plans wav schedule task (state_with gone.ended gone.tally) (told_by machine played) played
   driven laws played told ring format planned graphs runs silences heard fault =
       subst (λ (events : List Event). IsDriven machine plans wav schedule task (state_with gone.ended gone.tally) (telling_from REGION_BYTES machine events) played) (sym told) (record {
@@ -174,7 +176,8 @@ module _ (machine : Machine) (plans : List Plan) (wav : Wav) (geometry : Geometr
           hear = hears_by planned format gone.has.heard;
           whole = λ drained. subst (λ state. HasPlayedAll wav.pcm state.tally) gone.has.state_is (drained_whole task (lines_of schedule) telling (ap (λ state. state.tally.course.ran) gone.has.state_is ∙ drained));
         };
-        ended = fault_left;
+        ends = subst (λ (phase : Phase). play_can_end phase ≡ true) (phase_left machine wav.format true task schedule old closed journal gone) playing_ends;
+        fault = fault ∙ fault_left;
       })
     where
       recorded : gone.tally ≡ tally_of_stretches (measures geometry) (length wav.pcm) (stretches_of (lines_of schedule) journal)
@@ -183,10 +186,11 @@ module _ (machine : Machine) (plans : List Plan) (wav : Wav) (geometry : Geometr
       walked : played.graphs ≡ gone.ended.agenda.graphs.items
       walked = graphs ∙ ap (λ graphs. graphs.items) gone.leaves.graphs
 
-      fault_left : IsPlayFault (state_with gone.ended gone.tally).phase gone.ended.sent played.commands (block_bytes wav.format) played.total gone.tally.runs gone.tally.silences played.fault
+      fault_left : play_fault closed.phase closed.sent played.commands (block_bytes wav.format) played.total closed.runs.items closed.silences.items
+          ≡ play_fault (state_with gone.ended gone.tally).phase gone.ended.sent played.commands (block_bytes wav.format) played.total gone.tally.runs gone.tally.silences
       fault_left =
-          subst (λ silences. IsPlayFault (state_with gone.ended gone.tally).phase gone.ended.sent played.commands (block_bytes wav.format) played.total gone.tally.runs silences played.fault) gone.leaves.silences
-          (subst (λ runs. IsPlayFault (state_with gone.ended gone.tally).phase gone.ended.sent played.commands (block_bytes wav.format) played.total runs closed.silences.items played.fault) gone.leaves.runs
-          (subst (λ (sent : ℕ). IsPlayFault (state_with gone.ended gone.tally).phase sent played.commands (block_bytes wav.format) played.total closed.runs.items closed.silences.items played.fault) gone.leaves.sent
-          (subst (λ (phase : Phase). IsPlayFault phase closed.sent played.commands (block_bytes wav.format) played.total closed.runs.items closed.silences.items played.fault)
-          (phase_left machine wav.format true task schedule old closed journal gone) fault)))
+          ap (λ (phase : Phase). play_fault phase closed.sent played.commands (block_bytes wav.format) played.total closed.runs.items closed.silences.items)
+          (phase_left machine wav.format true task schedule old closed journal gone)
+          ∙ ap (λ (sent : ℕ). play_fault (state_with gone.ended gone.tally).phase sent played.commands (block_bytes wav.format) played.total closed.runs.items closed.silences.items) gone.leaves.sent
+          ∙ ap (λ runs. play_fault (state_with gone.ended gone.tally).phase gone.ended.sent played.commands (block_bytes wav.format) played.total runs closed.silences.items) gone.leaves.runs
+          ∙ ap (λ silences. play_fault (state_with gone.ended gone.tally).phase gone.ended.sent played.commands (block_bytes wav.format) played.total gone.tally.runs silences) gone.leaves.silences

@@ -28,7 +28,7 @@ use Rattle.driver_progress.specs.Progress.{state_of}
 use Rattle.laws_start.specs.Tasks.{HavePlans, commands_of}
 use Rattle.sound_report.specs.declared.played.Played.{Played}
 use Rattle.program_runs.specs.Histories.{commands_for, journal_of, told_by}
-use Rattle.program_runs.specs.Plays.{HasRunUpTo, Lived, IsPlayed, IsPlayFault, played_task}
+use Rattle.program_runs.specs.Plays.{HasRunUpTo, Lived, IsPlayed, play_fault, played_task}
 use Rattle.laws_serving.specs.Rounds.{rounds_of}
 use Rattle.laws_serving.specs.ServingSchedules.{IsCalmRound, ServesCommands, ServesSound, MayFillTheRing}
 use Rattle.laws_serving.specs.Coming.{HasComeTo}
@@ -107,9 +107,10 @@ module _ (machine : Machine) (plans : List Plan) (wav : Wav) (geometry : Geometr
   -- so it ends
   ends : HasComeTo commands (line_count schedule) true is.state → ServedPlayEnds commands (line_count schedule) (block_bytes wav.format) played.total played.runs played.silences played.fault
   ends come =
-      let ended = subst (λ (runs : List Run). IsPlayFault is.state.phase is.state.sent played.commands (block_bytes wav.format) played.total runs played.silences played.fault) (sym is.runs.runs)
-      (subst (λ (silences : List Span). IsPlayFault is.state.phase is.state.sent played.commands (block_bytes wav.format) played.total is.state.tally.runs silences played.fault) (sym is.runs.silences) is.ended) in
-      play_ends commands (line_count schedule) played.commands (block_bytes wav.format) played.total is.state played.runs played.silences played.fault come is.commands ended
+      let fault = is.fault
+      ∙ ap (λ (silences : List Span). play_fault is.state.phase is.state.sent played.commands (block_bytes wav.format) played.total is.state.tally.runs silences) (sym is.runs.silences)
+      ∙ ap (λ (runs : List Run). play_fault is.state.phase is.state.sent played.commands (block_bytes wav.format) played.total runs played.silences) (sym is.runs.runs) in
+      play_ends commands (line_count schedule) played.commands (block_bytes wav.format) played.total is.state played.runs played.silences played.fault come is.commands fault
 
   -- its stream was set going once, and stopped
   pub stopped : 4 + commands ≤ line_count schedule → HasComeTo commands (line_count schedule) true is.state → HasStopped telling
@@ -126,7 +127,7 @@ module _ (machine : Machine) (plans : List Plan) (wav : Wav) (geometry : Geometr
   all_played : (state_of task (calls_of items) telling).phase ≡ Drained → IsUnbroken (length wav.pcm) (state_of task (calls_of items) telling).tally.silences → PlaysAll (length wav.pcm) played.silences played.fault
   all_played drained unbroken =
       let drained' : is.state.phase ≡ Drained = ap (λ (state : State). state.phase) (sym state_is) ∙ drained in record {
-        done = subst (λ (phase : Phase). IsPlayFault phase is.state.sent played.commands (block_bytes wav.format) played.total is.state.tally.runs is.state.tally.silences played.fault) drained' is.ended;
+        done = is.fault ∙ ap (λ (phase : Phase). play_fault phase is.state.sent played.commands (block_bytes wav.format) played.total is.state.tally.runs is.state.tally.silences) drained';
         unbroken = subst (IsUnbroken (length wav.pcm)) (sym is.runs.silences) (subst (λ (state : State). IsUnbroken (length wav.pcm) state.tally.silences) state_is unbroken);
       }
 

@@ -30,7 +30,7 @@ use Rattle.driver_progress.specs.Progress.{state_of}
 use Rattle.laws_start.specs.Tasks.{HavePlans}
 use Rattle.sound_report.specs.declared.played.Played.{Played}
 use Rattle.program_runs.specs.Hearing.{heard_of, heard_by, lists_heard}
-use Rattle.program_runs.specs.Plays.{IsPlayed, IsPlayFault}
+use Rattle.program_runs.specs.Plays.{IsPlayed, play_fault}
 use Rattle.laws_serving.specs.Rounds.{Round, rounds_of}
 use Rattle.laws_serving.specs.ServingSchedules.{ServesCommands, ServesSound}
 use Rattle.laws_serving.specs.Runs.{IsTaskTo, IsStartFor, IsRunOf, calls_of}
@@ -88,7 +88,7 @@ module _ (machine : Machine) (plans : List Plan) (wav : Wav) (geometry : Geometr
   kept : (frames : ℕ) (lengths : List ℕ) → HoleLaw → HasPlayedInTurns (measures geometry).ring (measures geometry).block frames lengths is.state (world_of telling)
       → PlaysByTurns (measures geometry).ring (measures geometry).block frames lengths played
   kept frames lengths law has = record {
-    done = subst (λ (phase : Phase). IsPlayFault phase is.state.sent played.commands (block_bytes wav.format) played.total is.state.tally.runs is.state.tally.silences played.fault) has.phase is.ended;
+    done = is.fault ∙ ap (λ (phase : Phase). play_fault phase is.state.sent played.commands (block_bytes wav.format) played.total is.state.tally.runs is.state.tally.silences) has.phase;
     runs = ap (λ (runs : List Run). length runs) is.runs.runs ∙ has.runs;
     silences = is.runs.silences ∙ has.silences;
     heard = subst (All HasNoHole) (sym is.heard.lists_are) (lists_no_hole (measures geometry).block (world_of telling).carried has.sent law machine.codecs plans);

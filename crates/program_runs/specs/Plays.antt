@@ -29,8 +29,7 @@ use Rattle.period_writer.specs.Runs.{Tally, measures, tally_of_stretches}
 use Rattle.period_writer.specs.Owning.{IsWritten}
 use Rattle.period_writer.specs.Rings as rings
 use Rattle.driver_progress.specs.declared.phase.Phase.{Phase}
-use Rattle.driver_progress.specs.declared.phase.Phase.TheVariants.{Playing, Drained, NothingRouted, Unanswered, Late}
-use Rattle.driver_progress.specs.declared.phase.Phase.TheVariants.{Malformed, Failed}
+use Rattle.driver_progress.specs.declared.phase.Phase.TheVariants.{Playing, Drained, Unanswered, Late}
 use Rattle.driver_progress.specs.Tasks.{Task, Blocks}
 use Rattle.driver_progress.specs.States.{State}
 use Rattle.driver_bring_up.specs.Jacks.{Counts}
@@ -41,6 +40,7 @@ use Rattle.sound_report.specs.declared.played.PlayFault.{PlayFault}
 use Rattle.sound_report.specs.declared.played.PlayFault.TheVariants as faults
 use Rattle.laws_start.specs.Tasks.{task_of}
 use Rattle.program_runs.specs.FirstFits.{AreFirstFits}
+use Rattle.program_runs.specs.Ends.{play_can_end}
 use Rattle.program_runs.specs.Lines.{lines_of}
 use Rattle.program_runs.specs.Events.{told_in}
 use Rattle.program_runs.specs.Histories.{HasInput, IsHistory, MakesProgress, StaysOpen, commands_for, journal_of}
@@ -53,17 +53,14 @@ use Rattle.program_runs.specs.Hearing.{HasPlayedAll, HearTheirs, WasSilent, list
 
 -- why it ended before all was played, by how far the driver came: so many commands were sent of how many, and with
 -- these runs and silences so many of the frames were written and heard
-abbrev pub IsPlayFault : Phase → (sent of block total : ℕ) → List Run → List Span → Option PlayFault → Type 0
-IsPlayFault Playing sent of block total runs silences fault =
-    fault ≡ Some (faults.FramesLeft (frames_written block runs) (frames_below block silences (last_at runs)) total)
-IsPlayFault Drained sent of block total runs silences fault = fault ≡ None
-IsPlayFault NothingRouted sent of block total runs silences fault = ⊥
-IsPlayFault (Unanswered codec command issued noticed) sent of block total runs silences fault =
-    fault ≡ Some (faults.Unanswered codec command issued noticed)
-IsPlayFault (Late from to limit) sent of block total runs silences fault = fault ≡ Some (faults.Late from to limit)
-IsPlayFault (Malformed codec fault') sent of block total runs silences fault = ⊥
-IsPlayFault Failed sent of block total runs silences fault = ⊥
-IsPlayFault phase sent of block total runs silences fault = fault ≡ Some (faults.CommandsLeft sent of)
+abbrev pub play_fault : Phase → (sent of block total : ℕ) → List Run → List Span → Option PlayFault
+play_fault Drained sent of block total runs silences = None
+play_fault Playing sent of block total runs silences =
+    Some (faults.FramesLeft (frames_written block runs) (frames_below block silences (last_at runs)) total)
+play_fault (Late from to limit) sent of block total runs silences = Some (faults.Late from to limit)
+play_fault (Unanswered codec command issued noticed) sent of block total runs silences =
+    Some (faults.Unanswered codec command issued noticed)
+play_fault phase sent of block total runs silences = Some (faults.CommandsLeft sent of)
 
 -- ---- the run
 
@@ -122,8 +119,10 @@ pub record IsPlayed (machine : Machine) (plans : List Plan) (wav : Wav) (geometr
   -- jacks count what was read of RIRB that came unasked
   pub jacks : Counts (told_in (journal_of played)) played.jacks
   pub commands : played.commands ≡ commands_for wav.format machine plans
-  pub ended : IsPlayFault state.phase state.sent played.commands (block_bytes wav.format) played.total state.tally.runs
-      state.tally.silences played.fault
+  -- it ended in a phase in which a run can end, and tells why
+  pub ends : play_can_end state.phase ≡ true
+  pub fault : played.fault ≡ play_fault state.phase state.sent played.commands (block_bytes wav.format) played.total
+      state.tally.runs state.tally.silences
 
 -- ---- the sound
 

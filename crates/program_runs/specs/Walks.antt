@@ -9,8 +9,7 @@ use Rattle.schedule_reader.specs.declared.schedule.Schedule.{Schedule}
 use Rattle.hda_files.specs.declared.machine.Machine.{Machine}
 use Rattle.period_writer.specs.declared.geometry.Geometry.{Geometry}
 use Rattle.driver_progress.specs.declared.phase.Phase.{Phase}
-use Rattle.driver_progress.specs.declared.phase.Phase.TheVariants.{Reset, Settling, Walking, SettingUp, Ready}
-use Rattle.driver_progress.specs.declared.phase.Phase.TheVariants.{Unanswered}
+use Rattle.driver_progress.specs.declared.phase.Phase.TheVariants.{Ready, Unanswered}
 use Rattle.driver_progress.specs.Tasks.{Blocks}
 use Rattle.driver_progress.specs.States.{State}
 use Rattle.driver_bring_up.specs.Jacks.{Counts}
@@ -19,6 +18,7 @@ use Rattle.sound_report.specs.declared.played.PlayFault.{PlayFault}
 use Rattle.sound_report.specs.declared.played.PlayFault.TheVariants as faults
 use Rattle.laws_start.specs.Tasks.{task_of}
 use Rattle.program_runs.specs.FirstFits.{AreFirstFits}
+use Rattle.program_runs.specs.Ends.{walk_can_end}
 use Rattle.program_runs.specs.Shapes.{HasShape}
 use Rattle.program_runs.specs.Histories.{HasInput, IsHistory, MakesProgress, StaysOpen, commands_for, journal_of}
 use Rattle.program_runs.specs.Histories.{told_by}
@@ -29,15 +29,11 @@ abbrev pub walk_format : Format
 walk_format = record { rate = R48; bits = B16; channels = 2; even = refl; some = lit≤ tt; few = lit≤ tt }
 
 -- why a walk ended before it was done, by how far the driver came, and by how many commands were sent of how many
-abbrev pub IsWalkFault : Phase → (sent of : ℕ) → Option PlayFault → Type 0
-IsWalkFault Reset sent of fault = fault ≡ Some (faults.CommandsLeft sent of)
-IsWalkFault Settling sent of fault = fault ≡ Some (faults.CommandsLeft sent of)
-IsWalkFault Walking sent of fault = fault ≡ Some (faults.CommandsLeft sent of)
-IsWalkFault SettingUp sent of fault = fault ≡ Some (faults.CommandsLeft sent of)
-IsWalkFault Ready sent of fault = fault ≡ None
-IsWalkFault (Unanswered codec command issued noticed) sent of fault =
-    fault ≡ Some (faults.Unanswered codec command issued noticed)
-IsWalkFault phase sent of fault = ⊥
+abbrev pub walk_fault : Phase → (sent of : ℕ) → Option PlayFault
+walk_fault Ready sent of = None
+walk_fault (Unanswered codec command issued noticed) sent of =
+    Some (faults.Unanswered codec command issued noticed)
+walk_fault phase sent of = Some (faults.CommandsLeft sent of)
 
 -- the ring with which a walk opens its driver, though it plays nothing: four periods of eight units
 abbrev pub IsWalkRing : (fifo : ℕ) → Geometry → Type 0
@@ -69,4 +65,6 @@ pub record IsWalked (machine : Machine) (plans : List Plan) (schedule : Schedule
   -- jacks count what was read of RIRB that came unasked
   pub jacks : Counts (told_in (journal_of played)) played.jacks
   pub commands : played.commands ≡ commands_for walk_format machine plans
-  pub ended : IsWalkFault state.phase state.sent played.commands played.fault
+  -- it ended in a phase in which a walk can end, and tells why
+  pub ends : walk_can_end state.phase ≡ true
+  pub fault : played.fault ≡ walk_fault state.phase state.sent played.commands

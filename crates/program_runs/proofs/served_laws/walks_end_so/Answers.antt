@@ -30,4 +30,4 @@ returns c = λ machine plans schedule played sound whole have limited serves wal
     (subst (λ (commands : ℕ). ServesCommands codecs commands (all_rounds schedule)) (sym count) serves) in
     let state : state_of task (calls_of items) telling ≡ walked.state = ap (λ (lines : List DriverLine). state_of task lines telling) (calls_are items) ∙ walked.progress.state_is in
     walk_ends (commands_for walk_format machine plans) (line_count schedule) played.commands walked.state played.fault
-    (subst (λ (commands : ℕ). HasComeTo commands (line_count schedule) false walked.state) count (subst (HasComeTo (length task.orders) (line_count schedule) false) state come)) walked.commands walked.ended
+    (subst (λ (commands : ℕ). HasComeTo commands (line_count schedule) false walked.state) count (subst (HasComeTo (length task.orders) (line_count schedule) false) state come)) walked.commands walked.fault

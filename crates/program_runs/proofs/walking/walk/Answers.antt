@@ -130,5 +130,6 @@ returns c =
           ∙ ap (λ (codecs : List CodecFile). length (commands_of c.walk_format.result codecs c.as_slice-2.result.now)) c.as_slice.ensures
           ∙ ap (λ (plans : List Plan). length (commands_of c.walk_format.result machine.codecs plans)) c.as_slice-2.ensures.value
           ∙ ap (λ (f : Format). length (commands_of f machine.codecs c.args.plans.items)) c.walk_format.ensures;
-      ended = by.ended;
+      ends = by.ends;
+      fault = by.fault;
     }
