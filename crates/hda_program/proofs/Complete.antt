@@ -60,7 +60,7 @@ walk_end : (machine : Machine) (plans : List Plan) (schedule : Schedule) (played
 unfolding WalkEnd
 walk_end machine plans schedule played walked =
     subst (λ (cut : Option CutLine). IsOfWalk (number_of (end_status cut played.fault))) (sym walked.silent.uncut)
-    (subst (λ (end : Option PlayFault). WalkEnd end) (sym walked.fault) (of_walk walked.state.phase walked.state.sent played.commands))
+    (subst (λ (end : Option PlayFault). WalkEnd end) (sym walked.run.fault) (of_walk walked.run.state.phase walked.run.state.sent played.commands))
 
 -- a run whose reading was cut by nothing ends so
 uncut : (name : List ℕ) (head : WavHead) (read : ℕ) (failed emptied : Type 0) (cut : Option CutLine) (end : Option PlayFault) → IsCutUnder name head read failed emptied cut → (failed → ⊥) → (IsShortCut cut → ⊥)

@@ -89,7 +89,7 @@ module _ (machine : Machine) (plans : List Plan) (wav : Wav) (geometry : Geometr
   start = starts machine task sound (lie_well geometry is.blocks is.first_fits)
 
   pub run : IsRunOf task items telling
-  run = run_of machine schedule task (journal_of played) limited is.history is.progress.progress is.progress.finds
+  run = run_of machine schedule task (journal_of played) limited is.run.history is.run.progress.progress is.run.progress.finds
 
   pub commands_served : ServesCommands (machine_addresses machine) (length task.orders) (all_rounds schedule)
   commands_served = subst (λ (commands : ℕ). ServesCommands (machine_addresses machine) commands (all_rounds schedule)) (sym counted) serves.commands
@@ -97,25 +97,25 @@ module _ (machine : Machine) (plans : List Plan) (wav : Wav) (geometry : Geometr
   pub sound_served : ServesSound (length task.orders) (measures geometry).limit (measures geometry).slack (all_rounds schedule).rounds
   sound_served = subst (λ (commands : ℕ). ServesSound commands (measures geometry).limit (measures geometry).slack (all_rounds schedule).rounds) (sym counted) serves.sound
 
-  pub state_is : state_of task (calls_of items) telling ≡ is.state
-  state_is = ap (λ (lines : List DriverLine). state_of task lines telling) (calls_are items) ∙ is.progress.state_is
+  pub state_is : state_of task (calls_of items) telling ≡ is.run.state
+  state_is = ap (λ (lines : List DriverLine). state_of task lines telling) (calls_are items) ∙ is.run.progress.state_is
 
   -- how far the driver came
-  comes : HasComeTo (length task.orders) (line_count schedule) true (state_of task (calls_of items) telling) → HasComeTo commands (line_count schedule) true is.state
-  comes come = subst (λ (commands : ℕ). HasComeTo commands (line_count schedule) true is.state) counted (subst (HasComeTo (length task.orders) (line_count schedule) true) state_is come)
+  comes : HasComeTo (length task.orders) (line_count schedule) true (state_of task (calls_of items) telling) → HasComeTo commands (line_count schedule) true is.run.state
+  comes come = subst (λ (commands : ℕ). HasComeTo commands (line_count schedule) true is.run.state) counted (subst (HasComeTo (length task.orders) (line_count schedule) true) state_is come)
 
   -- so it ends
-  ends : HasComeTo commands (line_count schedule) true is.state → ServedPlayEnds commands (line_count schedule) (block_bytes wav.format) played.total played.runs played.silences played.fault
+  ends : HasComeTo commands (line_count schedule) true is.run.state → ServedPlayEnds commands (line_count schedule) (block_bytes wav.format) played.total played.runs played.silences played.fault
   ends come =
-      let fault = is.fault
-      ∙ ap (λ (silences : List Span). play_fault is.state.phase is.state.sent played.commands (block_bytes wav.format) played.total is.state.tally.runs silences) (sym is.runs.silences)
-      ∙ ap (λ (runs : List Run). play_fault is.state.phase is.state.sent played.commands (block_bytes wav.format) played.total runs played.silences) (sym is.runs.runs) in
-      play_ends commands (line_count schedule) played.commands (block_bytes wav.format) played.total is.state played.runs played.silences played.fault come is.commands fault
+      let fault = is.run.fault
+      ∙ ap (λ (silences : List Span). play_fault is.run.state.phase is.run.state.sent played.commands (block_bytes wav.format) played.total is.run.state.tally.runs silences) (sym is.run.runs.silences)
+      ∙ ap (λ (runs : List Run). play_fault is.run.state.phase is.run.state.sent played.commands (block_bytes wav.format) played.total runs played.silences) (sym is.run.runs.runs) in
+      play_ends commands (line_count schedule) played.commands (block_bytes wav.format) played.total is.run.state played.runs played.silences played.fault come is.run.commands fault
 
   -- its stream was set going once, and stopped
-  pub stopped : 4 + commands ≤ line_count schedule → HasComeTo commands (line_count schedule) true is.state → HasStopped telling
+  pub stopped : 4 + commands ≤ line_count schedule → HasComeTo commands (line_count schedule) true is.run.state → HasStopped telling
   stopped enough come =
-      subst (λ (started : Bool). Lived started is.state.tally telling) (run_started is.state.phase is.state.tally.course (come.sounds enough refl) is.runs.phase_is) is.runs.stream
+      subst (λ (started : Bool). Lived started is.run.state.tally telling) (run_started is.run.state.phase is.run.state.tally.course (come.sounds enough refl) is.run.runs.phase_is) is.run.runs.stream
 
   fed_sent : IsFedWhole commands (measures geometry).ring (length wav.pcm) (all_rounds schedule) telling.start (journal_of played) → HasSentBefore (4 + length task.orders) (length wav.pcm) telling.start telling.journal
   fed_sent fed = subst (λ (commands : ℕ). HasSentBefore (4 + commands) (length wav.pcm) telling.start telling.journal) (sym counted) fed.sent
@@ -126,13 +126,13 @@ module _ (machine : Machine) (plans : List Plan) (wav : Wav) (geometry : Geometr
   -- and all is played
   all_played : (state_of task (calls_of items) telling).phase ≡ Drained → IsUnbroken (length wav.pcm) (state_of task (calls_of items) telling).tally.silences → PlaysAll (length wav.pcm) played.silences played.fault
   all_played drained unbroken =
-      let drained' : is.state.phase ≡ Drained = ap (λ (state : State). state.phase) (sym state_is) ∙ drained in record {
-        done = is.fault ∙ ap (λ (phase : Phase). play_fault phase is.state.sent played.commands (block_bytes wav.format) played.total is.state.tally.runs is.state.tally.silences) drained';
-        unbroken = subst (IsUnbroken (length wav.pcm)) (sym is.runs.silences) (subst (λ (state : State). IsUnbroken (length wav.pcm) state.tally.silences) state_is unbroken);
+      let drained' : is.run.state.phase ≡ Drained = ap (λ (state : State). state.phase) (sym state_is) ∙ drained in record {
+        done = is.run.fault ∙ ap (λ (phase : Phase). play_fault phase is.run.state.sent played.commands (block_bytes wav.format) played.total is.run.state.tally.runs is.run.state.tally.silences) drained';
+        unbroken = subst (IsUnbroken (length wav.pcm)) (sym is.run.runs.silences) (subst (λ (state : State). IsUnbroken (length wav.pcm) state.tally.silences) state_is unbroken);
       }
 
   -- by the laws
-  pub comes_by : PlayLaw → HasComeTo commands (line_count schedule) true is.state
+  pub comes_by : PlayLaw → HasComeTo commands (line_count schedule) true is.run.state
   comes_by law = comes (law task (machine_addresses machine) items telling refl to start run commands_served sound_served)
 
   pub plays_end : PlayLaw → ServedPlayEnds commands (line_count schedule) (block_bytes wav.format) played.total played.runs played.silences played.fault

@@ -1,5 +1,5 @@
 -- What is promised of a driver's run over a machine by a schedule, whether it plays sound or not. This project's own.
-use Rattle.std.specs.Prelude.{◌≡◌, ℕ, Bool, true, false, List, ◌++◌, length, Contains, Some}
+use Rattle.std.specs.Prelude.{◌≡◌, ℕ, true, List, ◌++◌, length, Contains, Some}
 use Rattle.stream_format.specs.declared.format.Format.{Format}
 use Rattle.codec_graph.specs.declared.raw.RawCodec.{RawCodec}
 use Rattle.codec_graph.specs.CodecStates.{CodecState}
@@ -37,16 +37,15 @@ journal_of played = events_of played.journal
 abbrev pub told_by : Machine → Played → Telling
 told_by machine played = telling_from REGION_BYTES machine (journal_of played)
 
--- what went into the run is kept with it: the machine, which is sound, with the plans of its codecs, whether it is a
--- walk, and the format and the frames of its sound
-pub record HasInput (walk : Bool) (format : Format) (frames : ℕ) (machine : Machine) (plans : List Plan)
-    (played : Played) : Type 0 where
-  pub sound : IsSound machine
-  pub machine_is : played.machine ≡ machine
-  pub plans_are : played.plans ≡ plans
-  pub walk_is : played.walk ≡ walk
-  pub format_is : played.format ≡ format
-  pub frames_are : played.total ≡ frames
+-- what went into the run is kept with it: the machine, which is sound, with the plans of its codecs, and the format and
+-- the frames of its sound
+pub record HasInput (format : Format) (frames : ℕ) (machine : Machine) (plans : List Plan) (played : Played) : Type 0
+  where
+    pub sound : IsSound machine
+    pub machine_is : played.machine ≡ machine
+    pub plans_are : played.plans ≡ plans
+    pub format_is : played.format ≡ format
+    pub frames_are : played.total ≡ frames
 
 -- one history: the journal replays from the machine's start, each access with the answer that the device gives, and
 -- follows the schedule

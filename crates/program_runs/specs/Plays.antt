@@ -43,8 +43,7 @@ use Rattle.program_runs.specs.FirstFits.{AreFirstFits}
 use Rattle.program_runs.specs.Ends.{play_can_end}
 use Rattle.program_runs.specs.Lines.{lines_of}
 use Rattle.program_runs.specs.Events.{told_in}
-use Rattle.program_runs.specs.Histories.{HasInput, IsHistory, MakesProgress, StaysOpen, commands_for, journal_of}
-use Rattle.program_runs.specs.Histories.{told_by}
+use Rattle.program_runs.specs.Histories.{HasInput, IsHistory, MakesProgress, StaysOpen, commands_for, told_by}
 use Rattle.program_runs.specs.Stretches.{stretches_of}
 use Rattle.program_runs.specs.FrameCounts.{frames_written, frames_below, last_at, written_by}
 use Rattle.program_runs.specs.Hearing.{HasPlayedAll, HearTheirs, WasSilent, lists_heard}
@@ -100,29 +99,33 @@ pub record IsHeard (machine : Machine) (plans : List Plan) (wav : Wav) (tally : 
   pub hear : AllZip (HearTheirs wav.format wav.pcm tally carried) machine.codecs plans
   pub whole : tally.course.ran ≡ ran.Drained → HasPlayedAll wav.pcm tally
 
--- the run of a driver that plays a sound through a ring, over a machine whose codecs have these plans
-pub record IsPlayed (machine : Machine) (plans : List Plan) (wav : Wav) (geometry : Geometry) (schedule : Schedule)
-    (played : Played) : Type 0 where
-  pub input : HasInput false wav.format wav.frames machine plans played
-  -- the driver's blocks are first fits
-  pub blocks : Blocks
-  pub first_fits : AreFirstFits geometry blocks
+-- what is told of a driver that plays a sound, by this task, over a machine whose codecs have these plans
+pub record PlaysTask (machine : Machine) (plans : List Plan) (wav : Wav) (schedule : Schedule) (task : Task)
+    (telling : Telling) (played : Played) : Type 0 where
   pub state : State
-  pub history : IsHistory machine schedule (journal_of played)
-  pub progress : MakesProgress machine schedule (played_task machine plans wav geometry blocks) state
-      (told_by machine played) played.graphs
-  pub opened : StaysOpen wav.format machine schedule (played_task machine plans wav geometry blocks)
-      (told_by machine played)
-  pub runs : AreRecorded schedule (played_task machine plans wav geometry blocks) state.phase state.tally
-      (told_by machine played) played
-  pub heard : IsHeard machine plans wav state.tally (world_of (told_by machine played)).carried played.heard
+  pub history : IsHistory machine schedule telling.journal
+  pub progress : MakesProgress machine schedule task state telling played.graphs
+  pub opened : StaysOpen wav.format machine schedule task telling
+  pub runs : AreRecorded schedule task state.phase state.tally telling played
+  pub heard : IsHeard machine plans wav state.tally (world_of telling).carried played.heard
   -- jacks count what was read of RIRB that came unasked
-  pub jacks : Counts (told_in (journal_of played)) played.jacks
+  pub jacks : Counts (told_in telling.journal) played.jacks
   pub commands : played.commands ≡ commands_for wav.format machine plans
   -- it ended in a phase in which a run can end, and tells why
   pub ends : play_can_end state.phase ≡ true
   pub fault : played.fault ≡ play_fault state.phase state.sent played.commands (block_bytes wav.format) played.total
       state.tally.runs state.tally.silences
+
+-- the run of a driver that plays a sound through a ring
+pub record IsPlayed (machine : Machine) (plans : List Plan) (wav : Wav) (geometry : Geometry) (schedule : Schedule)
+    (played : Played) : Type 0 where
+  pub no_walk : played.walk ≡ false
+  pub input : HasInput wav.format wav.frames machine plans played
+  -- the driver's blocks are first fits
+  pub blocks : Blocks
+  pub first_fits : AreFirstFits geometry blocks
+  pub run : PlaysTask machine plans wav schedule (played_task machine plans wav geometry blocks)
+      (told_by machine played) played
 
 -- ---- the sound
 

@@ -254,31 +254,33 @@ returns-clause-played g c =
           ∙ ap (λ (block : ℕ). frames_read c.drive.new.cut (driven_so.last.taken + length driven_so.last.held) block head.frames) (c.block_bytes.ensures ∙ block_there g c))
           c.in_ok-cut.ensures;
       run = record {
+        no_walk = refl;
         input = record {
           sound = c.requires.sound;
           machine_is = c.parts-machine.ensures.machine ∙ c.in_ok-driven.ensures.machine ∙ c.in_ok-rig.ensures.machine;
           plans_are = c.from_vec.ensures;
-          walk_is = refl;
           format_is = refl;
           frames_are = refl;
         };
         blocks = blocks;
         first_fits = c.in_ok-driver.ensures.first_fits;
-        state = state_with was.ended was.tally;
-        history = record {
-          replays = subst (λ (events : List Event). AreHonest events (start_of REGION_BYTES machine)) (sym told) was.replays;
-          follows = subst (Follows c.args.schedule.now) (sym told) was.follows;
+        run = record {
+          state = state_with was.ended was.tally;
+          history = record {
+            replays = subst (λ (events : List Event). AreHonest events (start_of REGION_BYTES machine)) (sym told) was.replays;
+            follows = subst (Follows c.args.schedule.now) (sym told) was.follows;
+          };
+          progress = by.progress;
+          opened = by.opened;
+          runs = by.runs;
+          heard = by.heard;
+          jacks = subst (λ jacks. Counts (told_in (events_of c.parts-machine.result.2)) jacks) (sym c.from_vec-5.ensures)
+              (subst (λ (events : List Event). Counts (told_in events) closed.jacks.items) (sym told) was.jacks);
+          commands = c.in_ok-commands.ensures
+              ∙ ap (λ (codecs : List CodecFile). length (commands_of head.format codecs c.as_slice-2.result.now)) c.as_slice.ensures
+              ∙ ap (λ (plans : List Plan). length (commands_of head.format machine.codecs plans)) c.as_slice-2.ensures.value;
+          ends = by.ends;
+          fault = by.fault;
         };
-        progress = by.progress;
-        opened = by.opened;
-        runs = by.runs;
-        heard = by.heard;
-        jacks = subst (λ jacks. Counts (told_in (events_of c.parts-machine.result.2)) jacks) (sym c.from_vec-5.ensures)
-            (subst (λ (events : List Event). Counts (told_in events) closed.jacks.items) (sym told) was.jacks);
-        commands = c.in_ok-commands.ensures
-            ∙ ap (λ (codecs : List CodecFile). length (commands_of head.format codecs c.as_slice-2.result.now)) c.as_slice.ensures
-            ∙ ap (λ (plans : List Plan). length (commands_of head.format machine.codecs plans)) c.as_slice-2.ensures.value;
-        ends = by.ends;
-        fault = by.fault;
       };
     }
