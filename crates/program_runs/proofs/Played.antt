@@ -1,6 +1,6 @@
 -- What comes of playing.
 use Rattle.std.proofs.Common.{◌≡◌, ◌≤◌, ℕ, Bool, true, false, List, length, refl, sym, ap, subst, ◌∙◌, inl, inr, arith}
-use Rattle.std.specs.Prelude.{◌⊎◌, [], Contains}
+use Rattle.std.specs.Prelude.{◌⊎◌, [], Contains, Option, None, Some, if◌then◌else◌}
 use Rattle.std.specs.List.{AllZip}
 use Rattle.std.proofs.lemmas.List.{get_or-map, length-map}
 use Rattle.stream_format.specs.declared.format.Format.{Format}
@@ -17,7 +17,6 @@ use Rattle.hda_world.specs.Worlds.{CarriedFrame}
 use Rattle.hda_world.specs.Tellings.{Telling, world_of}
 use Rattle.driver_bring_up.specs.declared.answers.TheConstants.{TAG}
 use Rattle.driver_progress.specs.States.{State}
-use Rattle.period_writer.specs.declared.course.Course.{Course}
 use Rattle.period_writer.specs.declared.course.Ran.{Ran}
 use Rattle.period_writer.specs.declared.course.Ran.TheVariants as ran
 use Rattle.period_writer.specs.declared.geometry.Geometry.{Geometry}
@@ -45,7 +44,7 @@ use Rattle.program_runs.specs.Histories.{MakesProgress, StaysOpen, journal_of, t
 use Rattle.program_runs.specs.FrameCounts.{written_by}
 use Rattle.program_runs.specs.Hearing.{HasPlayedAll, HearTheirs, lists_heard}
 use Rattle.program_runs.specs.Stretches.{stretches_of}
-use Rattle.program_runs.specs.Plays.{AreRecorded, HasRunUpTo, IsHeard, Lived, play_fault, played_task}
+use Rattle.program_runs.specs.Plays.{AreRecorded, IsHeard, Lived, end_in_phase, end_of_course, play_fault, played_task}
 use Rattle.program_runs.proofs.Gone.{Gone, phase_left, played_phase, unplayed_ends}
 use Rattle.program_runs.proofs.Hearing.{all_hear, none_hear}
 use Rattle.program_runs.proofs.LineRecorded.{RunLaws, recorded_line}
@@ -77,21 +76,22 @@ all_walked_if true phase was all ready by is = walked_in Ready all refl (subst (
 all_walked_if false phase was all ready by is = walked_in phase all is by
 
 -- it tells how the last run ended
-has_run_as : (course : Course) (was : Ran) → course.ran ≡ was → course.started ≡ true → HasRunUpTo (played_as was) course
-has_run_as course ran.Playing is started = (started, is)
-has_run_as course ran.Drained is started = (started, is)
-has_run_as course (ran.Late from to limit) is started = (started, is)
+end_as : (was : Ran) → end_in_phase (played_as was) ≡ Some was
+end_as ran.Playing = refl
+end_as ran.Drained = refl
+end_as (ran.Late from to limit) = refl
 
 -- or that there was none
-has_no_run : (course : Course) → course.started ≡ false → (phase : Phase) (all : Type 0) → WalkedIn phase all → HasRunUpTo phase course
-has_no_run course none Playing all walked = absurd walked
-has_no_run course none Drained all walked = absurd walked
-has_no_run course none (Late from to limit) all walked = absurd walked
-has_no_run course none phase all walked = none
+no_end : (phase : Phase) (all : Type 0) → WalkedIn phase all → end_in_phase phase ≡ None
+no_end Playing all walked = absurd walked
+no_end Drained all walked = absurd walked
+no_end (Late from to limit) all walked = absurd walked
+no_end phase all walked = refl
 
-has_run : (course : Course) (started : Bool) → course.started ≡ started → (phase : Phase) (all : Type 0) → WalkedIn phase all → HasRunUpTo (phase_if started phase course.ran) course
-has_run course true is phase all walked = has_run_as course course.ran refl is
-has_run course false is phase all walked = has_no_run course is phase all walked
+-- as the course of the runs does
+same_end : (was : Ran) (started : Bool) (phase : Phase) (all : Type 0) → WalkedIn phase all → (if started then Some was else None) ≡ end_in_phase (phase_if started phase was)
+same_end was true phase all walked = sym (end_as was)
+same_end was false phase all walked = sym (no_end phase all walked)
 
 -- ---- the run
 
@@ -134,10 +134,13 @@ module _ (machine : Machine) (plans : List Plan) (wav : Wav) (geometry : Geometr
   abbrev Heard : Type 0
   Heard = ((gone.tally ≡ tally_opened) × WasNeverHeard telling) ⊎ WasHeard (analog wav.format TAG) (graphs_in machine.codecs) task gone.tally gone.last telling
 
-  streamed : Heard → Lived gone.tally.course.started gone.tally telling
+  streamed : Heard → Lived (end_of_course gone.tally.course) gone.tally telling
   streamed (inl (none, never)) =
-      subst (λ (started : Bool). Lived started gone.tally telling) (sym (ap (λ (tally : Tally). tally.course.started) none)) (record { none = none; stopped = never.stopped; carried = never.none })
-  streamed (inr was) = subst (λ (started : Bool). Lived started gone.tally telling) (sym was.started) was.lived
+      subst (λ (end : Option Ran). Lived end gone.tally telling) (sym (ap (λ (tally : Tally). end_of_course tally.course) none)) (record { none = none; stopped = never.stopped; carried = never.none })
+  streamed (inr was) = subst (λ (started : Bool). Lived (if started then Some gone.tally.course.ran else None) gone.tally telling) (sym was.started) was.lived
+
+  end_is : end_of_course gone.tally.course ≡ end_in_phase (state_with gone.ended gone.tally).phase
+  end_is = same_end gone.tally.course.ran gone.tally.course.started gone.ended.phase _ gone.has.ended_is.by_phase
 
   hears_by : HavePlans wav.format machine.codecs plans → geometry.format ≡ wav.format → Heard → AllZip (HearTheirs wav.format wav.pcm gone.tally carried) machine.codecs plans
   hears_by planned same (inl (none, never)) =
@@ -168,8 +171,8 @@ module _ (machine : Machine) (plans : List Plan) (wav : Wav) (geometry : Geometr
           runs = runs ∙ gone.leaves.runs;
           silences = silences ∙ gone.leaves.silences;
           line = subst (IsWritten wav.pcm) (sym recorded) (recorded_line laws geometry wav.pcm (stretches_of (lines_of schedule) journal));
-          phase_is = has_run gone.tally.course gone.tally.course.started refl gone.ended.phase _ gone.has.ended_is.by_phase;
-          stream = streamed gone.has.heard;
+          end_is = end_is;
+          stream = subst (λ (end : Option Ran). Lived end gone.tally telling) end_is (streamed gone.has.heard);
         };
         heard = record {
           lists_are = heard;

@@ -15,11 +15,10 @@ use Rattle.hda_world.specs.Tellings.{Telling}
 use Rattle.wav_reader.specs.declared.wav.Wav.{Wav}
 use Rattle.heard_lists.specs.Listings.{graphs_in}
 use Rattle.laws_stream.specs.Lives.{HasStopped}
-use Rattle.period_writer.specs.declared.course.Course.{Course}
 use Rattle.period_writer.specs.declared.course.Run.{Run}
 use Rattle.period_writer.specs.declared.course.Span.{Span}
 use Rattle.period_writer.specs.declared.geometry.Geometry.{Geometry}
-use Rattle.period_writer.specs.Runs.{measures}
+use Rattle.period_writer.specs.Runs.{Tally, measures}
 use Rattle.driver_progress.specs.declared.phase.Phase.{Phase}
 use Rattle.driver_progress.specs.declared.phase.Phase.TheVariants.{Playing, Drained}
 use Rattle.driver_progress.specs.States.{State}
@@ -28,7 +27,7 @@ use Rattle.driver_progress.specs.Progress.{state_of}
 use Rattle.laws_start.specs.Tasks.{HavePlans, commands_of}
 use Rattle.sound_report.specs.declared.played.Played.{Played}
 use Rattle.program_runs.specs.Histories.{commands_for, journal_of, told_by}
-use Rattle.program_runs.specs.Plays.{HasRunUpTo, Lived, IsPlayed, play_fault, played_task}
+use Rattle.program_runs.specs.Plays.{Lived, IsPlayed, end_in_phase, play_fault, played_task}
 use Rattle.laws_serving.specs.Rounds.{rounds_of}
 use Rattle.laws_serving.specs.ServingSchedules.{IsCalmRound, ServesCommands, ServesSound, MayFillTheRing}
 use Rattle.laws_serving.specs.Coming.{HasComeTo}
@@ -41,9 +40,9 @@ use Rattle.program_runs.proofs.Starts.{starts, run_of, calls_are}
 use Rattle.program_runs.proofs.Ends.{play_ends}
 
 -- a stream that a run set going was stopped
-run_started : (phase : Phase) (course : Course) → (phase ≡ Playing) ⊎ (phase ≡ Drained) → HasRunUpTo phase course → course.started ≡ true
-run_started phase course (inl is) ran = (subst (λ (phase : Phase). HasRunUpTo phase course) is ran).0
-run_started phase course (inr is) ran = (subst (λ (phase : Phase). HasRunUpTo phase course) is ran).0
+run_stopped : (phase : Phase) (tally : Tally) (telling : Telling) → (phase ≡ Playing) ⊎ (phase ≡ Drained) → Lived (end_in_phase phase) tally telling → HasStopped telling
+run_stopped phase tally telling (inl is) lived = subst (λ (phase : Phase). Lived (end_in_phase phase) tally telling) is lived
+run_stopped phase tally telling (inr is) lived = subst (λ (phase : Phase). Lived (end_in_phase phase) tally telling) is lived
 
 -- what laws say of a driver that plays a sound
 abbrev pub PlayLaw : Type 0
@@ -114,8 +113,7 @@ module _ (machine : Machine) (plans : List Plan) (wav : Wav) (geometry : Geometr
 
   -- its stream was set going once, and stopped
   pub stopped : 4 + commands ≤ line_count schedule → HasComeTo commands (line_count schedule) true is.run.state → HasStopped telling
-  stopped enough come =
-      subst (λ (started : Bool). Lived started is.run.state.tally telling) (run_started is.run.state.phase is.run.state.tally.course (come.sounds enough refl) is.run.runs.phase_is) is.run.runs.stream
+  stopped enough come = run_stopped is.run.state.phase is.run.state.tally telling (come.sounds enough refl) is.run.runs.stream
 
   fed_sent : IsFedWhole commands (measures geometry).ring (length wav.pcm) (all_rounds schedule) telling.start (journal_of played) → HasSentBefore (4 + length task.orders) (length wav.pcm) telling.start telling.journal
   fed_sent fed = subst (λ (commands : ℕ). HasSentBefore (4 + commands) (length wav.pcm) telling.start telling.journal) (sym counted) fed.sent

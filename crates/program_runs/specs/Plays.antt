@@ -1,7 +1,7 @@
 -- What comes of playing a sound over a machine by a schedule. This project's own.
 use Rattle.std.specs.List.{AllZip}
 use Rattle.std.specs.Prelude.{◌≡◌, ◌≢◌, ◌<◌, ℕ, ◌+◌, ◌-◌, ◌*◌, Bool, true, false, List, length, take, Option, Some}
-use Rattle.std.specs.Prelude.{None, string_bytes}
+use Rattle.std.specs.Prelude.{None, string_bytes, if◌then◌else◌}
 use Rattle.stream_format.specs.Cadence.{block_bytes}
 use Rattle.route_planner.specs.declared.routes.Plan.{Plan}
 use Rattle.hda_outside.specs.Shelf.{Files}
@@ -23,6 +23,7 @@ use Rattle.laws_stream.specs.Lives.{HasStopped}
 use Rattle.period_writer.specs.declared.course.Course.{Course}
 use Rattle.period_writer.specs.declared.course.Run.{Run}
 use Rattle.period_writer.specs.declared.course.Span.{Span}
+use Rattle.period_writer.specs.declared.course.Ran.{Ran}
 use Rattle.period_writer.specs.declared.course.Ran.TheVariants as ran
 use Rattle.period_writer.specs.declared.geometry.Geometry.{Geometry}
 use Rattle.period_writer.specs.Runs.{Tally, measures, tally_of_stretches}
@@ -67,17 +68,21 @@ play_fault phase sent of block total runs silences = Some (faults.CommandsLeft s
 abbrev pub played_task : Machine → List Plan → Wav → Geometry → Blocks → Task
 played_task machine plans wav geometry blocks = task_of wav.format machine plans geometry true wav.pcm blocks
 
--- by its phase the driver made no run, or this is how its last one ended
-abbrev pub HasRunUpTo : Phase → Course → Type 0
-HasRunUpTo Playing course = (course.started ≡ true) × (course.ran ≡ ran.Playing)
-HasRunUpTo Drained course = (course.started ≡ true) × (course.ran ≡ ran.Drained)
-HasRunUpTo (Late from to limit) course = (course.started ≡ true) × (course.ran ≡ ran.Late from to limit)
-HasRunUpTo phase course = course.started ≡ false
+-- how the last run ended, where one was made: by the phase of a driver
+abbrev pub end_in_phase : Phase → Option Ran
+end_in_phase Playing = Some ran.Playing
+end_in_phase Drained = Some ran.Drained
+end_in_phase (Late from to limit) = Some (ran.Late from to limit)
+end_in_phase phase = None
+
+-- and by the course of its runs
+abbrev pub end_of_course : Course → Option Ran
+end_of_course course = if course.started then Some course.ran else None
 
 -- without a run the stream was never set going; else it was once, and ran without an error until it was stopped once
-abbrev pub Lived : (started : Bool) → Tally → Telling → Type 0
-Lived false tally telling = WasSilent tally telling
-Lived true tally telling = HasStopped telling
+abbrev pub Lived : Option Ran → Tally → Telling → Type 0
+Lived None tally telling = WasSilent tally telling
+Lived (Some end) tally telling = HasStopped telling
 
 -- runs and silences are those of the journal's stretches: no two silences of the line touch, all else of it is the
 -- sound, and it is as long as the last run's reach
@@ -88,8 +93,8 @@ pub record AreRecorded (schedule : Schedule) (task : Task) (phase : Phase) (tall
   pub runs : played.runs ≡ tally.runs
   pub silences : played.silences ≡ tally.silences
   pub line : IsWritten task.pcm tally
-  pub phase_is : HasRunUpTo phase tally.course
-  pub stream : Lived tally.course.started tally telling
+  pub end_is : end_of_course tally.course ≡ end_in_phase phase
+  pub stream : Lived (end_in_phase phase) tally telling
 
 -- what was heard is what the link frames carried, as each candidate pin hears it: the line by its plan. Where the line
 -- has drained, that was all sound
