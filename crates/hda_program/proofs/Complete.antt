@@ -18,8 +18,7 @@ use Rattle.period_writer.specs.declared.geometry.GeometryFault.{GeometryFault}
 use Rattle.period_writer.specs.Rings.{fault_of}
 use Rattle.wav_reader.specs.declared.opened.WavHead.{WavHead}
 use Rattle.driver_progress.specs.declared.phase.Phase.{Phase}
-use Rattle.driver_progress.specs.declared.phase.Phase.TheVariants.{Reset, Settling, Walking, SettingUp, Ready}
-use Rattle.driver_progress.specs.declared.phase.Phase.TheVariants.{Unanswered}
+use Rattle.driver_progress.specs.declared.phase.Phase.TheVariants.{Ready, Unanswered}
 use Rattle.sound_report.specs.declared.played.Played.{Played}
 use Rattle.sound_report.specs.declared.played.PlayFault.{PlayFault}
 use Rattle.sound_report.specs.declared.played.PlayFault.TheVariants as fault
@@ -28,7 +27,7 @@ use Rattle.sound_report.specs.declared.played.CutLine.TheVariants as cuts
 use Rattle.sound_report.specs.declared.status.Status.TheVariants.{Done, OutOfMemory}
 use Rattle.sound_report.specs.Statuses.{number_of}
 use Rattle.program_runs.specs.Plays.{IsCutUnder}
-use Rattle.program_runs.specs.Walks.{IsWalkFault, IsWalked, walk_format}
+use Rattle.program_runs.specs.Walks.{IsWalked, walk_fault, walk_format}
 use Rattle.laws_start.specs.Tasks.{HavePlans}
 use Rattle.hda_program.specs.Answers.{HasEnded, HasEndedPlay, HasEndedWith, HasWritten, IsMeant, MachinePlays, MachineWalks, PlansPlay, PlansWalk, PlayAnswers, RouteAnswers, SchedulePlays, SoundPlays, WalkAnswers}
 use Rattle.hda_program.specs.Asks.{IsPlayOf, IsRouteOf, IsWalkOf}
@@ -52,21 +51,17 @@ of_play (Some (fault.FramesLeft written heard of)) = inl (inr (inr refl))
 WalkEnd : Option PlayFault → Type 0
 WalkEnd end = IsOfWalk (number_of (fault_status end))
 
-of_walk : (phase : Phase) (sent of : ℕ) (end : Option PlayFault) → IsWalkFault phase sent of end → WalkEnd end
+of_walk : (phase : Phase) (sent of : ℕ) → WalkEnd (walk_fault phase sent of)
 unfolding WalkEnd
-of_walk Reset sent of end is = subst (λ (e : Option PlayFault). WalkEnd e) (sym is) (inr (inr refl))
-of_walk Settling sent of end is = subst (λ (e : Option PlayFault). WalkEnd e) (sym is) (inr (inr refl))
-of_walk Walking sent of end is = subst (λ (e : Option PlayFault). WalkEnd e) (sym is) (inr (inr refl))
-of_walk SettingUp sent of end is = subst (λ (e : Option PlayFault). WalkEnd e) (sym is) (inr (inr refl))
-of_walk Ready sent of end is = subst (λ (e : Option PlayFault). WalkEnd e) (sym is) (inl refl)
-of_walk (Unanswered codec command issued noticed) sent of end is = subst (λ (e : Option PlayFault). WalkEnd e) (sym is) (inr (inl refl))
-of_walk phase sent of end is = absurd is
+of_walk Ready sent of = inl refl
+of_walk (Unanswered codec command issued noticed) sent of = inr (inl refl)
+of_walk phase sent of = inr (inr refl)
 
 walk_end : (machine : Machine) (plans : List Plan) (schedule : Schedule) (played : Played) → IsWalked machine plans schedule played → IsOfWalk (number_of (status_of played))
 unfolding WalkEnd
 walk_end machine plans schedule played walked =
     subst (λ (cut : Option CutLine). IsOfWalk (number_of (end_status cut played.fault))) (sym walked.silent.uncut)
-    (of_walk walked.state.phase walked.state.sent played.commands played.fault walked.ended)
+    (subst (λ (end : Option PlayFault). WalkEnd end) (sym walked.run.fault) (of_walk walked.run.state.phase walked.run.state.sent played.commands))
 
 -- a run whose reading was cut by nothing ends so
 uncut : (name : List ℕ) (head : WavHead) (read : ℕ) (failed emptied : Type 0) (cut : Option CutLine) (end : Option PlayFault) → IsCutUnder name head read failed emptied cut → (failed → ⊥) → (IsShortCut cut → ⊥)

@@ -127,7 +127,7 @@ module _ (number : ℕ) (played : Played) (is : IsMadeRun number played) where
       record {
         count = count;
         turns_are = is.made.turns;
-        commands = is.run.commands ∙ commands_are is.plans is.planned;
+        commands = is.run.run.commands ∙ commands_are is.plans is.planned;
         done = all.done;
         total = is.run.input.frames_are;
         runs = all.runs ∙ ap (λ (n : ℕ). n + 1) (length_turns number count);

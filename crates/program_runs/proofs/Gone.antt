@@ -47,7 +47,7 @@ use Rattle.program_runs.specs.Lines.{lines_of}
 use Rattle.program_runs.specs.Events.{told_in}
 use Rattle.program_runs.specs.LinkFrames.{IsShort}
 use Rattle.program_runs.specs.Going.{parts_with, IsTask, UnderWay, Leaves, IsDriven}
-use Rattle.program_runs.specs.Ends.{can_end}
+use Rattle.program_runs.specs.Ends.{walk_can_end}
 use Rattle.program_runs.specs.FrameCounts.{written_by}
 use Rattle.program_runs.proofs.Written.{used_written}
 use Rattle.program_runs.proofs.LinkFrames.{follows_frames}
@@ -211,15 +211,15 @@ module _ (machine : Machine) (format : Format) (play : Bool) (task : Task) (sche
   pub played_phase : gone.tally.course.started ≡ true → closed.phase ≡ played_as gone.tally.course.ran
   played_phase some = gone.leaves.phase ∙ ap (λ (started : Bool). phase_if started gone.ended.phase gone.tally.course.ran) some
 
-  -- the bring-up then is in a phase in which runs can end
-  pub unplayed_ends : (walk : Bool) → gone.tally.course.started ≡ false → can_end walk closed.phase ≡ true
-  unplayed_ends walk none =
+  -- the bring-up then is in a phase in which walks can end
+  pub unplayed_ends : gone.tally.course.started ≡ false → walk_can_end closed.phase ≡ true
+  unplayed_ends none =
       let telling = telling_from REGION_BYTES machine journal in
       let course = course_of task (lines_of schedule) telling in
       let well = ended_well course.within task course (course_well task telling.journal telling.start (course_opened (lines_of schedule)) refl) in
       let left : is_failed (state_with gone.ended gone.tally).phase ≡ false = ap (λ state. is_failed state.phase) (sym gone.has.state_is) ∙ well in
       let own = failed_if gone.tally.course.started gone.ended.phase gone.tally none left in
-      ap (can_end walk) (unplayed_phase none) ∙ ends walk gone.ended.phase (gone.ended.agenda.graphs.items ≡ graphs_in machine.codecs) own gone.has.ended_is.by_phase
+      ap walk_can_end (unplayed_phase none) ∙ ends gone.ended.phase (gone.ended.agenda.graphs.items ≡ graphs_in machine.codecs) own gone.has.ended_is.by_phase
 
   -- ---- which graphs were walked
 

@@ -10,6 +10,7 @@ pub mod Counting
 pub mod Phases
 pub mod Gone
 pub mod WalkedIn
+pub mod OpenRoutes
 pub mod Walked
 pub mod Hearing
 pub mod Listed

@@ -19,7 +19,7 @@ use Rattle.driver_progress.specs.Next.{next, led, closed, tally_next, phase_poll
 use Rattle.driver_progress.specs.Expected.{next_order, has_settled, rings_seen}
 use Rattle.driver_progress.specs.Progress.{Course, course_after, noted, ended_if, seen_in}
 use Rattle.laws_bring_up.specs.Standing.{WalkedIn}
-use Rattle.program_runs.specs.Ends.{can_end}
+use Rattle.program_runs.specs.Ends.{play_can_end, walk_can_end}
 
 abbrev pub is_failed : Phase → Bool
 is_failed Failed = true
@@ -110,12 +110,19 @@ pub ended_well : (within : Bool) (task : Task) (course : Course) → IsWell cour
 ended_well true task course well = next_well task course.state course.turn (seen_in course) well
 ended_well false task course well = well
 
--- in a phase in which the walked graphs are known runs can end
-pub ends : (walk : Bool) (phase : Phase) (all : Type 0) → is_failed phase ≡ false → WalkedIn phase all → can_end walk phase ≡ true
-ends walk Playing all well walked = absurd walked
-ends walk Drained all well walked = absurd walked
-ends walk NothingRouted all well walked = absurd walked
-ends walk (Late from to limit) all well walked = absurd walked
-ends walk (Malformed codec fault) all well walked = absurd walked
-ends walk Failed all well walked = cc
-ends walk phase all well walked = refl
+-- in a phase in which the walked graphs are known walks can end
+pub ends : (phase : Phase) (all : Type 0) → is_failed phase ≡ false → WalkedIn phase all → walk_can_end phase ≡ true
+ends Playing all well walked = absurd walked
+ends Drained all well walked = absurd walked
+ends NothingRouted all well walked = absurd walked
+ends (Late from to limit) all well walked = absurd walked
+ends (Malformed codec fault) all well walked = absurd walked
+ends Failed all well walked = cc
+ends phase all well walked = refl
+
+-- where a walk can end, a run that plays can too
+pub plays_too : (phase : Phase) → walk_can_end phase ≡ true → play_can_end phase ≡ true
+plays_too Playing can = refl
+plays_too Drained can = refl
+plays_too (Late from to limit) can = refl
+plays_too phase can = can

@@ -1,6 +1,6 @@
 -- What comes of playing.
 use Rattle.std.proofs.Common.{◌≡◌, ◌≤◌, ℕ, Bool, true, false, List, length, refl, sym, ap, subst, ◌∙◌, inl, inr, arith}
-use Rattle.std.specs.Prelude.{◌⊎◌, [], Contains}
+use Rattle.std.specs.Prelude.{◌⊎◌, [], Contains, Option, None, Some, if◌then◌else◌}
 use Rattle.std.specs.List.{AllZip}
 use Rattle.std.proofs.lemmas.List.{get_or-map, length-map}
 use Rattle.stream_format.specs.declared.format.Format.{Format}
@@ -17,7 +17,6 @@ use Rattle.hda_world.specs.Worlds.{CarriedFrame}
 use Rattle.hda_world.specs.Tellings.{Telling, world_of}
 use Rattle.driver_bring_up.specs.declared.answers.TheConstants.{TAG}
 use Rattle.driver_progress.specs.States.{State}
-use Rattle.period_writer.specs.declared.course.Course.{Course}
 use Rattle.period_writer.specs.declared.course.Ran.{Ran}
 use Rattle.period_writer.specs.declared.course.Ran.TheVariants as ran
 use Rattle.period_writer.specs.declared.geometry.Geometry.{Geometry}
@@ -40,16 +39,18 @@ use Rattle.rig.specs.Replays.{telling_from}
 use Rattle.heard_lists.specs.Listings.{graphs_in}
 use Rattle.laws_start.specs.Tasks.{HavePlans}
 use Rattle.program_runs.specs.Lines.{lines_of}
-use Rattle.program_runs.specs.Ends.{can_end}
+use Rattle.program_runs.specs.Ends.{play_can_end}
 use Rattle.program_runs.specs.Histories.{MakesProgress, StaysOpen, journal_of, told_by}
 use Rattle.program_runs.specs.FrameCounts.{written_by}
 use Rattle.program_runs.specs.Hearing.{HasPlayedAll, HearTheirs, lists_heard}
 use Rattle.program_runs.specs.Stretches.{stretches_of}
-use Rattle.program_runs.specs.Plays.{AreRecorded, HasRunUpTo, IsHeard, IsPlayFault, Lived, played_task}
+use Rattle.program_runs.specs.Plays.{AreRecorded, IsHeard, Lived, end_in_phase, end_of_course, play_fault, played_task}
 use Rattle.program_runs.proofs.Gone.{Gone, phase_left, played_phase, unplayed_ends}
 use Rattle.program_runs.proofs.Hearing.{all_hear, none_hear}
 use Rattle.program_runs.proofs.LineRecorded.{RunLaws, recorded_line}
 use Rattle.program_runs.proofs.Recorded.{recorded_is}
+use Rattle.program_runs.proofs.OpenRoutes.{stays_open}
+use Rattle.program_runs.proofs.Phases.{plays_too}
 use Rattle.program_runs.proofs.WalkedIn.{walked_in}
 use Rattle.program_runs.proofs.Written.{drained_whole, written_within}
 
@@ -65,7 +66,7 @@ graph_among files file has =
 -- ---- phases
 
 -- it can end in any way in which a run does
-ran_ends : (was : Ran) → can_end false (played_as was) ≡ true
+ran_ends : (was : Ran) → play_can_end (played_as was) ≡ true
 ran_ends ran.Playing = refl
 ran_ends ran.Drained = refl
 ran_ends (ran.Late from to limit) = refl
@@ -75,21 +76,22 @@ all_walked_if true phase was all ready by is = walked_in Ready all refl (subst (
 all_walked_if false phase was all ready by is = walked_in phase all is by
 
 -- it tells how the last run ended
-has_run_as : (course : Course) (was : Ran) → course.ran ≡ was → course.started ≡ true → HasRunUpTo (played_as was) course
-has_run_as course ran.Playing is started = (started, is)
-has_run_as course ran.Drained is started = (started, is)
-has_run_as course (ran.Late from to limit) is started = (started, is)
+end_as : (was : Ran) → end_in_phase (played_as was) ≡ Some was
+end_as ran.Playing = refl
+end_as ran.Drained = refl
+end_as (ran.Late from to limit) = refl
 
 -- or that there was none
-has_no_run : (course : Course) → course.started ≡ false → (phase : Phase) (all : Type 0) → WalkedIn phase all → HasRunUpTo phase course
-has_no_run course none Playing all walked = absurd walked
-has_no_run course none Drained all walked = absurd walked
-has_no_run course none (Late from to limit) all walked = absurd walked
-has_no_run course none phase all walked = none
+no_end : (phase : Phase) (all : Type 0) → WalkedIn phase all → end_in_phase phase ≡ None
+no_end Playing all walked = absurd walked
+no_end Drained all walked = absurd walked
+no_end (Late from to limit) all walked = absurd walked
+no_end phase all walked = refl
 
-has_run : (course : Course) (started : Bool) → course.started ≡ started → (phase : Phase) (all : Type 0) → WalkedIn phase all → HasRunUpTo (phase_if started phase course.ran) course
-has_run course true is phase all walked = has_run_as course course.ran refl is
-has_run course false is phase all walked = has_no_run course is phase all walked
+-- as the course of the runs does
+same_end : (was : Ran) (started : Bool) (phase : Phase) (all : Type 0) → WalkedIn phase all → (if started then Some was else None) ≡ end_in_phase (phase_if started phase was)
+same_end was true phase all walked = sym (end_as was)
+same_end was false phase all walked = sym (no_end phase all walked)
 
 -- ---- the run
 
@@ -99,7 +101,8 @@ pub record IsDriven (machine : Machine) (plans : List Plan) (wav : Wav) (schedul
   pub opened : StaysOpen wav.format machine schedule task telling
   pub runs : AreRecorded schedule task state.phase state.tally telling played
   pub heard : IsHeard machine plans wav state.tally (world_of telling).carried played.heard
-  pub ended : IsPlayFault state.phase state.sent played.commands (block_bytes wav.format) played.total state.tally.runs state.tally.silences played.fault
+  pub ends : play_can_end state.phase ≡ true
+  pub fault : played.fault ≡ play_fault state.phase state.sent played.commands (block_bytes wav.format) played.total state.tally.runs state.tally.silences
 
 module _ (machine : Machine) (plans : List Plan) (wav : Wav) (geometry : Geometry) (blocks : Blocks) (schedule : Schedule) (old : Parts) (closed : Closed) (journal : List Event)
     (gone : Gone machine wav.format true (played_task machine plans wav geometry blocks) schedule old closed journal) where
@@ -110,12 +113,12 @@ module _ (machine : Machine) (plans : List Plan) (wav : Wav) (geometry : Geometr
   telling = telling_from REGION_BYTES machine journal
 
   -- it can end in its phase
-  pub playing_ends : can_end false closed.phase ≡ true
+  pub playing_ends : play_can_end closed.phase ≡ true
   playing_ends = by gone.tally.course.started refl
     where
-      by : (started : Bool) → gone.tally.course.started ≡ started → can_end false closed.phase ≡ true
-      by true some = ap (can_end false) (played_phase machine wav.format true task schedule old closed journal gone some) ∙ ran_ends gone.tally.course.ran
-      by false none = unplayed_ends machine wav.format true task schedule old closed journal gone false none
+      by : (started : Bool) → gone.tally.course.started ≡ started → play_can_end closed.phase ≡ true
+      by true some = ap play_can_end (played_phase machine wav.format true task schedule old closed journal gone some) ∙ ran_ends gone.tally.course.ran
+      by false none = plays_too closed.phase (unplayed_ends machine wav.format true task schedule old closed journal gone none)
 
   -- no more was written than there is
   pub written_few : written_by closed.runs.items ≤ length wav.pcm
@@ -131,10 +134,13 @@ module _ (machine : Machine) (plans : List Plan) (wav : Wav) (geometry : Geometr
   abbrev Heard : Type 0
   Heard = ((gone.tally ≡ tally_opened) × WasNeverHeard telling) ⊎ WasHeard (analog wav.format TAG) (graphs_in machine.codecs) task gone.tally gone.last telling
 
-  streamed : Heard → Lived gone.tally.course.started gone.tally telling
+  streamed : Heard → Lived (end_of_course gone.tally.course) gone.tally telling
   streamed (inl (none, never)) =
-      subst (λ (started : Bool). Lived started gone.tally telling) (sym (ap (λ (tally : Tally). tally.course.started) none)) (record { none = none; stopped = never.stopped; carried = never.none })
-  streamed (inr was) = subst (λ (started : Bool). Lived started gone.tally telling) (sym was.started) was.lived
+      subst (λ (end : Option Ran). Lived end gone.tally telling) (sym (ap (λ (tally : Tally). end_of_course tally.course) none)) (record { none = none; stopped = never.stopped; carried = never.none })
+  streamed (inr was) = subst (λ (started : Bool). Lived (if started then Some gone.tally.course.ran else None) gone.tally telling) (sym was.started) was.lived
+
+  end_is : end_of_course gone.tally.course ≡ end_in_phase (state_with gone.ended gone.tally).phase
+  end_is = same_end gone.tally.course.ran gone.tally.course.started gone.ended.phase _ gone.has.ended_is.by_phase
 
   hears_by : HavePlans wav.format machine.codecs plans → geometry.format ≡ wav.format → Heard → AllZip (HearTheirs wav.format wav.pcm gone.tally carried) machine.codecs plans
   hears_by planned same (inl (none, never)) =
@@ -147,7 +153,7 @@ module _ (machine : Machine) (plans : List Plan) (wav : Wav) (geometry : Geometr
   -- what is told of it is that of the run that is kept
   pub driven : RunLaws → (played : Played) → journal_of played ≡ journal → geometry ≡ old.writer.geometry → geometry.format ≡ wav.format → HavePlans wav.format machine.codecs plans → played.graphs ≡ closed.graphs.items
       → played.runs ≡ closed.runs.items → played.silences ≡ closed.silences.items → played.heard ≡ lists_heard carried machine.codecs plans
-      → IsPlayFault closed.phase closed.sent played.commands (block_bytes wav.format) played.total closed.runs.items closed.silences.items played.fault
+      → played.fault ≡ play_fault closed.phase closed.sent played.commands (block_bytes wav.format) played.total closed.runs.items closed.silences.items
       → IsDriven machine plans wav schedule task (state_with gone.ended gone.tally) (told_by machine played) played
   driven laws played told ring format planned graphs runs silences heard fault =
       subst (λ (events : List Event). IsDriven machine plans wav schedule task (state_with gone.ended gone.tally) (telling_from REGION_BYTES machine events) played) (sym told) (record {
@@ -159,21 +165,22 @@ module _ (machine : Machine) (plans : List Plan) (wav : Wav) (geometry : Geometr
           all_walked = all_walked_if gone.tally.course.started gone.ended.phase gone.tally.course.ran (played.graphs ≡ graphs_in machine.codecs) gone.has.ready
               (subst (λ (walked : List RawCodec). WalkedIn gone.ended.phase (walked ≡ graphs_in machine.codecs)) (sym walked) gone.has.ended_is.by_phase);
         };
-        opened = gone.has.set_up;
+        opened = stays_open wav.format machine schedule task telling gone.has.set_up;
         runs = record {
           recorded = recorded;
           runs = runs ∙ gone.leaves.runs;
           silences = silences ∙ gone.leaves.silences;
           line = subst (IsWritten wav.pcm) (sym recorded) (recorded_line laws geometry wav.pcm (stretches_of (lines_of schedule) journal));
-          phase_is = has_run gone.tally.course gone.tally.course.started refl gone.ended.phase _ gone.has.ended_is.by_phase;
-          stream = streamed gone.has.heard;
+          end_is = end_is;
+          stream = subst (λ (end : Option Ran). Lived end gone.tally telling) end_is (streamed gone.has.heard);
         };
         heard = record {
           lists_are = heard;
           hear = hears_by planned format gone.has.heard;
           whole = λ drained. subst (λ state. HasPlayedAll wav.pcm state.tally) gone.has.state_is (drained_whole task (lines_of schedule) telling (ap (λ state. state.tally.course.ran) gone.has.state_is ∙ drained));
         };
-        ended = fault_left;
+        ends = subst (λ (phase : Phase). play_can_end phase ≡ true) (phase_left machine wav.format true task schedule old closed journal gone) playing_ends;
+        fault = fault ∙ fault_left;
       })
     where
       recorded : gone.tally ≡ tally_of_stretches (measures geometry) (length wav.pcm) (stretches_of (lines_of schedule) journal)
@@ -182,10 +189,11 @@ module _ (machine : Machine) (plans : List Plan) (wav : Wav) (geometry : Geometr
       walked : played.graphs ≡ gone.ended.agenda.graphs.items
       walked = graphs ∙ ap (λ graphs. graphs.items) gone.leaves.graphs
 
-      fault_left : IsPlayFault (state_with gone.ended gone.tally).phase gone.ended.sent played.commands (block_bytes wav.format) played.total gone.tally.runs gone.tally.silences played.fault
+      fault_left : play_fault closed.phase closed.sent played.commands (block_bytes wav.format) played.total closed.runs.items closed.silences.items
+          ≡ play_fault (state_with gone.ended gone.tally).phase gone.ended.sent played.commands (block_bytes wav.format) played.total gone.tally.runs gone.tally.silences
       fault_left =
-          subst (λ silences. IsPlayFault (state_with gone.ended gone.tally).phase gone.ended.sent played.commands (block_bytes wav.format) played.total gone.tally.runs silences played.fault) gone.leaves.silences
-          (subst (λ runs. IsPlayFault (state_with gone.ended gone.tally).phase gone.ended.sent played.commands (block_bytes wav.format) played.total runs closed.silences.items played.fault) gone.leaves.runs
-          (subst (λ (sent : ℕ). IsPlayFault (state_with gone.ended gone.tally).phase sent played.commands (block_bytes wav.format) played.total closed.runs.items closed.silences.items played.fault) gone.leaves.sent
-          (subst (λ (phase : Phase). IsPlayFault phase closed.sent played.commands (block_bytes wav.format) played.total closed.runs.items closed.silences.items played.fault)
-          (phase_left machine wav.format true task schedule old closed journal gone) fault)))
+          ap (λ (phase : Phase). play_fault phase closed.sent played.commands (block_bytes wav.format) played.total closed.runs.items closed.silences.items)
+          (phase_left machine wav.format true task schedule old closed journal gone)
+          ∙ ap (λ (sent : ℕ). play_fault (state_with gone.ended gone.tally).phase sent played.commands (block_bytes wav.format) played.total closed.runs.items closed.silences.items) gone.leaves.sent
+          ∙ ap (λ runs. play_fault (state_with gone.ended gone.tally).phase gone.ended.sent played.commands (block_bytes wav.format) played.total runs closed.silences.items) gone.leaves.runs
+          ∙ ap (λ silences. play_fault (state_with gone.ended gone.tally).phase gone.ended.sent played.commands (block_bytes wav.format) played.total gone.tally.runs silences) gone.leaves.silences

@@ -24,7 +24,7 @@ use Rattle.rig.specs.Rigs.{telling_of}
 use Rattle.rig.specs.Replays.{telling_from}
 use Rattle.rig.specs.declared.rig.Rig.{Rig}
 use Rattle.laws_start.specs.Tasks.{blocks_of}
-use Rattle.program_runs.specs.Ends.{can_end}
+use Rattle.program_runs.specs.Ends.{play_can_end}
 use Rattle.program_runs.specs.Feeding.{Shelves, Streams, IsFed}
 use Rattle.program_runs.specs.FrameCounts.{written_by}
 use Rattle.program_runs.specs.Going.{HasDriven, IsDriven, parts_with, stand_of}
@@ -111,7 +111,7 @@ module _ (machine : Machine) (plans : List Plan) (head : WavHead) (name : List �
       (may name head (measures geometry) driven.gave first now cut supply driven.last driven.course driven.took can.supply_is some_block streams)
       (ends name head (measures geometry) driven.gave first now cut supply driven.last driven.course driven.took can.supply_is some_block streams))
 
-  pub end_is : can_end false closed.phase ≡ true
+  pub end_is : play_can_end closed.phase ≡ true
   end_is = playing_ends machine plans wav geometry blocks schedule parts closed (telling_of closed_rig).journal over
 
   -- a file has fewer bytes than 64 bits count

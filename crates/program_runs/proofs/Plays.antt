@@ -15,11 +15,10 @@ use Rattle.hda_world.specs.Tellings.{Telling}
 use Rattle.wav_reader.specs.declared.wav.Wav.{Wav}
 use Rattle.heard_lists.specs.Listings.{graphs_in}
 use Rattle.laws_stream.specs.Lives.{HasStopped}
-use Rattle.period_writer.specs.declared.course.Course.{Course}
 use Rattle.period_writer.specs.declared.course.Run.{Run}
 use Rattle.period_writer.specs.declared.course.Span.{Span}
 use Rattle.period_writer.specs.declared.geometry.Geometry.{Geometry}
-use Rattle.period_writer.specs.Runs.{measures}
+use Rattle.period_writer.specs.Runs.{Tally, measures}
 use Rattle.driver_progress.specs.declared.phase.Phase.{Phase}
 use Rattle.driver_progress.specs.declared.phase.Phase.TheVariants.{Playing, Drained}
 use Rattle.driver_progress.specs.States.{State}
@@ -28,7 +27,7 @@ use Rattle.driver_progress.specs.Progress.{state_of}
 use Rattle.laws_start.specs.Tasks.{HavePlans, commands_of}
 use Rattle.sound_report.specs.declared.played.Played.{Played}
 use Rattle.program_runs.specs.Histories.{commands_for, journal_of, told_by}
-use Rattle.program_runs.specs.Plays.{HasRunUpTo, Lived, IsPlayed, IsPlayFault, played_task}
+use Rattle.program_runs.specs.Plays.{Lived, IsPlayed, end_in_phase, play_fault, played_task}
 use Rattle.laws_serving.specs.Rounds.{rounds_of}
 use Rattle.laws_serving.specs.ServingSchedules.{IsCalmRound, ServesCommands, ServesSound, MayFillTheRing}
 use Rattle.laws_serving.specs.Coming.{HasComeTo}
@@ -41,9 +40,9 @@ use Rattle.program_runs.proofs.Starts.{starts, run_of, calls_are}
 use Rattle.program_runs.proofs.Ends.{play_ends}
 
 -- a stream that a run set going was stopped
-run_started : (phase : Phase) (course : Course) → (phase ≡ Playing) ⊎ (phase ≡ Drained) → HasRunUpTo phase course → course.started ≡ true
-run_started phase course (inl is) ran = (subst (λ (phase : Phase). HasRunUpTo phase course) is ran).0
-run_started phase course (inr is) ran = (subst (λ (phase : Phase). HasRunUpTo phase course) is ran).0
+run_stopped : (phase : Phase) (tally : Tally) (telling : Telling) → (phase ≡ Playing) ⊎ (phase ≡ Drained) → Lived (end_in_phase phase) tally telling → HasStopped telling
+run_stopped phase tally telling (inl is) lived = subst (λ (phase : Phase). Lived (end_in_phase phase) tally telling) is lived
+run_stopped phase tally telling (inr is) lived = subst (λ (phase : Phase). Lived (end_in_phase phase) tally telling) is lived
 
 -- what laws say of a driver that plays a sound
 abbrev pub PlayLaw : Type 0
@@ -89,7 +88,7 @@ module _ (machine : Machine) (plans : List Plan) (wav : Wav) (geometry : Geometr
   start = starts machine task sound (lie_well geometry is.blocks is.first_fits)
 
   pub run : IsRunOf task items telling
-  run = run_of machine schedule task (journal_of played) limited is.history is.progress.progress is.progress.finds
+  run = run_of machine schedule task (journal_of played) limited is.run.history is.run.progress.progress is.run.progress.finds
 
   pub commands_served : ServesCommands (machine_addresses machine) (length task.orders) (all_rounds schedule)
   commands_served = subst (λ (commands : ℕ). ServesCommands (machine_addresses machine) commands (all_rounds schedule)) (sym counted) serves.commands
@@ -97,24 +96,24 @@ module _ (machine : Machine) (plans : List Plan) (wav : Wav) (geometry : Geometr
   pub sound_served : ServesSound (length task.orders) (measures geometry).limit (measures geometry).slack (all_rounds schedule).rounds
   sound_served = subst (λ (commands : ℕ). ServesSound commands (measures geometry).limit (measures geometry).slack (all_rounds schedule).rounds) (sym counted) serves.sound
 
-  pub state_is : state_of task (calls_of items) telling ≡ is.state
-  state_is = ap (λ (lines : List DriverLine). state_of task lines telling) (calls_are items) ∙ is.progress.state_is
+  pub state_is : state_of task (calls_of items) telling ≡ is.run.state
+  state_is = ap (λ (lines : List DriverLine). state_of task lines telling) (calls_are items) ∙ is.run.progress.state_is
 
   -- how far the driver came
-  comes : HasComeTo (length task.orders) (line_count schedule) true (state_of task (calls_of items) telling) → HasComeTo commands (line_count schedule) true is.state
-  comes come = subst (λ (commands : ℕ). HasComeTo commands (line_count schedule) true is.state) counted (subst (HasComeTo (length task.orders) (line_count schedule) true) state_is come)
+  comes : HasComeTo (length task.orders) (line_count schedule) true (state_of task (calls_of items) telling) → HasComeTo commands (line_count schedule) true is.run.state
+  comes come = subst (λ (commands : ℕ). HasComeTo commands (line_count schedule) true is.run.state) counted (subst (HasComeTo (length task.orders) (line_count schedule) true) state_is come)
 
   -- so it ends
-  ends : HasComeTo commands (line_count schedule) true is.state → ServedPlayEnds commands (line_count schedule) (block_bytes wav.format) played.total played.runs played.silences played.fault
+  ends : HasComeTo commands (line_count schedule) true is.run.state → ServedPlayEnds commands (line_count schedule) (block_bytes wav.format) played.total played.runs played.silences played.fault
   ends come =
-      let ended = subst (λ (runs : List Run). IsPlayFault is.state.phase is.state.sent played.commands (block_bytes wav.format) played.total runs played.silences played.fault) (sym is.runs.runs)
-      (subst (λ (silences : List Span). IsPlayFault is.state.phase is.state.sent played.commands (block_bytes wav.format) played.total is.state.tally.runs silences played.fault) (sym is.runs.silences) is.ended) in
-      play_ends commands (line_count schedule) played.commands (block_bytes wav.format) played.total is.state played.runs played.silences played.fault come is.commands ended
+      let fault = is.run.fault
+      ∙ ap (λ (silences : List Span). play_fault is.run.state.phase is.run.state.sent played.commands (block_bytes wav.format) played.total is.run.state.tally.runs silences) (sym is.run.runs.silences)
+      ∙ ap (λ (runs : List Run). play_fault is.run.state.phase is.run.state.sent played.commands (block_bytes wav.format) played.total runs played.silences) (sym is.run.runs.runs) in
+      play_ends commands (line_count schedule) played.commands (block_bytes wav.format) played.total is.run.state played.runs played.silences played.fault come is.run.commands fault
 
   -- its stream was set going once, and stopped
-  pub stopped : 4 + commands ≤ line_count schedule → HasComeTo commands (line_count schedule) true is.state → HasStopped telling
-  stopped enough come =
-      subst (λ (started : Bool). Lived started is.state.tally telling) (run_started is.state.phase is.state.tally.course (come.sounds enough refl) is.runs.phase_is) is.runs.stream
+  pub stopped : 4 + commands ≤ line_count schedule → HasComeTo commands (line_count schedule) true is.run.state → HasStopped telling
+  stopped enough come = run_stopped is.run.state.phase is.run.state.tally telling (come.sounds enough refl) is.run.runs.stream
 
   fed_sent : IsFedWhole commands (measures geometry).ring (length wav.pcm) (all_rounds schedule) telling.start (journal_of played) → HasSentBefore (4 + length task.orders) (length wav.pcm) telling.start telling.journal
   fed_sent fed = subst (λ (commands : ℕ). HasSentBefore (4 + commands) (length wav.pcm) telling.start telling.journal) (sym counted) fed.sent
@@ -125,13 +124,13 @@ module _ (machine : Machine) (plans : List Plan) (wav : Wav) (geometry : Geometr
   -- and all is played
   all_played : (state_of task (calls_of items) telling).phase ≡ Drained → IsUnbroken (length wav.pcm) (state_of task (calls_of items) telling).tally.silences → PlaysAll (length wav.pcm) played.silences played.fault
   all_played drained unbroken =
-      let drained' : is.state.phase ≡ Drained = ap (λ (state : State). state.phase) (sym state_is) ∙ drained in record {
-        done = subst (λ (phase : Phase). IsPlayFault phase is.state.sent played.commands (block_bytes wav.format) played.total is.state.tally.runs is.state.tally.silences played.fault) drained' is.ended;
-        unbroken = subst (IsUnbroken (length wav.pcm)) (sym is.runs.silences) (subst (λ (state : State). IsUnbroken (length wav.pcm) state.tally.silences) state_is unbroken);
+      let drained' : is.run.state.phase ≡ Drained = ap (λ (state : State). state.phase) (sym state_is) ∙ drained in record {
+        done = is.run.fault ∙ ap (λ (phase : Phase). play_fault phase is.run.state.sent played.commands (block_bytes wav.format) played.total is.run.state.tally.runs is.run.state.tally.silences) drained';
+        unbroken = subst (IsUnbroken (length wav.pcm)) (sym is.run.runs.silences) (subst (λ (state : State). IsUnbroken (length wav.pcm) state.tally.silences) state_is unbroken);
       }
 
   -- by the laws
-  pub comes_by : PlayLaw → HasComeTo commands (line_count schedule) true is.state
+  pub comes_by : PlayLaw → HasComeTo commands (line_count schedule) true is.run.state
   comes_by law = comes (law task (machine_addresses machine) items telling refl to start run commands_served sound_served)
 
   pub plays_end : PlayLaw → ServedPlayEnds commands (line_count schedule) (block_bytes wav.format) played.total played.runs played.silences played.fault

@@ -30,7 +30,7 @@ use Rattle.driver_progress.specs.Progress.{state_of}
 use Rattle.laws_start.specs.Tasks.{HavePlans}
 use Rattle.sound_report.specs.declared.played.Played.{Played}
 use Rattle.program_runs.specs.Hearing.{heard_of, heard_by, lists_heard}
-use Rattle.program_runs.specs.Plays.{IsPlayed, IsPlayFault}
+use Rattle.program_runs.specs.Plays.{IsPlayed, play_fault}
 use Rattle.laws_serving.specs.Rounds.{Round, rounds_of}
 use Rattle.laws_serving.specs.ServingSchedules.{ServesCommands, ServesSound}
 use Rattle.laws_serving.specs.Runs.{IsTaskTo, IsStartFor, IsRunOf, calls_of}
@@ -85,13 +85,13 @@ module _ (machine : Machine) (plans : List Plan) (wav : Wav) (geometry : Geometr
   items = plays.items machine plans wav geometry schedule played sound well_formed have limited serves is
 
   -- what is told of the state is kept with the run
-  kept : (frames : ℕ) (lengths : List ℕ) → HoleLaw → HasPlayedInTurns (measures geometry).ring (measures geometry).block frames lengths is.state (world_of telling)
+  kept : (frames : ℕ) (lengths : List ℕ) → HoleLaw → HasPlayedInTurns (measures geometry).ring (measures geometry).block frames lengths is.run.state (world_of telling)
       → PlaysByTurns (measures geometry).ring (measures geometry).block frames lengths played
   kept frames lengths law has = record {
-    done = subst (λ (phase : Phase). IsPlayFault phase is.state.sent played.commands (block_bytes wav.format) played.total is.state.tally.runs is.state.tally.silences played.fault) has.phase is.ended;
-    runs = ap (λ (runs : List Run). length runs) is.runs.runs ∙ has.runs;
-    silences = is.runs.silences ∙ has.silences;
-    heard = subst (All HasNoHole) (sym is.heard.lists_are) (lists_no_hole (measures geometry).block (world_of telling).carried has.sent law machine.codecs plans);
+    done = is.run.fault ∙ ap (λ (phase : Phase). play_fault phase is.run.state.sent played.commands (block_bytes wav.format) played.total is.run.state.tally.runs is.run.state.tally.silences) has.phase;
+    runs = ap (λ (runs : List Run). length runs) is.run.runs.runs ∙ has.runs;
+    silences = is.run.runs.silences ∙ has.silences;
+    heard = subst (All HasNoHole) (sym is.run.heard.lists_are) (lists_no_hole (measures geometry).block (world_of telling).carried has.sent law machine.codecs plans);
   }
 
   pub plays_by_turns : PlayLaw → TurnLaw → HoleLaw → LineLaw → (frames : ℕ) (lengths : List ℕ) → geometry.format.rate ≡ R48 → length wav.pcm ≡ frames * block_bytes geometry.format → PlaysTurns wav.format machine plans geometry lengths schedule

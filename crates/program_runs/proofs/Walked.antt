@@ -18,9 +18,10 @@ use Rattle.audio_driver.specs.States.{phase_if, state_with}
 use Rattle.audio_driver.specs.declared.driver.closing.Closed.{Closed}
 use Rattle.rig.specs.Replays.{telling_from}
 use Rattle.heard_lists.specs.Listings.{graphs_in}
-use Rattle.program_runs.specs.Ends.{can_end}
-use Rattle.program_runs.specs.Walks.{walk_format, IsWalkFault}
+use Rattle.program_runs.specs.Ends.{walk_can_end}
+use Rattle.program_runs.specs.Walks.{walk_fault, walk_format}
 use Rattle.program_runs.specs.Histories.{MakesProgress, StaysOpen, journal_of, told_by}
+use Rattle.program_runs.proofs.OpenRoutes.{stays_open}
 use Rattle.program_runs.proofs.WalkedIn.{walked_in}
 use Rattle.program_runs.proofs.Gone.{Gone, unplayed_phase, unplayed_ends, graphs_walked, graphs_by_phase}
 
@@ -28,7 +29,8 @@ use Rattle.program_runs.proofs.Gone.{Gone, unplayed_phase, unplayed_ends, graphs
 pub record IsDriven (machine : Machine) (schedule : Schedule) (task : Task) (state : State) (telling : Telling) (played : Played) : Type 0 where
   pub progress : MakesProgress machine schedule task state telling played.graphs
   pub opened : StaysOpen walk_format machine schedule task telling
-  pub ended : IsWalkFault state.phase state.sent played.commands played.fault
+  pub ends : walk_can_end state.phase ≡ true
+  pub fault : played.fault ≡ walk_fault state.phase state.sent played.commands
 
 -- a driver that plays nothing and was just opened has gone so far
 module _ (machine : Machine) (play : Bool) (task : Task) (schedule : Schedule) (old : Parts) (closed : Closed) (journal : List Event) (gone : Gone machine walk_format play task schedule old closed journal)
@@ -41,8 +43,8 @@ module _ (machine : Machine) (play : Bool) (task : Task) (schedule : Schedule) (
   started = ap (λ (tally : Tally). tally.course.started) none_recorded
 
   -- so a walk can end in its phase
-  pub walk_ends : can_end true closed.phase ≡ true
-  walk_ends = unplayed_ends machine walk_format play task schedule old closed journal gone true started
+  pub walk_ends : walk_can_end closed.phase ≡ true
+  walk_ends = unplayed_ends machine walk_format play task schedule old closed journal gone started
 
   -- that of the bring-up, and of the state to which the journal leads
   left_is : gone.ended.phase ≡ (state_with gone.ended gone.tally).phase
@@ -52,7 +54,7 @@ module _ (machine : Machine) (play : Bool) (task : Task) (schedule : Schedule) (
   phase_is = unplayed_phase machine walk_format play task schedule old closed journal gone started ∙ left_is
 
   -- what is told of it is that of the run that is kept
-  pub driven : (played : Played) → journal_of played ≡ journal → played.graphs ≡ closed.graphs.items → IsWalkFault closed.phase closed.sent played.commands played.fault
+  pub driven : (played : Played) → journal_of played ≡ journal → played.graphs ≡ closed.graphs.items → played.fault ≡ walk_fault closed.phase closed.sent played.commands
       → IsDriven machine schedule task (state_with gone.ended gone.tally) (told_by machine played) played
   driven played told graphs fault =
       subst (λ (events : List Event). IsDriven machine schedule task (state_with gone.ended gone.tally) (telling_from REGION_BYTES machine events) played) (sym told) (record {
@@ -66,7 +68,7 @@ module _ (machine : Machine) (play : Bool) (task : Task) (schedule : Schedule) (
               (subst (λ (phase : Phase). WalkedIn phase (played.graphs ≡ graphs_in machine.codecs)) left_is
               (subst (λ (walked : List RawCodec). WalkedIn gone.ended.phase (walked ≡ graphs_in machine.codecs)) (sym graphs) (graphs_by_phase machine walk_format play task schedule old closed journal gone)));
         };
-        opened = gone.has.set_up;
-        ended = subst (λ (phase : Phase). IsWalkFault phase gone.ended.sent played.commands played.fault) phase_is
-            (subst (λ (sent : ℕ). IsWalkFault closed.phase sent played.commands played.fault) gone.leaves.sent fault);
+        opened = stays_open walk_format machine schedule task (telling_from REGION_BYTES machine journal) gone.has.set_up;
+        ends = subst (λ (phase : Phase). walk_can_end phase ≡ true) phase_is walk_ends;
+        fault = fault ∙ ap (λ (sent : ℕ). walk_fault closed.phase sent played.commands) gone.leaves.sent ∙ ap (λ (phase : Phase). walk_fault phase gone.ended.sent played.commands) phase_is;
       })

@@ -1,7 +1,8 @@
 -- What is promised of a driver's run over a machine by a schedule, whether it plays sound or not. This project's own.
-use Rattle.std.specs.Prelude.{◌≡◌, ℕ, Bool, true, false, List, length}
+use Rattle.std.specs.Prelude.{◌≡◌, ℕ, true, List, ◌++◌, length, Contains, Some}
 use Rattle.stream_format.specs.declared.format.Format.{Format}
 use Rattle.codec_graph.specs.declared.raw.RawCodec.{RawCodec}
+use Rattle.codec_graph.specs.CodecStates.{CodecState}
 use Rattle.codec_graph.specs.Settings.{Entries}
 use Rattle.route_planner.specs.declared.routes.Plan.{Plan}
 use Rattle.route_planner.specs.Plans.{IsPlan}
@@ -10,18 +11,18 @@ use Rattle.schedule_reader.specs.declared.schedule.Schedule.{Schedule}
 use Rattle.hda_files.specs.declared.machine.Machine.{Machine}
 use Rattle.hda_files.specs.Machines.{IsSound}
 use Rattle.hda_world.specs.declared.world.TheConstants.{REGION_BYTES}
-use Rattle.hda_world.specs.Events.{Event, AreHonest}
+use Rattle.hda_world.specs.Worlds.{World, codec_at}
+use Rattle.hda_world.specs.Events.{Event, AreHonest, after}
 use Rattle.hda_world.specs.JournalEvents.{events_of}
 use Rattle.hda_world.specs.Tellings.{Telling}
 use Rattle.driver_progress.specs.Phases.{walked_all}
 use Rattle.driver_progress.specs.Tasks.{Task}
 use Rattle.driver_progress.specs.States.{State}
-use Rattle.driver_progress.specs.Progress.{state_of, IsProgress}
+use Rattle.driver_progress.specs.Progress.{state_of, course_after, course_opened, IsProgress}
 use Rattle.driver_bring_up.specs.Standing.{answers_of}
-use Rattle.route_setup.specs.Means.{analog}
 use Rattle.laws_bring_up.specs.Stretches.{HasFound}
 use Rattle.laws_bring_up.specs.Standing.{AreWalked}
-use Rattle.laws_bring_up.specs.SettingUp.{StaysSetUp}
+use Rattle.laws_bring_up.specs.SettingUp.{are_answered}
 use Rattle.sound_report.specs.declared.played.Played.{Played}
 use Rattle.rig.specs.Follows.{Follows}
 use Rattle.rig.specs.Replays.{start_of, telling_from}
@@ -36,16 +37,15 @@ journal_of played = events_of played.journal
 abbrev pub told_by : Machine → Played → Telling
 told_by machine played = telling_from REGION_BYTES machine (journal_of played)
 
--- what went into the run is kept with it: the machine, which is sound, with the plans of its codecs, whether it is a
--- walk, and the format and the frames of its sound
-pub record HasInput (walk : Bool) (format : Format) (frames : ℕ) (machine : Machine) (plans : List Plan)
-    (played : Played) : Type 0 where
-  pub sound : IsSound machine
-  pub machine_is : played.machine ≡ machine
-  pub plans_are : played.plans ≡ plans
-  pub walk_is : played.walk ≡ walk
-  pub format_is : played.format ≡ format
-  pub frames_are : played.total ≡ frames
+-- what went into the run is kept with it: the machine, which is sound, with the plans of its codecs, and the format and
+-- the frames of its sound
+pub record HasInput (format : Format) (frames : ℕ) (machine : Machine) (plans : List Plan) (played : Played) : Type 0
+  where
+    pub sound : IsSound machine
+    pub machine_is : played.machine ≡ machine
+    pub plans_are : played.plans ≡ plans
+    pub format_is : played.format ≡ format
+    pub frames_are : played.total ≡ frames
 
 -- one history: the journal replays from the machine's start, each access with the answer that the device gives, and
 -- follows the schedule
@@ -65,10 +65,25 @@ pub record MakesProgress (machine : Machine) (schedule : Schedule) (task : Task)
       (answers_of state.sent state.rings.outstanding)
   pub all_walked : walked_all state.phase ≡ true → graphs ≡ graphs_in machine.codecs
 
--- open: from the answer to the last command on, at every moment all codecs are set up by their plans for the format
+-- ---- open routes
+
+-- the codec with this graph is there, and its settings are what the plan of its graph for the format asks
+pub record IsOpenFor (format : Format) (world : World) (graph : RawCodec) : Type 0 where
+  pub now : CodecState
+  pub found : codec_at graph.address world.codecs ≡ Some now
+  pub graph_is : now.graph ≡ graph
+  pub set_up : (plan : Plan) → IsPlan graph format plan → IsSetUp graph now.settings plan format stream_tag
+
+-- open: from the answer to the last command on, at every moment all codecs are set up by their plans for the format. A
+-- moment stands between the events of the journal before it and the later ones
 abbrev pub StaysOpen : Format → Machine → Schedule → Task → Telling → Type 0
 StaysOpen format machine schedule task telling =
-    StaysSetUp (analog format stream_tag) (graphs_in machine.codecs) task (lines_of schedule) telling
+    (before later : List Event) → telling.journal ≡ before ++ later
+    → are_answered task (course_after task before telling.start (course_opened (lines_of schedule))) ≡ true
+    → (graph : RawCodec) → Contains (graphs_in machine.codecs) graph
+    → IsOpenFor format (after before telling.start) graph
+
+-- ---- commands
 
 -- the number of commands that it takes to walk over the machine's codecs and to set them up
 abbrev pub commands_for : Format → Machine → List Plan → ℕ

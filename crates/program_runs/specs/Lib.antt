@@ -4,6 +4,7 @@ pub mod LinkFrames
 pub mod FirstFits
 pub mod Shapes
 pub mod Histories
+pub mod Ends
 pub mod Walks
 pub mod FrameCounts
 pub mod Hearing
@@ -14,7 +15,6 @@ pub mod Feeding
 pub mod Reading
 pub mod Going
 pub mod Openings
-pub mod Ends
 pub mod Served
 pub mod MadeRuns
 pub mod Shelves

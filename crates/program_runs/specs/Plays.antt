@@ -1,7 +1,7 @@
 -- What comes of playing a sound over a machine by a schedule. This project's own.
 use Rattle.std.specs.List.{AllZip}
 use Rattle.std.specs.Prelude.{◌≡◌, ◌≢◌, ◌<◌, ℕ, ◌+◌, ◌-◌, ◌*◌, Bool, true, false, List, length, take, Option, Some}
-use Rattle.std.specs.Prelude.{None, string_bytes}
+use Rattle.std.specs.Prelude.{None, string_bytes, if◌then◌else◌}
 use Rattle.stream_format.specs.Cadence.{block_bytes}
 use Rattle.route_planner.specs.declared.routes.Plan.{Plan}
 use Rattle.hda_outside.specs.Shelf.{Files}
@@ -23,14 +23,14 @@ use Rattle.laws_stream.specs.Lives.{HasStopped}
 use Rattle.period_writer.specs.declared.course.Course.{Course}
 use Rattle.period_writer.specs.declared.course.Run.{Run}
 use Rattle.period_writer.specs.declared.course.Span.{Span}
+use Rattle.period_writer.specs.declared.course.Ran.{Ran}
 use Rattle.period_writer.specs.declared.course.Ran.TheVariants as ran
 use Rattle.period_writer.specs.declared.geometry.Geometry.{Geometry}
 use Rattle.period_writer.specs.Runs.{Tally, measures, tally_of_stretches}
 use Rattle.period_writer.specs.Owning.{IsWritten}
 use Rattle.period_writer.specs.Rings as rings
 use Rattle.driver_progress.specs.declared.phase.Phase.{Phase}
-use Rattle.driver_progress.specs.declared.phase.Phase.TheVariants.{Playing, Drained, NothingRouted, Unanswered, Late}
-use Rattle.driver_progress.specs.declared.phase.Phase.TheVariants.{Malformed, Failed}
+use Rattle.driver_progress.specs.declared.phase.Phase.TheVariants.{Playing, Drained, Unanswered, Late}
 use Rattle.driver_progress.specs.Tasks.{Task, Blocks}
 use Rattle.driver_progress.specs.States.{State}
 use Rattle.driver_bring_up.specs.Jacks.{Counts}
@@ -41,10 +41,10 @@ use Rattle.sound_report.specs.declared.played.PlayFault.{PlayFault}
 use Rattle.sound_report.specs.declared.played.PlayFault.TheVariants as faults
 use Rattle.laws_start.specs.Tasks.{task_of}
 use Rattle.program_runs.specs.FirstFits.{AreFirstFits}
+use Rattle.program_runs.specs.Ends.{play_can_end}
 use Rattle.program_runs.specs.Lines.{lines_of}
 use Rattle.program_runs.specs.Events.{told_in}
-use Rattle.program_runs.specs.Histories.{HasInput, IsHistory, MakesProgress, StaysOpen, commands_for, journal_of}
-use Rattle.program_runs.specs.Histories.{told_by}
+use Rattle.program_runs.specs.Histories.{HasInput, IsHistory, MakesProgress, StaysOpen, commands_for, told_by}
 use Rattle.program_runs.specs.Stretches.{stretches_of}
 use Rattle.program_runs.specs.FrameCounts.{frames_written, frames_below, last_at, written_by}
 use Rattle.program_runs.specs.Hearing.{HasPlayedAll, HearTheirs, WasSilent, lists_heard}
@@ -53,17 +53,14 @@ use Rattle.program_runs.specs.Hearing.{HasPlayedAll, HearTheirs, WasSilent, list
 
 -- why it ended before all was played, by how far the driver came: so many commands were sent of how many, and with
 -- these runs and silences so many of the frames were written and heard
-abbrev pub IsPlayFault : Phase → (sent of block total : ℕ) → List Run → List Span → Option PlayFault → Type 0
-IsPlayFault Playing sent of block total runs silences fault =
-    fault ≡ Some (faults.FramesLeft (frames_written block runs) (frames_below block silences (last_at runs)) total)
-IsPlayFault Drained sent of block total runs silences fault = fault ≡ None
-IsPlayFault NothingRouted sent of block total runs silences fault = ⊥
-IsPlayFault (Unanswered codec command issued noticed) sent of block total runs silences fault =
-    fault ≡ Some (faults.Unanswered codec command issued noticed)
-IsPlayFault (Late from to limit) sent of block total runs silences fault = fault ≡ Some (faults.Late from to limit)
-IsPlayFault (Malformed codec fault') sent of block total runs silences fault = ⊥
-IsPlayFault Failed sent of block total runs silences fault = ⊥
-IsPlayFault phase sent of block total runs silences fault = fault ≡ Some (faults.CommandsLeft sent of)
+abbrev pub play_fault : Phase → (sent of block total : ℕ) → List Run → List Span → Option PlayFault
+play_fault Drained sent of block total runs silences = None
+play_fault Playing sent of block total runs silences =
+    Some (faults.FramesLeft (frames_written block runs) (frames_below block silences (last_at runs)) total)
+play_fault (Late from to limit) sent of block total runs silences = Some (faults.Late from to limit)
+play_fault (Unanswered codec command issued noticed) sent of block total runs silences =
+    Some (faults.Unanswered codec command issued noticed)
+play_fault phase sent of block total runs silences = Some (faults.CommandsLeft sent of)
 
 -- ---- the run
 
@@ -71,17 +68,21 @@ IsPlayFault phase sent of block total runs silences fault = fault ≡ Some (faul
 abbrev pub played_task : Machine → List Plan → Wav → Geometry → Blocks → Task
 played_task machine plans wav geometry blocks = task_of wav.format machine plans geometry true wav.pcm blocks
 
--- by its phase the driver made no run, or this is how its last one ended
-abbrev pub HasRunUpTo : Phase → Course → Type 0
-HasRunUpTo Playing course = (course.started ≡ true) × (course.ran ≡ ran.Playing)
-HasRunUpTo Drained course = (course.started ≡ true) × (course.ran ≡ ran.Drained)
-HasRunUpTo (Late from to limit) course = (course.started ≡ true) × (course.ran ≡ ran.Late from to limit)
-HasRunUpTo phase course = course.started ≡ false
+-- how the last run ended, where one was made: by the phase of a driver
+abbrev pub end_in_phase : Phase → Option Ran
+end_in_phase Playing = Some ran.Playing
+end_in_phase Drained = Some ran.Drained
+end_in_phase (Late from to limit) = Some (ran.Late from to limit)
+end_in_phase phase = None
+
+-- and by the course of its runs
+abbrev pub end_of_course : Course → Option Ran
+end_of_course course = if course.started then Some course.ran else None
 
 -- without a run the stream was never set going; else it was once, and ran without an error until it was stopped once
-abbrev pub Lived : (started : Bool) → Tally → Telling → Type 0
-Lived false tally telling = WasSilent tally telling
-Lived true tally telling = HasStopped telling
+abbrev pub Lived : Option Ran → Tally → Telling → Type 0
+Lived None tally telling = WasSilent tally telling
+Lived (Some end) tally telling = HasStopped telling
 
 -- runs and silences are those of the journal's stretches: no two silences of the line touch, all else of it is the
 -- sound, and it is as long as the last run's reach
@@ -92,8 +93,8 @@ pub record AreRecorded (schedule : Schedule) (task : Task) (phase : Phase) (tall
   pub runs : played.runs ≡ tally.runs
   pub silences : played.silences ≡ tally.silences
   pub line : IsWritten task.pcm tally
-  pub phase_is : HasRunUpTo phase tally.course
-  pub stream : Lived tally.course.started tally telling
+  pub end_is : end_of_course tally.course ≡ end_in_phase phase
+  pub stream : Lived (end_in_phase phase) tally telling
 
 -- what was heard is what the link frames carried, as each candidate pin hears it: the line by its plan. Where the line
 -- has drained, that was all sound
@@ -103,27 +104,33 @@ pub record IsHeard (machine : Machine) (plans : List Plan) (wav : Wav) (tally : 
   pub hear : AllZip (HearTheirs wav.format wav.pcm tally carried) machine.codecs plans
   pub whole : tally.course.ran ≡ ran.Drained → HasPlayedAll wav.pcm tally
 
--- the run of a driver that plays a sound through a ring, over a machine whose codecs have these plans
+-- what is told of a driver that plays a sound, by this task, over a machine whose codecs have these plans
+pub record PlaysTask (machine : Machine) (plans : List Plan) (wav : Wav) (schedule : Schedule) (task : Task)
+    (telling : Telling) (played : Played) : Type 0 where
+  pub state : State
+  pub history : IsHistory machine schedule telling.journal
+  pub progress : MakesProgress machine schedule task state telling played.graphs
+  pub opened : StaysOpen wav.format machine schedule task telling
+  pub runs : AreRecorded schedule task state.phase state.tally telling played
+  pub heard : IsHeard machine plans wav state.tally (world_of telling).carried played.heard
+  -- jacks count what was read of RIRB that came unasked
+  pub jacks : Counts (told_in telling.journal) played.jacks
+  pub commands : played.commands ≡ commands_for wav.format machine plans
+  -- it ended in a phase in which a run can end, and tells why
+  pub ends : play_can_end state.phase ≡ true
+  pub fault : played.fault ≡ play_fault state.phase state.sent played.commands (block_bytes wav.format) played.total
+      state.tally.runs state.tally.silences
+
+-- the run of a driver that plays a sound through a ring
 pub record IsPlayed (machine : Machine) (plans : List Plan) (wav : Wav) (geometry : Geometry) (schedule : Schedule)
     (played : Played) : Type 0 where
-  pub input : HasInput false wav.format wav.frames machine plans played
+  pub no_walk : played.walk ≡ false
+  pub input : HasInput wav.format wav.frames machine plans played
   -- the driver's blocks are first fits
   pub blocks : Blocks
   pub first_fits : AreFirstFits geometry blocks
-  pub state : State
-  pub history : IsHistory machine schedule (journal_of played)
-  pub progress : MakesProgress machine schedule (played_task machine plans wav geometry blocks) state
-      (told_by machine played) played.graphs
-  pub opened : StaysOpen wav.format machine schedule (played_task machine plans wav geometry blocks)
-      (told_by machine played)
-  pub runs : AreRecorded schedule (played_task machine plans wav geometry blocks) state.phase state.tally
+  pub run : PlaysTask machine plans wav schedule (played_task machine plans wav geometry blocks)
       (told_by machine played) played
-  pub heard : IsHeard machine plans wav state.tally (world_of (told_by machine played)).carried played.heard
-  -- jacks count what was read of RIRB that came unasked
-  pub jacks : Counts (told_in (journal_of played)) played.jacks
-  pub commands : played.commands ≡ commands_for wav.format machine plans
-  pub ended : IsPlayFault state.phase state.sent played.commands (block_bytes wav.format) played.total state.tally.runs
-      state.tally.silences played.fault
 
 -- ---- the sound
 

@@ -10,7 +10,7 @@ ghost use Rattle.hda_files.specs.Machines.{IsSound};
 ghost use Rattle.schedule_reader.specs.Schedules.{IsLimited};
 ghost use Rattle.laws_start.specs.Reading.{IsWhole};
 ghost use Rattle.laws_start.specs.Tasks.{HavePlans};
-ghost use Rattle.program_runs.specs.Ends.{can_end};
+ghost use Rattle.program_runs.specs.Ends.{play_can_end};
 ghost use Rattle.program_runs.specs.Plays as spec;
 ghost use Rattle.program_runs.specs.FrameCounts as counts;
 
@@ -54,11 +54,11 @@ fn frames_left(closed: &Closed, block: u32, total: u64) -> PlayFault
 /// Why it ended before all frames were played, of so many with blocks of so many bytes, where so many commands set the
 /// codecs up.
 fn play_fault(closed: &Closed, of: u32, block: u32, total: u64) -> Option<PlayFault>
-    requires can_end { can_end false closed.now.phase ≡ true }
+    requires can_end { play_can_end closed.now.phase ≡ true }
     requires some { 1 ≤ block }
     requires few { counts.written_by closed.now.runs.items ≤ 0xFFFFFFFFFFFFFFFF }
-    ensures { spec.IsPlayFault closed.now.phase closed.now.sent of block total closed.now.runs.items
-        closed.now.silences.items result }
+    ensures { result ≡ spec.play_fault closed.now.phase closed.now.sent of block total closed.now.runs.items
+        closed.now.silences.items }
 {
     match closed.phase {
         Phase::Drained => None,

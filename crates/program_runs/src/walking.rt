@@ -5,7 +5,7 @@ ghost use Rattle.hda_files.specs.Machines.{IsSound};
 ghost use Rattle.schedule_reader.specs.Schedules.{IsLimited};
 ghost use Rattle.laws_start.specs.Reading.{IsWhole};
 ghost use Rattle.laws_start.specs.Tasks.{HavePlans};
-ghost use Rattle.program_runs.specs.Ends.{can_end};
+ghost use Rattle.program_runs.specs.Ends.{walk_can_end};
 ghost use Rattle.program_runs.specs.Feeding.{IsSilent};
 ghost use Rattle.program_runs.specs.Openings.{IsFresh};
 ghost use Rattle.program_runs.specs.Walks as spec;
@@ -87,8 +87,8 @@ fn silent_driver(alloc: Global, fifo: u16, calls: u32) -> Result<Driver<Analog>,
 
 /// Why a walk ended before it was done, where the driver came so far and sent so many of so many commands.
 pub(crate) fn walk_fault(phase: Phase, sent: u32, of: u32) -> Option<PlayFault>
-    requires { can_end true phase ≡ true }
-    ensures { spec.IsWalkFault phase sent of result }
+    requires { walk_can_end phase ≡ true }
+    ensures { result ≡ spec.walk_fault phase sent of }
 {
     match phase {
         Phase::Ready => None,

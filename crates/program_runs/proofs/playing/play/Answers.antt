@@ -22,7 +22,7 @@ use Rattle.program_runs.specs.FrameCounts.{written_by}
 use Rattle.program_runs.specs.Reading.{frames_read}
 use Rattle.program_runs.specs.Going.{parts_with}
 use Rattle.program_runs.specs.Hearing.{lists_heard}
-use Rattle.program_runs.specs.Plays.{IsPlayFault, played_task, sound_with}
+use Rattle.program_runs.specs.Plays.{play_fault, played_task, sound_with}
 use Rattle.program_runs.proofs.Counting.{few_lines}
 use Rattle.program_runs.proofs.Feeds.{first_supply, block_four}
 use Rattle.program_runs.proofs.Gone.{opened_can_go}
@@ -244,8 +244,8 @@ returns-clause-played g c =
     let by = driven machine c.args.plans.items wav c.args.geometry blocks c.args.schedule.now opened closed journal was
     laws played told (sym (can_after g c).ring_is) c.requires.format c.requires.plans c.from_vec-2.ensures c.from_vec-3.ensures c.from_vec-4.ensures
     (c.into_lists.ensures ∙ heard)
-    (subst (λ (block : ℕ). IsPlayFault closed.phase closed.sent c.in_ok-commands.commands block head.frames closed.runs.items closed.silences.items c.play_fault-fault.result)
-    c.block_bytes-2.ensures c.play_fault-fault.ensures) in
+    (c.play_fault-fault.ensures
+    ∙ ap (λ (block : ℕ). play_fault closed.phase closed.sent c.in_ok-commands.commands block head.frames closed.runs.items closed.silences.items) c.block_bytes-2.ensures) in
     record {
       pcm = sound_of g c;
       sound = sound_is_read c.args.name.now head (measures c.args.geometry) driven_so.gave (first g c) (now g c) c.drive.new.cut driver.supply driven_so.last driven_so.course driven_so.took (can_after g c).supply_is (block_some g c) (streamed g c)
@@ -254,30 +254,33 @@ returns-clause-played g c =
           ∙ ap (λ (block : ℕ). frames_read c.drive.new.cut (driven_so.last.taken + length driven_so.last.held) block head.frames) (c.block_bytes.ensures ∙ block_there g c))
           c.in_ok-cut.ensures;
       run = record {
+        no_walk = refl;
         input = record {
           sound = c.requires.sound;
           machine_is = c.parts-machine.ensures.machine ∙ c.in_ok-driven.ensures.machine ∙ c.in_ok-rig.ensures.machine;
           plans_are = c.from_vec.ensures;
-          walk_is = refl;
           format_is = refl;
           frames_are = refl;
         };
         blocks = blocks;
         first_fits = c.in_ok-driver.ensures.first_fits;
-        state = state_with was.ended was.tally;
-        history = record {
-          replays = subst (λ (events : List Event). AreHonest events (start_of REGION_BYTES machine)) (sym told) was.replays;
-          follows = subst (Follows c.args.schedule.now) (sym told) was.follows;
+        run = record {
+          state = state_with was.ended was.tally;
+          history = record {
+            replays = subst (λ (events : List Event). AreHonest events (start_of REGION_BYTES machine)) (sym told) was.replays;
+            follows = subst (Follows c.args.schedule.now) (sym told) was.follows;
+          };
+          progress = by.progress;
+          opened = by.opened;
+          runs = by.runs;
+          heard = by.heard;
+          jacks = subst (λ jacks. Counts (told_in (events_of c.parts-machine.result.2)) jacks) (sym c.from_vec-5.ensures)
+              (subst (λ (events : List Event). Counts (told_in events) closed.jacks.items) (sym told) was.jacks);
+          commands = c.in_ok-commands.ensures
+              ∙ ap (λ (codecs : List CodecFile). length (commands_of head.format codecs c.as_slice-2.result.now)) c.as_slice.ensures
+              ∙ ap (λ (plans : List Plan). length (commands_of head.format machine.codecs plans)) c.as_slice-2.ensures.value;
+          ends = by.ends;
+          fault = by.fault;
         };
-        progress = by.progress;
-        opened = by.opened;
-        runs = by.runs;
-        heard = by.heard;
-        jacks = subst (λ jacks. Counts (told_in (events_of c.parts-machine.result.2)) jacks) (sym c.from_vec-5.ensures)
-            (subst (λ (events : List Event). Counts (told_in events) closed.jacks.items) (sym told) was.jacks);
-        commands = c.in_ok-commands.ensures
-            ∙ ap (λ (codecs : List CodecFile). length (commands_of head.format codecs c.as_slice-2.result.now)) c.as_slice.ensures
-            ∙ ap (λ (plans : List Plan). length (commands_of head.format machine.codecs plans)) c.as_slice-2.ensures.value;
-        ended = by.ended;
       };
     }

@@ -3,9 +3,9 @@ use Rattle.std.proofs.lemmas.List.{length-map}
 use Rattle.schedule_reader.specs.Counts.{items_of}
 use Rattle.driver_progress.specs.Tasks.{Task, DriverLine, order_of}
 use Rattle.driver_progress.specs.Progress.{state_of}
-use Rattle.laws_start.specs.Tasks.{commands_of, task_of}
+use Rattle.laws_start.specs.Tasks.{commands_of}
 use Rattle.program_runs.specs.Histories.{commands_for, journal_of, told_by}
-use Rattle.program_runs.specs.Walks.{walk_format}
+use Rattle.program_runs.specs.Walks.{walk_format, walked_task}
 use Rattle.laws_serving.specs.ServingSchedules.{ServesCommands}
 use Rattle.laws_serving.specs.Coming.{HasComeTo}
 use Rattle.laws_serving.specs.Runs.{IsTaskTo, calls_of}
@@ -18,16 +18,16 @@ use Rattle.program_runs.proofs.served_laws.walks_end_so.Goals as goal
 
 pub returns : goal.returns
 returns c = λ machine plans schedule played sound whole have limited serves walked.
-    let task : Task = task_of walk_format machine plans walked.geometry false [] walked.blocks in
+    let task : Task = walked_task machine plans walked.geometry walked.blocks in
     let codecs = machine_addresses machine in
     let items = items_of schedule in
     let telling = told_by machine played in
     let well = lie_well walked.geometry walked.blocks walked.first_fits in
     let to : IsTaskTo codecs task = record { orders = orders_go walk_format machine.codecs plans have whole.well_formed sound.each; corb_block = well.corb; rirb_block = well.rirb } in
     let count : length task.orders ≡ commands_for walk_format machine plans = length-map (commands_of walk_format machine.codecs plans) order_of in
-    let run = run_of machine schedule task (journal_of played) limited walked.history walked.progress.progress walked.progress.finds in
+    let run = run_of machine schedule task (journal_of played) limited walked.run.history walked.run.progress.progress walked.run.progress.finds in
     let come = c.served_drivers_come_up.ensures task codecs items telling refl to (starts machine task sound well) run
     (subst (λ (commands : ℕ). ServesCommands codecs commands (all_rounds schedule)) (sym count) serves) in
-    let state : state_of task (calls_of items) telling ≡ walked.state = ap (λ (lines : List DriverLine). state_of task lines telling) (calls_are items) ∙ walked.progress.state_is in
-    walk_ends (commands_for walk_format machine plans) (line_count schedule) played.commands walked.state played.fault
-    (subst (λ (commands : ℕ). HasComeTo commands (line_count schedule) false walked.state) count (subst (HasComeTo (length task.orders) (line_count schedule) false) state come)) walked.commands walked.ended
+    let state : state_of task (calls_of items) telling ≡ walked.run.state = ap (λ (lines : List DriverLine). state_of task lines telling) (calls_are items) ∙ walked.run.progress.state_is in
+    walk_ends (commands_for walk_format machine plans) (line_count schedule) played.commands walked.run.state played.fault
+    (subst (λ (commands : ℕ). HasComeTo commands (line_count schedule) false walked.run.state) count (subst (HasComeTo (length task.orders) (line_count schedule) false) state come)) walked.run.commands walked.run.fault

@@ -14,10 +14,10 @@ use Rattle.laws_driver.specs.Sounding.{Parts}
 use Rattle.rig.specs.Follows.{Follows}
 use Rattle.rig.specs.Rigs.{telling_of}
 use Rattle.rig.specs.Replays.{start_of}
-use Rattle.laws_start.specs.Tasks.{commands_of, task_of, blocks_of}
+use Rattle.laws_start.specs.Tasks.{commands_of, blocks_of}
 use Rattle.program_runs.specs.Events.{told_in}
 use Rattle.program_runs.specs.Going.{parts_with}
-use Rattle.program_runs.specs.Walks.{walk_format}
+use Rattle.program_runs.specs.Walks.{walk_format, walked_task}
 use Rattle.program_runs.proofs.Counting.{few_lines}
 use Rattle.program_runs.proofs.Feeds.{nothing_told, given_nothing, may_held, ends_held}
 use Rattle.program_runs.proofs.Gone.{CanGo, Gone, gone, opened_can_go}
@@ -45,7 +45,7 @@ whole c = (c.in_ok-driven.ensures.driven.fed None nothing_told (given_nothing c.
 
 abbrev task_for : goal.After-from_vec-5 → Task
 task_for c =
-    task_of walk_format c.args.machine c.args.plans.items c.in_ok-driver.ensures.fresh.geometry false [] (blocks_of c.in_ok-driver.driver.bring_up c.in_ok-driver.driver.writer)
+    walked_task c.args.machine c.args.plans.items c.in_ok-driver.ensures.fresh.geometry (blocks_of c.in_ok-driver.driver.bring_up c.in_ok-driver.driver.writer)
 
 can_go : (c : goal.After-from_vec-5) → CanGo c.args.machine walk_format c.args.plans.items c.in_ok-driver.driver.play (task_for c) (opened c)
 can_go c =
@@ -98,25 +98,14 @@ returns c =
     let by = driven machine driver.play (task_for earlier) c.args.schedule.now (opened earlier) c.in_ok-driven.driven.closed (telling_of c.drive.new.rig).journal gone c.in_ok-driver.ensures.play (can_go earlier).fresh
     played told c.from_vec-2.ensures c.walk_fault.ensures in
     record {
+      walk = refl;
       input = record {
         sound = c.requires.sound;
         machine_is = c.parts-machine.ensures.machine ∙ c.in_ok-driven.ensures.machine ∙ c.in_ok-rig.ensures.machine;
         plans_are = c.from_vec.ensures;
-        walk_is = refl;
         format_is = c.walk_format-2.ensures;
         frames_are = refl;
       };
-      geometry = fresh.geometry;
-      ring = fresh.ring;
-      blocks = blocks_of driver.bring_up driver.writer;
-      first_fits = fresh.first_fits;
-      state = state_with gone.ended gone.tally;
-      history = record {
-        replays = subst (λ (events : List Event). AreHonest events (start_of REGION_BYTES machine)) (sym told) gone.replays;
-        follows = subst (Follows c.args.schedule.now) (sym told) gone.follows;
-      };
-      progress = by.progress;
-      opened = by.opened;
       silent = record {
         runs = c.from_vec-3.ensures ∙ gone.leaves.runs ∙ ap (λ (tally : Tally). tally.runs) none;
         silences = c.from_vec-4.ensures ∙ gone.leaves.silences ∙ ap (λ (tally : Tally). tally.silences) none;
@@ -124,11 +113,25 @@ returns c =
         unread = refl;
         uncut = refl;
       };
-      jacks = subst (λ jacks. Counts (told_in (events_of c.parts-machine.result.2)) jacks) (sym c.from_vec-5.ensures)
-          (subst (λ (events : List Event). Counts (told_in events) c.in_ok-driven.driven.closed.jacks.items) (sym told) gone.jacks);
-      commands = c.in_ok-commands.ensures
-          ∙ ap (λ (codecs : List CodecFile). length (commands_of c.walk_format.result codecs c.as_slice-2.result.now)) c.as_slice.ensures
-          ∙ ap (λ (plans : List Plan). length (commands_of c.walk_format.result machine.codecs plans)) c.as_slice-2.ensures.value
-          ∙ ap (λ (f : Format). length (commands_of f machine.codecs c.args.plans.items)) c.walk_format.ensures;
-      ended = by.ended;
+      geometry = fresh.geometry;
+      ring = fresh.ring;
+      blocks = blocks_of driver.bring_up driver.writer;
+      first_fits = fresh.first_fits;
+      run = record {
+        state = state_with gone.ended gone.tally;
+        history = record {
+          replays = subst (λ (events : List Event). AreHonest events (start_of REGION_BYTES machine)) (sym told) gone.replays;
+          follows = subst (Follows c.args.schedule.now) (sym told) gone.follows;
+        };
+        progress = by.progress;
+        opened = by.opened;
+        jacks = subst (λ jacks. Counts (told_in (events_of c.parts-machine.result.2)) jacks) (sym c.from_vec-5.ensures)
+            (subst (λ (events : List Event). Counts (told_in events) c.in_ok-driven.driven.closed.jacks.items) (sym told) gone.jacks);
+        commands = c.in_ok-commands.ensures
+            ∙ ap (λ (codecs : List CodecFile). length (commands_of c.walk_format.result codecs c.as_slice-2.result.now)) c.as_slice.ensures
+            ∙ ap (λ (plans : List Plan). length (commands_of c.walk_format.result machine.codecs plans)) c.as_slice-2.ensures.value
+            ∙ ap (λ (f : Format). length (commands_of f machine.codecs c.args.plans.items)) c.walk_format.ensures;
+        ends = by.ends;
+        fault = by.fault;
+      };
     }

@@ -1,0 +1,38 @@
+-- That routes stay open: all codecs are set up at every moment from the answer to the last command on.
+use Rattle.std.proofs.Common.{◌≡◌, true, List, subst}
+use Rattle.std.specs.Prelude.{[], ◌∷◌, ◌++◌, Contains}
+use Rattle.codec_graph.specs.declared.raw.RawCodec.{RawCodec}
+use Rattle.stream_format.specs.declared.format.Format.{Format}
+use Rattle.schedule_reader.specs.declared.schedule.Schedule.{Schedule}
+use Rattle.hda_files.specs.declared.machine.Machine.{Machine}
+use Rattle.hda_world.specs.Worlds.{World}
+use Rattle.hda_world.specs.Events.{Event, happens, after}
+use Rattle.hda_world.specs.Tellings.{Telling}
+use Rattle.driver_progress.specs.Progress.{Course, course_after, course_opened, noted}
+use Rattle.driver_progress.specs.Tasks.{Task}
+use Rattle.route_setup.specs.Means.{Means, analog}
+use Rattle.laws_bring_up.specs.SettingUp.{Always, IsThere, SetUpAt, StaysSetUp, are_answered}
+use Rattle.heard_lists.specs.Listings.{graphs_in}
+use Rattle.laws_start.specs.Tasks.{stream_tag}
+use Rattle.program_runs.specs.Lines.{lines_of}
+use Rattle.program_runs.specs.Histories.{IsOpenFor, StaysOpen}
+
+-- what holds always holds at each moment
+at_moment : (Holds : World → Course → Type 0) (task : Task) (before later : List Event) (world : World) (course : Course) → Always Holds task (before ++ later) world course
+    → Holds (after before world) (course_after task before world course)
+at_moment Holds task [] [] world course always = always
+at_moment Holds task [] (event ∷ later) world course always = always.0
+at_moment Holds task (event ∷ before) later world course always = at_moment Holds task before later (happens world event) (noted task course world event) always.1
+
+-- a codec that is set up for analog outputs
+open_there : (format : Format) (world : World) (graph : RawCodec) → IsThere (analog format stream_tag) graph world.codecs → IsOpenFor format world graph
+open_there format world graph there = record { now = there.now; found = there.found; graph_is = there.graph_is; set_up = there.opened }
+
+pub stays_open : (format : Format) (machine : Machine) (schedule : Schedule) (task : Task) (telling : Telling) → StaysSetUp (analog format stream_tag) (graphs_in machine.codecs) task (lines_of schedule) telling
+    → StaysOpen format machine schedule task telling
+stays_open format machine schedule task telling always = λ before later split answered graph among.
+    let means : Means = analog format stream_tag in
+    let opened : Course = course_opened (lines_of schedule) in
+    open_there format (after before telling.start) graph
+    (at_moment (SetUpAt means (graphs_in machine.codecs) task) task before later telling.start opened
+    (subst (λ (journal : List Event). Always (SetUpAt means (graphs_in machine.codecs) task) task journal telling.start opened) split always) answered graph among)
