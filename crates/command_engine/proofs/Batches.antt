@@ -14,7 +14,7 @@ use Rattle.world_rings.specs.Standing.{StandsAt, IsRirbInside}
 use Rattle.world_rings.proofs.Callers.{stored_outside}
 use Rattle.command_engine.specs.Blocks.{are_apart}
 use Rattle.command_engine.specs.Sizes.{half_of}
-use Rattle.command_engine.specs.Courses.{part_of, AreStanding}
+use Rattle.command_engine.specs.Fetchings.{part_of, AreStanding}
 
 -- fewer responses than RIRB has entries stand each in an entry of its own
 abbrev pub EachStands : Type 0

@@ -16,7 +16,7 @@ use Rattle.hda_world.specs.Events.{Event, Stepped, Begin, End, Read, Write, DmaR
 use Rattle.hda_world.proofs.Callers.{beside_write}
 use Rattle.command_engine.specs.declared.ring_places.RingPlaces.{RingPlaces}
 use Rattle.command_engine.specs.Sizes.{half_of}
-use Rattle.command_engine.specs.Courses.{RingPart, part_of, HasRings, IsBeside, IsBesideBlock, AreBeside, Course, StandsBy, Stands}
+use Rattle.command_engine.specs.Fetchings.{RingPart, part_of, HasRings, IsBeside, IsBesideBlock, AreBeside, Fetching, StandsBy, Stands}
 use Rattle.command_engine.proofs.Batches.{EachStands, same_word}
 use Rattle.command_engine.proofs.Keeping.{steps_keep_standing}
 
@@ -68,8 +68,8 @@ module _ (from read corb rirb : ℕ) (rings : RingPlaces) where
   outside_piece block size at bytes here (inl below) above within = inr (omega arith)
   outside_piece block size at bytes here (inr above) from_here within = inl (omega arith)
 
-  course_word : (part : RingPart) (word word' : ℕ) (gained : List _) → word' ≡ word → Course rings.outstanding part word gained → Course rings.outstanding part word' gained
-  course_word part word word' gained same course = subst (λ (w : ℕ). Course rings.outstanding part w gained) (sym same) course
+  fetching_word : (part : RingPart) (word word' : ℕ) (gained : List _) → word' ≡ word → Fetching rings.outstanding part word gained → Fetching rings.outstanding part word' gained
+  fetching_word part word word' gained same fetching = subst (λ (w : ℕ). Fetching rings.outstanding part w gained) (sym same) fetching
 
   memory_beside : (world : World) (at : ℕ) (bytes : List ℕ) → IsBesideBlock corb 1024 at (length bytes) → IsBesideBlock rirb 2048 at (length bytes) → Stands from read corb rirb rings world
       → StandsBy from read corb rirb rings (part_of world.registers) (stored world.memory at bytes) world.codecs world.waiting world.commands world.written
@@ -95,7 +95,7 @@ module _ (from read corb rirb : ℕ) (rings : RingPlaces) where
             both.1 (rirb + 8 * ((rings.read + (index + 1)) % entries_of rings.rirb) + byte) (outside_piece rirb 2048 at (length bytes) (rirb + 8 * ((rings.read + (index + 1)) % entries_of rings.rirb) + byte) beside_rirb (omega arith) (omega arith))
             ∙ holds.standing index response byte is small;
         from_within = holds.from_within;
-        course = course_word (part_of world.registers) _ _ (drop from world.commands) same holds.course;
+        fetching = fetching_word (part_of world.registers) _ _ (drop from world.commands) same holds.fetching;
         taken_by = holds.taken_by;
         on_its_way = holds.on_its_way;
       }

@@ -7,7 +7,7 @@ use Rattle.codec_graph.specs.declared.raw.RawCodec.{RawCodec}
 use Rattle.codec_graph.specs.CodecStates.{CodecState}
 use Rattle.hda_world.specs.Worlds.{codec_at, with_codec}
 use Rattle.hda_world.proofs.Callers.{is_address}
-use Rattle.command_engine.specs.Courses.{AscendFrom, graph_at, graphs_in}
+use Rattle.command_engine.specs.Fetchings.{AscendFrom, graph_at, graphs_in}
 
 -- its graph is found among the graphs
 pub graph_there : (address : ℕ) (codecs : List CodecState) (codec : CodecState) → codec_at address codecs ≡ Some codec → graph_at address (graphs_in codecs) ≡ Some codec.graph

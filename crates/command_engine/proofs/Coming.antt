@@ -15,7 +15,7 @@ use Rattle.hda_registers.specs.Fields.{Fields}
 use Rattle.world_rings.specs.declared.response.Response.{Response}
 use Rattle.hda_world.specs.Worlds.{TakenCommand, codec_at, with_codec}
 use Rattle.hda_world.specs.Steps.{address_of, responses_of, items_of}
-use Rattle.command_engine.specs.Courses.{AscendFrom, AscendByAddress, IsAnswerTo, ResponseCanCome, ItemCanCome, CodecCanSend, solicited, IsOnItsWay}
+use Rattle.command_engine.specs.Fetchings.{AscendFrom, AscendByAddress, IsAnswerTo, ResponseCanCome, ItemCanCome, CodecCanSend, solicited, IsOnItsWay}
 use Rattle.hda_world.proofs.Callers.{found_address, found_all, absent}
 use Rattle.command_engine.proofs.Codecs.{changed_all, changed_sum}
 

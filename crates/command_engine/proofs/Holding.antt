@@ -6,7 +6,7 @@ use Rattle.hda_world.specs.Worlds.{World}
 use Rattle.hda_world.specs.Steps.{responded, passed}
 use Rattle.hda_world.specs.Kept.{Kept}
 use Rattle.command_engine.specs.declared.ring_places.RingPlaces.{RingPlaces}
-use Rattle.command_engine.specs.Courses.{RingPart, Stands}
+use Rattle.command_engine.specs.Fetchings.{RingPart, Stands}
 use Rattle.command_engine.proofs.Batches.{EachStands}
 use Rattle.command_engine.proofs.Keeping.{keeps_standing, part-passed}
 

@@ -29,7 +29,7 @@ use Rattle.hda_world.proofs.Callers.{graphs-with_codec, keeps_reading, frames_af
 use Rattle.command_engine.specs.declared.ring_places.RingPlaces.{RingPlaces}
 use Rattle.command_engine.specs.declared.answers.Outstanding.{Outstanding}
 use Rattle.command_engine.specs.Blocks.{are_apart}
-use Rattle.command_engine.specs.Courses.{RingPart, part_of, HasRings, AscendFrom, AscendByAddress, AreOf, IsWordOf, IsOfCodec, AreOfCodecs, graphs_in, Course, IsOnItsWay, AreStanding, StandsBy, Stands}
+use Rattle.command_engine.specs.Fetchings.{RingPart, part_of, HasRings, AscendFrom, AscendByAddress, AreOf, IsWordOf, IsOfCodec, AreOfCodecs, graphs_in, Fetching, IsOnItsWay, AreStanding, StandsBy, Stands}
 use Rattle.command_engine.proofs.Codecs.{graph_there}
 use Rattle.command_engine.proofs.Coming.{coming_taken, coming_sent, coming_lost, coming_plugged, coming_responded}
 use Rattle.command_engine.proofs.Batches.{EachStands, half_small, part_after, pointer_after, batch_short, size_stored, word_stays, standing_written}
@@ -114,9 +114,9 @@ module _ (from read corb rirb : ℕ) (rings : RingPlaces) where
       ap (λ (place : ℕ). word_at world.memory (128 * world.registers.global.corb_base + 4 * place)) place ∙ ap (λ (base : ℕ). word_at world.memory (base + 4 * rings.submitted)) at
 
   hands : (world : World) → Stands from read corb rirb rings world → can_fetch world.registers ≡ true → Stands from read corb rirb rings (handed (next_command world.registers world.memory) world)
-  hands world holds can = by holds.course
+  hands world holds can = by holds.fetching
     where
-      by : Course rings.outstanding (part_of world.registers) (word_at world.memory (corb + 4 * rings.submitted)) (drop from world.commands) → Stands from read corb rirb rings (handed (next_command world.registers world.memory) world)
+      by : Fetching rings.outstanding (part_of world.registers) (word_at world.memory (corb + 4 * rings.submitted)) (drop from world.commands) → Stands from read corb rirb rings (handed (next_command world.registers world.memory) world)
       by (inl all) = absurd (fetch_some world.registers can all.pointers)
       by (inr next) =
           let word = next_command world.registers world.memory in
@@ -132,7 +132,7 @@ module _ (from read corb rirb : ℕ) (rings : RingPlaces) where
             pointer = holds.pointer;
             standing = holds.standing;
             from_within = within_more world.commands (taking word (codec_at (address_of word) world.codecs) (is_running world.registers.output) (length world.carried)) holds.from_within;
-            course = inl (record { pointers = next.pointers; taken = both.0 });
+            fetching = inl (record { pointers = next.pointers; taken = both.0 });
             taken_by = taken_with (address_of word) (λ codec. taken codec word) (λ codec. refl) world.codecs (drop from (world.commands ++ taking word (codec_at (address_of word) world.codecs) (is_running world.registers.output) (length world.carried))) both.2;
             on_its_way = both.1;
           }
@@ -151,7 +151,7 @@ module _ (from read corb rirb : ℕ) (rings : RingPlaces) where
     pointer = holds.pointer;
     standing = holds.standing;
     from_within = holds.from_within;
-    course = holds.course;
+    fetching = holds.fetching;
     taken_by = taken_with address without_first (λ codec. refl) world.codecs (drop from world.commands) holds.taken_by;
     on_its_way = coming_sent (drop from world.commands) world.registers address item rest (drop read world.written) world.waiting world.codecs holds.ascend are holds.on_its_way;
   }
@@ -168,7 +168,7 @@ module _ (from read corb rirb : ℕ) (rings : RingPlaces) where
     pointer = holds.pointer;
     standing = holds.standing;
     from_within = holds.from_within;
-    course = holds.course;
+    fetching = holds.fetching;
     taken_by = taken_with address without_answer (λ codec. refl) world.codecs (drop from world.commands) holds.taken_by;
     on_its_way = coming_lost (drop from world.commands) address (drop read world.written) world.waiting world.codecs holds.ascend holds.on_its_way;
   }
@@ -185,17 +185,17 @@ module _ (from read corb rirb : ℕ) (rings : RingPlaces) where
     pointer = holds.pointer;
     standing = holds.standing;
     from_within = holds.from_within;
-    course = holds.course;
+    fetching = holds.fetching;
     taken_by = taken_with address (λ codec. plugged codec nid present) (graph-plugged nid present) world.codecs (drop from world.commands) holds.taken_by;
     on_its_way = coming_plugged (drop from world.commands) address nid present (drop read world.written) world.waiting world.codecs holds.ascend holds.on_its_way;
   }
 
   -- ---- RIRB's engine writes a batch
 
-  course_stays : (part : RingPart) (word word' pointer flag : ℕ) (gained : List TakenCommand) → word' ≡ word → Course rings.outstanding part word gained
-      → Course rings.outstanding (record part { rirb_write_pointer = pointer; response_flag = flag }) word' gained
-  course_stays part word word' pointer flag gained same (inl all) = inl (record { pointers = all.pointers; taken = all.taken })
-  course_stays part word word' pointer flag gained same (inr next) =
+  fetching_stays : (part : RingPart) (word word' pointer flag : ℕ) (gained : List TakenCommand) → word' ≡ word → Fetching rings.outstanding part word gained
+      → Fetching rings.outstanding (record part { rirb_write_pointer = pointer; response_flag = flag }) word' gained
+  fetching_stays part word word' pointer flag gained same (inl all) = inl (record { pointers = all.pointers; taken = all.taken })
+  fetching_stays part word word' pointer flag gained same (inr next) =
       inr (record { pointers = next.pointers; is = subst (IsWordOf rings.outstanding) (sym same) next.is; none = next.none })
 
   wrote : EachStands → (world : World) (responses : List Response) → Stands from read corb rirb rings world → can_respond world.registers ≡ true → batch world.registers world.waiting ≡ responses
@@ -239,8 +239,8 @@ module _ (from read corb rirb : ℕ) (rings : RingPlaces) where
             (subst (λ (base : ℕ). AreStanding base (entries_of rings.rirb) rings.read (responses_stored fields world.memory responses) responses) base
             (subst (λ (size : ℕ). AreStanding (rirb_address fields) size rings.read (responses_stored fields world.memory responses) responses) size standing));
         from_within = holds.from_within;
-        course = course_stays (part_of fields) (word_at world.memory (corb + 4 * rings.submitted)) (word_at (responses_stored fields world.memory responses) (corb + 4 * rings.submitted)) _ 1 (drop from world.commands)
-            (word_stays responses fields world.memory corb rings.submitted apart (omega arith)) holds.course;
+        fetching = fetching_stays (part_of fields) (word_at world.memory (corb + 4 * rings.submitted)) (word_at (responses_stored fields world.memory responses) (corb + 4 * rings.submitted)) _ 1 (drop from world.commands)
+            (word_stays responses fields world.memory corb rings.submitted apart (omega arith)) holds.fetching;
         taken_by = holds.taken_by;
         on_its_way = subst (λ (unread : List Response). IsOnItsWay (drop from world.commands) unread (drop (length responses) world.waiting) world.codecs) (ap (λ (first : List Response). first ++ responses) none ∙ sym unread) way;
       }

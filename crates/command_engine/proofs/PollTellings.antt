@@ -22,7 +22,7 @@ use Rattle.hda_world.proofs.Callers.{accessed_then, plain_write}
 use Rattle.command_engine.specs.declared.ring_places.RingPlaces.{RingPlaces}
 use Rattle.command_engine.specs.Entries.{response_in, responses_in, answer_among}
 use Rattle.command_engine.specs.Polling.{PollReads, entry_reads, batch_accesses, poll_accesses, new_entries, asked_of, found_by, read_to, still_outstanding, AreNew}
-use Rattle.command_engine.specs.Courses.{RingPart, part_of, ResponseCanCome, StandsBy, Stands}
+use Rattle.command_engine.specs.Fetchings.{RingPart, part_of, ResponseCanCome, StandsBy, Stands}
 use Rattle.command_engine.specs.Belonging.{as_held, from_after, PollLeaves}
 use Rattle.command_engine.proofs.Batches.{EachStands, half_small}
 use Rattle.command_engine.proofs.Keeping.{keeps_standing}

@@ -25,7 +25,7 @@ use Rattle.command_engine.specs.declared.ring_places.RingPlaces.{RingPlaces}
 use Rattle.command_engine.specs.declared.answers.Outstanding.{Outstanding}
 use Rattle.command_engine.specs.Entries.{is_from, answers_it, answer_among}
 use Rattle.command_engine.specs.Polling.{asked_of, still_outstanding}
-use Rattle.command_engine.specs.Courses.{RingPart, part_of, HasRings, AreOf, IsOfCodec, AreOfCodecs, graph_at, graphs_in, Course, CanCome, ResponseCanCome, ItemCanCome, CodecCanSend, solicited, waiting_answers, IsOnItsWay, StandsBy, Stands}
+use Rattle.command_engine.specs.Fetchings.{RingPart, part_of, HasRings, AreOf, IsOfCodec, AreOfCodecs, graph_at, graphs_in, Fetching, CanCome, ResponseCanCome, ItemCanCome, CodecCanSend, solicited, waiting_answers, IsOnItsWay, StandsBy, Stands}
 use Rattle.command_engine.specs.Belonging.{as_held, Belongs, from_after}
 use Rattle.command_engine.proofs.Codecs.{graph_address}
 
@@ -129,11 +129,11 @@ module _ (from read corb rirb : ℕ) (rings : RingPlaces) (world : World) (holds
   none_unread = drop_all (length world.written) world.written (omega arith)
 
   cleared_stands : (from' : ℕ) (outstanding : Option Outstanding) → from' ≤ length world.commands
-      → Course outstanding cleared_part (word_at world.memory (corb + 4 * rings.submitted)) (drop from' world.commands)
+      → Fetching outstanding cleared_part (word_at world.memory (corb + 4 * rings.submitted)) (drop from' world.commands)
       → AreOfCodecs world.codecs (drop from' world.commands)
       → IsOnItsWay (drop from' world.commands) [] world.waiting world.codecs
       → StandsBy from' (length world.written) corb rirb (record rings { read = place; outstanding = outstanding }) cleared_part world.memory world.codecs world.waiting world.commands world.written
-  cleared_stands from' outstanding within course theirs way =
+  cleared_stands from' outstanding within fetching theirs way =
       let some = some_entries world.registers.shape.rirb in
       record {
         has_rings = cleared_has outstanding;
@@ -148,7 +148,7 @@ module _ (from read corb rirb : ℕ) (rings : RingPlaces) (world : World) (holds
             let z : None ≡ Some response = sym past ∙ is in
             cc;
         from_within = within;
-        course = course;
+        fetching = fetching;
         taken_by = theirs;
         on_its_way = subst (λ (unread : List Response). IsOnItsWay (drop from' world.commands) unread world.waiting world.codecs) (sym none_unread) way;
       }
@@ -158,19 +158,19 @@ module _ (from read corb rirb : ℕ) (rings : RingPlaces) (world : World) (holds
   unfound =
       let way = holds.on_its_way in
       let few = way.few in
-      cleared_stands from rings.outstanding holds.from_within (same_course holds.course) holds.taken_by
+      cleared_stands from rings.outstanding holds.from_within (same_fetching holds.fetching) holds.taken_by
       (record { in_ring = All-nil (ResponseCanCome (drop from world.commands)); in_controller = way.in_controller; at_codecs = way.at_codecs; few = omega arith })
     where
-      same_course : Course rings.outstanding (part_of world.registers) (word_at world.memory (corb + 4 * rings.submitted)) (drop from world.commands)
-          → Course rings.outstanding cleared_part (word_at world.memory (corb + 4 * rings.submitted)) (drop from world.commands)
-      same_course (inl all) = inl (record { pointers = all.pointers; taken = all.taken })
-      same_course (inr next) = inr (record { pointers = next.pointers; is = next.is; none = next.none })
+      same_fetching : Fetching rings.outstanding (part_of world.registers) (word_at world.memory (corb + 4 * rings.submitted)) (drop from world.commands)
+          → Fetching rings.outstanding cleared_part (word_at world.memory (corb + 4 * rings.submitted)) (drop from world.commands)
+      same_fetching (inl all) = inl (record { pointers = all.pointers; taken = all.taken })
+      same_fetching (inr next) = inr (record { pointers = next.pointers; is = next.is; none = next.none })
 
   -- the answer was found: it is that of the outstanding command, and nothing more comes
   answered : (value address answer : ℕ) → is_from (asked_of rings.outstanding) address ≡ true → CanCome (drop from world.commands) address answer → value ≡ answer % 2 ^ 32 → 1 ≤ solicited (drop read world.written)
       → Belongs from rings.outstanding world.codecs world.commands (Some value)
       × StandsBy (length world.commands) (length world.written) corb rirb (record rings { read = place; outstanding = None }) cleared_part world.memory world.codecs world.waiting world.commands world.written
-  answered value address answer asks can is some = by (drop from world.commands) refl can holds.course
+  answered value address answer asks can is some = by (drop from world.commands) refl can holds.fetching
     where
       nothing : drop (length world.commands) world.commands ≡ []
       nothing = drop_all (length world.commands) world.commands (omega arith)
@@ -209,10 +209,10 @@ module _ (from read corb rirb : ℕ) (rings : RingPlaces) (world : World) (holds
           )
 
       by : (gained : List TakenCommand) → drop from world.commands ≡ gained → CanCome gained address answer
-          → Course rings.outstanding (part_of world.registers) (word_at world.memory (corb + 4 * rings.submitted)) (drop from world.commands)
+          → Fetching rings.outstanding (part_of world.registers) (word_at world.memory (corb + 4 * rings.submitted)) (drop from world.commands)
           → Belongs from rings.outstanding world.codecs world.commands (Some value)
           × StandsBy (length world.commands) (length world.written) corb rirb (record rings { read = place; outstanding = None }) cleared_part world.memory world.codecs world.waiting world.commands world.written
-      by [] gained can course = absurd can
+      by [] gained can fetching = absurd can
       by (taken ∷ more) gained can (inr next) = let z : taken ∷ more ≡ [] = sym gained ∙ next.none in cc
       by (taken ∷ more) gained can (inl all) =
           let both = belongs rings.outstanding taken more gained asks (All-head (IsOfCodec (graphs_in world.codecs)) taken more (subst (AreOfCodecs world.codecs) gained holds.taken_by)) can (subst (AreOf rings.outstanding) gained all.taken) in

@@ -18,7 +18,7 @@ use Rattle.hda_world.specs.Worlds.{World}
 use Rattle.hda_world.specs.Steps.{after_steps}
 use Rattle.hda_world.specs.Events.{Event, Stepped, Begin, End, Read, Write, DmaRead, DmaWrite, registers_written, after_write, happens, after}
 use Rattle.hda_world.proofs.Callers.{kept_steps, beside_write, reset_write, plain_write, rising_write}
-use Rattle.command_engine.specs.Courses.{RingPart, part_of, HasBlocks, AscendFrom, AscendByAddress, CodecCanSend, ItemCanCome, waiting_answers}
+use Rattle.command_engine.specs.Fetchings.{RingPart, part_of, HasBlocks, AscendFrom, AscendByAddress, CodecCanSend, ItemCanCome, waiting_answers}
 use Rattle.command_engine.specs.Quiet.{IsQuiet, CanStart, LeavesRegisters, LeaveRegisters}
 use Rattle.command_engine.proofs.StartTellings.{Runs, IsSet, set_kept, runs_stopped}
 

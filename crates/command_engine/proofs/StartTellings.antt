@@ -28,7 +28,7 @@ use Rattle.hda_world.proofs.Callers.{accessed_then, plain_write, frames_after}
 use Rattle.command_engine.specs.declared.ring_places.RingPlaces.{RingPlaces}
 use Rattle.command_engine.specs.Sizes.{largest_size, half_of}
 use Rattle.command_engine.specs.Starting.{StartReads, codecs_in, rings_of, rings_read, settings_if, corb_accesses, rirb_accesses, start_accesses}
-use Rattle.command_engine.specs.Courses.{RingPart, part_of, HasBlocks, AscendByAddress, AreOf, IsOfCodec, AreOfCodecs, graphs_in, IsOnItsWay, StandsBy, Stands}
+use Rattle.command_engine.specs.Fetchings.{RingPart, part_of, HasBlocks, AscendByAddress, AreOf, IsOfCodec, AreOfCodecs, graphs_in, IsOnItsWay, StandsBy, Stands}
 use Rattle.command_engine.specs.Quiet.{CanStart, IsBlockAddress}
 use Rattle.command_engine.proofs.Coming.{coming_sent, coming_lost, coming_plugged}
 use Rattle.command_engine.proofs.Batches.{EachStands}
@@ -255,7 +255,7 @@ module _ (from read corb rirb : ℕ) where
             let z : None ≡ Some response = sym past ∙ there in
             cc;
         from_within = omega arith;
-        course = inl (record { pointers = refl; taken = subst (AreOf None) (sym gained) tt });
+        fetching = inl (record { pointers = refl; taken = subst (AreOf None) (sym gained) tt });
         taken_by = subst (AreOfCodecs world.codecs) (sym gained) (All-nil (IsOfCodec (graphs_in world.codecs)));
         on_its_way = subst (λ (gained : List TakenCommand). IsOnItsWay gained (drop read world.written) world.waiting world.codecs) (sym gained)
             (subst (λ (unread : List Response). IsOnItsWay [] unread world.waiting world.codecs) (sym unread) holds.way);

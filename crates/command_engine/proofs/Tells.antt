@@ -11,7 +11,7 @@ use Rattle.command_engine.specs.Entries.{events_of, answer_among}
 use Rattle.command_engine.specs.Polling.{asked_of, found_by, poll_of, Polls}
 use Rattle.command_engine.specs.Submitting.{submit_accesses, rings_submitted}
 use Rattle.command_engine.specs.Starting.{codecs_if, rings_if, rings_read, Starts}
-use Rattle.command_engine.specs.Courses.{Stands}
+use Rattle.command_engine.specs.Fetchings.{Stands}
 use Rattle.command_engine.specs.Belonging.{Belongs, from_after}
 use Rattle.command_engine.specs.Quiet.{IsBlockAddress}
 use Rattle.command_engine.specs.Told.{Begins, LeadsOn, found_since, PollTellsOf}

@@ -9,7 +9,7 @@ use Rattle.command_engine.specs.declared.ring_places.RingPlaces.{RingPlaces}
 use Rattle.command_engine.specs.declared.answers.Outstanding.{Outstanding}
 use Rattle.command_engine.specs.Entries.{responses_in}
 use Rattle.command_engine.specs.Polling.{PollReads, found_by, rings_polled}
-use Rattle.command_engine.specs.Courses.{graph_at, graphs_in, Stands}
+use Rattle.command_engine.specs.Fetchings.{graph_at, graphs_in, Stands}
 
 -- a response as an entry of RIRB holds it: 32 bits of the answer
 abbrev pub as_held : Response → Response

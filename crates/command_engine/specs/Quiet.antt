@@ -5,7 +5,7 @@ use Rattle.hda_registers.specs.Fields.{is_out_of_reset}
 use Rattle.hda_registers.specs.Laws.{IsBesideRings}
 use Rattle.hda_world.specs.Worlds.{World}
 use Rattle.hda_world.specs.Events.{Event, Stepped, Begin, End, Read, Write, DmaRead, DmaWrite}
-use Rattle.command_engine.specs.Courses.{HasBlocks, AscendByAddress, IsOnItsWay}
+use Rattle.command_engine.specs.Fetchings.{HasBlocks, AscendByAddress, IsOnItsWay}
 
 -- neither ring runs, no answer to a command waits at a codec or in the controller, and both blocks lie in the region. RINTFL is a bit,
 -- codecs stand by address, and what waits in the controller names codecs up to 14

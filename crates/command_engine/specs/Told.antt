@@ -7,7 +7,7 @@ use Rattle.command_engine.specs.declared.answers.Event.{Event}
 use Rattle.command_engine.specs.declared.answers.Poll.{Poll}
 use Rattle.command_engine.specs.Entries.{events_of, answer_among}
 use Rattle.command_engine.specs.Polling.{asked_of, poll_of}
-use Rattle.command_engine.specs.Courses.{Stands}
+use Rattle.command_engine.specs.Fetchings.{Stands}
 use Rattle.command_engine.specs.Belonging.{as_held, Belongs, from_after}
 use Rattle.command_engine.specs.Quiet.{CanStart}
 

@@ -36,7 +36,7 @@ pub struct Engine {
 
 impl Engine {
     ghost use Rattle.hda_world.specs.declared.world.TheConstants.{REGION_BYTES};
-    ghost use Rattle.command_engine.specs.Courses.{HasBlocks};
+    ghost use Rattle.command_engine.specs.Fetchings.{HasBlocks};
 
     /// Whether the engine was started.
     pub fn is_started(&self) -> bool

@@ -11,7 +11,7 @@ ghost use Rattle.hda_world.specs.Events.{Event, after_write, after};
 ghost use Rattle.command_engine.specs.declared.ring_places.RingPlaces.{RingPlaces};
 ghost use Rattle.command_engine.specs.declared.answers.Outstanding.{Outstanding};
 ghost use Rattle.command_engine.specs.Sizes.{half_of};
-ghost use Rattle.command_engine.specs.Courses.{HasBlocks, AscendByAddress, AreBeside, Stands};
+ghost use Rattle.command_engine.specs.Fetchings.{HasBlocks, AscendByAddress, AreBeside, Stands};
 ghost use Rattle.command_engine.specs.Belonging.{IsAnswered, IsSettled, TookSettled};
 ghost use Rattle.command_engine.specs.Quiet.{IsQuiet, CanStart, LeaveRegisters};
 

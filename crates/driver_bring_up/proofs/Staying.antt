@@ -13,7 +13,7 @@ use Rattle.command_engine.specs.declared.answers.Outstanding.{Outstanding}
 use Rattle.command_engine.specs.declared.answers.Poll.TheVariants as polls
 use Rattle.command_engine.specs.declared.ring_places.RingPlaces.{RingPlaces}
 use Rattle.command_engine.specs.Belonging.{Belongs, as_held, from_after}
-use Rattle.command_engine.specs.Courses.{Stands, AreBeside}
+use Rattle.command_engine.specs.Fetchings.{Stands, AreBeside}
 use Rattle.command_engine.specs.Entries.{answer_among}
 use Rattle.command_engine.specs.Polling.{PollReads, AreNew, asked_of, poll_of, found_by, answer_limit, rings_polled}
 use Rattle.command_engine.specs.Told.{PollTellsOf, found_since}

@@ -8,7 +8,7 @@ use Rattle.hda_world.specs.Tellings.{Telling, world_of, Between, Makes}
 use Rattle.hda_world.specs.Discovery.{addresses_of}
 use Rattle.command_engine.specs.declared.answers.Outstanding.{Outstanding}
 use Rattle.command_engine.specs.Starting.{codecs_in}
-use Rattle.command_engine.specs.Courses.{Stands}
+use Rattle.command_engine.specs.Fetchings.{Stands}
 use Rattle.command_engine.specs.Belonging.{Belongs, from_after}
 use Rattle.command_engine.specs.Polling.{PollReads, AreNew, found_by, rings_polled}
 use Rattle.command_engine.specs.Told.{found_since}

@@ -5,7 +5,7 @@ use Rattle.command_engine.specs.Polling.{entry_reads}
 use Rattle.driver_progress.specs.Noting.{IsPlain}
 use Rattle.driver_progress.specs.Unread.{IsAccess, AreAccesses, IsUnread}
 use Rattle.driver_progress.specs.Tasks.{Task}
-use Rattle.driver_progress.specs.Progress.{Course, FitsAt}
+use Rattle.driver_progress.specs.Progress.{Trail, FitsAt}
 
 -- an access that reads no answer is an access
 pub unread_access : (event : Event) → IsUnread event → IsAccess event
@@ -28,14 +28,14 @@ plain_access (DmaRead at bytes) plain = tt {0}
 plain_access (DmaWrite at bytes) plain = tt {0}
 
 -- an access fits what is expected, which is looked at when its stretch ends
-pub access_fits : (task : Task) (course : Course) (event : Event) → IsAccess event → FitsAt task course event
-access_fits task course (Stepped step) is = tt {0}
-access_fits task course Begin is = tt {0}
-access_fits task course End is = absurd is
-access_fits task course (Read at width value) is = tt {0}
-access_fits task course (Write at width value) is = tt {0}
-access_fits task course (DmaRead at bytes) is = tt {0}
-access_fits task course (DmaWrite at bytes) is = tt {0}
+pub access_fits : (task : Task) (trail : Trail) (event : Event) → IsAccess event → FitsAt task trail event
+access_fits task trail (Stepped step) is = tt {0}
+access_fits task trail Begin is = tt {0}
+access_fits task trail End is = absurd is
+access_fits task trail (Read at width value) is = tt {0}
+access_fits task trail (Write at width value) is = tt {0}
+access_fits task trail (DmaRead at bytes) is = tt {0}
+access_fits task trail (DmaWrite at bytes) is = tt {0}
 
 -- two rows of accesses are one
 pub accesses_both : (front back : List Event) → AreAccesses front → AreAccesses back → AreAccesses (front ++ back)

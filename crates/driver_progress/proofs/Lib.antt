@@ -1,5 +1,5 @@
-pub mod CourseLaws
-pub mod CourseRows
+pub mod TrailLaws
+pub mod TrailRows
 pub mod PhaseCases
 pub mod AccessRows
 pub mod Callers

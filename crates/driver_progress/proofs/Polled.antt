@@ -1,4 +1,4 @@
--- The course of a stretch over a poll: whether the outstanding command was answered is said by what is written once the poll is done.
+-- The trail of a stretch over a poll: whether the outstanding command was answered is said by what is written once the poll is done.
 use Rattle.std.proofs.Common.{◌≡◌, ◌≤◌, ◌+◌, ◌*◌, ◌/◌, ◌%◌, ◌==◌, ◌&&◌, ℕ, Bool, true, false, not, List, [], ◌∷◌, ◌++◌, map, drop, if◌then◌else◌, refl, sym, ap, subst, ◌∙◌, append_assoc, arith, rules, tests, lit≤}
 use Rattle.std.specs.List.{list_any}
 use Rattle.verb_codes.specs.Words.{has_bit}
@@ -20,9 +20,9 @@ use Rattle.command_engine.specs.declared.ring_places.RingPlaces.{RingPlaces}
 use Rattle.command_engine.specs.Entries.{answers_it}
 use Rattle.command_engine.specs.Polling.{PollReads, asked_of, entry_reads, batch_accesses, poll_accesses}
 use Rattle.driver_progress.specs.Tasks.{Task, DriverLine}
-use Rattle.driver_progress.specs.Progress.{Course, course_of, is_answered}
+use Rattle.driver_progress.specs.Progress.{Trail, trail_of, is_answered}
 use Rattle.driver_progress.specs.Noting.{ArePlain, with_accesses}
-use Rattle.driver_progress.proofs.CourseRows.{ConformsTo, course_went, conforms_went, course_stepped, conforms_stepped, course_row}
+use Rattle.driver_progress.proofs.TrailRows.{ConformsTo, trail_went, conforms_went, trail_stepped, conforms_stepped, trail_row}
 
 -- ---- RINTFL is a bit, and while it is 1 nothing is written
 
@@ -145,29 +145,29 @@ read_last : (flag : ℕ) (steps : List Step) (world : World) → after (map Step
 read_last flag [] world = refl
 read_last flag (step ∷ steps) world = read_last flag steps (happens world (Stepped step))
 
--- over a poll a course gains its accesses, and whether the outstanding command was answered is said by what is written at its end
-pub poll_course : (task : Task) (lines : List DriverLine) (rirb : ℕ) (rings : RingPlaces) (reads : PollReads) (old new : Telling) → Makes (poll_accesses rirb rings reads) old new → IsBit (world_of old)
-    → (course_of task lines new ≡ record (with_accesses (course_of task lines old) (poll_accesses rirb rings reads)) { answered = is_answered (course_of task lines old) (world_of new) })
+-- over a poll a trail gains its accesses, and whether the outstanding command was answered is said by what is written at its end
+pub poll_trail : (task : Task) (lines : List DriverLine) (rirb : ℕ) (rings : RingPlaces) (reads : PollReads) (old new : Telling) → Makes (poll_accesses rirb rings reads) old new → IsBit (world_of old)
+    → (trail_of task lines new ≡ record (with_accesses (trail_of task lines old) (poll_accesses rirb rings reads)) { answered = is_answered (trail_of task lines old) (world_of new) })
     × (ConformsTo task lines old → ConformsTo task lines new)
-poll_course task lines rirb rings reads old new makes bit = by makes.by
+poll_trail task lines rirb rings reads old new makes bit = by makes.by
   where
     by : MakesBy (poll_accesses rirb rings reads) old new
-        → (course_of task lines new ≡ record (with_accesses (course_of task lines old) (poll_accesses rirb rings reads)) { answered = is_answered (course_of task lines old) (world_of new) })
+        → (trail_of task lines new ≡ record (with_accesses (trail_of task lines old) (poll_accesses rirb rings reads)) { answered = is_answered (trail_of task lines old) (world_of new) })
         × (ConformsTo task lines old → ConformsTo task lines new)
     by (middle, first, rest) =
-        let old-course = course_of task lines old in
+        let old-trail = trail_of task lines old in
         let shown = flag_shown reads.flag old middle first bit in
-        let row = course_row task lines (if has_bit reads.flag 0 then batch_accesses rirb rings reads.pointer reads.entries else []) middle new (record { by = rest }) (rest_plain (has_bit reads.flag 0) rirb rings reads.pointer reads.entries) in
+        let row = trail_row task lines (if has_bit reads.flag 0 then batch_accesses rirb rings reads.pointer reads.entries else []) middle new (record { by = rest }) (rest_plain (has_bit reads.flag 0) rirb rings reads.pointer reads.entries) in
         let same : (world_of new).written ≡ (world_of middle).written =
         rest_written (has_bit reads.flag 0) rirb rings reads.pointer reads.entries middle new (flag_set reads.flag (world_of middle) shown) rest in
         let there : world_of middle ≡ after (map Stepped first.steps) (world_of old) =
         world_of-went old middle _ first.went ∙ read_last reads.flag first.steps (world_of old) in
-        let here : course_of task lines middle ≡ record (with_accesses old-course (Read RIRBSTS One reads.flag ∷ [])) { answered = is_answered old-course (world_of middle) } =
-        course_went task lines old middle _ first.went
-        ∙ course_stepped task first.steps (Read RIRBSTS One reads.flag) (world_of old) old-course
-        ∙ ap (λ (world : World). record (with_accesses old-course (Read RIRBSTS One reads.flag ∷ [])) { answered = is_answered old-course world }) (sym there) in (
-          row.0 ∙ ap (λ (course : Course). with_accesses course (if has_bit reads.flag 0 then batch_accesses rirb rings reads.pointer reads.entries else [])) here
-              ∙ ap (λ (made : List Event). record old-course { made = made; answered = is_answered old-course (world_of middle) }) (append_assoc old-course.made (Read RIRBSTS One reads.flag ∷ []) (if has_bit reads.flag 0 then batch_accesses rirb rings reads.pointer reads.entries else []))
-              ∙ ap (λ (written : List Response). record (with_accesses old-course (poll_accesses rirb rings reads)) { answered = list_any (answers_it (asked_of old-course.state.rings.outstanding)) (drop old-course.written written) }) (sym same),
-          λ conforms. row.1 (conforms_went task lines old middle _ first.went (conforms_stepped task first.steps (Read RIRBSTS One reads.flag) (world_of old) old-course tt) conforms),
+        let here : trail_of task lines middle ≡ record (with_accesses old-trail (Read RIRBSTS One reads.flag ∷ [])) { answered = is_answered old-trail (world_of middle) } =
+        trail_went task lines old middle _ first.went
+        ∙ trail_stepped task first.steps (Read RIRBSTS One reads.flag) (world_of old) old-trail
+        ∙ ap (λ (world : World). record (with_accesses old-trail (Read RIRBSTS One reads.flag ∷ [])) { answered = is_answered old-trail world }) (sym there) in (
+          row.0 ∙ ap (λ (trail : Trail). with_accesses trail (if has_bit reads.flag 0 then batch_accesses rirb rings reads.pointer reads.entries else [])) here
+              ∙ ap (λ (made : List Event). record old-trail { made = made; answered = is_answered old-trail (world_of middle) }) (append_assoc old-trail.made (Read RIRBSTS One reads.flag ∷ []) (if has_bit reads.flag 0 then batch_accesses rirb rings reads.pointer reads.entries else []))
+              ∙ ap (λ (written : List Response). record (with_accesses old-trail (poll_accesses rirb rings reads)) { answered = list_any (answers_it (asked_of old-trail.state.rings.outstanding)) (drop old-trail.written written) }) (sym same),
+          λ conforms. row.1 (conforms_went task lines old middle _ first.went (conforms_stepped task first.steps (Read RIRBSTS One reads.flag) (world_of old) old-trail tt) conforms),
         )

@@ -16,7 +16,7 @@ use Rattle.hda_world.specs.Discovery.{addresses_of, IsDiscovered}
 use Rattle.hda_world.specs.Leaving.{StepsLeave}
 use Rattle.hda_world.proofs.Callers.{world_of-went, kept_steps, steps_leave, reset_write, rising_write, keeps_discovery}
 use Rattle.hda_world.proofs.Callers.{after-stepped, honest-stepped}
-use Rattle.command_engine.specs.Courses.{HasBlocks, AscendFrom}
+use Rattle.command_engine.specs.Fetchings.{HasBlocks, AscendFrom}
 use Rattle.command_engine.specs.Quiet.{IsQuiet}
 use Rattle.command_engine.proofs.Callers.{quiet_steps, can_start_steps, reset_quiet, risen_can_start, reset_registers, risen_registers, control-written, resets, no_reset, leaves_reset}
 use Rattle.driver_progress.specs.Beginning.{AreOnly, HasOnly, KeepsTime, CanReset, IsSettling}

@@ -25,7 +25,7 @@ use Rattle.hda_world.proofs.Callers.{kept_steps, steps_leave, kept_frames}
 use Rattle.command_engine.specs.declared.ring_places.RingPlaces.{RingPlaces}
 use Rattle.command_engine.specs.Sizes.{largest_size}
 use Rattle.command_engine.specs.Starting.{StartReads, codecs_in, codecs_if, rings_of, start_accesses}
-use Rattle.command_engine.specs.Courses.{AscendFrom, graphs_in}
+use Rattle.command_engine.specs.Fetchings.{AscendFrom, graphs_in}
 use Rattle.driver_progress.specs.Expected.{has_settled}
 use Rattle.driver_progress.specs.declared.settling.Settled.{Settled}
 use Rattle.driver_progress.specs.declared.settling.Settled.TheVariants.{NoCodec, Codecs}

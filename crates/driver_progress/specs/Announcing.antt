@@ -5,7 +5,7 @@ use Rattle.hda_world.specs.Worlds.{World, TakenCommand}
 use Rattle.hda_world.specs.Tellings.{Telling, world_of}
 use Rattle.hda_world.specs.Discovery.{addresses_of, AreSet}
 use Rattle.command_engine.specs.declared.ring_places.RingPlaces.{RingPlaces}
-use Rattle.command_engine.specs.Courses.{Stands}
+use Rattle.command_engine.specs.Fetchings.{Stands}
 use Rattle.command_engine.specs.Quiet.{CanStart}
 use Rattle.driver_progress.specs.declared.settling.Settled.{Settled}
 use Rattle.driver_progress.specs.declared.settling.Settled.TheVariants.{TooEarly, NoCodec, Codecs}

@@ -7,7 +7,7 @@ use Rattle.hda_registers.specs.declared.places.TheConstants.{TICKS_PER_FRAME}
 use Rattle.hda_world.specs.Worlds.{World, TakenCommand}
 use Rattle.hda_world.specs.Tellings.{Telling, world_of}
 use Rattle.hda_world.specs.Discovery.{addresses_of, IsDiscovered}
-use Rattle.command_engine.specs.Courses.{HasBlocks, AscendByAddress}
+use Rattle.command_engine.specs.Fetchings.{HasBlocks, AscendByAddress}
 use Rattle.command_engine.specs.Quiet.{CanStart}
 
 -- each bit of the state change status that is 1 is that of a codec with one of these addresses

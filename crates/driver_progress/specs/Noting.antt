@@ -2,7 +2,7 @@
 use Rattle.std.specs.Prelude.{◌≡◌, ◌==◌, false, List, [], ◌∷◌, ◌++◌}
 use Rattle.hda_registers.specs.declared.places.TheConstants.{CORBWP, RIRBSTS}
 use Rattle.hda_world.specs.Events.{Event, Stepped, Begin, End, Read, Write, DmaRead, DmaWrite}
-use Rattle.driver_progress.specs.Progress.{Course}
+use Rattle.driver_progress.specs.Progress.{Trail}
 
 -- an access that is neither a read of RIRBSTS nor a write of CORBWP
 abbrev pub IsPlain : Event → Type 0
@@ -19,5 +19,5 @@ ArePlain [] = Unit {0}
 ArePlain (event ∷ events) = IsPlain event × ArePlain events
 
 -- these accesses were made
-abbrev pub with_accesses : Course → List Event → Course
-with_accesses course events = record course { made = course.made ++ events }
+abbrev pub with_accesses : Trail → List Event → Trail
+with_accesses trail events = record trail { made = trail.made ++ events }

@@ -13,7 +13,7 @@ use Rattle.driver_progress.specs.Seen.{Seen, seen_by, values_of}
 use Rattle.driver_progress.specs.States.{State, state_opened}
 use Rattle.driver_progress.specs.Next.{next, expected}
 
-pub record Course : Type 0 where
+pub record Trail : Type 0 where
   pub state : State
   -- whether a stretch is open, and which: one of a driver line, or the closing one
   pub within : Bool
@@ -28,86 +28,86 @@ pub record Course : Type 0 where
   pub answered : Bool
 
 -- before these lines
-abbrev pub course_opened : List DriverLine → Course
-course_opened lines =
+abbrev pub trail_opened : List DriverLine → Trail
+trail_opened lines =
     record { state = state_opened; within = false; turn = None; left = lines; made = []; written = 0; answered = false }
 
 -- whether since the last submission a response to the outstanding command was written: one of the codec that is asked that did not
 -- come unasked
-abbrev pub is_answered : Course → World → Bool
-is_answered course world = list_any (answers_it (asked_of course.state.rings.outstanding)) (drop course.written world.written)
+abbrev pub is_answered : Trail → World → Bool
+is_answered trail world = list_any (answers_it (asked_of trail.state.rings.outstanding)) (drop trail.written world.written)
 
-abbrev pub seen_in : Course → Seen
-seen_in course = seen_by (values_of course.made) course.answered
+abbrev pub seen_in : Trail → Seen
+seen_in trail = seen_by (values_of trail.made) trail.answered
 
 -- a stretch begins, of the next line or the closing one
-abbrev pub begun : Course → Course
-begun course =
-    record course { within = true; turn = slice_get course.left 0; left = drop 1 course.left; made = []; answered = false }
+abbrev pub begun : Trail → Trail
+begun trail =
+    record trail { within = true; turn = slice_get trail.left 0; left = drop 1 trail.left; made = []; answered = false }
 
-abbrev pub ended : Task → Course → Course
-ended task course = record course { state = next task course.state course.turn (seen_in course); within = false }
+abbrev pub ended : Task → Trail → Trail
+ended task trail = record trail { state = next task trail.state trail.turn (seen_in trail); within = false }
 
 -- an access was made
-abbrev pub with_access : Course → Event → Course
-with_access course event = record course { made = course.made ++ event ∷ [] }
+abbrev pub with_access : Trail → Event → Trail
+with_access trail event = record trail { made = trail.made ++ event ∷ [] }
 
--- the course after an event of a world. Steps of the device leave it
-abbrev pub noted : Task → Course → World → Event → Course
-noted task course world (Stepped step) = course
-noted task course world Begin = begun course
-noted task course world End = ended task course
-noted task course world (Read at width value) =
-    record (with_access course (Read at width value)) { answered = if at == RIRBSTS then is_answered course world else course.answered }
-noted task course world (Write at width value) =
-    record (with_access course (Write at width value)) { written = if at == CORBWP then length world.written else course.written }
-noted task course world (DmaRead at bytes) = with_access course (DmaRead at bytes)
-noted task course world (DmaWrite at bytes) = with_access course (DmaWrite at bytes)
+-- the trail after an event of a world. Steps of the device leave it
+abbrev pub noted : Task → Trail → World → Event → Trail
+noted task trail world (Stepped step) = trail
+noted task trail world Begin = begun trail
+noted task trail world End = ended task trail
+noted task trail world (Read at width value) =
+    record (with_access trail (Read at width value)) { answered = if at == RIRBSTS then is_answered trail world else trail.answered }
+noted task trail world (Write at width value) =
+    record (with_access trail (Write at width value)) { written = if at == CORBWP then length world.written else trail.written }
+noted task trail world (DmaRead at bytes) = with_access trail (DmaRead at bytes)
+noted task trail world (DmaWrite at bytes) = with_access trail (DmaWrite at bytes)
 
 -- and after some events in order
-abbrev pub course_after : Task → List Event → World → Course → Course
-course_after task [] world course = course
-course_after task (event ∷ events) world course = course_after task events (happens world event) (noted task course world event)
+abbrev pub trail_after : Task → List Event → World → Trail → Trail
+trail_after task [] world trail = trail
+trail_after task (event ∷ events) world trail = trail_after task events (happens world event) (noted task trail world event)
 
 -- the accesses of a stretch are those that were to be made in it
-abbrev pub Fits : Task → Course → Type 0
-Fits task course = requests_of course.made ≡ expected task course.state course.turn (seen_in course)
+abbrev pub Fits : Task → Trail → Type 0
+Fits task trail = requests_of trail.made ≡ expected task trail.state trail.turn (seen_in trail)
 
 -- where a stretch ends they are
-abbrev pub FitsAt : Task → Course → Event → Type 0
-FitsAt task course End = Fits task course
-FitsAt task course (Stepped step) = Unit {0}
-FitsAt task course Begin = Unit {0}
-FitsAt task course (Read at width value) = Unit {0}
-FitsAt task course (Write at width value) = Unit {0}
-FitsAt task course (DmaRead at bytes) = Unit {0}
-FitsAt task course (DmaWrite at bytes) = Unit {0}
+abbrev pub FitsAt : Task → Trail → Event → Type 0
+FitsAt task trail End = Fits task trail
+FitsAt task trail (Stepped step) = Unit {0}
+FitsAt task trail Begin = Unit {0}
+FitsAt task trail (Read at width value) = Unit {0}
+FitsAt task trail (Write at width value) = Unit {0}
+FitsAt task trail (DmaRead at bytes) = Unit {0}
+FitsAt task trail (DmaWrite at bytes) = Unit {0}
 
 -- wherever one of them ends
-abbrev pub Conforms : Task → List Event → World → Course → Type 0
-Conforms task [] world course = Unit {0}
-Conforms task (event ∷ events) world course =
-    FitsAt task course event × Conforms task events (happens world event) (noted task course world event)
+abbrev pub Conforms : Task → List Event → World → Trail → Type 0
+Conforms task [] world trail = Unit {0}
+Conforms task (event ∷ events) world trail =
+    FitsAt task trail event × Conforms task events (happens world event) (noted task trail world event)
 
 -- ---- of what is told, from these lines on
 
-abbrev pub course_of : Task → List DriverLine → Telling → Course
-course_of task lines telling = course_after task telling.journal telling.start (course_opened lines)
+abbrev pub trail_of : Task → List DriverLine → Telling → Trail
+trail_of task lines telling = trail_after task telling.journal telling.start (trail_opened lines)
 
 -- a stretch that is still open counts as one that ends with the journal
-abbrev pub ended_if : (within : Bool) → Task → Course → Course
-ended_if true task course = ended task course
-ended_if false task course = course
+abbrev pub ended_if : (within : Bool) → Task → Trail → Trail
+ended_if true task trail = ended task trail
+ended_if false task trail = trail
 
-abbrev pub FitsIf : (within : Bool) → Task → Course → Type 0
-FitsIf true task course = Fits task course
-FitsIf false task course = Unit {0}
+abbrev pub FitsIf : (within : Bool) → Task → Trail → Type 0
+FitsIf true task trail = Fits task trail
+FitsIf false task trail = Unit {0}
 
 abbrev pub state_of : Task → List DriverLine → Telling → State
-state_of task lines telling = (ended_if (course_of task lines telling).within task (course_of task lines telling)).state
+state_of task lines telling = (ended_if (trail_of task lines telling).within task (trail_of task lines telling)).state
 
 -- in each stretch just those accesses were made that were to be made; accesses outside of stretches are not looked at, and two closing
 -- stretches are none of a driver's
 pub record IsProgress (task : Task) (lines : List DriverLine) (telling : Telling) : Type 0 where
-  pub conforms : Conforms task telling.journal telling.start (course_opened lines)
-  pub last : FitsIf (course_of task lines telling).within task (course_of task lines telling)
+  pub conforms : Conforms task telling.journal telling.start (trail_opened lines)
+  pub last : FitsIf (trail_of task lines telling).within task (trail_of task lines telling)

@@ -21,7 +21,7 @@ use Rattle.driver_progress.specs.declared.phase.Phase.{Phase}
 use Rattle.driver_progress.specs.declared.phase.Phase.TheVariants.{Settling}
 use Rattle.driver_progress.specs.Tasks.{Order, Task, DriverLine}
 use Rattle.driver_progress.specs.States.{State, state_opened}
-use Rattle.driver_progress.specs.Progress.{Course, course_opened, course_after, ended, Fits}
+use Rattle.driver_progress.specs.Progress.{Trail, trail_opened, trail_after, ended, Fits}
 
 abbrev pub stereo : Format
 stereo = record { rate = R48; bits = B16; channels = 2; even = refl; some = lit≤ tt; few = lit≤ tt }
@@ -70,14 +70,14 @@ asked word issued = Some (record { codec = 0; word = word; issued = issued })
 abbrev pub at : Phase → (sent : ℕ) → RingPlaces → State
 at phase sent places = record { phase = phase; kept = 0; sent = sent; rings = places; tally = tally_opened }
 
--- the course of a stretch that has made these accesses, from a state on, with these lines left
-abbrev pub course_in : State → List DriverLine → List Event → World → Course
-course_in state lines made world = course_after task (Begin ∷ made) world (record (course_opened lines) { state = state })
+-- the trail of a stretch that has made these accesses, from a state on, with these lines left
+abbrev pub trail_in : State → List DriverLine → List Event → World → Trail
+trail_in state lines made world = trail_after task (Begin ∷ made) world (record (trail_opened lines) { state = state })
 
 -- the stretch leads to the other state, and its accesses are those that were to be made
 pub record LeadsTo (state : State) (lines : List DriverLine) (made : List Event) (world : World) (state' : State) : Type 0 where
-  pub leads : (ended task (course_in state lines made world)).state ≡ state'
-  pub fits : Fits task (course_in state lines made world)
+  pub leads : (ended task (trail_in state lines made world)).state ≡ state'
+  pub fits : Fits task (trail_in state lines made world)
 
 -- in every world in which just these responses were written to RIRB
 abbrev pub IsStretch : State → List DriverLine → List Event → List Response → State → Type 0
@@ -135,7 +135,7 @@ abbrev pub first_tally : Ran → Tally
 first_tally how = record {
   runs = run_at 0 12500 8 8 ∷ [];
   silences = record { start = 8; end = 768 } ∷ [];
-  course = record { started = true; at = 0; from = 12500; reach = 768; sure = 768; used = 8; sound_end = 8; ran = how };
+  trail = record { started = true; at = 0; from = 12500; reach = 768; sure = 768; used = 8; sound_end = 8; ran = how };
 }
 
 abbrev pub plays : Phase → Tally → State
@@ -151,7 +151,7 @@ abbrev pub second_tally : (clock : ℕ) → Tally
 second_tally clock = record {
   runs = run_at 0 12500 8 8 ∷ run_at 16 clock 0 0 ∷ [];
   silences = record { start = 8; end = 784 } ∷ [];
-  course = record { started = true; at = 16; from = clock; reach = 784; sure = 784; used = 8; sound_end = 8; ran = ran.Drained };
+  trail = record { started = true; at = 16; from = clock; reach = 784; sure = 784; used = 8; sound_end = 8; ran = ran.Drained };
 }
 
 -- after a first run that may write one frame the line has 4 bytes of sound, and then silence, of which so much is sure
@@ -159,7 +159,7 @@ abbrev pub short_tally : Ran → (sure : ℕ) → Tally
 short_tally how sure = record {
   runs = run_at 0 12500 4 4 ∷ [];
   silences = record { start = 4; end = 768 } ∷ [];
-  course = record { started = true; at = 0; from = 12500; reach = 768; sure = sure; used = 4; sound_end = 4; ran = how };
+  trail = record { started = true; at = 0; from = 12500; reach = 768; sure = sure; used = 4; sound_end = 4; ran = how };
 }
 
 -- a later run that writes the other frame at position 352, where silence stood, and silence past the line's end, between these clocks;
@@ -174,7 +174,7 @@ abbrev pub back_tally : (from to : ℕ) → Tally
 back_tally from to = record {
   runs = run_at 0 12500 4 4 ∷ record { at = 16; from = from; to = to; budget = 4; written = 4 } ∷ [];
   silences = record { start = 4; end = 352 } ∷ record { start = 356; end = 784 } ∷ [];
-  course = record { started = true; at = 16; from = from; reach = 784; sure = 784; used = 8; sound_end = 356; ran = ran.Playing };
+  trail = record { started = true; at = 16; from = from; reach = 784; sure = 784; used = 8; sound_end = 356; ran = ran.Playing };
 }
 
 abbrev pub stopping : List Event

@@ -11,7 +11,7 @@ ghost use Rattle.driver_progress.specs.declared.phase.Phase.TheVariants.{Drained
 ghost use Rattle.hda_world.specs.Tellings.{Telling, Makes};
 ghost use Rattle.driver_progress.specs.Tasks.{Task, DriverLine};
 ghost use Rattle.driver_progress.specs.States.{state_opened};
-ghost use Rattle.driver_progress.specs.Progress.{Course, course_opened, course_after, course_of, Conforms};
+ghost use Rattle.driver_progress.specs.Progress.{Trail, trail_opened, trail_after, trail_of, Conforms};
 ghost use Rattle.driver_progress.specs.Noting.{ArePlain, with_accesses};
 ghost use Rattle.driver_progress.specs.Worked as worked;
 
@@ -99,29 +99,29 @@ pub fn runs_are_worked()
         (worked.plays (Late 14500 32501 36) (worked.short_tally (ran.Late 14500 32501 36) 352)) }
 {}
 
-/// Steps of the device leave a course as it is.
-pub fn steps_leave_a_course()
-    ensures course { (task : Task) (steps : List Step) (world : World) (course : Course)
-        → course_after task (map Stepped steps) world course ≡ course }
-    ensures conforms { (task : Task) (steps : List Step) (world : World) (course : Course)
-        → Conforms task (map Stepped steps) world course }
+/// Steps of the device leave a trail as it is.
+pub fn steps_leave_a_trail()
+    ensures trail { (task : Task) (steps : List Step) (world : World) (trail : Trail)
+        → trail_after task (map Stepped steps) world trail ≡ trail }
+    ensures conforms { (task : Task) (steps : List Step) (world : World) (trail : Trail)
+        → Conforms task (map Stepped steps) world trail }
 {}
 
-/// A course over events in a row goes over the front and then over the back, and the whole conforms where both do.
-pub fn courses_go_on()
-    ensures course { (task : Task) (front back : List Event) (world : World) (course : Course)
-        → course_after task (front ++ back) world course ≡ course_after task back (after front world)
-        (course_after task front world course) }
-    ensures both { (task : Task) (front back : List Event) (world : World) (course : Course)
-        → Conforms task front world course
-        → Conforms task back (after front world) (course_after task front world course)
-        → Conforms task (front ++ back) world course }
-    ensures front { (task : Task) (front back : List Event) (world : World) (course : Course)
-        → Conforms task (front ++ back) world course
-        → Conforms task front world course }
-    ensures back { (task : Task) (front back : List Event) (world : World) (course : Course)
-        → Conforms task (front ++ back) world course
-        → Conforms task back (after front world) (course_after task front world course) }
+/// A trail over events in a row goes over the front and then over the back, and the whole conforms where both do.
+pub fn trails_go_on()
+    ensures trail { (task : Task) (front back : List Event) (world : World) (trail : Trail)
+        → trail_after task (front ++ back) world trail ≡ trail_after task back (after front world)
+        (trail_after task front world trail) }
+    ensures both { (task : Task) (front back : List Event) (world : World) (trail : Trail)
+        → Conforms task front world trail
+        → Conforms task back (after front world) (trail_after task front world trail)
+        → Conforms task (front ++ back) world trail }
+    ensures front { (task : Task) (front back : List Event) (world : World) (trail : Trail)
+        → Conforms task (front ++ back) world trail
+        → Conforms task front world trail }
+    ensures back { (task : Task) (front back : List Event) (world : World) (trail : Trail)
+        → Conforms task (front ++ back) world trail
+        → Conforms task back (after front world) (trail_after task front world trail) }
 {}
 
 /// A row of accesses among which no read of RIRBSTS and no write of CORBWP is adds to what a stretch made, and the
@@ -129,7 +129,7 @@ pub fn courses_go_on()
 pub fn rows_are_made()
     ensures { (task : Task) (lines : List DriverLine) (made : List Event) (old new : Telling) → Makes made old new
         → ArePlain made
-        → (course_of task lines new ≡ with_accesses (course_of task lines old) made)
-        × (Conforms task old.journal old.start (course_opened lines)
-        → Conforms task new.journal new.start (course_opened lines)) }
+        → (trail_of task lines new ≡ with_accesses (trail_of task lines old) made)
+        × (Conforms task old.journal old.start (trail_opened lines)
+        → Conforms task new.journal new.start (trail_opened lines)) }
 {}

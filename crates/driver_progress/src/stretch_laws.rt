@@ -14,11 +14,11 @@ ghost use Rattle.hda_registers.specs.declared.places.TheConstants.{INTSTS};
 ghost use Rattle.hda_world.specs.Worlds.{World, TakenCommand};
 ghost use Rattle.hda_world.specs.Events.{Event, Read};
 ghost use Rattle.hda_world.specs.Tellings.{Telling, world_of, Makes};
-ghost use Rattle.command_engine.specs.Courses.{Stands};
+ghost use Rattle.command_engine.specs.Fetchings.{Stands};
 ghost use Rattle.command_engine.specs.Entries.{answer_among};
 ghost use Rattle.command_engine.specs.Belonging.{as_held};
 ghost use Rattle.driver_progress.specs.Tasks.{Task, DriverLine};
-ghost use Rattle.driver_progress.specs.Progress.{course_of, course_opened, is_answered, Conforms};
+ghost use Rattle.driver_progress.specs.Progress.{trail_of, trail_opened, is_answered, Conforms};
 ghost use Rattle.driver_progress.specs.Noting.{with_accesses};
 ghost use Rattle.world_steps.specs.declared.Step.{Step};
 ghost use Rattle.hda_world.specs.Steps.{after_steps};
@@ -59,10 +59,10 @@ pub fn polls_are_noted()
     ensures { (task : Task) (lines : List DriverLine) (rirb : ℕ) (rings : RingPlaces) (reads : PollReads)
         (old new : Telling)
         → Makes (poll_accesses rirb rings reads) old new → (world_of old).registers.global.response_flag ≤ 1
-        → (course_of task lines new ≡ record (with_accesses (course_of task lines old) (poll_accesses rirb rings reads))
-        { answered = is_answered (course_of task lines old) (world_of new) })
-        × (Conforms task old.journal old.start (course_opened lines)
-        → Conforms task new.journal new.start (course_opened lines)) }
+        → (trail_of task lines new ≡ record (with_accesses (trail_of task lines old) (poll_accesses rirb rings reads))
+        { answered = is_answered (trail_of task lines old) (world_of new) })
+        × (Conforms task old.journal old.start (trail_opened lines)
+        → Conforms task new.journal new.start (trail_opened lines)) }
 {}
 
 /// A poll finds an answer exactly where one of the responses is one that were not read. That these are just those that

@@ -16,11 +16,11 @@ use Rattle.hda_world.specs.Worlds.{World, TakenCommand}
 use Rattle.command_engine.specs.declared.answers.Outstanding.{Outstanding}
 use Rattle.command_engine.specs.Entries.{is_from, answers_it}
 use Rattle.command_engine.specs.Polling.{asked_of}
-use Rattle.command_engine.specs.Courses as engine
-use Rattle.command_engine.specs.Courses.{RingPart, part_of, ResponseCanCome, AscendFrom, Stands, graphs_in}
+use Rattle.command_engine.specs.Fetchings as engine
+use Rattle.command_engine.specs.Fetchings.{RingPart, part_of, ResponseCanCome, AscendFrom, Stands, graphs_in}
 use Rattle.driver_progress.specs.States.{State}
 use Rattle.driver_progress.specs.Tasks.{Task}
-use Rattle.driver_progress.specs.Progress.{Course, is_answered}
+use Rattle.driver_progress.specs.Progress.{Trail, is_answered}
 use Rattle.driver_progress.specs.Answers.{has_answer, AnswersAgree}
 use Rattle.driver_bring_up.specs.Standing.{answers_of}
 use Rattle.driver_bring_up.specs.declared.bringing.BringUp.{BringUp}
@@ -72,7 +72,7 @@ fetched_all (Some command) part (last ∷ more) all some = record {
   word_is = all.taken.0;
 }
 
-was_fetched : (outstanding : Option Outstanding) (part : RingPart) (word : ℕ) (gained : List TakenCommand) → engine.Course outstanding part word gained → (gained ≡ [] → ⊥) → WasFetched outstanding part gained
+was_fetched : (outstanding : Option Outstanding) (part : RingPart) (word : ℕ) (gained : List TakenCommand) → engine.Trail outstanding part word gained → (gained ≡ [] → ⊥) → WasFetched outstanding part gained
 was_fetched outstanding part word gained (inl all) some = fetched_all outstanding part gained all some
 was_fetched outstanding part word gained (inr next) some = absurd (some next.none)
 
@@ -80,10 +80,10 @@ was_fetched outstanding part word gained (inr next) some = absurd (some next.non
 
 module _ (means : Means) (verbs : RawCodec → List Command) (graphs : List RawCodec) (task : Task)
     (laws : AgendaLaws means verbs graphs) (of : IsTaskOfCodecs means verbs graphs task) (setter : SetterLaws means) (notes : Laws) where
-  pub answered_for_good : (old : BringUp) (written : ℕ) (begun there : World) (course : Course) → graphs_in begun.codecs ≡ graphs → (a : IsAsking means verbs graphs task written old begun) → Later begun there
-      → Stands a.from a.read old.engine.corb.address old.engine.rirb.address old.engine.rings there → old.sent ≡ length task.orders → course.state ≡ state_of old → course.written ≡ written → is_answered course there ≡ true
+  pub answered_for_good : (old : BringUp) (written : ℕ) (begun there : World) (trail : Trail) → graphs_in begun.codecs ≡ graphs → (a : IsAsking means verbs graphs task written old begun) → Later begun there
+      → Stands a.from a.read old.engine.corb.address old.engine.rirb.address old.engine.rings there → old.sent ≡ length task.orders → trail.state ≡ state_of old → trail.written ≡ written → is_answered trail there ≡ true
       → AreSetUpForGood means graphs there
-  answered_for_good old written begun there course graphs_are a later stands all state_is written_is answered =
+  answered_for_good old written begun there trail graphs_are a later stands all state_is written_is answered =
       let outstanding = old.engine.rings.outstanding in
       let asked = asked_of outstanding in
       let unread = drop a.read there.written in
@@ -91,11 +91,11 @@ module _ (means : Means) (verbs : RawCodec → List Command) (graphs : List RawC
       let has : has_answer asked unread ≡ true =
       sym agree.agree
       ∙ ap (λ (written : ℕ). has_answer asked (drop written there.written)) (sym written_is)
-      ∙ ap (λ (state : State). has_answer (asked_of state.rings.outstanding) (drop course.written there.written)) (sym state_is)
+      ∙ ap (λ (state : State). has_answer (asked_of state.rings.outstanding) (drop trail.written there.written)) (sym state_is)
       ∙ answered in
       let gained = drop a.from there.commands in
       let some = λ (none : gained ≡ []). not_true (sym (none_answers asked unread (subst (λ (gained : List TakenCommand). All (ResponseCanCome gained) unread) none stands.on_its_way.in_ring)) ∙ has) in
-      let fetched = was_fetched outstanding (part_of there.registers) (word_at there.memory (old.engine.corb.address + COMMAND_BYTES * old.engine.rings.submitted)) gained stands.course some in
+      let fetched = was_fetched outstanding (part_of there.registers) (word_at there.memory (old.engine.corb.address + COMMAND_BYTES * old.engine.rings.submitted)) gained stands.fetching some in
       let stage = stage_on means verbs graphs task laws of.is_for of.right.well_formed old.sent outstanding old.agenda a.from begun there a.stands.from_within later (record { last = a.last; follows = a.follows; taken = a.taken }) in
       let last = subst (λ (outstanding : Option Outstanding). IsLastSent task.orders old.sent outstanding) fetched.is a.last in
       let count = last.0 in

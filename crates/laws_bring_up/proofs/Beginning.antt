@@ -11,7 +11,7 @@ use Rattle.hda_registers.specs.declared.shapes.RingSize.{RingSize}
 use Rattle.hda_world.specs.Worlds.{World, TakenCommand}
 use Rattle.hda_world.specs.Events.{Event}
 use Rattle.hda_world.specs.Tellings.{Telling, world_of, Makes}
-use Rattle.command_engine.specs.Courses.{graphs_in}
+use Rattle.command_engine.specs.Fetchings.{graphs_in}
 use Rattle.command_engine.specs.Starting.{codecs_in, rings_of}
 use Rattle.laws_settings.specs.Histories.{words_of}
 use Rattle.laws_settings.specs.Readings.{IsReading, KeepsDefaults}

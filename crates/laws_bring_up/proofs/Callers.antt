@@ -2,8 +2,8 @@
 
 -- a stretch begins and ends
 pub use Rattle.laws_bring_up.proofs.Rows.{opens, closes}
--- the course of an access, and of a row of accesses
-pub use Rattle.laws_bring_up.proofs.Rows.{course_access, conforms_access, accesses_row}
+-- the trail of an access, and of a row of accesses
+pub use Rattle.laws_bring_up.proofs.Rows.{trail_access, conforms_access, accesses_row}
 -- a stretch whose accesses were made
 pub use Rattle.laws_bring_up.proofs.Rows.{stretch_done}
 -- what holds at every moment, over an access

@@ -12,14 +12,14 @@ use Rattle.hda_world.specs.Tellings.{Telling, world_of, Makes}
 use Rattle.command_engine.specs.declared.ring_places.RingPlaces.{RingPlaces}
 use Rattle.command_engine.specs.declared.answers.Outstanding.{Outstanding}
 use Rattle.command_engine.specs.Belonging.{from_after}
-use Rattle.command_engine.specs.Courses.{Stands, AscendFrom, graphs_in}
+use Rattle.command_engine.specs.Fetchings.{Stands, AscendFrom, graphs_in}
 use Rattle.command_engine.specs.Polling.{asked_of, rings_polled, still_outstanding}
 use Rattle.driver_progress.specs.declared.phase.Phase.{Phase}
 use Rattle.driver_progress.specs.declared.phase.Phase.TheVariants.{Settling, Walking, SettingUp, Ready}
 use Rattle.driver_progress.specs.Phases.{is_asking, goes_on, can_follow}
 use Rattle.driver_progress.specs.Tasks.{Task, Order, DriverLine}
 use Rattle.driver_progress.specs.Seen.{seen_by, values_of}
-use Rattle.driver_progress.specs.Progress.{Course, course_of}
+use Rattle.driver_progress.specs.Progress.{Trail, trail_of}
 use Rattle.driver_progress.specs.Answers.{AnswersAgree}
 use Rattle.driver_progress.specs.Commands.{ask_accesses}
 use Rattle.driver_bring_up.specs.Commanding.{IsStretch, answer_in, rings_with, sent_with, submit_made}
@@ -105,10 +105,10 @@ module _ (means : Means) (verbs : RawCodec → List Command) (graphs : List RawC
   pub record Kept (lines left : List DriverLine) (new : BringUp) (after : Telling) : Type 0 where
     pub done : IsDone task lines left (state_of new) after
     pub graphs_are : graphs_in (world_of after).codecs ≡ graphs
-    pub stage : StandsIn new.phase means verbs graphs task (course_of task lines after).written new (world_of after)
+    pub stage : StandsIn new.phase means verbs graphs task (trail_of task lines after).written new (world_of after)
 
   pub looks_on : Laws → (lines left : List DriverLine) (budget : ℕ) (irq : Bool) (old new : BringUp) (made : List Event) (before after : Telling) → IsOpen task lines left (Some (record { irq = irq; budget = budget })) (state_of old) before
-      → goes_on old.phase ≡ true → graphs_in (world_of before).codecs ≡ graphs → (a : IsAsking means verbs graphs task (course_of task lines before).written old (world_of before)) → ReadsOn means made old new
+      → goes_on old.phase ≡ true → graphs_in (world_of before).codecs ≡ graphs → (a : IsAsking means verbs graphs task (trail_of task lines before).written old (world_of before)) → ReadsOn means made old new
       → (is_ended old.phase (is_some (answer_in old.engine.rings made)) new.phase ≡ false → AgreesAfter old new task → IsStretch task (state_of old) (Some (record { irq = irq; budget = budget })) made (is_some (answer_in old.engine.rings made)) (state_of new))
       → IsKept old new → Makes made before after → LooksOn irq old new made a.from a.read before after → Kept lines left new after
   looks_on notes lines left budget irq old new made before after opened goes graphs_are a reads is kept makes on =
@@ -145,12 +145,12 @@ module _ (means : Means) (verbs : RawCodec → List Command) (graphs : List RawC
       (subst (λ (outstanding : Option Outstanding). Stage means verbs graphs task laws of.is_for of.right.well_formed (sent_with on.order old.sent) outstanding new.agenda from' finish) (sym outstanding) next) in
       let noted = call_noted notes task lines left line irq old new made a.from a.read before after opened a.agree on idle_then in
       let stretch = is (not_over old.phase new.phase found looks.goes) (λ asking goes. laws.agrees _ new.agenda task stood.follows of.is_for) in
-      let written = sym (ap (λ (course : Course). course.written) noted.course) in record {
+      let written = sym (ap (λ (trail : Trail). trail.written) noted.trail) in record {
         done = stretch_done task lines left line (state_of old) (state_of new) made (is_some found) noted.written before after opened makes.by
             (looked_accesses old made on.first on.clock on.reads rest a.from a.read before after looked (submit_are old.engine.corb.address (rings_polled rings on.reads) on.order))
-            noted.course (noted.conforms opened.conforms) stretch (λ some. going_finds old.phase (state_of old) (seen_by (values_of made) (is_some found)) goes);
+            noted.trail (noted.conforms opened.conforms) stretch (λ some. going_finds old.phase (state_of old) (seen_by (values_of made) (is_some found)) goes);
         graphs_are = (to_after.remembers a.taken.start a.taken.begun known).graphs ∙ sym a.taken.remembers.graphs ∙ graphs_are;
-        stage = stands_then rings.outstanding on.clock (course_of task lines after).written new finish (leads_to rings.outstanding on.clock old.phase new.phase found goes looks.goes on.waits) (record {
+        stage = stands_then rings.outstanding on.clock (trail_of task lines after).written new finish (leads_to rings.outstanding on.clock old.phase new.phase found goes looks.goes on.waits) (record {
           from = from';
           read = length ends.written;
           stands = at_blocks from' (length ends.written) old new finish kept on.stands;

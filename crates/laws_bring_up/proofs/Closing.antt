@@ -11,7 +11,7 @@ use Rattle.hda_world.specs.Events.{Event}
 use Rattle.hda_world.specs.Tellings.{Telling, world_of, Makes}
 use Rattle.command_engine.specs.declared.ring_places.RingPlaces.{RingPlaces}
 use Rattle.command_engine.specs.declared.answers.Outstanding.{Outstanding}
-use Rattle.command_engine.specs.Courses.{AscendFrom, graphs_in}
+use Rattle.command_engine.specs.Fetchings.{AscendFrom, graphs_in}
 use Rattle.command_engine.specs.Polling.{asked_of, still_outstanding}
 use Rattle.driver_progress.specs.declared.phase.Phase.{Phase}
 use Rattle.driver_progress.specs.declared.phase.Phase.TheVariants.{Reset, Settling, Walking, SettingUp, Ready, Playing}
@@ -28,7 +28,7 @@ use Rattle.driver_agenda.specs.Following.{Follows}
 use Rattle.laws_bring_up.specs.Standing.{HasWalked, WalkedIn, IsEnded}
 use Rattle.laws_bring_up.proofs.Ready.{all_answered, at_most}
 use Rattle.laws_bring_up.proofs.Walked.{none_walked, walked_on, walked_by, walked_in}
-use Rattle.driver_progress.specs.Progress.{Course, course_of}
+use Rattle.driver_progress.specs.Progress.{Trail, trail_of}
 use Rattle.driver_progress.specs.Noting.{with_accesses}
 use Rattle.driver_progress.proofs.Callers.{ConformsTo, asking_goes_on}
 use Rattle.driver_progress.specs.Answers.{AnswersAgree}
@@ -60,12 +60,12 @@ no_word word is = cc
 no_walking : Settling ≡ Walking → ⊥
 no_walking is = cc
 
--- ---- the course
+-- ---- the trail
 
 -- over the look and the shutting
 pub record LastNoted (task : Task) (lines : List DriverLine) (made : List Event) (found : Bool) (old new : Telling) : Type 0 where
   pub written : ℕ
-  pub course : course_of task lines new ≡ record (with_accesses (course_of task lines old) made) { written = written; answered = found }
+  pub trail : trail_of task lines new ≡ record (with_accesses (trail_of task lines old) made) { written = written; answered = found }
   pub conforms : ConformsTo task lines old → ConformsTo task lines new
 
 shut_unread : AreUnread shut_accesses
@@ -75,17 +75,17 @@ same_start : (begins before : Telling) → Makes [] before begins → begins ≡
 same_start begins before makes = makes.by
 
 pub last_noted : Laws → (task : Task) (lines left : List DriverLine) (old new : BringUp) (made : List Event) (from read : ℕ) (before after : Telling) → IsOpen task lines left None (state_of old) before
-    → AnswersAgree (asked_of old.engine.rings.outstanding) (course_of task lines before).written read (world_of before).written → (on : LooksLast old new made from read before after)
+    → AnswersAgree (asked_of old.engine.rings.outstanding) (trail_of task lines before).written read (world_of before).written → (on : LooksLast old new made from read before after)
     → LastNoted task lines made (is_some (answer_in old.engine.rings made)) before after
 last_noted laws task lines left old new made from read before after opened agree on =
     let looked = on.looked in
     let rings = old.engine.rings in
     let corb = old.engine.corb.address in
     let rirb = old.engine.rirb.address in
-    let c0 = course_of task lines before in
+    let c0 = trail_of task lines before in
     let ask = ask_accesses rirb on.clock rings on.reads in
-    let begun = course_of task lines looked.begins in
-    let start = ap (course_of task lines) (same_start looked.begins before looked.first_made) in
+    let begun = trail_of task lines looked.begins in
+    let start = ap (trail_of task lines) (same_start looked.begins before looked.first_made) in
     let look = look_noted laws.polls task lines from read corb rirb on.clock rings on.reads looked.begins looked.ends looked.look_made looked.stood in
     let ended = world_of looked.ends in
     let on_look = row_on ask looked.begins looked.ends looked.look_made in
@@ -93,13 +93,13 @@ last_noted laws task lines left old new made from read before after opened agree
     let agree_ends = subst (λ (written : List Response). AnswersAgree (asked_of rings.outstanding) c0.written read written) (sym written)
     (laws.grows (asked_of rings.outstanding) c0.written read (world_of before).written on_look.more_written agree) in
     let found = answered_same laws rings c0.written read ended begun (answer_in rings made)
-    (ap (λ (course : Course). course.state.rings) start ∙ ap (λ (state : State). state.rings) opened.state_is) (ap (λ (course : Course). course.written) start) agree_ends looked.found in
+    (ap (λ (trail : Trail). trail.state.rings) start ∙ ap (λ (state : State). state.rings) opened.state_is) (ap (λ (trail : Trail). trail.written) start) agree_ends looked.found in
     let row = unread_row task lines shut_accesses looked.ends after looked.rest_made.by shut_unread in record {
       written = row.written;
-      course = row.course
-          ∙ ap (λ (course : Course). record (with_accesses course shut_accesses) { written = row.written }) look.course
+      trail = row.trail
+          ∙ ap (λ (trail : Trail). record (with_accesses trail shut_accesses) { written = row.written }) look.trail
           ∙ ap (λ (answered : Bool). record (with_accesses (with_accesses begun ask) shut_accesses) { written = row.written; answered = answered }) found
-          ∙ ap (λ (course : Course). record (with_accesses (with_accesses course ask) shut_accesses) { written = row.written; answered = is_some (answer_in rings made) }) start
+          ∙ ap (λ (trail : Trail). record (with_accesses (with_accesses trail ask) shut_accesses) { written = row.written; answered = is_some (answer_in rings made) }) start
           ∙ ap (λ (all : List Event). record c0 { made = all; written = row.written; answered = is_some (answer_in rings made) })
           (append_assoc c0.made ask shut_accesses ∙ ap (λ (made : List Event). c0.made ++ made) (sym looked.made_is));
       conforms = λ conforms. row.conforms (look.conforms (subst (ConformsTo task lines) (sym (same_start looked.begins before looked.first_made)) conforms));
@@ -213,7 +213,7 @@ module _ (means : Means) (verbs : RawCodec → List Command) (graphs : List RawC
 
   -- where a command is
   last_look : (lines left : List DriverLine) (old new : BringUp) (before after : Telling) → IsOpen task lines left None (state_of old) before → IsTaskOf old task → (ends : Ends means old new (Some before) (Some after)) → is_asking old.phase ≡ true
-      → graphs_in (world_of before).codecs ≡ graphs → (a : IsAsking means verbs graphs task (course_of task lines before).written old (world_of before)) → Shut lines left new after
+      → graphs_in (world_of before).codecs ≡ graphs → (a : IsAsking means verbs graphs task (trail_of task lines before).written old (world_of before)) → Shut lines left new after
   last_look lines left old new before after opened blocks ends asking graphs_are a =
       let on = (ends.looks asking).is a.from a.read a.stands in
       let looked = on.looked in
@@ -245,7 +245,7 @@ module _ (means : Means) (verbs : RawCodec → List Command) (graphs : List RawC
       let phase = ap (λ (state : State). state.phase) stretch.leads in
       let noted = last_noted notes task lines left old new made a.from a.read before after opened a.agree on in record {
         done = stretch_done task lines left None (state_of old) (state_of new) made (is_some found) noted.written before after opened ends.by.is.by
-            (looked_accesses old made [] on.clock on.reads shut_accesses a.from a.read before after looked shut_are) noted.course (noted.conforms opened.conforms) stretch (tt {0});
+            (looked_accesses old made [] on.clock on.reads shut_accesses a.from a.read before after looked shut_are) noted.trail (noted.conforms opened.conforms) stretch (tt {0});
         ended = record {
           walked = walked_by means verbs graphs task of new.sent new.engine.rings.outstanding new.agenda follows;
           by_phase = ended_in new follows (subst EndsIn (sym phase) (closed_ends task (state_of old) seen (tally_next task (state_of old) None seen) old.phase asking goes));
@@ -253,7 +253,7 @@ module _ (means : Means) (verbs : RawCodec → List Command) (graphs : List RawC
       }
 
   pub end_told : (lines left : List DriverLine) (old new : BringUp) (before after : Telling) (phase : Phase) → old.phase ≡ phase → IsOpen task lines left None (state_of old) before → IsTaskOf old task → Ends means old new (Some before) (Some after)
-      → graphs_in (world_of before).codecs ≡ graphs → StandsIn phase means verbs graphs task (course_of task lines before).written old (world_of before) → Shut lines left new after
+      → graphs_in (world_of before).codecs ≡ graphs → StandsIn phase means verbs graphs task (trail_of task lines before).written old (world_of before) → Shut lines left new after
   end_told lines left old new before after Reset was opened blocks ends graphs_are stage =
       ended_on lines left old new after (quiet_ends lines left old new before after opened blocks ends (ap is_asking was)) (none_walked graphs old.agenda.graphs.items task.walks old.sent old.engine.rings.outstanding stage.none_walked stage.none_sent)
       (subst (λ (phase : Phase). WalkedIn phase (old.agenda.graphs.items ≡ graphs)) (sym was) (tt {0}))

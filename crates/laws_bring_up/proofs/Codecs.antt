@@ -6,7 +6,7 @@ use Rattle.std.proofs.lemmas.List.{take_all}
 use Rattle.std.proofs.lemmas.List.Elements.{All-nil, All-cons, All-head, All-tail, All-append, All-weaker, All-contains}
 use Rattle.verb_codes.specs.Words.{has_bit}
 use Rattle.codec_graph.specs.declared.raw.RawCodec.{RawCodec}
-use Rattle.command_engine.specs.Courses.{AscendFrom}
+use Rattle.command_engine.specs.Fetchings.{AscendFrom}
 use Rattle.driver_progress.specs.Announcing.{AreCodecs}
 use Rattle.driver_bring_up.specs.Addresses.{addresses_below, addresses_in, most_codecs}
 

@@ -15,51 +15,51 @@ use Rattle.driver_progress.specs.States.{State}
 use Rattle.driver_progress.specs.Seen.{Seen, clock_of}
 use Rattle.driver_progress.specs.Expected.{has_settled, rings_seen}
 use Rattle.driver_progress.specs.Next.{next, led, tally_next, finds_none, reset_if, settled_if}
-use Rattle.driver_progress.specs.Progress.{Course, course_of, course_after, course_opened, noted}
+use Rattle.driver_progress.specs.Progress.{Trail, trail_of, trail_after, trail_opened, noted}
 use Rattle.driver_progress.specs.Unread.{IsAccess, AreAccesses}
 use Rattle.laws_bring_up.specs.Stretches.{FindsIn, FindsBy, FindsAt, FindsAll, HasFound}
 
 -- ---- over events in a row
 
-finds_both : (task : Task) (front back : List Event) (world : World) (course : Course) → FindsAll task front world course → FindsAll task back (after front world) (course_after task front world course)
-    → FindsAll task (front ++ back) world course
-finds_both task [] back world course here later = later
-finds_both task (event ∷ front) back world course here later = (here.0, finds_both task front back (happens world event) (noted task course world event) here.1 later)
+finds_both : (task : Task) (front back : List Event) (world : World) (trail : Trail) → FindsAll task front world trail → FindsAll task back (after front world) (trail_after task front world trail)
+    → FindsAll task (front ++ back) world trail
+finds_both task [] back world trail here later = later
+finds_both task (event ∷ front) back world trail here later = (here.0, finds_both task front back (happens world event) (noted task trail world event) here.1 later)
 
-pub steps_find : (task : Task) (steps : List Step) (world : World) (course : Course) → FindsAll task (map Stepped steps) world course
-steps_find task [] world course = tt {0}
-steps_find task (step ∷ steps) world course = (tt {0}, steps_find task steps (happens world (Stepped step)) course)
+pub steps_find : (task : Task) (steps : List Step) (world : World) (trail : Trail) → FindsAll task (map Stepped steps) world trail
+steps_find task [] world trail = tt {0}
+steps_find task (step ∷ steps) world trail = (tt {0}, steps_find task steps (happens world (Stepped step)) trail)
 
-pub finds_went : (task : Task) (lines : List DriverLine) (old new : Telling) (events : List Event) → Went old new events → FindsAll task events (world_of old) (course_of task lines old) → HasFound task lines old
+pub finds_went : (task : Task) (lines : List DriverLine) (old new : Telling) (events : List Event) → Went old new events → FindsAll task events (world_of old) (trail_of task lines old) → HasFound task lines old
     → HasFound task lines new
 finds_went task lines old new events went more finds =
-    subst (λ (start : World). FindsAll task new.journal start (course_opened lines)) (sym went.start)
-    (subst (λ (journal : List Event). FindsAll task journal old.start (course_opened lines)) (sym went.journal)
-    (finds_both task old.journal events old.start (course_opened lines) finds more))
+    subst (λ (start : World). FindsAll task new.journal start (trail_opened lines)) (sym went.start)
+    (subst (λ (journal : List Event). FindsAll task journal old.start (trail_opened lines)) (sym went.journal)
+    (finds_both task old.journal events old.start (trail_opened lines) finds more))
 
-finds_stepped : (task : Task) (steps : List Step) (event : Event) (world : World) (course : Course) → FindsAt course event → FindsAll task (map Stepped steps ++ event ∷ []) world course
-finds_stepped task [] event world course finds = (finds, tt {0})
-finds_stepped task (step ∷ steps) event world course finds = (tt {0}, finds_stepped task steps event (happens world (Stepped step)) course finds)
+finds_stepped : (task : Task) (steps : List Step) (event : Event) (world : World) (trail : Trail) → FindsAt trail event → FindsAll task (map Stepped steps ++ event ∷ []) world trail
+finds_stepped task [] event world trail finds = (finds, tt {0})
+finds_stepped task (step ∷ steps) event world trail finds = (tt {0}, finds_stepped task steps event (happens world (Stepped step)) trail finds)
 
 -- an event after some steps of the device
-pub finds_access : (task : Task) (lines : List DriverLine) (event : Event) (old new : Telling) → Accessed old new event → FindsAt (course_of task lines old) event → HasFound task lines old → HasFound task lines new
+pub finds_access : (task : Task) (lines : List DriverLine) (event : Event) (old new : Telling) → Accessed old new event → FindsAt (trail_of task lines old) event → HasFound task lines old → HasFound task lines new
 finds_access task lines event old new accessed finds =
-    finds_went task lines old new (map Stepped accessed.steps ++ event ∷ []) accessed.went (finds_stepped task accessed.steps event (world_of old) (course_of task lines old) finds)
+    finds_went task lines old new (map Stepped accessed.steps ++ event ∷ []) accessed.went (finds_stepped task accessed.steps event (world_of old) (trail_of task lines old) finds)
 
-access_finds : (course : Course) (event : Event) → IsAccess event → FindsAt course event
-access_finds course (Stepped step) is = absurd is
-access_finds course Begin is = absurd is
-access_finds course End is = absurd is
-access_finds course (Read at width value) is = tt {0}
-access_finds course (Write at width value) is = tt {0}
-access_finds course (DmaRead at bytes) is = tt {0}
-access_finds course (DmaWrite at bytes) is = tt {0}
+access_finds : (trail : Trail) (event : Event) → IsAccess event → FindsAt trail event
+access_finds trail (Stepped step) is = absurd is
+access_finds trail Begin is = absurd is
+access_finds trail End is = absurd is
+access_finds trail (Read at width value) is = tt {0}
+access_finds trail (Write at width value) is = tt {0}
+access_finds trail (DmaRead at bytes) is = tt {0}
+access_finds trail (DmaWrite at bytes) is = tt {0}
 
 -- and a row of accesses
 pub row_finds : (task : Task) (lines : List DriverLine) (made : List Event) (old new : Telling) → MakesBy made old new → AreAccesses made → HasFound task lines old → HasFound task lines new
 row_finds task lines [] old new none are finds = subst (HasFound task lines) (sym none) finds
 row_finds task lines (event ∷ made) old new makes are finds =
-    row_finds task lines made makes.0 new makes.2 are.1 (finds_access task lines event old makes.0 makes.1 (access_finds (course_of task lines old) event are.0) finds)
+    row_finds task lines made makes.0 new makes.2 are.1 (finds_access task lines event old makes.0 makes.1 (access_finds (trail_of task lines old) event are.0) finds)
 
 -- ---- by where it leads
 

@@ -17,7 +17,7 @@ use Rattle.hda_world.specs.Tellings.{Telling, world_of, MakesBy, Makes}
 use Rattle.hda_world.proofs.Callers.{world_of-went}
 use Rattle.command_engine.specs.declared.answers.Outstanding.{Outstanding}
 use Rattle.command_engine.specs.Belonging.{Belongs, IsAnswered, from_after}
-use Rattle.command_engine.specs.Courses.{AscendFrom, graphs_in}
+use Rattle.command_engine.specs.Fetchings.{AscendFrom, graphs_in}
 use Rattle.command_engine.specs.Polling.{still_outstanding}
 use Rattle.driver_agenda.specs.declared.agenda.Agenda.{Agenda}
 use Rattle.driver_agenda.specs.Agendas.{LedBy, TellsFault, TellsNoRoute}

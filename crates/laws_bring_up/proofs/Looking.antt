@@ -1,4 +1,4 @@
--- The course of a call that looks for an answer.
+-- The trail of a call that looks for an answer.
 use Rattle.std.proofs.Common.{◌≡◌, ◌≤◌, ◌+◌, ◌*◌, ℕ, List, [], ◌∷◌, ◌++◌, map, length, Option, Some, None, sym, ap, subst, ◌∙◌, append_assoc, append-nil}
 use Rattle.std.specs.Option.{is_some}
 use Rattle.byteorder.specs.Endian.{little_bytes}
@@ -14,27 +14,27 @@ use Rattle.hda_world.proofs.Callers.{kept_steps, access_leaves, steps_after}
 use Rattle.command_engine.specs.declared.ring_places.RingPlaces.{RingPlaces}
 use Rattle.command_engine.specs.declared.answers.Outstanding.{Outstanding}
 use Rattle.command_engine.specs.Belonging.{as_held}
-use Rattle.command_engine.specs.Courses.{Stands}
+use Rattle.command_engine.specs.Fetchings.{Stands}
 use Rattle.command_engine.specs.Entries.{answer_among}
 use Rattle.command_engine.specs.Polling.{PollReads, poll_accesses}
 use Rattle.command_engine.specs.Submitting.{command_place}
 use Rattle.command_engine.proofs.Callers.{responses_apart, keeps_standing, stored_stands}
 use Rattle.driver_progress.specs.Tasks.{Task, Order, DriverLine}
-use Rattle.driver_progress.specs.Progress.{Course, course_of, is_answered}
+use Rattle.driver_progress.specs.Progress.{Trail, trail_of, is_answered}
 use Rattle.driver_progress.specs.Noting.{with_accesses}
 use Rattle.driver_progress.proofs.Callers.{ConformsTo}
 use Rattle.driver_progress.specs.Answers.{has_answer, AnswersAgree}
 use Rattle.driver_progress.specs.Commands.{ask_accesses}
 use Rattle.driver_bring_up.specs.Commanding.{submit_made}
 use Rattle.laws_bring_up.proofs.Grows.{world_after}
-use Rattle.laws_bring_up.proofs.Rows.{course_access, conforms_access}
+use Rattle.laws_bring_up.proofs.Rows.{trail_access, conforms_access}
 
 -- ---- laws of the stretches, as they are handed in
 
 -- over a poll that is told whether the command was answered is noted
 abbrev pub PollsNoted : Type 0
 PollsNoted = (task : Task) (lines : List DriverLine) (rirb : ℕ) (rings : RingPlaces) (reads : PollReads) (old new : Telling) → Makes (poll_accesses rirb rings reads) old new → (world_of old).registers.global.response_flag ≤ 1
-    → (course_of task lines new ≡ record (with_accesses (course_of task lines old) (poll_accesses rirb rings reads)) { answered = is_answered (course_of task lines old) (world_of new) })
+    → (trail_of task lines new ≡ record (with_accesses (trail_of task lines old) (poll_accesses rirb rings reads)) { answered = is_answered (trail_of task lines old) (world_of new) })
     × (ConformsTo task lines old → ConformsTo task lines new)
 
 abbrev pub AnswersFound : Type 0
@@ -50,7 +50,7 @@ AgreeSubmitted = (from read corb rirb : ℕ) (rings : RingPlaces) (world : World
 -- ---- the look
 
 pub record LookNoted (task : Task) (lines : List DriverLine) (made : List Event) (old new : Telling) : Type 0 where
-  pub course : course_of task lines new ≡ record (with_accesses (course_of task lines old) made) { answered = is_answered (course_of task lines old) (world_of new) }
+  pub trail : trail_of task lines new ≡ record (with_accesses (trail_of task lines old) made) { answered = is_answered (trail_of task lines old) (world_of new) }
   pub conforms : ConformsTo task lines old → ConformsTo task lines new
 
 -- over the clock and the poll, from where the engine stands
@@ -63,11 +63,11 @@ look_noted polls task lines from read corb rirb clock rings reads old new makes 
     let stood = kept_steps (Stands from read corb rirb rings) (keeps_standing from read corb rirb rings responses_apart) first.steps (world_of old) stands in
     let flag = subst (λ (world : World). world.registers.global.response_flag ≤ 1) (sym (world_after (Read WALCLK Four clock) old middle first)) stood.flag in
     let poll = polls task lines rirb rings reads middle new (record { by = makes.by.2 }) flag in
-    let here = course_access task lines (Read WALCLK Four clock) old middle first in record {
-      course = poll.0
-          ∙ ap (λ (course : Course). record (with_accesses course (poll_accesses rirb rings reads)) { answered = is_answered course (world_of new) }) here
-          ∙ ap (λ (all : List Event). record (course_of task lines old) { made = all; answered = is_answered (course_of task lines old) (world_of new) })
-          (append_assoc (course_of task lines old).made (Read WALCLK Four clock ∷ []) (poll_accesses rirb rings reads));
+    let here = trail_access task lines (Read WALCLK Four clock) old middle first in record {
+      trail = poll.0
+          ∙ ap (λ (trail : Trail). record (with_accesses trail (poll_accesses rirb rings reads)) { answered = is_answered trail (world_of new) }) here
+          ∙ ap (λ (all : List Event). record (trail_of task lines old) { made = all; answered = is_answered (trail_of task lines old) (world_of new) })
+          (append_assoc (trail_of task lines old).made (Read WALCLK Four clock ∷ []) (poll_accesses rirb rings reads));
       conforms = λ conforms. poll.1 (conforms_access task lines (Read WALCLK Four clock) old middle first (tt {0}) conforms);
     }
 
@@ -77,17 +77,17 @@ look_noted polls task lines from read corb rirb clock rings reads old new makes 
 -- is outstanding then that were not read
 pub record NextNoted (task : Task) (lines : List DriverLine) (made : List Event) (asked : Option ℕ) (read : ℕ) (old new : Telling) : Type 0 where
   pub written : ℕ
-  pub course : course_of task lines new ≡ record (with_accesses (course_of task lines old) made) { written = written }
+  pub trail : trail_of task lines new ≡ record (with_accesses (trail_of task lines old) made) { written = written }
   pub conforms : ConformsTo task lines old → ConformsTo task lines new
   pub agree : AnswersAgree asked written read (world_of new).written
 
-pub none_next : (task : Task) (lines : List DriverLine) (asked : Option ℕ) (read : ℕ) (old new : Telling) → Makes [] old new → AnswersAgree asked (course_of task lines old).written read (world_of old).written
+pub none_next : (task : Task) (lines : List DriverLine) (asked : Option ℕ) (read : ℕ) (old new : Telling) → Makes [] old new → AnswersAgree asked (trail_of task lines old).written read (world_of old).written
     → NextNoted task lines [] asked read old new
 none_next task lines asked read old new makes agree = record {
-  written = (course_of task lines old).written;
-  course = ap (course_of task lines) makes.by ∙ ap (λ (made : List Event). record (course_of task lines old) { made = made }) (sym (append-nil (course_of task lines old).made));
+  written = (trail_of task lines old).written;
+  trail = ap (trail_of task lines) makes.by ∙ ap (λ (made : List Event). record (trail_of task lines old) { made = made }) (sym (append-nil (trail_of task lines old).made));
   conforms = λ conforms. subst (ConformsTo task lines) (sym makes.by) conforms;
-  agree = subst (λ (telling : Telling). AnswersAgree asked (course_of task lines old).written read (world_of telling).written) (sym makes.by) agree;
+  agree = subst (λ (telling : Telling). AnswersAgree asked (trail_of task lines old).written read (world_of telling).written) (sym makes.by) agree;
 }
 
 -- a command is submitted where none is outstanding
@@ -109,14 +109,14 @@ one_next submitted task lines from read corb rirb rings order clock asked old ne
     let stood = kept_steps Stood kept second.steps (world_of middle) stored in
     let agree = submitted from read corb rirb rings there asked stood idle in
     let same = ap (λ (world : World). world.written) (world_after point middle last second) ∙ (access_leaves there CORBWP (command_place rings) Two).written in
-    let here = course_access task lines store old middle first in
-    let next = course_access task lines point middle last second in
+    let here = trail_access task lines store old middle first in
+    let next = trail_access task lines point middle last second in
     let ends = makes.by.2.2 in record {
       written = length there.written;
-      course = ap (course_of task lines) ends ∙ next
-          ∙ ap (λ (world : World). record (with_accesses (course_of task lines middle) (point ∷ [])) { written = length world.written }) (steps_after second.steps (world_of middle))
-          ∙ ap (λ (course : Course). record (with_accesses course (point ∷ [])) { written = length there.written }) here
-          ∙ ap (λ (all : List Event). record (course_of task lines old) { made = all; written = length there.written }) (append_assoc (course_of task lines old).made (store ∷ []) (point ∷ []));
+      trail = ap (trail_of task lines) ends ∙ next
+          ∙ ap (λ (world : World). record (with_accesses (trail_of task lines middle) (point ∷ [])) { written = length world.written }) (steps_after second.steps (world_of middle))
+          ∙ ap (λ (trail : Trail). record (with_accesses trail (point ∷ [])) { written = length there.written }) here
+          ∙ ap (λ (all : List Event). record (trail_of task lines old) { made = all; written = length there.written }) (append_assoc (trail_of task lines old).made (store ∷ []) (point ∷ []));
       conforms = λ conforms. subst (ConformsTo task lines) (sym ends) (conforms_access task lines point middle last second (tt {0}) (conforms_access task lines store old middle first (tt {0}) conforms));
       agree = subst (λ (written : List Response). AnswersAgree asked (length there.written) read written) (sym (ap (λ (telling : Telling). (world_of telling).written) ends ∙ same)) agree;
     }

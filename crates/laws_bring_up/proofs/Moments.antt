@@ -17,13 +17,13 @@ use Rattle.driver_progress.specs.Requests.{requests_in, requests_of}
 use Rattle.driver_progress.specs.Noting.{IsPlain, ArePlain}
 use Rattle.driver_progress.specs.States.{State}
 use Rattle.driver_progress.specs.Tasks.{Task, DriverLine}
-use Rattle.driver_progress.specs.Progress.{Course, course_of, is_answered, noted}
+use Rattle.driver_progress.specs.Progress.{Trail, trail_of, is_answered, noted}
 use Rattle.driver_progress.specs.Unread.{IsUnread, AreUnread}
 use Rattle.driver_progress.proofs.Callers.{asking_early}
 use Rattle.laws_bring_up.specs.SettingUp.{are_answered, AreSetUpForGood, SetUpAt, StaysSetUp}
 use Rattle.laws_bring_up.proofs.Calm.{AreCalm, IsLast, calm_front, calm_back}
 use Rattle.laws_bring_up.proofs.Same.{steps_for_good, write_for_good}
-use Rattle.laws_bring_up.proofs.Always.{access_always, at_access, course_there}
+use Rattle.laws_bring_up.proofs.Always.{access_always, at_access, trail_there}
 
 -- ---- when all are answered
 
@@ -56,17 +56,17 @@ parts false true true false answered is = absurd (not_true is)
 parts false true false sent answered is = absurd (not_true is)
 parts false false within sent answered is = absurd (not_true is)
 
-pub answered_parts : (task : Task) (course : Course) → is_early course.state.phase ≡ true → are_answered task course ≡ true
-    → (course.state.phase ≡ Ready) ⊎ FoundLast (is_asking course.state.phase) course.within (course.state.sent == length task.orders) course.answered
-answered_parts task course early is = by (parts (are_set_up course.state.phase) (is_asking course.state.phase) course.within (course.state.sent == length task.orders) course.answered is)
+pub answered_parts : (task : Task) (trail : Trail) → is_early trail.state.phase ≡ true → are_answered task trail ≡ true
+    → (trail.state.phase ≡ Ready) ⊎ FoundLast (is_asking trail.state.phase) trail.within (trail.state.sent == length task.orders) trail.answered
+answered_parts task trail early is = by (parts (are_set_up trail.state.phase) (is_asking trail.state.phase) trail.within (trail.state.sent == length task.orders) trail.answered is)
   where
-    by : (are_set_up course.state.phase ≡ true) ⊎ FoundLast (is_asking course.state.phase) course.within (course.state.sent == length task.orders) course.answered
-        → (course.state.phase ≡ Ready) ⊎ FoundLast (is_asking course.state.phase) course.within (course.state.sent == length task.orders) course.answered
-    by (inl ready) = inl (ready_phase course.state.phase early ready)
+    by : (are_set_up trail.state.phase ≡ true) ⊎ FoundLast (is_asking trail.state.phase) trail.within (trail.state.sent == length task.orders) trail.answered
+        → (trail.state.phase ≡ Ready) ⊎ FoundLast (is_asking trail.state.phase) trail.within (trail.state.sent == length task.orders) trail.answered
+    by (inl ready) = inl (ready_phase trail.state.phase early ready)
     by (inr found) = inr found
 
-pub ready_answered : (task : Task) (course : Course) → course.state.phase ≡ Ready → are_answered task course ≡ true
-ready_answered task course is = ap (λ (phase : Phase). are_set_up phase || (is_asking phase && (course.within && ((course.state.sent == length task.orders) && course.answered)))) is
+pub ready_answered : (task : Task) (trail : Trail) → trail.state.phase ≡ Ready → are_answered task trail ≡ true
+ready_answered task trail is = ap (λ (phase : Phase). are_set_up phase || (is_asking phase && (trail.within && ((trail.state.sent == length task.orders) && trail.answered)))) is
 
 all_true : (ready asks within sent answered : Bool) → FoundLast asks within sent answered → (ready || (asks && (within && (sent && answered)))) ≡ true
 all_true true asks within sent answered found = refl
@@ -76,8 +76,8 @@ all_true false true true false answered found = found.sent_is
 all_true false true false sent answered found = found.within_is
 all_true false false within sent answered found = found.asks_is
 
-pub found_answered : (task : Task) (course : Course) → FoundLast (is_asking course.state.phase) course.within (course.state.sent == length task.orders) course.answered → are_answered task course ≡ true
-found_answered task course found = all_true (are_set_up course.state.phase) (is_asking course.state.phase) course.within (course.state.sent == length task.orders) course.answered found
+pub found_answered : (task : Task) (trail : Trail) → FoundLast (is_asking trail.state.phase) trail.within (trail.state.sent == length task.orders) trail.answered → are_answered task trail ≡ true
+found_answered task trail found = all_true (are_set_up trail.state.phase) (is_asking trail.state.phase) trail.within (trail.state.sent == length task.orders) trail.answered found
 
 pub are_same : (a b : ℕ) → (a == b) ≡ true → a ≡ b
 are_same a b is = search (rules, tests)
@@ -85,12 +85,12 @@ are_same a b is = search (rules, tests)
 pub same_are : (a b : ℕ) → a ≡ b → (a == b) ≡ true
 same_are a b is = search (rules, tests)
 
-pub last_of : (task : Task) (course : Course) (state : State) → course.state ≡ state → is_early state.phase ≡ true → are_answered task course ≡ true → IsLast task state
-last_of task course state same early is = subst (IsLast task) same (by (answered_parts task course (early_as course.state state same early) is))
+pub last_of : (task : Task) (trail : Trail) (state : State) → trail.state ≡ state → is_early state.phase ≡ true → are_answered task trail ≡ true → IsLast task state
+last_of task trail state same early is = subst (IsLast task) same (by (answered_parts task trail (early_as trail.state state same early) is))
   where
-    by : (course.state.phase ≡ Ready) ⊎ FoundLast (is_asking course.state.phase) course.within (course.state.sent == length task.orders) course.answered → IsLast task course.state
+    by : (trail.state.phase ≡ Ready) ⊎ FoundLast (is_asking trail.state.phase) trail.within (trail.state.sent == length task.orders) trail.answered → IsLast task trail.state
     by (inl ready) = inl ready
-    by (inr found) = inr (found.asks_is, are_same course.state.sent (length task.orders) found.sent_is)
+    by (inr found) = inr (found.asks_is, are_same trail.state.sent (length task.orders) found.sent_is)
 
 -- before an answer was looked for they are not, unless they were before
 not_found : (asks within sent : Bool) (answered : Bool) → answered ≡ false → FoundLast asks within sent answered → ⊥
@@ -99,15 +99,15 @@ not_found asks within sent answered none found = not_true (sym none ∙ found.an
 not_ready : (phase : Phase) → is_asking phase ≡ true → phase ≡ Ready → ⊥
 not_ready phase asking ready = not_true (sym (ap is_asking ready) ∙ asking)
 
-pub unlooked : (task : Task) (course : Course) → is_early course.state.phase ≡ true → course.answered ≡ false → are_answered task course ≡ true → course.state.phase ≡ Ready
-unlooked task course early none is = by (answered_parts task course early is)
+pub unlooked : (task : Task) (trail : Trail) → is_early trail.state.phase ≡ true → trail.answered ≡ false → are_answered task trail ≡ true → trail.state.phase ≡ Ready
+unlooked task trail early none is = by (answered_parts task trail early is)
   where
-    by : (course.state.phase ≡ Ready) ⊎ FoundLast (is_asking course.state.phase) course.within (course.state.sent == length task.orders) course.answered → course.state.phase ≡ Ready
+    by : (trail.state.phase ≡ Ready) ⊎ FoundLast (is_asking trail.state.phase) trail.within (trail.state.sent == length task.orders) trail.answered → trail.state.phase ≡ Ready
     by (inl ready) = ready
-    by (inr found) = absurd (not_found (is_asking course.state.phase) course.within (course.state.sent == length task.orders) course.answered none found)
+    by (inr found) = absurd (not_found (is_asking trail.state.phase) trail.within (trail.state.sent == length task.orders) trail.answered none found)
 
-pub unanswered : (task : Task) (course : Course) → is_asking course.state.phase ≡ true → course.answered ≡ false → are_answered task course ≡ true → ⊥
-unanswered task course asking none is = not_ready course.state.phase asking (unlooked task course (asking_early course.state.phase asking) none is)
+pub unanswered : (task : Task) (trail : Trail) → is_asking trail.state.phase ≡ true → trail.answered ≡ false → are_answered task trail ≡ true → ⊥
+unanswered task trail asking none is = not_ready trail.state.phase asking (unlooked task trail (asking_early trail.state.phase asking) none is)
 
 -- ---- accesses that look for no answer
 
@@ -150,54 +150,54 @@ pub plain_no_looks : (events : List Event) → ArePlain events → AreNoLooks ev
 plain_no_looks [] plain = tt {0}
 plain_no_looks (event ∷ events) plain = (plain_no_look event plain.0, plain_no_looks events plain.1)
 
-same_answered : (task : Task) (course : Course) (world : World) (event : Event) → IsNoLook event → are_answered task (noted task course world event) ≡ are_answered task course
-same_answered task course world (Stepped step) none = absurd none
-same_answered task course world Begin none = absurd none
-same_answered task course world End none = absurd none
-same_answered task course world (Read at width value) none =
-    ap (λ (is : Bool). are_set_up course.state.phase || (is_asking course.state.phase && (course.within && ((course.state.sent == length task.orders) && (if is then is_answered course world else course.answered))))) none
-same_answered task course world (Write at width value) none = refl
-same_answered task course world (DmaRead at bytes) none = refl
-same_answered task course world (DmaWrite at bytes) none = refl
+same_answered : (task : Task) (trail : Trail) (world : World) (event : Event) → IsNoLook event → are_answered task (noted task trail world event) ≡ are_answered task trail
+same_answered task trail world (Stepped step) none = absurd none
+same_answered task trail world Begin none = absurd none
+same_answered task trail world End none = absurd none
+same_answered task trail world (Read at width value) none =
+    ap (λ (is : Bool). are_set_up trail.state.phase || (is_asking trail.state.phase && (trail.within && ((trail.state.sent == length task.orders) && (if is then is_answered trail world else trail.answered))))) none
+same_answered task trail world (Write at width value) none = refl
+same_answered task trail world (DmaRead at bytes) none = refl
+same_answered task trail world (DmaWrite at bytes) none = refl
 
-same_state : (task : Task) (course : Course) (world : World) (event : Event) → IsNoLook event → (noted task course world event).state ≡ course.state
-same_state task course world (Stepped step) none = absurd none
-same_state task course world Begin none = absurd none
-same_state task course world End none = absurd none
-same_state task course world (Read at width value) none = refl
-same_state task course world (Write at width value) none = refl
-same_state task course world (DmaRead at bytes) none = refl
-same_state task course world (DmaWrite at bytes) none = refl
+same_state : (task : Task) (trail : Trail) (world : World) (event : Event) → IsNoLook event → (noted task trail world event).state ≡ trail.state
+same_state task trail world (Stepped step) none = absurd none
+same_state task trail world Begin none = absurd none
+same_state task trail world End none = absurd none
+same_state task trail world (Read at width value) none = refl
+same_state task trail world (Write at width value) none = refl
+same_state task trail world (DmaRead at bytes) none = refl
+same_state task trail world (DmaWrite at bytes) none = refl
 
 -- ---- codecs that are set up
 
-abbrev pub ForGoodAt : (means : Means) (graphs : List RawCodec) → Task → World → Course → Type 0
-ForGoodAt means graphs task world course = are_answered task course ≡ true → AreSetUpForGood means graphs world
+abbrev pub ForGoodAt : (means : Means) (graphs : List RawCodec) → Task → World → Trail → Type 0
+ForGoodAt means graphs task world trail = are_answered task trail ≡ true → AreSetUpForGood means graphs world
 
 -- from the last answer on they are, in a stretch that began in this state
 pub record IsFine (means : Means) (graphs : List RawCodec) (task : Task) (lines : List DriverLine) (state : State) (telling : Telling) : Type 0 where
   pub set_up : StaysSetUp means graphs task lines telling
-  pub good : ForGoodAt means graphs task (world_of telling) (course_of task lines telling)
-  pub state_is : (course_of task lines telling).state ≡ state
+  pub good : ForGoodAt means graphs task (world_of telling) (trail_of task lines telling)
+  pub state_is : (trail_of task lines telling).state ≡ state
 
 module _ (means : Means) (graphs : List RawCodec) (task : Task) (lines : List DriverLine) (state : State) where
   abbrev Fine : Telling → Type 0
   Fine telling = IsFine means graphs task lines state telling
 
-  abbrev GoodAt : World → Course → Type 0
-  GoodAt world course = ForGoodAt means graphs task world course
+  abbrev GoodAt : World → Trail → Type 0
+  GoodAt world trail = ForGoodAt means graphs task world trail
 
   -- over an access
   pub access_fine : (event : Event) (old new : Telling) (accessed : Accessed old new event) → Fine old
-      → (noted task (course_of task lines old) (after_steps accessed.steps (world_of old)) event).state ≡ (course_of task lines old).state
-      → (GoodAt (after_steps accessed.steps (world_of old)) (course_of task lines old)
-      → GoodAt (happens (after_steps accessed.steps (world_of old)) event) (noted task (course_of task lines old) (after_steps accessed.steps (world_of old)) event)) → Fine new
+      → (noted task (trail_of task lines old) (after_steps accessed.steps (world_of old)) event).state ≡ (trail_of task lines old).state
+      → (GoodAt (after_steps accessed.steps (world_of old)) (trail_of task lines old)
+      → GoodAt (happens (after_steps accessed.steps (world_of old)) event) (noted task (trail_of task lines old) (after_steps accessed.steps (world_of old)) event)) → Fine new
   access_fine event old new accessed fine stays leads =
-      let good_on : (done : List Step) → GoodAt (after_steps done (world_of old)) (course_of task lines old) = λ done answered. steps_for_good means graphs done (world_of old) (fine.good answered) in
+      let good_on : (done : List Step) → GoodAt (after_steps done (world_of old)) (trail_of task lines old) = λ done answered. steps_for_good means graphs done (world_of old) (fine.good answered) in
       let last = leads (good_on accessed.steps) in record {
         set_up = access_always (SetUpAt means graphs task) task lines event old new accessed (λ done answered. (good_on done answered).set_up) (λ answered. (last answered).set_up) fine.set_up;
         good = at_access GoodAt task lines event old new accessed last;
-        state_is = ap (λ (course : Course). course.state) (course_there task lines event old new accessed) ∙ stays ∙ fine.state_is;
+        state_is = ap (λ (trail : Trail). trail.state) (trail_there task lines event old new accessed) ∙ stays ∙ fine.state_is;
       }
 
   event_good : (event : Event) (world : World) → IsNoLook event → AreCalm (requests_in event) → AreSetUpForGood means graphs world → AreSetUpForGood means graphs (happens world event)
@@ -210,13 +210,13 @@ module _ (means : Means) (graphs : List RawCodec) (task : Task) (lines : List Dr
   event_good (DmaWrite at bytes) world none calm good = record { idle = good.idle; set_up = good.set_up }
 
   -- over accesses that look for no answer, and submit no command once all are answered
-  pub calm_row : (made : List Event) (old new : Telling) → MakesBy made old new → AreNoLooks made → (are_answered task (course_of task lines old) ≡ true → AreCalm (requests_of made)) → Fine old → Fine new
+  pub calm_row : (made : List Event) (old new : Telling) → MakesBy made old new → AreNoLooks made → (are_answered task (trail_of task lines old) ≡ true → AreCalm (requests_of made)) → Fine old → Fine new
   calm_row [] old new none no_looks calm fine = subst Fine (sym none) fine
   calm_row (event ∷ made) old new makes no_looks calm fine =
       let first = makes.1 in
       let there = after_steps first.steps (world_of old) in
-      let same = same_answered task (course_of task lines old) there event no_looks.0 in
-      let here = access_fine event old makes.0 first fine (same_state task (course_of task lines old) there event no_looks.0)
+      let same = same_answered task (trail_of task lines old) there event no_looks.0 in
+      let here = access_fine event old makes.0 first fine (same_state task (trail_of task lines old) there event no_looks.0)
       (λ good answered. let before = sym same ∙ answered in event_good event there no_looks.0 (calm_front (requests_in event) (requests_of made) (calm before)) (good before)) in
       calm_row made makes.0 new makes.2 no_looks.1
-      (λ answered. calm_back (requests_in event) (requests_of made) (calm (sym same ∙ sym (ap (λ (course : Course). are_answered task course) (course_there task lines event old makes.0 first)) ∙ answered))) here
+      (λ answered. calm_back (requests_in event) (requests_of made) (calm (sym same ∙ sym (ap (λ (trail : Trail). are_answered task trail) (trail_there task lines event old makes.0 first)) ∙ answered))) here

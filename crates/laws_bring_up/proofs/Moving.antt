@@ -13,7 +13,7 @@ use Rattle.world_steps.specs.declared.Step.{Step}
 use Rattle.hda_world.specs.Worlds.{World, TakenCommand}
 use Rattle.hda_world.specs.Steps.{after_steps}
 use Rattle.hda_world.proofs.Callers.{kept_steps}
-use Rattle.command_engine.specs.Courses.{Stands, graphs_in}
+use Rattle.command_engine.specs.Fetchings.{Stands, graphs_in}
 use Rattle.command_engine.specs.Polling.{asked_of}
 use Rattle.command_engine.proofs.Callers.{responses_apart, keeps_standing}
 use Rattle.laws_settings.specs.Histories.{words_of}

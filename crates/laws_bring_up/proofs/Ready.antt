@@ -20,7 +20,7 @@ use Rattle.world_rings.specs.declared.entries.TheConstants.{COMMAND_BYTES}
 use Rattle.world_rings.specs.Memory.{word_at}
 use Rattle.hda_world.specs.Worlds.{World, TakenCommand, codec_at}
 use Rattle.command_engine.specs.declared.answers.Outstanding.{Outstanding}
-use Rattle.command_engine.specs.Courses.{RingPart, part_of, Course, IsWordOf, AscendFrom, graphs_in, graph_at}
+use Rattle.command_engine.specs.Fetchings.{RingPart, part_of, Fetching, IsWordOf, AscendFrom, graphs_in, graph_at}
 use Rattle.command_engine.proofs.Callers.{graph_there, none_gained}
 use Rattle.driver_agenda.specs.declared.agenda.Agenda.{Agenda}
 use Rattle.driver_agenda.specs.Following.{commands_of, FollowsBy}
@@ -58,15 +58,15 @@ none_left orders sent (Some command) last all =
     let is = last.1 in
     absurd (omega (arith, within, is, all))
 
-nothing_gained : (outstanding : Option Outstanding) (part : RingPart) (word : ℕ) (gained : List TakenCommand) → outstanding ≡ None → Course outstanding part word gained → gained ≡ []
-nothing_gained None part word gained none course = none_gained part word gained course
-nothing_gained (Some command) part word gained none course = absurd (some_none command none)
+nothing_gained : (outstanding : Option Outstanding) (part : RingPart) (word : ℕ) (gained : List TakenCommand) → outstanding ≡ None → Fetching outstanding part word gained → gained ≡ []
+nothing_gained None part word gained none trail = none_gained part word gained trail
+nothing_gained (Some command) part word gained none trail = absurd (some_none command none)
   where
     some_none : (command : Outstanding) → Some command ≡ None → ⊥
     some_none command is = cc
 
 -- and all were fetched
-all_fetched : (outstanding : Option Outstanding) (part : RingPart) (word : ℕ) (gained : List TakenCommand) → outstanding ≡ None → Course outstanding part word gained → part.corb_read_pointer ≡ part.corb_write_pointer
+all_fetched : (outstanding : Option Outstanding) (part : RingPart) (word : ℕ) (gained : List TakenCommand) → outstanding ≡ None → Fetching outstanding part word gained → part.corb_read_pointer ≡ part.corb_write_pointer
 all_fetched outstanding part word gained none (inl all) = all.pointers
 all_fetched outstanding part word gained none (inr next) = absurd (subst (λ (outstanding : Option Outstanding). IsWordOf outstanding word) none next.is)
 
@@ -260,7 +260,7 @@ module _ (means : Means) (verbs : RawCodec → List Command) (graphs : List RawC
       let ready = sym agrees.phase ∙ sym (bring_up.led (ap goes_on was)) ∙ was in
       let all = at_most (length task.orders) answers (all_answered (nat_le (length task.orders) answers) (nat_le task.walks answers) ready) in
       let none = none_left task.orders bring_up.sent outstanding a.last all in
-      let gained : drop a.from world.commands ≡ [] = nothing_gained outstanding (part_of world.registers) (word_at world.memory (bring_up.engine.corb.address + COMMAND_BYTES * bring_up.engine.rings.submitted)) (drop a.from world.commands) none a.stands.course in (
+      let gained : drop a.from world.commands ≡ [] = nothing_gained outstanding (part_of world.registers) (word_at world.memory (bring_up.engine.corb.address + COMMAND_BYTES * bring_up.engine.rings.submitted)) (drop a.from world.commands) none a.stands.fetching in (
         none,
         record {
           answers = answers;
@@ -279,6 +279,6 @@ module _ (means : Means) (verbs : RawCodec → List Command) (graphs : List RawC
   ready_for_good written bring_up world was stands =
       let a = subst (λ (phase : Phase). StandsIn phase means verbs graphs task written bring_up world) was stands.stage in
       let taken = all_taken written bring_up world was stands.graphs_are a in record {
-        idle = all_fetched bring_up.engine.rings.outstanding (part_of world.registers) (word_at world.memory (bring_up.engine.corb.address + COMMAND_BYTES * bring_up.engine.rings.submitted)) (drop a.from world.commands) taken.0 a.stands.course;
+        idle = all_fetched bring_up.engine.rings.outstanding (part_of world.registers) (word_at world.memory (bring_up.engine.corb.address + COMMAND_BYTES * bring_up.engine.rings.submitted)) (drop a.from world.commands) taken.0 a.stands.fetching;
         set_up = taken_set_up world taken.1;
       }

@@ -18,7 +18,7 @@ use Rattle.codec_walk.specs.Replies.{CanAnswer}
 use Rattle.hda_world.specs.Worlds.{World}
 use Rattle.command_engine.specs.declared.answers.Outstanding.{Outstanding}
 use Rattle.command_engine.specs.Belonging.{IsAnswered}
-use Rattle.command_engine.specs.Courses.{AscendFrom, graphs_in, graph_at}
+use Rattle.command_engine.specs.Fetchings.{AscendFrom, graphs_in, graph_at}
 use Rattle.driver_agenda.specs.Following.{commands_of, CanReply}
 use Rattle.laws_settings.specs.Histories.{Remembers, words_of}
 use Rattle.laws_settings.specs.Readings.{IsReading, KeepsDefaults}

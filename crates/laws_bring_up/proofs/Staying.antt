@@ -18,7 +18,7 @@ use Rattle.hda_world.specs.Tellings.{Telling, world_of, MakesBy, Makes}
 use Rattle.hda_world.proofs.Callers.{kept_steps}
 use Rattle.command_engine.specs.declared.ring_places.RingPlaces.{RingPlaces}
 use Rattle.command_engine.specs.declared.answers.Outstanding.{Outstanding}
-use Rattle.command_engine.specs.Courses.{Stands, graphs_in}
+use Rattle.command_engine.specs.Fetchings.{Stands, graphs_in}
 use Rattle.command_engine.specs.Polling.{PollReads, entry_reads, batch_accesses, rings_polled}
 use Rattle.command_engine.proofs.Callers.{responses_apart, keeps_standing}
 use Rattle.laws_settings.proofs.Callers.{steps_remember}
@@ -30,8 +30,8 @@ use Rattle.driver_progress.specs.Requests.{requests_in, requests_of}
 use Rattle.driver_progress.specs.States.{State}
 use Rattle.driver_progress.specs.Tasks.{Task, Order, DriverLine}
 use Rattle.driver_progress.specs.Next.{next, closed, outstanding_if, tally_next, expected}
-use Rattle.driver_progress.specs.Progress.{Course, course_of, is_answered, seen_in, noted}
-use Rattle.driver_progress.proofs.Callers.{course_row, asking_goes_on}
+use Rattle.driver_progress.specs.Progress.{Trail, trail_of, is_answered, seen_in, noted}
+use Rattle.driver_progress.proofs.Callers.{trail_row, asking_goes_on}
 use Rattle.driver_progress.specs.Commands.{ask_accesses}
 use Rattle.driver_progress.specs.Shutting.{shut_accesses}
 use Rattle.driver_progress.specs.Unread.{IsAccess, AreAccesses}
@@ -111,11 +111,11 @@ calm_made : (task : Task) (lines left : List DriverLine) (turn : Option DriverLi
     → IsDone task lines left state' after → IsSilent task state turn → IsLast task state → AreCalm (requests_of made)
 calm_made task lines left turn state state' made before after opened makes are done silent last =
     let row = accesses_row task lines made before after makes are in
-    let seen = seen_in (course_of task lines after) in
-    let made_is : (course_of task lines after).made ≡ made = row.made_is ∙ ap (λ (front : List Event). front ++ made) opened.none_made in
+    let seen = seen_in (trail_of task lines after) in
+    let made_is : (trail_of task lines after).made ≡ made = row.made_is ∙ ap (λ (front : List Event). front ++ made) opened.none_made in
     let fits : requests_of made ≡ expected task state turn seen =
     ap requests_of (sym made_is) ∙ done.fits
-    ∙ ap (λ (state : State). expected task state (course_of task lines after).turn seen) (row.state_is ∙ opened.state_is)
+    ∙ ap (λ (state : State). expected task state (trail_of task lines after).turn seen) (row.state_is ∙ opened.state_is)
     ∙ ap (λ (turn : Option DriverLine). expected task state turn seen) (row.turn_is ∙ opened.turn_is) in
     subst AreCalm (sym fits) (expected_calm task state turn seen (tally_next task state turn seen) silent last)
 
@@ -131,7 +131,7 @@ module _ (means : Means) (verbs : RawCodec → List Command) (graphs : List RawC
       → is_early state.phase ≡ true → IsDone task lines left state' after → IsSilent task state turn → Fine state before → Fine state after
   unlooked_fine left turn state state' made before after opened makes none early done silent fine =
       calm_row means graphs task lines state made before after makes.by none
-      (λ answered. calm_made task lines left turn state state' made before after opened makes.by (no_looks_accesses made none) done silent (last_of task (course_of task lines before) state opened.state_is early answered)) fine
+      (λ answered. calm_made task lines left turn state state' made before after opened makes.by (no_looks_accesses made none) done silent (last_of task (trail_of task lines before) state opened.state_is early answered)) fine
 
   -- where the device leads by itself
   later_steps : (steps : List Step) (begun world : World) → Later begun world → Later begun (after_steps steps world)
@@ -141,20 +141,20 @@ module _ (means : Means) (verbs : RawCodec → List Command) (graphs : List RawC
   }
 
   -- where the flag is read, and the last answer is there
-  found_there : (old : BringUp) (written : ℕ) (begun there : World) (course : Course) (flag : ℕ) → is_asking old.phase ≡ true → graphs_in begun.codecs ≡ graphs → (a : IsAsking means verbs graphs task written old begun) → Later begun there
-      → Stands a.from a.read old.engine.corb.address old.engine.rirb.address old.engine.rings there → course.state ≡ state_of old → course.written ≡ written → are_answered task (noted task course there (Read RIRBSTS One flag)) ≡ true
+  found_there : (old : BringUp) (written : ℕ) (begun there : World) (trail : Trail) (flag : ℕ) → is_asking old.phase ≡ true → graphs_in begun.codecs ≡ graphs → (a : IsAsking means verbs graphs task written old begun) → Later begun there
+      → Stands a.from a.read old.engine.corb.address old.engine.rirb.address old.engine.rings there → trail.state ≡ state_of old → trail.written ≡ written → are_answered task (noted task trail there (Read RIRBSTS One flag)) ≡ true
       → AreSetUpForGood means graphs there
-  found_there old written begun there course flag asking graphs_are a later stood state_is written_is answered = by (answered_parts task (noted task course there (Read RIRBSTS One flag)) (early_as course.state (state_of old) state_is old.early) answered)
+  found_there old written begun there trail flag asking graphs_are a later stood state_is written_is answered = by (answered_parts task (noted task trail there (Read RIRBSTS One flag)) (early_as trail.state (state_of old) state_is old.early) answered)
     where
-      by : (course.state.phase ≡ Ready) ⊎ FoundLast (is_asking course.state.phase) course.within (course.state.sent == length task.orders) (is_answered course there) → AreSetUpForGood means graphs there
+      by : (trail.state.phase ≡ Ready) ⊎ FoundLast (is_asking trail.state.phase) trail.within (trail.state.sent == length task.orders) (is_answered trail there) → AreSetUpForGood means graphs there
       by (inl ready) = absurd (not_true (sym (ap is_asking (sym (ap (λ (state : State). state.phase) state_is) ∙ ready)) ∙ asking))
       by (inr found) =
-          let all = sym (ap (λ (state : State). state.sent) state_is) ∙ are_same course.state.sent (length task.orders) found.sent_is in
-          answered_for_good means verbs graphs task laws of setter notes old written begun there course graphs_are a later stood all state_is written_is found.answered_is
+          let all = sym (ap (λ (state : State). state.sent) state_is) ∙ are_same trail.state.sent (length task.orders) found.sent_is in
+          answered_for_good means verbs graphs task laws of setter notes old written begun there trail graphs_are a later stood all state_is written_is found.answered_is
 
   -- the look for the answer to the outstanding command, until the flag is read
   flagged_fine : (left : List DriverLine) (turn : Option DriverLine) (old : BringUp) (made first : List Event) (clock : ℕ) (reads : PollReads) (rest : List Event) (before after : Telling) → IsOpen task lines left turn (state_of old) before
-      → is_asking old.phase ≡ true → graphs_in (world_of before).codecs ≡ graphs → (a : IsAsking means verbs graphs task (course_of task lines before).written old (world_of before))
+      → is_asking old.phase ≡ true → graphs_in (world_of before).codecs ≡ graphs → (a : IsAsking means verbs graphs task (trail_of task lines before).written old (world_of before))
       → (looked : Looked old made first clock reads rest a.from a.read before after) → Fine (state_of old) before → Fine (state_of old) looked.look_made.by.2.0
   flagged_fine left turn old made first clock reads rest before after opened asking graphs_are a looked fine =
       let state = state_of old in
@@ -164,15 +164,15 @@ module _ (means : Means) (verbs : RawCodec → List Command) (graphs : List RawC
       let reads_flag = looked.look_made.by.2.1 in
       let look = Read WALCLK Four clock in
       let clock_made : Makes (look ∷ []) begins one = record { by = (one, reads_clock, refl) } in
-      let asks_at = λ (course : Course) (is : course.state ≡ state). subst (λ (state : State). is_asking state.phase ≡ true) (sym is) asking in
-      let first_row = (course_row task lines first before begins looked.first_made looked.plain).0 in
-      let clock_row = (course_row task lines (look ∷ []) begins one clock_made (refl, tt {0})).0 in
+      let asks_at = λ (trail : Trail) (is : trail.state ≡ state). subst (λ (state : State). is_asking state.phase ≡ true) (sym is) asking in
+      let first_row = (trail_row task lines first before begins looked.first_made looked.plain).0 in
+      let clock_row = (trail_row task lines (look ∷ []) begins one clock_made (refl, tt {0})).0 in
       let started = calm_row means graphs task lines state first before begins looked.first_made.by (plain_no_looks first looked.plain)
-      (λ answered. absurd (unanswered task (course_of task lines before) (asks_at (course_of task lines before) opened.state_is) opened.unanswered answered)) fine in
-      let unfound = ap (λ (course : Course). course.answered) first_row ∙ opened.unanswered in
+      (λ answered. absurd (unanswered task (trail_of task lines before) (asks_at (trail_of task lines before) opened.state_is) opened.unanswered answered)) fine in
+      let unfound = ap (λ (trail : Trail). trail.answered) first_row ∙ opened.unanswered in
       let clocked = calm_row means graphs task lines state (look ∷ []) begins one clock_made.by (refl, tt {0})
-      (λ answered. absurd (unanswered task (course_of task lines begins) (asks_at (course_of task lines begins) started.state_is) unfound answered)) started in
-      let written = ap (λ (course : Course). course.written) clock_row ∙ ap (λ (course : Course). course.written) first_row in
+      (λ answered. absurd (unanswered task (trail_of task lines begins) (asks_at (trail_of task lines begins) started.state_is) unfound answered)) started in
+      let written = ap (λ (trail : Trail). trail.written) clock_row ∙ ap (λ (trail : Trail). trail.written) first_row in
       let there = after_steps reads_flag.steps (world_of one) in
       let Stood : World → Type 0 = Stands a.from a.read old.engine.corb.address old.engine.rirb.address old.engine.rings in
       let kept = keeps_standing a.from a.read old.engine.corb.address old.engine.rirb.address old.engine.rings responses_apart in
@@ -183,11 +183,11 @@ module _ (means : Means) (verbs : RawCodec → List Command) (graphs : List RawC
       } in
       let later = later_steps reads_flag.steps (world_of before) (world_of one) to_one in
       access_fine means graphs task lines state (Read RIRBSTS One reads.flag) one looked.look_made.by.2.0 reads_flag clocked refl
-      (λ good answered. found_there old (course_of task lines before).written (world_of before) there (course_of task lines one) reads.flag asking graphs_are a later stood clocked.state_is written answered)
+      (λ good answered. found_there old (trail_of task lines before).written (world_of before) there (trail_of task lines one) reads.flag asking graphs_are a later stood clocked.state_is written answered)
 
   -- and all of a stretch with one
   looked_fine : (left : List DriverLine) (turn : Option DriverLine) (old : BringUp) (state' : State) (made first : List Event) (clock : ℕ) (reads : PollReads) (rest : List Event) (before after : Telling) → IsOpen task lines left turn (state_of old) before
-      → Makes made before after → is_asking old.phase ≡ true → IsSilent task (state_of old) turn → graphs_in (world_of before).codecs ≡ graphs → (a : IsAsking means verbs graphs task (course_of task lines before).written old (world_of before))
+      → Makes made before after → is_asking old.phase ≡ true → IsSilent task (state_of old) turn → graphs_in (world_of before).codecs ≡ graphs → (a : IsAsking means verbs graphs task (trail_of task lines before).written old (world_of before))
       → Looked old made first clock reads rest a.from a.read before after → AreNoLooks rest → IsDone task lines left state' after → Fine (state_of old) before → Fine (state_of old) after
   looked_fine left turn old state' made first clock reads rest before after opened makes asking silent graphs_are a looked none done fine =
       let rings = old.engine.rings in
@@ -201,7 +201,7 @@ module _ (means : Means) (verbs : RawCodec → List Command) (graphs : List RawC
       let calm : IsLast task state → AreCalm (requests_of rest) = λ last.
       calm_after (ask_accesses rirb clock rings reads) rest (calm_after first (ask_accesses rirb clock rings reads ++ rest)
       (subst (λ (made : List Event). AreCalm (requests_of made)) looked.made_is (calm_made task lines left turn state state' made before after opened makes.by are done silent last))) in
-      calm_row means graphs task lines state rest looked.ends after looked.rest_made.by none (λ answered. calm (last_of task (course_of task lines looked.ends) state polled.state_is old.early answered)) polled
+      calm_row means graphs task lines state rest looked.ends after looked.rest_made.by none (λ answered. calm (last_of task (trail_of task lines looked.ends) state polled.state_is old.early answered)) polled
 
   -- ---- by phase
 
@@ -216,17 +216,17 @@ module _ (means : Means) (verbs : RawCodec → List Command) (graphs : List RawC
   asking_in phase written bring_up world is stage = absurd (not_true is)
 
   -- at its beginning
-  pub called_fine : (left : List DriverLine) (turn : Option DriverLine) (old : BringUp) (before : Telling) → IsOpen task lines left turn (state_of old) before → IsBroughtUp means verbs graphs task (course_of task lines before).written old (world_of before)
+  pub called_fine : (left : List DriverLine) (turn : Option DriverLine) (old : BringUp) (before : Telling) → IsOpen task lines left turn (state_of old) before → IsBroughtUp means verbs graphs task (trail_of task lines before).written old (world_of before)
       → StaysSetUp means graphs task lines before → Fine (state_of old) before
   called_fine left turn old before opened stands set_up = record {
     set_up = set_up;
-    good = λ answered. ready_for_good means verbs graphs task laws of setter (course_of task lines before).written old (world_of before)
-        (sym (ap (λ (state : State). state.phase) opened.state_is) ∙ unlooked task (course_of task lines before) (early_as (course_of task lines before).state (state_of old) opened.state_is old.early) opened.unanswered answered) stands;
+    good = λ answered. ready_for_good means verbs graphs task laws of setter (trail_of task lines before).written old (world_of before)
+        (sym (ap (λ (state : State). state.phase) opened.state_is) ∙ unlooked task (trail_of task lines before) (early_as (trail_of task lines before).state (state_of old) opened.state_is old.early) opened.unanswered answered) stands;
     state_is = opened.state_is;
   }
 
   asking_fine : (left : List DriverLine) (budget : ℕ) (irq : Bool) (old new : BringUp) (before after : Telling) → IsOpen task lines left (Some (record { irq = irq; budget = budget })) (state_of old) before → graphs_in (world_of before).codecs ≡ graphs
-      → (a : IsAsking means verbs graphs task (course_of task lines before).written old (world_of before)) → (leads : Leads means irq old new (Some before) (Some after)) → (old.phase ≡ Ready → task.plays ≡ false) → is_asking old.phase ≡ true
+      → (a : IsAsking means verbs graphs task (trail_of task lines before).written old (world_of before)) → (leads : Leads means irq old new (Some before) (Some after)) → (old.phase ≡ Ready → task.plays ≡ false) → is_asking old.phase ≡ true
       → IsDone task lines left (state_of new) after → Fine (state_of old) before → LooksOn irq old new leads.made a.from a.read before after ⊎ IsStill old new leads.made a.from a.read after → Fine (state_of old) after
   asking_fine left budget irq old new before after opened graphs_are a leads silent asking done fine (inl on) =
       let corb = old.engine.corb.address in
@@ -236,14 +236,14 @@ module _ (means : Means) (verbs : RawCodec → List Command) (graphs : List RawC
       unlooked_fine left (Some (record { irq = irq; budget = budget })) (state_of old) (state_of new) leads.made before after opened leads.by.is (unread_no_looks leads.made still.unread) old.early done silent fine
 
   pub call_fine : (left : List DriverLine) (budget : ℕ) (irq : Bool) (old new : BringUp) (before after : Telling) → IsOpen task lines left (Some (record { irq = irq; budget = budget })) (state_of old) before
-      → IsBroughtUp means verbs graphs task (course_of task lines before).written old (world_of before) → Leads means irq old new (Some before) (Some after) → (old.phase ≡ Ready → task.plays ≡ false)
+      → IsBroughtUp means verbs graphs task (trail_of task lines before).written old (world_of before) → Leads means irq old new (Some before) (Some after) → (old.phase ≡ Ready → task.plays ≡ false)
       → IsDone task lines left (state_of new) after → Fine (state_of old) before → Fine (state_of old) after
   call_fine left budget irq old new before after opened stands leads silent done fine = by (is_asking old.phase) refl
     where
       by : (asks : Bool) → is_asking old.phase ≡ asks → Fine (state_of old) after
       by false not = unlooked_fine left (Some (record { irq = irq; budget = budget })) (state_of old) (state_of new) leads.made before after opened leads.by.is (unread_no_looks leads.made (leads.unread not)) old.early done silent fine
       by true asking =
-          let a = asking_in old.phase (course_of task lines before).written old (world_of before) asking stands.stage in
+          let a = asking_in old.phase (trail_of task lines before).written old (world_of before) asking stands.stage in
           asking_fine left budget irq old new before after opened stands.graphs_are a leads silent asking done fine ((leads.stays (asking_goes_on old.phase asking)).is a.from a.read a.stands)
 
   -- ---- the last call
@@ -255,12 +255,12 @@ module _ (means : Means) (verbs : RawCodec → List Command) (graphs : List RawC
 
   -- where the last access leads by what was read
   closed_to : (left : List DriverLine) (old new : BringUp) (made : List Event) (before after : Telling) → IsOpen task lines left None (state_of old) before → Makes made before after → AreAccesses made → IsDone task lines left (state_of new) after
-      → (let seen = seen_in (course_of task lines after) in (closed task (state_of old) seen (tally_next task (state_of old) None seen) old.phase).phase ≡ new.phase)
+      → (let seen = seen_in (trail_of task lines after) in (closed task (state_of old) seen (tally_next task (state_of old) None seen) old.phase).phase ≡ new.phase)
   closed_to left old new made before after opened makes are done =
       let row = accesses_row task lines made before after makes.by are in
-      let seen = seen_in (course_of task lines after) in
+      let seen = seen_in (trail_of task lines after) in
       ap (λ (state : State). (next task state None seen).phase) (sym (row.state_is ∙ opened.state_is))
-      ∙ ap (λ (turn : Option DriverLine). (next task (course_of task lines after).state turn seen).phase) (sym (row.turn_is ∙ opened.turn_is))
+      ∙ ap (λ (turn : Option DriverLine). (next task (trail_of task lines after).state turn seen).phase) (sym (row.turn_is ∙ opened.turn_is))
       ∙ ap (λ (state : State). state.phase) done.leads
 
   quiet_fine : (left : List DriverLine) (old new : BringUp) (before after : Telling) → IsOpen task lines left None (state_of old) before → Ends means old new (Some before) (Some after) → is_asking old.phase ≡ false
@@ -268,11 +268,11 @@ module _ (means : Means) (verbs : RawCodec → List Command) (graphs : List RawC
   quiet_fine left old new before after opened ends not done fine =
       let none = unread_no_looks ends.made (ends.unread not) in
       let leaves = unlooked_fine left None (state_of old) (state_of new) ends.made before after opened ends.by.is none old.early done (tt {0}) fine in
-      let seen = seen_in (course_of task lines after) in
+      let seen = seen_in (trail_of task lines after) in
       let still = closed_still task (state_of old) seen (tally_next task (state_of old) None seen) old.phase not old.early in
       let same : old.phase ≡ new.phase = sym (ap (λ (state : State). state.phase) still) ∙ closed_to left old new ends.made before after opened ends.by.is (no_looks_accesses ends.made none) done in record {
         fine = leaves;
-        ready = λ ready. leaves.good (ready_answered task (course_of task lines after) (ap (λ (state : State). state.phase) leaves.state_is ∙ same ∙ ready_phase new.phase new.early ready));
+        ready = λ ready. leaves.good (ready_answered task (trail_of task lines after) (ap (λ (state : State). state.phase) leaves.state_is ∙ same ∙ ready_phase new.phase new.early ready));
       }
 
   -- the outstanding command is the last, and was answered
@@ -297,21 +297,21 @@ module _ (means : Means) (verbs : RawCodec → List Command) (graphs : List RawC
       is_at_most a b less = search (rules, tests)
 
   last_fine : (left : List DriverLine) (old new : BringUp) (before after : Telling) → IsOpen task lines left None (state_of old) before → graphs_in (world_of before).codecs ≡ graphs
-      → (a : IsAsking means verbs graphs task (course_of task lines before).written old (world_of before)) → Ends means old new (Some before) (Some after) → is_asking old.phase ≡ true
+      → (a : IsAsking means verbs graphs task (trail_of task lines before).written old (world_of before)) → Ends means old new (Some before) (Some after) → is_asking old.phase ≡ true
       → IsDone task lines left (state_of new) after → Fine (state_of old) before → LeavesFine old new after
   last_fine left old new before after opened graphs_are a ends asking done fine =
       let on = (ends.looks asking).is a.from a.read a.stands in
       let none : AreNoLooks shut_accesses = (tt {0}, (tt {0}, (tt {0}, tt {0}))) in
       let leaves = looked_fine left None old (state_of new) ends.made [] on.clock on.reads shut_accesses before after opened ends.by.is asking (tt {0}) graphs_are a on.looked none done fine in
       let are = looked_accesses old ends.made [] on.clock on.reads shut_accesses a.from a.read before after on.looked shut_are in
-      let course = course_of task lines after in
-      let seen = seen_in course in
+      let trail = trail_of task lines after in
+      let seen = seen_in trail in
       let closes = closed_to left old new ends.made before after opened ends.by.is are done in record {
         fine = leaves;
         ready = λ ready.
             let by = closed_ready task (state_of old) seen (tally_next task (state_of old) None seen) old.phase asking asking (closes ∙ ready_phase new.phase new.early ready) in
-            let last = last_answered old.sent old.engine.rings.outstanding course.answered a.last (some_outstanding (course_of task lines before).written old (world_of before) asking a by.all) by.none by.all in
-            leaves.good (found_answered task course (record {
+            let last = last_answered old.sent old.engine.rings.outstanding trail.answered a.last (some_outstanding (trail_of task lines before).written old (world_of before) asking a by.all) by.none by.all in
+            leaves.good (found_answered task trail (record {
               asks_is = ap (λ (state : State). is_asking state.phase) leaves.state_is ∙ asking;
               within_is = done.within;
               sent_is = ap (λ (state : State). state.sent == length task.orders) leaves.state_is ∙ last.0;
@@ -319,10 +319,10 @@ module _ (means : Means) (verbs : RawCodec → List Command) (graphs : List RawC
             }));
       }
 
-  pub end_fine : (left : List DriverLine) (old new : BringUp) (before after : Telling) → IsOpen task lines left None (state_of old) before → IsBroughtUp means verbs graphs task (course_of task lines before).written old (world_of before)
+  pub end_fine : (left : List DriverLine) (old new : BringUp) (before after : Telling) → IsOpen task lines left None (state_of old) before → IsBroughtUp means verbs graphs task (trail_of task lines before).written old (world_of before)
       → Ends means old new (Some before) (Some after) → IsDone task lines left (state_of new) after → Fine (state_of old) before → LeavesFine old new after
   end_fine left old new before after opened stands ends done fine = by (is_asking old.phase) refl
     where
       by : (asks : Bool) → is_asking old.phase ≡ asks → LeavesFine old new after
       by false not = quiet_fine left old new before after opened ends not done fine
-      by true asking = last_fine left old new before after opened stands.graphs_are (asking_in old.phase (course_of task lines before).written old (world_of before) asking stands.stage) ends asking done fine
+      by true asking = last_fine left old new before after opened stands.graphs_are (asking_in old.phase (trail_of task lines before).written old (world_of before) asking stands.stage) ends asking done fine

@@ -15,7 +15,7 @@ use Rattle.hda_world.specs.Events.{Event}
 use Rattle.hda_world.specs.Tellings.{Telling, world_of}
 use Rattle.hda_world.specs.Discovery.{addresses_of}
 use Rattle.command_engine.specs.declared.answers.Outstanding.{Outstanding}
-use Rattle.command_engine.specs.Courses.{AscendFrom, graphs_in}
+use Rattle.command_engine.specs.Fetchings.{AscendFrom, graphs_in}
 use Rattle.command_engine.specs.Polling.{asked_of}
 use Rattle.command_engine.specs.Starting.{codecs_in}
 use Rattle.driver_agenda.specs.declared.agenda.Agenda.{Agenda}
@@ -30,8 +30,8 @@ use Rattle.driver_progress.specs.Phases.{is_asking, goes_on}
 use Rattle.driver_progress.specs.Tasks.{Task, DriverLine}
 use Rattle.driver_progress.specs.Seen.{Seen, seen_by, values_of}
 use Rattle.driver_progress.specs.States.{State}
-use Rattle.driver_progress.specs.Progress.{Course, course_of}
-use Rattle.driver_progress.proofs.Callers.{course_row}
+use Rattle.driver_progress.specs.Progress.{Trail, trail_of}
+use Rattle.driver_progress.proofs.Callers.{trail_row}
 use Rattle.driver_progress.specs.Answers.{AnswersAgree}
 use Rattle.driver_progress.specs.Beginning.{CanReset, IsSettling, IsUntaken}
 use Rattle.driver_progress.specs.Unread.{AreUnread}
@@ -152,12 +152,12 @@ module _ (means : Means) (verbs : RawCodec → List Command) (graphs : List RawC
     where
       by : (made : List Event) → new.engine.corb.address ≡ old.engine.corb.address → new.engine.rirb.address ≡ old.engine.rirb.address → new.sent ≡ 0 → new.agenda.graphs.items ≡ [] → All KeepsDefaults (world_of after).codecs → IsUntaken (world_of before).commands (world_of after)
           → (IsSettling old.engine.corb.address old.engine.rirb.address (world_of after) × (new.phase ≡ Settling)) ⊎ ((found_none irq made ≡ true) × CanReset old.engine.corb.address old.engine.rirb.address (world_of after) × (new.phase ≡ Reset))
-          → StandsIn new.phase means verbs graphs task (course_of task lines after).written new (world_of after)
+          → StandsIn new.phase means verbs graphs task (trail_of task lines after).written new (world_of after)
       by made corb rirb sent none defaults untaken (inl settles) =
-          subst (λ (phase : Phase). StandsIn phase means verbs graphs task (course_of task lines after).written new (world_of after)) (sym settles.1)
+          subst (λ (phase : Phase). StandsIn phase means verbs graphs task (trail_of task lines after).written new (world_of after)) (sym settles.1)
           (record { settling = subst (λ (rirb : ℕ). IsSettling new.engine.corb.address rirb (world_of after)) (sym rirb) (subst (λ (corb : ℕ). IsSettling corb old.engine.rirb.address (world_of after)) (sym corb) settles.0); defaults = defaults; none_sent = sent; none_walked = none })
       by made corb rirb sent none defaults untaken (inr still) =
-          subst (λ (phase : Phase). StandsIn phase means verbs graphs task (course_of task lines after).written new (world_of after)) (sym still.2)
+          subst (λ (phase : Phase). StandsIn phase means verbs graphs task (trail_of task lines after).written new (world_of after)) (sym still.2)
           (record {
             can = subst (λ (rirb : ℕ). CanReset new.engine.corb.address rirb (world_of after)) (sym rirb) (subst (λ (corb : ℕ). CanReset corb old.engine.rirb.address (world_of after)) (sym corb) still.1);
             stopped = untaken.stopped;
@@ -201,14 +201,14 @@ module _ (means : Means) (verbs : RawCodec → List Command) (graphs : List RawC
       }
     where
       by : (call : Called lines left budget irq old new before after) → Settles (found_none irq call.leads.made) (slice_index (values_of call.leads.made WALCLK) 0) (slice_index (values_of call.leads.made STATESTS) 0) (addresses_of (world_of before).codecs) (world_of before).commands old new (world_of after) → new.sent ≡ 0
-          → (new.phase ≡ old.phase) ⊎ ((new.phase ≡ Walking) × (new.engine.rings.outstanding ≡ None)) → StandsIn new.phase means verbs graphs task (course_of task lines after).written new (world_of after)
+          → (new.phase ≡ old.phase) ⊎ ((new.phase ≡ Walking) × (new.engine.rings.outstanding ≡ None)) → StandsIn new.phase means verbs graphs task (trail_of task lines after).written new (world_of after)
       by call settles sent (inl same) =
           let phase = same ∙ was in
           let none = ap (λ (agenda : Agenda). agenda.graphs.items) (same_agenda call (call.leads.unread (ap is_asking was)) (λ settling walking. settling_walks phase walking)) ∙ announce.none_walked in
           let corb = ap (λ corb. corb.address) call.kept.corb in
           let rirb = ap (λ rirb. rirb.address) call.kept.rirb in
           let stays = unchanged call.leads.made before after call.leads.by.is (settles.untaken phase) in
-          subst (λ (phase : Phase). StandsIn phase means verbs graphs task (course_of task lines after).written new (world_of after)) (sym phase)
+          subst (λ (phase : Phase). StandsIn phase means verbs graphs task (trail_of task lines after).written new (world_of after)) (sym phase)
           (record {
             settling = subst (λ (rirb : ℕ). IsSettling new.engine.corb.address rirb (world_of after)) (sym rirb) (subst (λ (corb : ℕ). IsSettling corb old.engine.rirb.address (world_of after)) (sym corb) (settles.early phase));
             defaults = stays.defaults announce.defaults;
@@ -228,13 +228,13 @@ module _ (means : Means) (verbs : RawCodec → List Command) (graphs : List RawC
             words = refl;
           } in
           let read_within = started.stands.reading.within in
-          subst (λ (phase : Phase). StandsIn phase means verbs graphs task (course_of task lines after).written new (world_of after)) (sym walks.0)
+          subst (λ (phase : Phase). StandsIn phase means verbs graphs task (trail_of task lines after).written new (world_of after)) (sym walks.0)
           (record {
             from = begun;
             read = started.read;
             stands = at_blocks means verbs graphs task laws of begun started.read old new (world_of after) call.kept started.stands;
-            agree = subst (λ (outstanding : Option Outstanding). AnswersAgree (asked_of outstanding) (course_of task lines after).written started.read (world_of after).written) (sym walks.1)
-                (notes.none (course_of task lines after).written started.read (world_of after).written (written_within task lines after) read_within);
+            agree = subst (λ (outstanding : Option Outstanding). AnswersAgree (asked_of outstanding) (trail_of task lines after).written started.read (world_of after).written) (sym walks.1)
+                (notes.none (trail_of task lines after).written started.read (world_of after).written (written_within task lines after) read_within);
             last = subst (λ (outstanding : Option Outstanding). IsLastSent task.orders new.sent outstanding) (sym walks.1) (tt {0});
             follows = subst (λ (count : ℕ). Follows means verbs graphs count new.agenda) (sym none)
                 (walks_first (slice_index (values_of call.leads.made STATESTS) 0) new.agenda (world_of before) call.graphs_are announce.settling.can_start.quiet.ascend (settles.codecs walks.0) (call.leads.begun was walks.0));
@@ -244,23 +244,23 @@ module _ (means : Means) (verbs : RawCodec → List Command) (graphs : List RawC
   -- ---- while commands are sent
 
   still_told : (lines left : List DriverLine) (budget : ℕ) (irq : Bool) (old new : BringUp) (before after : Telling) (call : Called lines left budget irq old new before after) → goes_on old.phase ≡ true
-      → (a : IsAsking means verbs graphs task (course_of task lines before).written old (world_of before)) → IsStill old new call.leads.made a.from a.read after → Ends lines left new after
+      → (a : IsAsking means verbs graphs task (trail_of task lines before).written old (world_of before)) → IsStill old new call.leads.made a.from a.read after → Ends lines left new after
   still_told lines left budget irq old new before after call goes a still =
       let leads = call.leads in
       let line : DriverLine = record { irq = irq; budget = budget } in
       let agrees = λ (asking : is_asking old.phase ≡ true) (on : goes_on new.phase ≡ true). subst (λ (bring_up : BringUp). Agrees task (answers_of bring_up.sent bring_up.engine.rings.outstanding) bring_up.agenda) (sym still.same) (laws.agrees _ old.agenda task a.follows of.is_for) in
-      let row = course_row task lines leads.made before after leads.by.is still.plain in
+      let row = trail_row task lines leads.made before after leads.by.is still.plain in
       let on = row_on leads.made before after leads.by.is in
-      let written : (course_of task lines before).written ≡ (course_of task lines after).written = sym (ap (λ (course : Course). course.written) row.0) in
+      let written : (trail_of task lines before).written ≡ (trail_of task lines after).written = sym (ap (λ (trail : Trail). trail.written) row.0) in
       let later : Later (world_of before) (world_of after) = record { on = on; remembers = row_remembers leads.made before after leads.by.is } in
       let stage = stage_on means verbs graphs task laws of.is_for of.right.well_formed old.sent old.engine.rings.outstanding old.agenda a.from (world_of before) (world_of after) a.stands.from_within later (record { last = a.last; follows = a.follows; taken = a.taken }) in
-      let asking : IsAsking means verbs graphs task (course_of task lines after).written old (world_of after) = record {
+      let asking : IsAsking means verbs graphs task (trail_of task lines after).written old (world_of after) = record {
         from = a.from;
         read = a.read;
         stands = still.stands;
         agree = subst (λ (written : ℕ). AnswersAgree (asked_of old.engine.rings.outstanding) written a.read (world_of after).written) written
-            (subst (λ (all : List Response). AnswersAgree (asked_of old.engine.rings.outstanding) (course_of task lines before).written a.read all) (sym on.written)
-            (notes.grows (asked_of old.engine.rings.outstanding) (course_of task lines before).written a.read (world_of before).written on.more_written a.agree));
+            (subst (λ (all : List Response). AnswersAgree (asked_of old.engine.rings.outstanding) (trail_of task lines before).written a.read all) (sym on.written)
+            (notes.grows (asked_of old.engine.rings.outstanding) (trail_of task lines before).written a.read (world_of before).written on.more_written a.agree));
         last = stage.last;
         follows = stage.follows;
         taken = stage.taken;
@@ -268,12 +268,12 @@ module _ (means : Means) (verbs : RawCodec → List Command) (graphs : List RawC
         done = unread_done task lines left (Some line) (state_of old) (state_of new) leads.made before after call.opened leads.by.is still.unread (stretch_of lines left budget irq old new before after call still.unread agrees)
             (λ some. going_finds old.phase (state_of old) (seen_by (values_of leads.made) false) goes);
         graphs_are = graphs_on lines left budget irq old new before after call;
-        stage = subst (λ (bring_up : BringUp). StandsIn bring_up.phase means verbs graphs task (course_of task lines after).written bring_up (world_of after)) (sym still.same)
-            (stands_in means verbs graphs task laws of old.phase (course_of task lines after).written old (world_of after) goes asking);
+        stage = subst (λ (bring_up : BringUp). StandsIn bring_up.phase means verbs graphs task (trail_of task lines after).written bring_up (world_of after)) (sym still.same)
+            (stands_in means verbs graphs task laws of old.phase (trail_of task lines after).written old (world_of after) goes asking);
       }
 
   asking_told : (lines left : List DriverLine) (budget : ℕ) (irq : Bool) (old new : BringUp) (before after : Telling) → Called lines left budget irq old new before after → goes_on old.phase ≡ true
-      → IsAsking means verbs graphs task (course_of task lines before).written old (world_of before) → Ends lines left new after
+      → IsAsking means verbs graphs task (trail_of task lines before).written old (world_of before) → Ends lines left new after
   asking_told lines left budget irq old new before after call goes a = by call ((call.leads.stays goes).is a.from a.read a.stands)
     where
       by : (call : Called lines left budget irq old new before after) → LooksOn irq old new call.leads.made a.from a.read before after ⊎ IsStill old new call.leads.made a.from a.read after → Ends lines left new after
@@ -286,7 +286,7 @@ module _ (means : Means) (verbs : RawCodec → List Command) (graphs : List RawC
 
   over_told : (lines left : List DriverLine) (budget : ℕ) (irq : Bool) (old new : BringUp) (before after : Telling) (phase : Phase) → Called lines left budget irq old new before after → old.phase ≡ phase → is_asking phase ≡ false
       → ((seen : Seen) (tally : Tally) → led task (state_of old) seen tally phase ≡ state_of old) → (phase ≡ Settling → ⊥) → ((seen : Seen) → FindsIn phase (state_of old) seen)
-      → (new.agenda ≡ old.agenda → new.sent ≡ old.sent → new.engine.rings.outstanding ≡ old.engine.rings.outstanding → StandsIn phase means verbs graphs task (course_of task lines after).written new (world_of after)) → Ends lines left new after
+      → (new.agenda ≡ old.agenda → new.sent ≡ old.sent → new.engine.rings.outstanding ≡ old.engine.rings.outstanding → StandsIn phase means verbs graphs task (trail_of task lines after).written new (world_of after)) → Ends lines left new after
   over_told lines left budget irq old new before after phase call was not still unsettled finds stage =
       let leads = call.leads in
       let line : DriverLine = record { irq = irq; budget = budget } in
@@ -302,13 +302,13 @@ module _ (means : Means) (verbs : RawCodec → List Command) (graphs : List RawC
         done = unread_done task lines left (Some line) (state_of old) (state_of new) leads.made before after call.opened leads.by.is unread stretch
             (λ some. subst (λ (phase : Phase). FindsIn phase (state_of old) seen) (sym was) (finds seen));
         graphs_are = graphs_on lines left budget irq old new before after call;
-        stage = subst (λ (phase : Phase). StandsIn phase means verbs graphs task (course_of task lines after).written new (world_of after)) (sym same) (stage (same_agenda call unread (λ settling walking. unsettled (sym was ∙ settling))) sent outstanding);
+        stage = subst (λ (phase : Phase). StandsIn phase means verbs graphs task (trail_of task lines after).written new (world_of after)) (sym same) (stage (same_agenda call unread (λ settling walking. unsettled (sym was ∙ settling))) sent outstanding);
       }
 
   -- ---- by phase
 
   pub call_told : (lines left : List DriverLine) (budget : ℕ) (irq : Bool) (old new : BringUp) (before after : Telling) (phase : Phase) → old.phase ≡ phase → Called lines left budget irq old new before after
-      → StandsIn phase means verbs graphs task (course_of task lines before).written old (world_of before) → Ends lines left new after
+      → StandsIn phase means verbs graphs task (trail_of task lines before).written old (world_of before) → Ends lines left new after
   call_told lines left budget irq old new before after Reset was call stage = reset_told lines left budget irq old new before after call was stage
   call_told lines left budget irq old new before after Settling was call stage = settle_told lines left budget irq old new before after call was stage
   call_told lines left budget irq old new before after Walking was call stage = asking_told lines left budget irq old new before after call (ap goes_on was) stage

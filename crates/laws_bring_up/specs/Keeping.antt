@@ -11,8 +11,8 @@ use Rattle.hda_world.specs.Tellings.{Telling, world_of, Went, Accessed}
 use Rattle.driver_progress.specs.declared.phase.Phase.TheVariants.{Ready}
 use Rattle.driver_progress.specs.Tasks.{Task, DriverLine}
 use Rattle.driver_progress.specs.States.{state_opened}
-use Rattle.driver_progress.specs.Progress as course
-use Rattle.driver_progress.specs.Progress.{course_of, IsProgress}
+use Rattle.driver_progress.specs.Progress as trail
+use Rattle.driver_progress.specs.Progress.{trail_of, IsProgress}
 use Rattle.driver_bring_up.specs.declared.bringing.BringUp.{BringUp}
 use Rattle.driver_bring_up.specs.Calls.{state_of, IsKept, Leads, Ends}
 use Rattle.laws_bring_up.specs.Stretches.{HasFound, IsAtRest, IsOpen, IsDone}
@@ -22,19 +22,19 @@ use Rattle.laws_bring_up.specs.SettingUp.{StaysSetUp, RemainSetUp}
 -- between two calls
 pub record IsUnderWay (means : Means) (verbs : RawCodec → List Command) (graphs : List RawCodec) (task : Task) (lines left : List DriverLine) (bring_up : BringUp) (telling : Telling) : Type 0 where
   pub rest : IsAtRest task lines left (state_of bring_up) telling
-  pub stands : IsBroughtUp means verbs graphs task (course_of task lines telling).written bring_up (world_of telling)
+  pub stands : IsBroughtUp means verbs graphs task (trail_of task lines telling).written bring_up (world_of telling)
   pub set_up : StaysSetUp means graphs task lines telling
 
 -- at the beginning of a stretch
 pub record IsCalled (means : Means) (verbs : RawCodec → List Command) (graphs : List RawCodec) (task : Task) (lines left : List DriverLine) (turn : Option DriverLine) (bring_up : BringUp) (telling : Telling) : Type 0 where
   pub opened : IsOpen task lines left turn (state_of bring_up) telling
-  pub stands : IsBroughtUp means verbs graphs task (course_of task lines telling).written bring_up (world_of telling)
+  pub stands : IsBroughtUp means verbs graphs task (trail_of task lines telling).written bring_up (world_of telling)
   pub set_up : StaysSetUp means graphs task lines telling
 
 -- once a call made its accesses
 pub record HasMade (means : Means) (verbs : RawCodec → List Command) (graphs : List RawCodec) (task : Task) (lines left : List DriverLine) (bring_up : BringUp) (telling : Telling) : Type 0 where
   pub done : IsDone task lines left (state_of bring_up) telling
-  pub stands : IsBroughtUp means verbs graphs task (course_of task lines telling).written bring_up (world_of telling)
+  pub stands : IsBroughtUp means verbs graphs task (trail_of task lines telling).written bring_up (world_of telling)
   pub set_up : StaysSetUp means graphs task lines telling
   pub remains : RemainSetUp means graphs task lines bring_up telling
 
@@ -57,7 +57,7 @@ pub record IsOver (means : Means) (graphs : List RawCodec) (task : Task) (lines 
 pub record HasGone (means : Means) (graphs : List RawCodec) (task : Task) (lines : List DriverLine) (bring_up : BringUp) (telling : Telling) : Type 0 where
   pub progress : IsProgress task lines telling
   pub finds : HasFound task lines telling
-  pub state_is : course.state_of task lines telling ≡ state_of bring_up
+  pub state_is : trail.state_of task lines telling ≡ state_of bring_up
   pub ended : IsEnded graphs task bring_up
   pub set_up : StaysSetUp means graphs task lines telling
 

@@ -10,23 +10,23 @@ use Rattle.hda_world.specs.Events.{Event, happens}
 use Rattle.hda_world.specs.Tellings.{Telling, world_of}
 use Rattle.driver_progress.specs.Phases.{is_asking, are_set_up}
 use Rattle.driver_progress.specs.Tasks.{Task, DriverLine}
-use Rattle.driver_progress.specs.Progress.{Course, course_of, course_opened, noted}
+use Rattle.driver_progress.specs.Progress.{Trail, trail_of, trail_opened, noted}
 use Rattle.driver_bring_up.specs.declared.bringing.BringUp.{BringUp}
 
 -- ---- the moments
 
 -- whether all commands were sent, and the look of a stretch that is open found the answer to the last of them
-abbrev pub found_last : Task → Course → Bool
-found_last task course = course.within && ((course.state.sent == length task.orders) && course.answered)
+abbrev pub found_last : Task → Trail → Bool
+found_last task trail = trail.within && ((trail.state.sent == length task.orders) && trail.answered)
 
 -- whether all commands are answered: the state says so, or the look of the open stretch
-abbrev pub are_answered : Task → Course → Bool
-are_answered task course = are_set_up course.state.phase || (is_asking course.state.phase && found_last task course)
+abbrev pub are_answered : Task → Trail → Bool
+are_answered task trail = are_set_up trail.state.phase || (is_asking trail.state.phase && found_last task trail)
 
--- something holds of world and course before the first of these events and after each of them
-abbrev pub Always : (World → Course → Type 0) → Task → List Event → World → Course → Type 0
-Always Holds task [] world course = Holds world course
-Always Holds task (event ∷ events) world course = Holds world course × Always Holds task events (happens world event) (noted task course world event)
+-- something holds of world and trail before the first of these events and after each of them
+abbrev pub Always : (World → Trail → Type 0) → Task → List Event → World → Trail → Type 0
+Always Holds task [] world trail = Holds world trail
+Always Holds task (event ∷ events) world trail = Holds world trail × Always Holds task events (happens world event) (noted task trail world event)
 
 -- ---- the codecs
 
@@ -41,13 +41,13 @@ abbrev pub AreSetUp : (means : Means) (graphs : List RawCodec) → World → Typ
 AreSetUp means graphs world = (graph : RawCodec) → Contains graphs graph → IsThere means graph world.codecs
 
 -- wherever all commands are answered, all codecs are set up
-abbrev pub SetUpAt : (means : Means) (graphs : List RawCodec) → Task → World → Course → Type 0
-SetUpAt means graphs task world course = are_answered task course ≡ true → AreSetUp means graphs world
+abbrev pub SetUpAt : (means : Means) (graphs : List RawCodec) → Task → World → Trail → Type 0
+SetUpAt means graphs task world trail = are_answered task trail ≡ true → AreSetUp means graphs world
 
 -- at every moment that is told
 abbrev pub StaysSetUp : (means : Means) (graphs : List RawCodec) → Task → (lines : List DriverLine) → Telling → Type 0
 StaysSetUp means graphs task lines telling =
-    Always (SetUpAt means graphs task) task telling.journal telling.start (course_opened lines)
+    Always (SetUpAt means graphs task) task telling.journal telling.start (trail_opened lines)
 
 -- ---- why it stays so
 
@@ -62,5 +62,5 @@ pub record AreSetUpForGood (means : Means) (graphs : List RawCodec) (world : Wor
 
 -- so it is in an open stretch whose accesses were made, where all commands are answered then or by where it leads
 pub record RemainSetUp (means : Means) (graphs : List RawCodec) (task : Task) (lines : List DriverLine) (bring_up : BringUp) (telling : Telling) : Type 0 where
-  pub before : are_answered task (course_of task lines telling) ≡ true → AreSetUpForGood means graphs (world_of telling)
+  pub before : are_answered task (trail_of task lines telling) ≡ true → AreSetUpForGood means graphs (world_of telling)
   pub after : are_set_up bring_up.phase ≡ true → AreSetUpForGood means graphs (world_of telling)

@@ -7,7 +7,7 @@ use Rattle.route_setup.specs.Means.{Means}
 use Rattle.codec_graph.specs.CodecStates.{CodecState}
 use Rattle.hda_world.specs.Worlds.{World}
 use Rattle.command_engine.specs.declared.answers.Outstanding.{Outstanding}
-use Rattle.command_engine.specs.Courses.{Stands, graphs_in}
+use Rattle.command_engine.specs.Fetchings.{Stands, graphs_in}
 use Rattle.command_engine.specs.Polling.{asked_of}
 use Rattle.driver_agenda.specs.Following.{AreRight, Follows}
 use Rattle.laws_settings.specs.Histories.{Remembers, words_of}

@@ -11,7 +11,7 @@ ghost use Rattle.hda_world.specs.Events.{Stepped, Begin, End};
 ghost use Rattle.hda_world.specs.Tellings.{Telling, Went, Accessed};
 ghost use Rattle.driver_progress.specs.Tasks.{Task, DriverLine};
 ghost use Rattle.driver_progress.specs.States.{State, state_opened};
-ghost use Rattle.driver_progress.specs.Progress.{course_of, state_of, IsProgress};
+ghost use Rattle.driver_progress.specs.Progress.{trail_of, state_of, IsProgress};
 ghost use Rattle.laws_bring_up.specs.Stretches.{Finds, HasFound, IsAtRest, IsOpen, IsDone};
 ghost use Rattle.laws_bring_up.specs.Standing.{IsTaskOfCodecs, IsBroughtUp};
 ghost use Rattle.laws_bring_up.specs.SettingUp.{AreSetUp};
@@ -40,7 +40,7 @@ pub fn stretches_are_progress()
         × HasFound task lines telling }
     ensures done { (task : Task) (lines left : List DriverLine) (state' : State) (telling : Telling)
         → IsDone task lines left state' telling → IsProgress task lines telling × (state_of task lines telling ≡ state')
-        × HasFound task lines telling × Finds (course_of task lines telling) }
+        × HasFound task lines telling × Finds (trail_of task lines telling) }
 {}
 
 /// Each call of a bring-up in an open stretch of its own, for an interrupt or not, makes just the accesses that

@@ -15,7 +15,7 @@ use Rattle.driver_progress.specs.Tasks.{Task, DriverLine}
 use Rattle.driver_progress.specs.Seen.{Seen}
 use Rattle.driver_progress.specs.States.{State}
 use Rattle.driver_progress.specs.Next.{expected}
-use Rattle.driver_progress.specs.Progress.{course_of, seen_in, Fits}
+use Rattle.driver_progress.specs.Progress.{trail_of, seen_in, Fits}
 use Rattle.driver_progress.specs.Shutting.{shut_accesses}
 use Rattle.driver_progress.specs.Unread.{AreAccesses}
 use Rattle.driver_progress.proofs.Callers.{asking_goes_on}
@@ -35,21 +35,21 @@ StretchesRest = (task : Task) (state : State) (turn : Option DriverLine) (seen :
 
 -- the accesses of a stretch that fits
 pub made_rest : StretchesRest → (task : Task) (lines left : List DriverLine) (turn : Option DriverLine) (state : State) (made : List Event) (before after : Telling) → IsOpen task lines left turn state before → Makes made before after → AreAccesses made
-    → plays_in task turn state.phase ≡ false → Fits task (course_of task lines after) → All LeavesRest made
+    → plays_in task turn state.phase ≡ false → Fits task (trail_of task lines after) → All LeavesRest made
 made_rest stretches task lines left turn state made before after opened makes are silent fits =
     let row = accesses_row task lines made before after makes.by are in
-    let course = course_of task lines after in
+    let trail = trail_of task lines after in
     let turn_is = row.turn_is ∙ opened.turn_is in
     let state_is = row.state_is ∙ opened.state_is in
-    let still : plays_in task course.turn course.state.phase ≡ false =
-    ap (λ (turn : Option DriverLine). plays_in task turn course.state.phase) turn_is ∙ ap (λ (state : State). plays_in task turn state.phase) state_is ∙ silent in
-    subst (All LeavesRest) (row.made_is ∙ ap (λ (front : List Event). front ++ made) opened.none_made) (stretches task course.state course.turn (seen_in course) course.made still fits)
+    let still : plays_in task trail.turn trail.state.phase ≡ false =
+    ap (λ (turn : Option DriverLine). plays_in task turn trail.state.phase) turn_is ∙ ap (λ (state : State). plays_in task turn state.phase) state_is ∙ silent in
+    subst (All LeavesRest) (row.made_is ∙ ap (λ (front : List Event). front ++ made) opened.none_made) (stretches task trail.state trail.turn (seen_in trail) trail.made still fits)
 
 -- ---- what a bring-up makes are accesses
 
 module _ (means : Means) (verbs : RawCodec → List Command) (graphs : List RawCodec) (task : Task)
     (laws : AgendaLaws means verbs graphs) (of : IsTaskOfCodecs means verbs graphs task) (setter : SetterLaws means) (notes : Laws) (lines : List DriverLine) where
-  pub leads_accesses : (irq : Bool) (old new : BringUp) (before after : Telling) → IsBroughtUp means verbs graphs task (course_of task lines before).written old (world_of before)
+  pub leads_accesses : (irq : Bool) (old new : BringUp) (before after : Telling) → IsBroughtUp means verbs graphs task (trail_of task lines before).written old (world_of before)
       → (leads : Leads means irq old new (Some before) (Some after)) → AreAccesses leads.made
   leads_accesses irq old new before after stands leads = by (is_asking old.phase) refl
     where
@@ -62,16 +62,16 @@ module _ (means : Means) (verbs : RawCodec → List Command) (graphs : List RawC
       by : (asks : Bool) → is_asking old.phase ≡ asks → AreAccesses leads.made
       by false not = unread_accesses leads.made (leads.unread not)
       by true asking =
-          let a = asking_in means verbs graphs task laws of setter notes lines old.phase (course_of task lines before).written old (world_of before) asking stands.stage in
+          let a = asking_in means verbs graphs task laws of setter notes lines old.phase (trail_of task lines before).written old (world_of before) asking stands.stage in
           looks a.from a.read ((leads.stays (asking_goes_on old.phase asking)).is a.from a.read a.stands)
 
-  pub ends_accesses : (old new : BringUp) (before after : Telling) → IsBroughtUp means verbs graphs task (course_of task lines before).written old (world_of before)
+  pub ends_accesses : (old new : BringUp) (before after : Telling) → IsBroughtUp means verbs graphs task (trail_of task lines before).written old (world_of before)
       → (ends : Ends means old new (Some before) (Some after)) → AreAccesses ends.made
   ends_accesses old new before after stands ends = by (is_asking old.phase) refl
     where
       by : (asks : Bool) → is_asking old.phase ≡ asks → AreAccesses ends.made
       by false not = unread_accesses ends.made (ends.unread not)
       by true asking =
-          let a = asking_in means verbs graphs task laws of setter notes lines old.phase (course_of task lines before).written old (world_of before) asking stands.stage in
+          let a = asking_in means verbs graphs task laws of setter notes lines old.phase (trail_of task lines before).written old (world_of before) asking stands.stage in
           let on = (ends.looks asking).is a.from a.read a.stands in
           looked_accesses old ends.made [] on.clock on.reads shut_accesses a.from a.read before after on.looked shut_are

@@ -48,8 +48,8 @@ appends_calm : (task : Task) (state : State) (budget : ℕ) (seen : Seen) → Ar
 appends_calm task state budget seen =
     let facts = facts_seen task state budget seen in
     let m = measures task.geometry in
-    let course = state.tally.course in
-    rows_calm (period_bytes task.geometry.period) task.blocks.periods (run_start m course facts) (run_sound m course facts) course.reach (run_reach m course facts) (drop course.used task.pcm)
+    let trail = state.tally.course in
+    rows_calm (period_bytes task.geometry.period) task.blocks.periods (run_start m trail facts) (run_sound m trail facts) trail.reach (run_reach m trail facts) (drop trail.used task.pcm)
 
 starts_calm : (task : Task) (state : State) (budget : ℕ) (seen : Seen) → AreCalm (starts task state budget seen)
 starts_calm task state budget seen =

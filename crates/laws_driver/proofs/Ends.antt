@@ -17,7 +17,7 @@ use Rattle.period_writer.specs.Outcomes.{HasNotWrapped}
 use Rattle.driver_progress.specs.declared.phase.Phase.TheVariants.{Ready}
 use Rattle.driver_progress.specs.States.{State}
 use Rattle.driver_progress.specs.Tasks.{Task, DriverLine, walks_over}
-use Rattle.driver_progress.specs.Progress.{course_of}
+use Rattle.driver_progress.specs.Progress.{trail_of}
 use Rattle.driver_progress.specs.Phases.{are_set_up}
 use Rattle.driver_agenda.specs.declared.agenda.Agenda.{Agenda}
 use Rattle.driver_bring_up.specs.declared.bringing.BringUp.{BringUp}
@@ -116,7 +116,7 @@ module _ (means : Means) (verbs : RawCodec → List Command) (graphs : List RawC
       was_ready = (plays_then task.plays old.bring_up now).1
 
       ready : IsReady means verbs graphs task laws.agenda laws.of laws.setter old.bring_up (world_of begun)
-      ready = ready_stands means verbs graphs task laws.agenda laws.of laws.setter (course_of task lines begun).written old.bring_up (world_of begun) was_ready called.stands
+      ready = ready_stands means verbs graphs task laws.agenda laws.of laws.setter (trail_of task lines begun).written old.bring_up (world_of begun) was_ready called.stands
 
       state_is : state_in old ≡ bringing.state_of old.bring_up
       state_is = silent_state old.bring_up old.writer is.silent.fresh

@@ -16,7 +16,7 @@ use Rattle.period_writer.specs.Outcomes.{HasNotWrapped}
 use Rattle.driver_progress.specs.declared.phase.Phase.TheVariants.{Ready}
 use Rattle.driver_progress.specs.States.{State}
 use Rattle.driver_progress.specs.Tasks.{Task, DriverLine, walks_over}
-use Rattle.driver_progress.specs.Progress.{course_of}
+use Rattle.driver_progress.specs.Progress.{trail_of}
 use Rattle.driver_progress.specs.Phases.{are_set_up}
 use Rattle.driver_bring_up.specs.Commanding.{IsStretch, answer_in}
 use Rattle.driver_agenda.specs.declared.agenda.Agenda.{Agenda}
@@ -55,7 +55,7 @@ module _ (means : Means) (verbs : RawCodec → List Command) (graphs : List RawC
   called = laws.told.opens lines (line ∷ left) old.bring_up before begun begins is.under_way
 
   ready : IsReady means verbs graphs task laws.agenda laws.of laws.setter old.bring_up (world_of begun)
-  ready = ready_stands means verbs graphs task laws.agenda laws.of laws.setter (course_of task lines begun).written old.bring_up (world_of begun) was_ready called.stands
+  ready = ready_stands means verbs graphs task laws.agenda laws.of laws.setter (trail_of task lines begun).written old.bring_up (world_of begun) was_ready called.stands
 
   call : sounding.Sounds line.irq line.budget old.bring_up new.bring_up old.writer new.writer old.supply new.supply (Some begun) (Some made)
   call = calls.sounds now
@@ -92,7 +92,7 @@ module _ (means : Means) (verbs : RawCodec → List Command) (graphs : List RawC
     has_made =
         let stands = still_stands means verbs graphs task laws.agenda laws.of laws.notes lines old.bring_up call.made begun made was_ready still.looks call.by.is called.stands in record {
           done = subst (λ (state : State). IsDone task lines left state made) (silent_state new.bring_up new.writer still_fresh) played.done;
-          stands = subst (λ (bring_up : BringUp). IsBroughtUp means verbs graphs task (course_of task lines made).written bring_up (world_of made)) (sym still.bring_up) stands;
+          stands = subst (λ (bring_up : BringUp). IsBroughtUp means verbs graphs task (trail_of task lines made).written bring_up (world_of made)) (sym still.bring_up) stands;
           set_up = played.good.set_up;
           remains = record { before = λ answered. played.good.good; after = λ up. played.good.good };
         }

@@ -9,7 +9,7 @@ use Rattle.route_setup.specs.Means.{Means}
 use Rattle.world_steps.specs.declared.Step.{Step}
 use Rattle.hda_world.specs.Events.{Event, Stepped, Begin, End, IsNoStep}
 use Rattle.hda_world.specs.Tellings.{Telling, world_of, Went, Accessed, Makes}
-use Rattle.command_engine.specs.Courses.{Stands}
+use Rattle.command_engine.specs.Fetchings.{Stands}
 use Rattle.period_writer.specs.Runs.{Tally}
 use Rattle.period_writer.specs.Standing.{Ring}
 use Rattle.period_writer.specs.Writers.{WriterState, tally_of, ring_of}

@@ -12,13 +12,13 @@ use Rattle.hda_world.specs.Tellings.{Telling, world_of, Went, Accessed, MakesBy}
 use Rattle.hda_world.proofs.Callers.{world_of-went, steps_after}
 use Rattle.driver_progress.specs.Requests.{requests_in, requests_of}
 use Rattle.driver_progress.specs.Tasks.{Task, DriverLine}
-use Rattle.driver_progress.specs.Progress.{Course, course_of, course_after, course_opened, noted}
+use Rattle.driver_progress.specs.Progress.{Trail, trail_of, trail_after, trail_opened, noted}
 use Rattle.laws_bring_up.specs.SettingUp.{are_answered, Always, SetUpAt, StaysSetUp, AreSetUpForGood, IsIdle}
 use Rattle.laws_bring_up.proofs.Callers.{world_after, access_always, steps_always, steps_for_good, write_for_good, AreCalm, calm_front, calm_back}
 
-always_end : (Holds : World → Course → Type 0) (task : Task) (events : List Event) (world : World) (course : Course) → Always Holds task events world course → Holds (after events world) (course_after task events world course)
-always_end Holds task [] world course all = all
-always_end Holds task (event ∷ events) world course all = always_end Holds task events (happens world event) (noted task course world event) all.1
+always_end : (Holds : World → Trail → Type 0) (task : Task) (events : List Event) (world : World) (trail : Trail) → Always Holds task events world trail → Holds (after events world) (trail_after task events world trail)
+always_end Holds task [] world trail all = all
+always_end Holds task (event ∷ events) world trail all = always_end Holds task events (happens world event) (noted task trail world event) all.1
 
 module _ (means : Means) (graphs : List RawCodec) (task : Task) (lines : List DriverLine) where
   -- at every moment until now, and from now on
@@ -27,12 +27,12 @@ module _ (means : Means) (graphs : List RawCodec) (task : Task) (lines : List Dr
     pub good : AreSetUpForGood means graphs (world_of telling)
 
   -- where the phase says that they are, and no command is under way
-  pub good_now : (telling : Telling) → StaysSetUp means graphs task lines telling → are_answered task (course_of task lines telling) ≡ true → IsIdle (world_of telling) → StayGood telling
+  pub good_now : (telling : Telling) → StaysSetUp means graphs task lines telling → are_answered task (trail_of task lines telling) ≡ true → IsIdle (world_of telling) → StayGood telling
   good_now telling set_up answered idle = record {
     set_up = set_up;
     good = record {
       idle = idle;
-      set_up = always_end (SetUpAt means graphs task) task telling.journal telling.start (course_opened lines) set_up answered;
+      set_up = always_end (SetUpAt means graphs task) task telling.journal telling.start (trail_opened lines) set_up answered;
     };
   }
 

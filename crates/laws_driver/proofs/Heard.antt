@@ -16,7 +16,7 @@ use Rattle.period_writer.specs.Writers.{WriterState}
 use Rattle.driver_progress.specs.Phases.{is_asking, are_set_up}
 use Rattle.driver_progress.specs.States.{State}
 use Rattle.driver_progress.specs.Tasks.{Task, DriverLine, walks_over}
-use Rattle.driver_progress.specs.Progress.{course_of}
+use Rattle.driver_progress.specs.Progress.{trail_of}
 use Rattle.driver_agenda.specs.declared.agenda.Agenda.{Agenda}
 use Rattle.driver_bring_up.specs.declared.bringing.BringUp.{BringUp}
 use Rattle.laws_bring_up.proofs.Callers.{opens, closes, rest_stays}
@@ -53,10 +53,10 @@ module _ (means : Means) (verbs : RawCodec → List Command) (graphs : List RawC
 
   pub heard_good : (left : List DriverLine) (parts : Parts) (telling : Telling) → Heard left parts telling → StayGood means graphs task lines telling
   heard_good left parts telling is =
-      let course = course_of task lines telling in
-      let up : are_set_up course.state.phase ≡ true = ap (λ (state : State). are_set_up state.phase) is.rest.state_is ∙ heard_set_up left parts telling is in
+      let trail = trail_of task lines telling in
+      let up : are_set_up trail.state.phase ≡ true = ap (λ (state : State). are_set_up state.phase) is.rest.state_is ∙ heard_set_up left parts telling is in
       good_now means graphs task lines telling is.set_up
-      (ap (λ (up : Bool). up || (is_asking course.state.phase && (course.within && ((course.state.sent == length task.orders) && course.answered)))) up) is.sounds.by.heard.steady.idle
+      (ap (λ (up : Bool). up || (is_asking trail.state.phase && (trail.within && ((trail.state.sent == length task.orders) && trail.answered)))) up) is.sounds.by.heard.steady.idle
 
   pub heard_steps : (left : List DriverLine) (parts : Parts) (steps : List Step) (old new : Telling) → Went old new (map Stepped steps) → Heard left parts old → Heard left parts new
   heard_steps left parts steps old new went is =

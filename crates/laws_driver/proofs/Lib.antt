@@ -1,5 +1,5 @@
 pub mod Calm
-pub mod Course
+pub mod Trail
 pub mod Good
 pub mod Rest
 pub mod States

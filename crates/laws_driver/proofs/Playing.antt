@@ -16,7 +16,7 @@ use Rattle.driver_bring_up.specs.Commanding.{IsStretch, answer_in}
 use Rattle.laws_bring_up.specs.Stretches.{IsOpen, IsDone}
 use Rattle.laws_bring_up.proofs.Callers.{AreCalm}
 use Rattle.laws_driver.proofs.Calm.{expected_calm}
-use Rattle.laws_driver.proofs.Course.{idle_done}
+use Rattle.laws_driver.proofs.Trails.{idle_done}
 use Rattle.laws_driver.proofs.Good.{StayGood, row_good}
 
 module _ (means : Means) (graphs : List RawCodec) (task : Task) (lines left : List DriverLine) (turn : Option DriverLine) where

@@ -13,7 +13,7 @@ use Rattle.hda_registers.specs.declared.shapes.Width.TheVariants.{One, Four}
 use Rattle.hda_registers.specs.declared.places.TheConstants.{INTSTS}
 use Rattle.hda_world.specs.Events.{Event, Read, Write}
 use Rattle.hda_world.specs.Tellings.{Telling, world_of, Makes}
-use Rattle.command_engine.specs.Courses as engine
+use Rattle.command_engine.specs.Fetchings as engine
 use Rattle.command_engine.specs.Polling.{asked_of}
 use Rattle.laws_settings.proofs.Callers.{remembers_itself}
 use Rattle.driver_progress.specs.declared.registers.TheConstants.{STREAM_STATUS}
@@ -21,9 +21,9 @@ use Rattle.driver_progress.specs.declared.phase.Phase.{Phase}
 use Rattle.driver_progress.specs.declared.phase.Phase.TheVariants.{Ready}
 use Rattle.driver_progress.specs.Tasks.{Task, DriverLine}
 use Rattle.driver_progress.specs.Seen.{interrupts_at, stream_interrupts_at}
-use Rattle.driver_progress.specs.Progress.{Course, course_of}
+use Rattle.driver_progress.specs.Progress.{Trail, trail_of}
 use Rattle.driver_progress.specs.Noting.{ArePlain}
-use Rattle.driver_progress.proofs.Callers.{course_row}
+use Rattle.driver_progress.proofs.Callers.{trail_row}
 use Rattle.driver_progress.specs.Answers.{AnswersAgree}
 use Rattle.driver_progress.specs.Interrupts.{clear_accesses}
 use Rattle.driver_bring_up.specs.declared.bringing.BringUp.{BringUp}
@@ -64,19 +64,19 @@ look_beside corb rirb = look_all (engine.IsBeside corb rirb) (λ at value width.
 module _ (means : Means) (verbs : RawCodec → List Command) (graphs : List RawCodec) (task : Task) (laws : AgendaLaws means verbs graphs)
     (of : IsTaskOfCodecs means verbs graphs task) (notes : Laws) (lines : List DriverLine) where
   pub still_stands : (bring_up : BringUp) (made : List Event) (before after : Telling) → bring_up.phase ≡ Ready → (made ≡ []) ⊎ IsLook made → Makes made before after
-      → IsBroughtUp means verbs graphs task (course_of task lines before).written bring_up (world_of before) → IsBroughtUp means verbs graphs task (course_of task lines after).written bring_up (world_of after)
+      → IsBroughtUp means verbs graphs task (trail_of task lines before).written bring_up (world_of before) → IsBroughtUp means verbs graphs task (trail_of task lines after).written bring_up (world_of after)
   still_stands bring_up made before after was looks makes stands =
       let corb = bring_up.engine.corb.address in
       let rirb = bring_up.engine.rirb.address in
       let rings = bring_up.engine.rings in
-      let written = (course_of task lines before).written in
+      let written = (trail_of task lines before).written in
       let a : IsAsking means verbs graphs task written bring_up (world_of before) = subst (λ (phase : Phase). StandsIn phase means verbs graphs task written bring_up (world_of before)) was stands.stage in
       let on = row_on made before after makes in
       let later : Later (world_of before) (world_of after) = record { on = on; remembers = row_remembers made before after makes } in
       let stage = stage_on means verbs graphs task laws of.is_for of.right.well_formed bring_up.sent rings.outstanding bring_up.agenda a.from (world_of before) (world_of after) a.stands.from_within later
       (record { last = a.last; follows = a.follows; taken = a.taken }) in
-      let same : written ≡ (course_of task lines after).written = sym (ap (λ (course : Course). course.written) (course_row task lines made before after makes (look_plain made looks)).0) in
-      let asking : IsAsking means verbs graphs task (course_of task lines after).written bring_up (world_of after) = record {
+      let same : written ≡ (trail_of task lines after).written = sym (ap (λ (trail : Trail). trail.written) (trail_row task lines made before after makes (look_plain made looks)).0) in
+      let asking : IsAsking means verbs graphs task (trail_of task lines after).written bring_up (world_of after) = record {
         from = a.from;
         read = a.read;
         stands = stands_row a.from a.read corb rirb rings made before after makes (look_beside corb rirb made looks) a.stands;
@@ -89,5 +89,5 @@ module _ (means : Means) (verbs : RawCodec → List Command) (graphs : List RawC
       } in record {
         blocks = stands.blocks;
         graphs_are = (row_remembers made before after makes (world_of before).codecs (length (world_of before).commands) (remembers_itself (world_of before))).graphs ∙ stands.graphs_are;
-        stage = subst (λ (phase : Phase). StandsIn phase means verbs graphs task (course_of task lines after).written bring_up (world_of after)) (sym was) asking;
+        stage = subst (λ (phase : Phase). StandsIn phase means verbs graphs task (trail_of task lines after).written bring_up (world_of after)) (sym was) asking;
       }

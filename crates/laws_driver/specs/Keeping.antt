@@ -14,7 +14,7 @@ use Rattle.period_writer.specs.Outcomes.{HasNotWrapped}
 use Rattle.driver_progress.specs.declared.phase.Phase.TheVariants.{Ready}
 use Rattle.driver_progress.specs.Tasks.{Task, DriverLine}
 use Rattle.driver_progress.specs.States.{state_opened}
-use Rattle.driver_progress.specs.Progress as course
+use Rattle.driver_progress.specs.Progress as trail
 use Rattle.driver_progress.specs.Progress.{IsProgress}
 use Rattle.driver_bring_up.specs.declared.bringing.BringUp.{BringUp}
 use Rattle.driver_bring_up.specs.Calls as bringing
@@ -83,7 +83,7 @@ pub record WasHeard (means : Means) (graphs : List RawCodec) (task : Task) (tall
 pub record HasGone (means : Means) (graphs : List RawCodec) (task : Task) (lines : List DriverLine) (ended : BringUp) (tally : Tally) (last : List Event) (telling : Telling) : Type 0 where
   pub progress : IsProgress task lines telling
   pub finds : HasFound task lines telling
-  pub state_is : course.state_of task lines telling ≡ state_with ended tally
+  pub state_is : trail.state_of task lines telling ≡ state_with ended tally
   pub ended_is : IsEnded graphs task ended
   -- where sound was played the bring-up was over
   pub ready : tally.course.started ≡ true → ended.phase ≡ Ready

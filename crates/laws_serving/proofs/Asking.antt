@@ -19,7 +19,7 @@ use Rattle.command_engine.specs.Entries.{answers_it, answer_among}
 use Rattle.command_engine.specs.Submitting.{submit_accesses}
 use Rattle.command_engine.specs.Polling.{PollReads, AreNew, poll_accesses, asked_of, found_by, rings_polled, still_outstanding}
 use Rattle.command_engine.specs.Told.{found_since}
-use Rattle.command_engine.specs.Courses.{Stands}
+use Rattle.command_engine.specs.Fetchings.{Stands}
 use Rattle.command_engine.specs.Belonging.{from_after, as_held}
 use Rattle.command_engine.proofs.Callers.{steps_keep_standing, responses_apart}
 use Rattle.period_writer.specs.Runs.{Tally, tally_opened, taken_up, measures}
@@ -33,14 +33,14 @@ use Rattle.driver_progress.specs.Requests.{Request, requests_of}
 use Rattle.driver_progress.specs.Expected as expected
 use Rattle.driver_progress.specs.Expected.{is_free, next_order, polls, submits, runs, interrupted_if}
 use Rattle.driver_progress.specs.Next.{outstanding_if, polled, phase_of_answers, phase_polled, after_poll, submitted_if, after_commands, led, closed, tally_next, next, budget_of}
-use Rattle.driver_progress.specs.Progress.{Course, seen_in, begun}
+use Rattle.driver_progress.specs.Progress.{Trail, seen_in, begun}
 use Rattle.driver_progress.proofs.Callers.{asking_runs, asking_led, asking_closes, asking_closed}
 use Rattle.rig.specs.Follows.{AreAccesses}
 use Rattle.world_steps.specs.declared.Step.TheVariants as step
 use Rattle.laws_serving.specs.ServingDevices.{keeps_answers, KeepAnswers, HasItsCodec, StandsServed, NamesItsCodec, IsComing}
 use Rattle.laws_serving.proofs.Requests.{reads_first, in_two, polled_as, submitted_as, none_asked}
 use Rattle.laws_serving.proofs.Rows.{CalmRow, row_split}
-use Rattle.laws_serving.proofs.Notes.{gets, asks_none, batch_if, reads_none_both, batch_reads_none, none_read, notes, notes_stay, look_answered, submission_written, course_made, IsNoted}
+use Rattle.laws_serving.proofs.Notes.{gets, asks_none, batch_if, reads_none_both, batch_reads_none, none_read, notes, notes_stay, look_answered, submission_written, trail_made, IsNoted}
 use Rattle.laws_serving.specs.ServingSchedules.{IsOfStreams}
 use Rattle.laws_serving.proofs.Worlds.{IsTimed, IsBeside, timed_row, SameLink, link_same, link_then}
 use Rattle.laws_serving.proofs.Engines.{EnginesRun, RunsOn, at_first, runs_step}
@@ -70,16 +70,16 @@ abbrev pub answers_since : (outstanding : Option Outstanding) (count : ℕ) → 
 answers_since outstanding count world = list_any (answers_it (asked_of outstanding)) (drop count world.written)
 
 -- before a call by which commands are sent: the engine stands to a device that serves, and what is outstanding is answered
-pub record IsFree (task : Task) (sent least : ℕ) (course : Course) (world : World) : Type 0 where
-  pub phase : is_asking course.state.phase ≡ true
-  pub sent_is : course.state.sent ≡ sent
-  pub tally_is : course.state.tally ≡ tally_opened
+pub record IsFree (task : Task) (sent least : ℕ) (trail : Trail) (world : World) : Type 0 where
+  pub phase : is_asking trail.state.phase ≡ true
+  pub sent_is : trail.state.sent ≡ sent
+  pub tally_is : trail.state.tally ≡ tally_opened
   pub from : ℕ
   pub read : ℕ
-  pub served : StandsServed from read task.blocks.corb task.blocks.rirb course.state.rings world
-  pub names : NamesItsCodec course.state.rings.outstanding
-  pub agree : answers_since course.state.rings.outstanding course.written world ≡ answers_since course.state.rings.outstanding read world
-  pub free : is_free course.state.rings.outstanding (answers_since course.state.rings.outstanding course.written world) ≡ true
+  pub served : StandsServed from read task.blocks.corb task.blocks.rirb trail.state.rings world
+  pub names : NamesItsCodec trail.state.rings.outstanding
+  pub agree : answers_since trail.state.rings.outstanding trail.written world ≡ answers_since trail.state.rings.outstanding read world
+  pub free : is_free trail.state.rings.outstanding (answers_since trail.state.rings.outstanding trail.written world) ≡ true
   pub timed : IsTimed least world
 
 -- ---- the accesses
@@ -203,61 +203,61 @@ look_leads looks task least from read rings clock reads back world new fresh nam
 -- ---- a call
 
 -- after a call that sent a command: it is outstanding, and comes
-pub record IsSent (task : Task) (sent least : ℕ) (order : Order) (course : Course) (world : World) : Type 0 where
-  pub phase : is_asking course.state.phase ≡ true
-  pub sent_is : course.state.sent ≡ sent
-  pub tally_is : course.state.tally ≡ tally_opened
+pub record IsSent (task : Task) (sent least : ℕ) (order : Order) (trail : Trail) (world : World) : Type 0 where
+  pub phase : is_asking trail.state.phase ≡ true
+  pub sent_is : trail.state.sent ≡ sent
+  pub tally_is : trail.state.tally ≡ tally_opened
   pub issued : ℕ
-  pub outstanding : course.state.rings.outstanding ≡ Some (record { codec = order.codec; word = order.word; issued = issued })
+  pub outstanding : trail.state.rings.outstanding ≡ Some (record { codec = order.codec; word = order.word; issued = issued })
   pub from : ℕ
-  pub served : StandsServed from course.written task.blocks.corb task.blocks.rirb course.state.rings world
+  pub served : StandsServed from trail.written task.blocks.corb task.blocks.rirb trail.state.rings world
   pub coming : IsComing from world
   pub timed : IsTimed least world
 
 -- after one that found the last answer
-pub record IsReady (task : Task) (sent least : ℕ) (course : Course) (world : World) : Type 0 where
-  pub phase : course.state.phase ≡ Ready
-  pub sent_is : course.state.sent ≡ sent
-  pub tally_is : course.state.tally ≡ tally_opened
+pub record IsReady (task : Task) (sent least : ℕ) (trail : Trail) (world : World) : Type 0 where
+  pub phase : trail.state.phase ≡ Ready
+  pub sent_is : trail.state.sent ≡ sent
+  pub tally_is : trail.state.tally ≡ tally_opened
   pub timed : IsTimed least world
   pub from : ℕ
   pub read : ℕ
-  pub served : StandsServed from read task.blocks.corb task.blocks.rirb course.state.rings world
-  pub idle : course.state.rings.outstanding ≡ None
+  pub served : StandsServed from read task.blocks.corb task.blocks.rirb trail.state.rings world
+  pub idle : trail.state.rings.outstanding ≡ None
 
 -- ---- where it leads
 
-abbrev seen_of : World → Course → List Event → Seen
-seen_of world course accesses = seen_in (course_made world course accesses)
+abbrev seen_of : World → Trail → List Event → Seen
+seen_of world trail accesses = seen_in (trail_made world trail accesses)
 
 -- what a call's accesses read is what its stretch saw
-pub sees_them : (world : World) (course : Course) (accesses : List Event) → AreAccesses accesses → SeesThem (seen_in (course_made world course accesses)) accesses
-sees_them world course accesses are =
-    let made = (notes_stay world.written (begun course) accesses are).made in record {
+pub sees_them : (world : World) (trail : Trail) (accesses : List Event) → AreAccesses accesses → SeesThem (seen_in (trail_made world trail accesses)) accesses
+sees_them world trail accesses are =
+    let made = (notes_stay world.written (begun trail) accesses are).made in record {
       clocks = ap (λ (made : List Event). values_of made WALCLK) made;
       flag = ap (λ (made : List Event). slice_index (values_of made RIRBSTS) 0) made;
       pointer = ap (λ (made : List Event). slice_index (values_of made RIRBWP) 0) made;
     }
 
 -- what a call by a line or the last one asks
-pub fits_so : (task : Task) (world : World) (course course' : Course) (accesses : List Event) (turn : Option DriverLine) → AreAccesses accesses → IsNoted task world course accesses course' → slice_get course.left 0 ≡ turn
-    → requests_of accesses ≡ expected.expected_by task course.state turn (seen_in (course_made world course accesses)) (tally_next task course.state turn (seen_in (course_made world course accesses)))
-fits_so task world course course' accesses turn are noted turn_is =
-    let c = course_made world course accesses in
-    let stays = notes_stay world.written (begun course) accesses are in
+pub fits_so : (task : Task) (world : World) (trail trail' : Trail) (accesses : List Event) (turn : Option DriverLine) → AreAccesses accesses → IsNoted task world trail accesses trail' → slice_get trail.left 0 ≡ turn
+    → requests_of accesses ≡ expected.expected_by task trail.state turn (seen_in (trail_made world trail accesses)) (tally_next task trail.state turn (seen_in (trail_made world trail accesses)))
+fits_so task world trail trail' accesses turn are noted turn_is =
+    let c = trail_made world trail accesses in
+    let stays = notes_stay world.written (begun trail) accesses are in
     sym (ap requests_of stays.made) ∙ noted.fits
     ∙ ap (λ (state : State). expected.expected_by task state c.turn (seen_in c) (tally_next task state c.turn (seen_in c))) stays.state
-    ∙ ap (λ (turn : Option DriverLine). expected.expected_by task course.state turn (seen_in c) (tally_next task course.state turn (seen_in c))) (stays.turn ∙ turn_is)
+    ∙ ap (λ (turn : Option DriverLine). expected.expected_by task trail.state turn (seen_in c) (tally_next task trail.state turn (seen_in c))) (stays.turn ∙ turn_is)
 
 -- and leads to
-pub leads_so : (task : Task) (world : World) (course course' : Course) (accesses : List Event) (turn : Option DriverLine) → AreAccesses accesses → IsNoted task world course accesses course' → slice_get course.left 0 ≡ turn
-    → course'.state ≡ next task course.state turn (seen_in (course_made world course accesses))
-leads_so task world course course' accesses turn are noted turn_is =
-    let c = course_made world course accesses in
-    let stays = notes_stay world.written (begun course) accesses are in
-    ap (λ (course : Course). course.state) noted.course_is
+pub leads_so : (task : Task) (world : World) (trail trail' : Trail) (accesses : List Event) (turn : Option DriverLine) → AreAccesses accesses → IsNoted task world trail accesses trail' → slice_get trail.left 0 ≡ turn
+    → trail'.state ≡ next task trail.state turn (seen_in (trail_made world trail accesses))
+leads_so task world trail trail' accesses turn are noted turn_is =
+    let c = trail_made world trail accesses in
+    let stays = notes_stay world.written (begun trail) accesses are in
+    ap (λ (trail : Trail). trail.state) noted.trail_is
     ∙ ap (λ (state : State). next task state c.turn (seen_in c)) stays.state
-    ∙ ap (λ (turn : Option DriverLine). next task course.state turn (seen_in c)) (stays.turn ∙ turn_is)
+    ∙ ap (λ (turn : Option DriverLine). next task trail.state turn (seen_in c)) (stays.turn ∙ turn_is)
 
 -- one that is for no interrupt does what its phase asks, and leads where this leads
 pub plainly_asked : (task : Task) (state : State) (line : DriverLine) (seen : Seen) (tally : Tally) → line.irq ≡ false → expected.expected_by task state (Some line) seen tally ≡ runs task state line.budget seen tally state.phase
@@ -341,42 +341,42 @@ keep_all (one ∷ steps) are = (keep_one one (All-head IsOfStreams one steps are
 
 module _ (looks : LooksServe) (finds : FindsAnswers) (task : Task) (sent least : ℕ) where
   -- the rings as the engine has them are those of progress
-  look_done : (course : Course) (rest : List Request) (accesses : List Event) (world new : World) → IsFree task sent least course world → AreAccesses accesses → CalmRow accesses world new
-      → requests_of accesses ≡ expected.asks task course.state (seen_of world course accesses) rest → list_any (gets WALCLK) rest ≡ false → list_any (gets RIRBSTS) rest ≡ false
-      → (look : IsLook task course.state.rings (seen_of world course accesses) rest accesses) × ((seen_of world course accesses).clocks ≡ look.clock ∷ []) × ((seen_of world course accesses).answered ≡ answers_since course.state.rings.outstanding course.written world)
-  look_done course rest accesses world new free are row asks no_clock no_look =
-      let seen = seen_of world course accesses in
-      let sees = sees_them world course accesses are in
-      let look = asks_as task course.state seen rest accesses are sees asks in
+  look_done : (trail : Trail) (rest : List Request) (accesses : List Event) (world new : World) → IsFree task sent least trail world → AreAccesses accesses → CalmRow accesses world new
+      → requests_of accesses ≡ expected.asks task trail.state (seen_of world trail accesses) rest → list_any (gets WALCLK) rest ≡ false → list_any (gets RIRBSTS) rest ≡ false
+      → (look : IsLook task trail.state.rings (seen_of world trail accesses) rest accesses) × ((seen_of world trail accesses).clocks ≡ look.clock ∷ []) × ((seen_of world trail accesses).answered ≡ answers_since trail.state.rings.outstanding trail.written world)
+  look_done trail rest accesses world new free are row asks no_clock no_look =
+      let seen = seen_of world trail accesses in
+      let sees = sees_them world trail accesses are in
+      let look = asks_as task trail.state seen rest accesses are sees asks in
       let back = asks_none RIRBSTS look.back (ap (list_any (gets RIRBSTS)) look.back_asks ∙ no_look) in
-      let answered : seen.answered ≡ answers_since course.state.rings.outstanding course.written world =
-      ap (λ (accesses : List Event). (notes world.written (begun course) accesses).answered) look.is
-      ∙ look_answered world.written (begun course) look.clock task.blocks.rirb course.state.rings look.reads look.back back in
-      (look, look_clocks task course.state.rings seen rest accesses sees look no_clock, answered)
+      let answered : seen.answered ≡ answers_since trail.state.rings.outstanding trail.written world =
+      ap (λ (accesses : List Event). (notes world.written (begun trail) accesses).answered) look.is
+      ∙ look_answered world.written (begun trail) look.clock task.blocks.rirb trail.state.rings look.reads look.back back in
+      (look, look_clocks task trail.state.rings seen rest accesses sees look no_clock, answered)
 
   -- nothing is outstanding after the look, by progress and by the engine, and both have the same rings
-  looked_rings : (course : Course) (reads : PollReads) (seen : Seen) (world : World) → (free : IsFree task sent least course world) → seen.flag ≡ reads.flag → (has_bit reads.flag 0 ≡ true → seen.pointer ≡ reads.pointer)
-      → seen.answered ≡ answers_since course.state.rings.outstanding course.written world → found_by course.state.rings reads ≡ found_since free.read course.state.rings world
-      → (outstanding_if seen.answered course.state.rings.outstanding ≡ None) × (rings_polled course.state.rings reads ≡ polled course.state.rings seen)
-  looked_rings course reads seen world free flag pointer answered found =
-      let outstanding = course.state.rings.outstanding in
+  looked_rings : (trail : Trail) (reads : PollReads) (seen : Seen) (world : World) → (free : IsFree task sent least trail world) → seen.flag ≡ reads.flag → (has_bit reads.flag 0 ≡ true → seen.pointer ≡ reads.pointer)
+      → seen.answered ≡ answers_since trail.state.rings.outstanding trail.written world → found_by trail.state.rings reads ≡ found_since free.read trail.state.rings world
+      → (outstanding_if seen.answered trail.state.rings.outstanding ≡ None) × (rings_polled trail.state.rings reads ≡ polled trail.state.rings seen)
+  looked_rings trail reads seen world free flag pointer answered found =
+      let outstanding = trail.state.rings.outstanding in
       let is_free : is_free outstanding seen.answered ≡ true = ap (is_free outstanding) answered ∙ free.free in
-      let some : is_some (found_by course.state.rings reads) ≡ seen.answered =
+      let some : is_some (found_by trail.state.rings reads) ≡ seen.answered =
       ap (λ (found : Option ℕ). is_some found) found ∙ finds (asked_of outstanding) (drop free.read world.written) ∙ sym free.agree ∙ sym answered in
       let none = free_none outstanding seen.answered is_free in
-      (none, rings_same course.state.rings seen reads flag pointer none (still_none outstanding seen.answered (found_by course.state.rings reads) is_free some))
+      (none, rings_same trail.state.rings seen reads flag pointer none (still_none outstanding seen.answered (found_by trail.state.rings reads) is_free some))
 
   -- the next command is the one in turn
-  order_in_turn : (course : Course) (seen : Seen) (world : World) → IsFree task sent least course world → seen.answered ≡ answers_since course.state.rings.outstanding course.written world → next_order task course.state seen ≡ slice_get task.orders sent
-  order_in_turn course seen world free answered =
-      ap (λ (free : Bool). if free then slice_get task.orders course.state.sent else None) (ap (is_free course.state.rings.outstanding) answered ∙ free.free) ∙ ap (slice_get task.orders) free.sent_is
+  order_in_turn : (trail : Trail) (seen : Seen) (world : World) → IsFree task sent least trail world → seen.answered ≡ answers_since trail.state.rings.outstanding trail.written world → next_order task trail.state seen ≡ slice_get task.orders sent
+  order_in_turn trail seen world free answered =
+      ap (λ (free : Bool). if free then slice_get task.orders trail.state.sent else None) (ap (is_free trail.state.rings.outstanding) answered ∙ free.free) ∙ ap (slice_get task.orders) free.sent_is
 
   -- what a call asked and where its look led
-  record Asked (course : Course) (rest : List Request) (accesses : List Event) (world new : World) : Type 0 where
-    look : IsLook task course.state.rings (seen_of world course accesses) rest accesses
-    clocks : (seen_of world course accesses).clocks ≡ look.clock ∷ []
-    answered : (seen_of world course accesses).answered ≡ answers_since course.state.rings.outstanding course.written world
-    none : outstanding_if (seen_of world course accesses).answered course.state.rings.outstanding ≡ None
+  record Asked (trail : Trail) (rest : List Request) (accesses : List Event) (world new : World) : Type 0 where
+    look : IsLook task trail.state.rings (seen_of world trail accesses) rest accesses
+    clocks : (seen_of world trail accesses).clocks ≡ look.clock ∷ []
+    answered : (seen_of world trail accesses).answered ≡ answers_since trail.state.rings.outstanding trail.written world
+    none : outstanding_if (seen_of world trail accesses).answered trail.state.rings.outstanding ≡ None
     middle : World
     row : CalmRow look.back middle new
     from : ℕ
@@ -385,17 +385,17 @@ module _ (looks : LooksServe) (finds : FindsAnswers) (task : Task) (sent least :
     clear : middle.registers.global.response_flag ≡ 0
     timed : IsTimed least middle
     link : SameLink world middle
-    served : StandsServed from (length world.written) task.blocks.corb task.blocks.rirb (polled course.state.rings (seen_of world course accesses)) middle
+    served : StandsServed from (length world.written) task.blocks.corb task.blocks.rirb (polled trail.state.rings (seen_of world trail accesses)) middle
 
-  asked_by : (course : Course) (rest : List Request) (accesses : List Event) (world new : World) → IsFree task sent least course world → AreAccesses accesses → CalmRow accesses world new
-      → requests_of accesses ≡ expected.asks task course.state (seen_of world course accesses) rest → list_any (gets WALCLK) rest ≡ false → list_any (gets RIRBSTS) rest ≡ false → Asked course rest accesses world new
-  asked_by course rest accesses world new free are row asks no_clock no_look =
-      let seen = seen_of world course accesses in
-      let done = look_done course rest accesses world new free are row asks no_clock no_look in
+  asked_by : (trail : Trail) (rest : List Request) (accesses : List Event) (world new : World) → IsFree task sent least trail world → AreAccesses accesses → CalmRow accesses world new
+      → requests_of accesses ≡ expected.asks task trail.state (seen_of world trail accesses) rest → list_any (gets WALCLK) rest ≡ false → list_any (gets RIRBSTS) rest ≡ false → Asked trail rest accesses world new
+  asked_by trail rest accesses world new free are row asks no_clock no_look =
+      let seen = seen_of world trail accesses in
+      let done = look_done trail rest accesses world new free are row asks no_clock no_look in
       let look = done.0 in
-      let looked = look_leads looks task least free.from free.read course.state.rings look.clock look.reads look.back world new look.new_ones free.names free.timed free.served
+      let looked = look_leads looks task least free.from free.read trail.state.rings look.clock look.reads look.back world new look.new_ones free.names free.timed free.served
       (subst (λ (accesses : List Event). CalmRow accesses world new) look.is row) in
-      let rings = looked_rings course look.reads seen world free look.flag look.pointer done.2 looked.found in
+      let rings = looked_rings trail look.reads seen world free look.flag look.pointer done.2 looked.found in
       record {
         look = look;
         clocks = done.1;
@@ -412,59 +412,59 @@ module _ (looks : LooksServe) (finds : FindsAnswers) (task : Task) (sent least :
         served = subst (λ (rings : RingPlaces). StandsServed looked.from (length world.written) task.blocks.corb task.blocks.rirb rings looked.middle) rings.1 looked.served;
       }
 
-  line_asks : (course course' : Course) (line : DriverLine) (accesses : List Event) (world : World) → is_asking course.state.phase ≡ true → AreAccesses accesses → IsNoted task world course accesses course' → slice_get course.left 0 ≡ Some line → line.irq ≡ false
-      → requests_of accesses ≡ expected.asks task course.state (seen_of world course accesses) (submits task.blocks course.state.rings (next_order task course.state (seen_of world course accesses)))
-  line_asks course course' line accesses world phase are noted turn calm =
-      let seen = seen_of world course accesses in
-      let tally = tally_next task course.state (Some line) seen in
-      fits_so task world course course' accesses (Some line) are noted turn ∙ plainly_asked task course.state line seen tally calm ∙ asking_runs task course.state line.budget seen tally course.state.phase phase
+  line_asks : (trail trail' : Trail) (line : DriverLine) (accesses : List Event) (world : World) → is_asking trail.state.phase ≡ true → AreAccesses accesses → IsNoted task world trail accesses trail' → slice_get trail.left 0 ≡ Some line → line.irq ≡ false
+      → requests_of accesses ≡ expected.asks task trail.state (seen_of world trail accesses) (submits task.blocks trail.state.rings (next_order task trail.state (seen_of world trail accesses)))
+  line_asks trail trail' line accesses world phase are noted turn calm =
+      let seen = seen_of world trail accesses in
+      let tally = tally_next task trail.state (Some line) seen in
+      fits_so task world trail trail' accesses (Some line) are noted turn ∙ plainly_asked task trail.state line seen tally calm ∙ asking_runs task trail.state line.budget seen tally trail.state.phase phase
 
   -- a call by a line, where this is the next command or none is left
-  asked_line : (course course' : Course) (line : DriverLine) (accesses : List Event) (world new : World) → IsFree task sent least course world → AreAccesses accesses → CalmRow accesses world new
-      → IsNoted task world course accesses course' → slice_get course.left 0 ≡ Some line → line.irq ≡ false
-      → Asked course (submits task.blocks course.state.rings (next_order task course.state (seen_of world course accesses))) accesses world new
-  asked_line course course' line accesses world new free are row noted turn calm =
-      let order = next_order task course.state (seen_of world course accesses) in
-      asked_by course (submits task.blocks course.state.rings order) accesses world new free are row (line_asks course course' line accesses world free.phase are noted turn calm)
-      (submits_gets_none WALCLK task.blocks course.state.rings order) (submits_gets_none RIRBSTS task.blocks course.state.rings order)
+  asked_line : (trail trail' : Trail) (line : DriverLine) (accesses : List Event) (world new : World) → IsFree task sent least trail world → AreAccesses accesses → CalmRow accesses world new
+      → IsNoted task world trail accesses trail' → slice_get trail.left 0 ≡ Some line → line.irq ≡ false
+      → Asked trail (submits task.blocks trail.state.rings (next_order task trail.state (seen_of world trail accesses))) accesses world new
+  asked_line trail trail' line accesses world new free are row noted turn calm =
+      let order = next_order task trail.state (seen_of world trail accesses) in
+      asked_by trail (submits task.blocks trail.state.rings order) accesses world new free are row (line_asks trail trail' line accesses world free.phase are noted turn calm)
+      (submits_gets_none WALCLK task.blocks trail.state.rings order) (submits_gets_none RIRBSTS task.blocks trail.state.rings order)
 
-  line_leads : (course course' : Course) (line : DriverLine) (accesses : List Event) (world new : World) → (free : IsFree task sent least course world) → AreAccesses accesses → IsNoted task world course accesses course' → slice_get course.left 0 ≡ Some line → line.irq ≡ false
-      → (asked : Asked course (submits task.blocks course.state.rings (next_order task course.state (seen_of world course accesses))) accesses world new)
-      → course'.state ≡ record (submitted_if (slice_get task.orders sent) (clock_of (seen_of world course accesses)) (answered_state task course.state (seen_of world course accesses))) { tally = tally_opened }
-  line_leads course course' line accesses world new free are noted turn calm asked =
-      let seen = seen_of world course accesses in
-      leads_so task world course course' accesses (Some line) are noted turn
-      ∙ asks_next task course.state line seen asked.look.clock (slice_get task.orders sent) free.phase calm free.tally_is asked.clocks asked.none (order_in_turn course seen world free asked.answered)
+  line_leads : (trail trail' : Trail) (line : DriverLine) (accesses : List Event) (world new : World) → (free : IsFree task sent least trail world) → AreAccesses accesses → IsNoted task world trail accesses trail' → slice_get trail.left 0 ≡ Some line → line.irq ≡ false
+      → (asked : Asked trail (submits task.blocks trail.state.rings (next_order task trail.state (seen_of world trail accesses))) accesses world new)
+      → trail'.state ≡ record (submitted_if (slice_get task.orders sent) (clock_of (seen_of world trail accesses)) (answered_state task trail.state (seen_of world trail accesses))) { tally = tally_opened }
+  line_leads trail trail' line accesses world new free are noted turn calm asked =
+      let seen = seen_of world trail accesses in
+      leads_so task world trail trail' accesses (Some line) are noted turn
+      ∙ asks_next task trail.state line seen asked.look.clock (slice_get task.orders sent) free.phase calm free.tally_is asked.clocks asked.none (order_in_turn trail seen world free asked.answered)
 
-  pub call_sends : (comes : SubmissionsCome) (course course' : Course) (line : DriverLine) (order : Order) (accesses : List Event) (world new : World) → IsFree task sent least course world → AreAccesses accesses → CalmRow accesses world new
-      → IsNoted task world course accesses course' → slice_get course.left 0 ≡ Some line → line.irq ≡ false → slice_get task.orders sent ≡ Some order → order.word < 2 ^ 32 → sent < length task.orders
-      → IsSent task (sent + 1) least order course' new
-  call_sends comes course course' line order accesses world new free are row noted turn calm there narrow less =
-      let seen = seen_of world course accesses in
-      let rings = polled course.state.rings seen in
-      let asked = asked_line course course' line accesses world new free are row noted turn calm in
-      let state = line_leads course course' line accesses world new free are noted turn calm asked
-      ∙ ap (λ (order : Option Order). record (submitted_if order (clock_of seen) (answered_state task course.state seen)) { tally = tally_opened }) there in
-      let next : next_order task course.state seen ≡ Some order = order_in_turn course seen world free asked.answered ∙ there in
-      let back = submitted_as task.blocks course.state.rings order asked.look.back asked.look.back_are (asked.look.back_asks ∙ ap (submits task.blocks course.state.rings) next) in
+  pub call_sends : (comes : SubmissionsCome) (trail trail' : Trail) (line : DriverLine) (order : Order) (accesses : List Event) (world new : World) → IsFree task sent least trail world → AreAccesses accesses → CalmRow accesses world new
+      → IsNoted task world trail accesses trail' → slice_get trail.left 0 ≡ Some line → line.irq ≡ false → slice_get task.orders sent ≡ Some order → order.word < 2 ^ 32 → sent < length task.orders
+      → IsSent task (sent + 1) least order trail' new
+  call_sends comes trail trail' line order accesses world new free are row noted turn calm there narrow less =
+      let seen = seen_of world trail accesses in
+      let rings = polled trail.state.rings seen in
+      let asked = asked_line trail trail' line accesses world new free are row noted turn calm in
+      let state = line_leads trail trail' line accesses world new free are noted turn calm asked
+      ∙ ap (λ (order : Option Order). record (submitted_if order (clock_of seen) (answered_state task trail.state seen)) { tally = tally_opened }) there in
+      let next : next_order task trail.state seen ≡ Some order = order_in_turn trail seen world free asked.answered ∙ there in
+      let back = submitted_as task.blocks trail.state.rings order asked.look.back asked.look.back_are (asked.look.back_asks ∙ ap (submits task.blocks trail.state.rings) next) in
       let command : Outstanding = record { codec = order.codec; word = order.word; issued = clock_of seen } in
       let done = submission_leads comes asked.from (length world.written) task.blocks.corb task.blocks.rirb asked.place least rings command asked.middle new asked.none narrow
       (subst (λ (back : List Event). CalmRow back asked.middle new) back asked.row) asked.engines asked.timed asked.clear asked.served in
-      let whole : accesses ≡ (Read WALCLK Four asked.look.clock ∷ poll_accesses task.blocks.rirb course.state.rings asked.look.reads) ++ submit_accesses task.blocks.corb course.state.rings order.word =
-      asked.look.is ∙ ap (λ (back : List Event). Read WALCLK Four asked.look.clock ∷ (poll_accesses task.blocks.rirb course.state.rings asked.look.reads ++ back)) back in
-      let written : length world.written ≡ course'.written =
-      sym (ap (λ (course : Course). course.written) noted.course_is
-      ∙ ap (λ (accesses : List Event). (notes world.written (begun course) accesses).written) whole
-      ∙ submission_written world.written (begun course) (Read WALCLK Four asked.look.clock ∷ poll_accesses task.blocks.rirb course.state.rings asked.look.reads) task.blocks.corb order.word course.state.rings) in
+      let whole : accesses ≡ (Read WALCLK Four asked.look.clock ∷ poll_accesses task.blocks.rirb trail.state.rings asked.look.reads) ++ submit_accesses task.blocks.corb trail.state.rings order.word =
+      asked.look.is ∙ ap (λ (back : List Event). Read WALCLK Four asked.look.clock ∷ (poll_accesses task.blocks.rirb trail.state.rings asked.look.reads ++ back)) back in
+      let written : length world.written ≡ trail'.written =
+      sym (ap (λ (trail : Trail). trail.written) noted.trail_is
+      ∙ ap (λ (accesses : List Event). (notes world.written (begun trail) accesses).written) whole
+      ∙ submission_written world.written (begun trail) (Read WALCLK Four asked.look.clock ∷ poll_accesses task.blocks.rirb trail.state.rings asked.look.reads) task.blocks.corb order.word trail.state.rings) in
       let sent_before = free.sent_is in
       record {
-        phase = ap (λ (state : State). is_asking state.phase) state ∙ more_left task course.state.sent (omega (arith, sent_before, less));
+        phase = ap (λ (state : State). is_asking state.phase) state ∙ more_left task trail.state.sent (omega (arith, sent_before, less));
         sent_is = ap (λ (state : State). state.sent) state ∙ ap (λ (sent : ℕ). sent + 1) free.sent_is;
         tally_is = ap (λ (state : State). state.tally) state;
         issued = clock_of seen;
         outstanding = ap (λ (state : State). state.rings.outstanding) state;
         from = asked.from;
-        served = subst (λ (written : ℕ). StandsServed asked.from written task.blocks.corb task.blocks.rirb course'.state.rings new) written
+        served = subst (λ (written : ℕ). StandsServed asked.from written task.blocks.corb task.blocks.rirb trail'.state.rings new) written
             (subst (λ (state : State). StandsServed asked.from (length world.written) task.blocks.corb task.blocks.rirb state.rings new) (sym state) done.served);
         coming = done.coming;
         timed = done.runs.timed;
@@ -477,36 +477,36 @@ module _ (looks : LooksServe) (finds : FindsAnswers) (task : Task) (sent least :
       subst (StandsServed from read task.blocks.corb task.blocks.rirb rings) (sym row.2)
       (serves_on from read task.blocks.corb task.blocks.rirb rings row.0 old (keep_all row.0 row.1) (subst (λ (outstanding : Option Outstanding). HasItsCodec outstanding old.codecs) (sym idle) tt) served)
 
-  pub call_readies : (serves_on : ServesOn) (course course' : Course) (line : DriverLine) (accesses : List Event) (world new : World) → IsFree task sent least course world → AreAccesses accesses → CalmRow accesses world new
-      → IsNoted task world course accesses course' → slice_get course.left 0 ≡ Some line → line.irq ≡ false → slice_get task.orders sent ≡ None → length task.orders ≤ sent → IsReady task sent least course' new
-  call_readies serves_on course course' line accesses world new free are row noted turn calm there most =
-      let seen = seen_of world course accesses in
-      let asked = asked_line course course' line accesses world new free are row noted turn calm in
-      let state = line_leads course course' line accesses world new free are noted turn calm asked
-      ∙ ap (λ (order : Option Order). record (submitted_if order (clock_of seen) (answered_state task course.state seen)) { tally = tally_opened }) there in
-      let next : next_order task course.state seen ≡ None = order_in_turn course seen world free asked.answered ∙ there in
-      let back = none_asked asked.look.back asked.look.back_are (asked.look.back_asks ∙ ap (submits task.blocks course.state.rings) next) in
+  pub call_readies : (serves_on : ServesOn) (trail trail' : Trail) (line : DriverLine) (accesses : List Event) (world new : World) → IsFree task sent least trail world → AreAccesses accesses → CalmRow accesses world new
+      → IsNoted task world trail accesses trail' → slice_get trail.left 0 ≡ Some line → line.irq ≡ false → slice_get task.orders sent ≡ None → length task.orders ≤ sent → IsReady task sent least trail' new
+  call_readies serves_on trail trail' line accesses world new free are row noted turn calm there most =
+      let seen = seen_of world trail accesses in
+      let asked = asked_line trail trail' line accesses world new free are row noted turn calm in
+      let state = line_leads trail trail' line accesses world new free are noted turn calm asked
+      ∙ ap (λ (order : Option Order). record (submitted_if order (clock_of seen) (answered_state task trail.state seen)) { tally = tally_opened }) there in
+      let next : next_order task trail.state seen ≡ None = order_in_turn trail seen world free asked.answered ∙ there in
+      let back = none_asked asked.look.back asked.look.back_are (asked.look.back_asks ∙ ap (submits task.blocks trail.state.rings) next) in
       let sent_before = free.sent_is in
       record {
-        phase = ap (λ (state : State). state.phase) state ∙ none_left task course.state.sent (omega (arith, sent_before, most));
+        phase = ap (λ (state : State). state.phase) state ∙ none_left task trail.state.sent (omega (arith, sent_before, most));
         sent_is = ap (λ (state : State). state.sent) state ∙ free.sent_is;
         tally_is = ap (λ (state : State). state.tally) state;
         timed = timed_row [] asked.middle new least (All-nil IsBeside) (subst (λ (back : List Event). CalmRow back asked.middle new) back asked.row) asked.timed;
         from = asked.from;
         read = length world.written;
         served = subst (λ (state : State). StandsServed asked.from (length world.written) task.blocks.corb task.blocks.rirb state.rings new) (sym state)
-            (still_serves serves_on asked.from (length world.written) (polled course.state.rings seen) asked.middle new asked.none (subst (λ (back : List Event). CalmRow back asked.middle new) back asked.row) asked.served);
+            (still_serves serves_on asked.from (length world.written) (polled trail.state.rings seen) asked.middle new asked.none (subst (λ (back : List Event). CalmRow back asked.middle new) back asked.row) asked.served);
         idle = ap (λ (state : State). state.rings.outstanding) state ∙ asked.none;
       }
 
   -- and the last call finds the last answer too
-  pub last_call_finds : (course course' : Course) (accesses : List Event) (world new : World) → IsFree task sent least course world → AreAccesses accesses → CalmRow accesses world new
-      → IsNoted task world course accesses course' → slice_get course.left 0 ≡ None → (course'.state.phase ≡ phase_of_answers task sent) × (course'.state.sent ≡ sent)
-  last_call_finds course course' accesses world new free are row noted turn =
-      let seen = seen_of world course accesses in
-      let tally = tally_next task course.state None seen in
-      let asks = fits_so task world course course' accesses None are noted turn ∙ asking_closes task course.state seen course.state.phase free.phase in
-      let asked = asked_by course expected.shuts accesses world new free are row asks refl refl in
-      let state = leads_so task world course course' accesses None are noted turn
-      ∙ ap (λ (closed : State). record closed { tally = tally }) (asking_closed task course.state seen tally course.state.phase free.phase ∙ poll_answers task course.state seen asked.none) in
+  pub last_call_finds : (trail trail' : Trail) (accesses : List Event) (world new : World) → IsFree task sent least trail world → AreAccesses accesses → CalmRow accesses world new
+      → IsNoted task world trail accesses trail' → slice_get trail.left 0 ≡ None → (trail'.state.phase ≡ phase_of_answers task sent) × (trail'.state.sent ≡ sent)
+  last_call_finds trail trail' accesses world new free are row noted turn =
+      let seen = seen_of world trail accesses in
+      let tally = tally_next task trail.state None seen in
+      let asks = fits_so task world trail trail' accesses None are noted turn ∙ asking_closes task trail.state seen trail.state.phase free.phase in
+      let asked = asked_by trail expected.shuts accesses world new free are row asks refl refl in
+      let state = leads_so task world trail trail' accesses None are noted turn
+      ∙ ap (λ (closed : State). record closed { tally = tally }) (asking_closed task trail.state seen tally trail.state.phase free.phase ∙ poll_answers task trail.state seen asked.none) in
       (ap (λ (state : State). state.phase) state ∙ ap (phase_of_answers task) free.sent_is, ap (λ (state : State). state.sent) state ∙ free.sent_is)

@@ -10,7 +10,7 @@ pub use Rattle.laws_serving.proofs.Requests.{IsAccess, Reads, reads_first, Makes
 pub use Rattle.laws_serving.proofs.Rows.{CalmRow, kept_row, row_split, IsCalm, row_of, within_call, calm_call, accesses_are}
 pub use Rattle.laws_serving.proofs.Engines.{AtFirst, at_first}
 -- how far progress comes over a call
-pub use Rattle.laws_serving.proofs.Notes.{gets, asks_none, course_made, IsNoted}
+pub use Rattle.laws_serving.proofs.Notes.{gets, asks_none, trail_made, IsNoted}
 pub use Rattle.laws_serving.proofs.Asking.{leads_so, plainly_led, IsReady}
 pub use Rattle.laws_serving.proofs.Quiet.{IsNoRise}
 -- a journal by its rounds

@@ -22,7 +22,7 @@ use Rattle.laws_stream.specs.Lives.{HasStopped}
 use Rattle.period_writer.specs.Runs.{measures}
 use Rattle.driver_progress.specs.Tasks.{Task}
 use Rattle.driver_progress.specs.States.{State}
-use Rattle.driver_progress.specs.Progress.{Course, state_of}
+use Rattle.driver_progress.specs.Progress.{Trail, state_of}
 use Rattle.rig.specs.Stretches.{is_access, accesses_of, stretch}
 use Rattle.rig.specs.Follows.{AreAccesses}
 use Rattle.schedule_reader.specs.declared.schedule.Group.{Group}
@@ -255,13 +255,13 @@ EndsFed task total state = 4 + length task.orders ≤ total → PlayedAll (lengt
 
 module _ (laws : StreamLaws) (rise_laws : RiseLaws) (task : Task) (graphs : List RawCodec) (closing : List Event) (frames : ℕ) (long : length task.pcm ≡ frames * block_bytes task.geometry.format) (telling : Telling) (stopped : HasStopped telling)
     (loud : task.plays ≡ true) where
-  fed_ready : (total : ℕ) (ran : List RanRound) (least : ℕ) (world : World) (course : Course) → FedLeft task telling closing (3 + length task.orders) ran world → IsLeft task graphs ran closing world course → IsReady task (length task.orders) least course world
-      → EndsFed task total (state_over task ran closing world course)
-  fed_ready total [] least world course kept left ready enough =
+  fed_ready : (total : ℕ) (ran : List RanRound) (least : ℕ) (world : World) (trail : Trail) → FedLeft task telling closing (3 + length task.orders) ran world → IsLeft task graphs ran closing world trail → IsReady task (length task.orders) least trail world
+      → EndsFed task total (state_over task ran closing world trail)
+  fed_ready total [] least world trail kept left ready enough =
       let few = fed_lines (4 + length task.orders) (length task.pcm) (3 + length task.orders) [] world kept.fed in absurd (omega (arith, few))
-  fed_ready total (one ∷ ran) least world course kept left ready enough =
+  fed_ready total (one ∷ ran) least world trail kept left ready enough =
       plays_all laws rise_laws task graphs closing (length task.orders) (format_word task.geometry.format % 2 ^ 16) (layout task.geometry.format) (most_bytes task.geometry.format) (ground_of task frames long) (fits_of task) telling stopped
-      least one ran world course loud (λ index other there. kept.served index other (omega arith) there) (λ index other there. kept.generous index other (omega arith) there)
+      least one ran world trail loud (λ index other there. kept.served index other (omega arith) there) (λ index other there. kept.generous index other (omega arith) there)
       (fed_soon (4 + length task.orders) (length task.pcm) (3 + length task.orders + 1) ran (world_after one world) (which kept.fed)) kept.behind left ready
     where
       which : ((4 + length task.orders ≤ 3 + length task.orders) × AllSent (length task.pcm) world) ⊎ FedFrom (4 + length task.orders) (length task.pcm) (3 + length task.orders + 1) ran (world_after one world)
@@ -273,7 +273,7 @@ module _ (laws : StreamLaws) (rise_laws : RiseLaws) (task : Task) (graphs : List
   fed_onward total = record {
     later = λ count next one ran world few quiet same kept. fed_later task telling closing count next one ran world few quiet same kept;
     early = λ state few come enough. absurd (omega (arith, few, enough));
-    ready = λ ran least world course counted kept left ready. fed_ready total ran least world course kept left ready;
+    ready = λ ran least world trail counted kept left ready. fed_ready total ran least world trail kept left ready;
   }
 
 -- ---- over the whole journal

@@ -28,11 +28,11 @@ use Rattle.driver_progress.specs.States.{State}
 use Rattle.driver_progress.specs.Requests.{requests_of}
 use Rattle.driver_progress.specs.Expected.{stops as asked_stops}
 use Rattle.driver_progress.specs.Next.{led, closed, phase_played, tally_next}
-use Rattle.driver_progress.specs.Progress.{Course, seen_in}
+use Rattle.driver_progress.specs.Progress.{Trail, seen_in}
 use Rattle.rig.specs.Stretches.{accesses_of, stretch}
 use Rattle.rig.proofs.Callers.{event_frames}
 use Rattle.period_writer.proofs.Callers.{position_there}
-use Rattle.laws_serving.proofs.Callers.{IsTimed, call_frames, steps_count, timed_steps, frames_so, none_asked, within_call, accesses_are, course_made, leads_so, plainly_led, RanRound, rest_events, honest_front, alone_is, stretch_is, ends_there, IsLeft, IsNext, next_round, last_round, line_in, state_over, world_after, HasPlayedOn, later_run, last_run, ArePrompt, prompt_later, PlaysOn, later_in_time}
+use Rattle.laws_serving.proofs.Callers.{IsTimed, call_frames, steps_count, timed_steps, frames_so, none_asked, within_call, accesses_are, trail_made, leads_so, plainly_led, RanRound, rest_events, honest_front, alone_is, stretch_is, ends_there, IsLeft, IsNext, next_round, last_round, line_in, state_over, world_after, HasPlayedOn, later_run, last_run, ArePrompt, prompt_later, PlaysOn, later_in_time}
 use Rattle.laws_serving.proofs.Full.{IsWhole, AreWhole, IsFull, BeginsLate, le_cases, next_full, full_high, drained_high}
 use Rattle.laws_serving.proofs.Moments.{IsNoStop, by_accesses}
 use Rattle.laws_serving.proofs.Rolling.{Moves, IsBesideSound, StreamLaws, Rolls, rolls_on, events_move}
@@ -92,12 +92,12 @@ module _ (laws : StreamLaws) (task : Task) (graphs : List RawCodec) (closing : L
   total = length task.pcm
 
   -- before a call while it plays
-  pub record IsFed (ran : List RanRound) (course : Course) (world : World) : Type 0 where
-    pub on : PlaysOn task commands ran course world
+  pub record IsFed (ran : List RanRound) (trail : Trail) (world : World) : Type 0 where
+    pub on : PlaysOn task commands ran trail world
     pub rolls : Rolls codecs tag word layout m.ring world
-    pub full : IsFull m total course.state.tally
-    pub past : course.state.tally.course.at ≤ world.output.left
-    pub paced : world.output.left ≤ course.state.tally.course.at + most * (world.frames - on.since)
+    pub full : IsFull m total trail.state.tally
+    pub past : trail.state.tally.course.at ≤ world.output.left
+    pub paced : world.output.left ≤ trail.state.tally.course.at + most * (world.frames - on.since)
     pub so_far : List Event
     pub world_is : world ≡ after so_far start
     pub quiet : All IsNoStop so_far
@@ -106,29 +106,29 @@ module _ (laws : StreamLaws) (task : Task) (graphs : List RawCodec) (closing : L
   -- ---- one call
 
   -- where a run finds the link: where it is
-  pub record LooksAt (course : Course) (world : World) (body : List Event) (facts : RunFacts) (rest : List Event) : Type 0 where
+  pub record LooksAt (trail : Trail) (world : World) (body : List Event) (facts : RunFacts) (rest : List Event) : Type 0 where
     pub finds : FindsLink codecs tag word layout m.ring most world body facts.lpib rest
-    pub at_is : run_at m course.state.tally.course facts ≡ (after finds.before world).output.left
-    pub whole : IsWhole m.block (run_at m course.state.tally.course facts)
-    pub later_on : course.state.tally.course.at ≤ run_at m course.state.tally.course facts
-    pub soon : run_at m course.state.tally.course facts < course.state.tally.course.at + m.ring
-    pub up : world.output.left ≤ run_at m course.state.tally.course facts
+    pub at_is : run_at m trail.state.tally.course facts ≡ (after finds.before world).output.left
+    pub whole : IsWhole m.block (run_at m trail.state.tally.course facts)
+    pub later_on : trail.state.tally.course.at ≤ run_at m trail.state.tally.course facts
+    pub soon : run_at m trail.state.tally.course facts < trail.state.tally.course.at + m.ring
+    pub up : world.output.left ≤ run_at m trail.state.tally.course facts
 
-  looks_at : (ran : List RanRound) (course : Course) (world : World) (body front tail : List Event) (facts : RunFacts) (rest : List Event) → (fed : IsFed ran course world) → AreHonest body world → accesses_of body ≡ front ++ Read POSITION Four facts.lpib ∷ rest
-      → All IsBesideSound front → fed.so_far ++ (Begin ∷ (body ++ End ∷ tail)) ≡ during ++ stops ∷ later → world.frames + sum_by event_frames body ≤ fed.on.since + m.limit → LooksAt course world body facts rest
-  looks_at ran course world body front tail facts rest fed honest are quiet placed few =
+  looks_at : (ran : List RanRound) (trail : Trail) (world : World) (body front tail : List Event) (facts : RunFacts) (rest : List Event) → (fed : IsFed ran trail world) → AreHonest body world → accesses_of body ≡ front ++ Read POSITION Four facts.lpib ∷ rest
+      → All IsBesideSound front → fed.so_far ++ (Begin ∷ (body ++ End ∷ tail)) ≡ during ++ stops ∷ later → world.frames + sum_by event_frames body ≤ fed.on.since + m.limit → LooksAt trail world body facts rest
+  looks_at ran trail world body front tail facts rest fed honest are quiet placed few =
       let finds = finds_link laws codecs tag word layout m.ring most world body front facts.lpib rest ground.word_is ground.most_is fed.rolls honest are quiet in
       let there = after finds.before world in
       let runs = runs_there start during later world body tail finds.before finds.behind facts.lpib
       (record { along = along; so_far = fed.so_far; world_is = fed.world_is; quiet = fed.quiet; all = placed }) finds.is finds.beside in
-      let at = course.state.tally.course.at in
+      let at = trail.state.tally.course.at in
       let reads : facts.lpib ≡ there.output.left % m.ring = finds.reads ∙ finds.rolls.position runs.running ∙ ap (λ (size : ℕ). there.output.left % size) finds.rolls.length_is in
       let since = fed.on.timed.later in
       let counted = finds.soon in
       let up = finds.moves.up in
       let past = fed.past in
       let before = link_soon most fed.on.since world.frames there.frames m.limit m.ring at world.output.left there.output.left since finds.moves.later (omega (arith, counted, few)) fed.paced finds.moves.few ground.tight in
-      let at_is : run_at m course.state.tally.course facts ≡ there.output.left =
+      let at_is : run_at m trail.state.tally.course facts ≡ there.output.left =
       ap (λ (started : Bool). if started then position_from m.ring at facts.lpib else 0) fed.full.started
       ∙ position_there m.ring at facts.lpib there.output.left ground.whole.some_ring (omega (arith, past, up)) before reads in
       record {
@@ -160,29 +160,29 @@ module _ (laws : StreamLaws) (task : Task) (graphs : List RawCodec) (closing : L
 
   -- ---- once it has drained
 
-  stays_drained : (ran : List RanRound) (world : World) (course : Course) → IsLeft task graphs ran closing world course → course.state.phase ≡ Drained → course.state.tally.course.ran ≡ ended.Drained → All (BeginsLate total) course.state.tally.silences
-      → PlayedAll total (state_over task ran closing world course)
-  stays_drained [] world course left drained how late =
-      let last = last_round task graphs closing world course left in
-      let seen = seen_in (course_made world course closing) in
-      let tally = tally_next task course.state None seen in
-      let tally_is : tally ≡ course.state.tally = ap (λ (how : Ran). taken_up_if how seen.clocks m total (record { budget = 0; clocks = seen.clocks; lpibs = seen.positions }) course.state.tally) how in
-      let is = last.over ∙ leads_so task world course last.course' closing None left.closing_is last.is_called.noted last.turn ∙ ap (λ (phase : Phase). record (closed task course.state seen tally phase) { tally = tally }) drained in
+  stays_drained : (ran : List RanRound) (world : World) (trail : Trail) → IsLeft task graphs ran closing world trail → trail.state.phase ≡ Drained → trail.state.tally.course.ran ≡ ended.Drained → All (BeginsLate total) trail.state.tally.silences
+      → PlayedAll total (state_over task ran closing world trail)
+  stays_drained [] world trail left drained how late =
+      let last = last_round task graphs closing world trail left in
+      let seen = seen_in (trail_made world trail closing) in
+      let tally = tally_next task trail.state None seen in
+      let tally_is : tally ≡ trail.state.tally = ap (λ (how : Ran). taken_up_if how seen.clocks m total (record { budget = 0; clocks = seen.clocks; lpibs = seen.positions }) trail.state.tally) how in
+      let is = last.over ∙ leads_so task world trail last.trail' closing None left.closing_is last.is_called.noted last.turn ∙ ap (λ (phase : Phase). record (closed task trail.state seen tally phase) { tally = tally }) drained in
       record {
         phase = ap (λ (state : State). state.phase) is ∙ drained;
         late = subst (λ (tally : Tally). All (BeginsLate total) tally.silences) (sym (ap (λ (state : State). state.tally) is ∙ tally_is)) late;
       }
-  stays_drained (one ∷ ran) world course left drained how late =
-      let next = next_round task graphs one ran closing world course left in
-      let seen = seen_in (course_made world course one.accesses) in
+  stays_drained (one ∷ ran) world trail left drained how late =
+      let next = next_round task graphs one ran closing world trail left in
+      let seen = seen_in (trail_made world trail one.accesses) in
       let line = line_in one in
-      let tally = tally_next task course.state (Some line) seen in
-      let tally_is : tally ≡ course.state.tally = ap (λ (how : Ran). taken_up_if how seen.clocks m total (record { budget = line.budget; clocks = seen.clocks; lpibs = seen.positions }) course.state.tally) how in
-      let is = leads_so task world course next.course' one.accesses (Some line) next.are next.is_called.noted next.turn ∙ plainly_led task course.state line seen next.calm.line.no_interrupt
-      ∙ ap (λ (phase : Phase). record (led task course.state seen tally phase) { tally = tally }) drained in
+      let tally = tally_next task trail.state (Some line) seen in
+      let tally_is : tally ≡ trail.state.tally = ap (λ (how : Ran). taken_up_if how seen.clocks m total (record { budget = line.budget; clocks = seen.clocks; lpibs = seen.positions }) trail.state.tally) how in
+      let is = leads_so task world trail next.trail' one.accesses (Some line) next.are next.is_called.noted next.turn ∙ plainly_led task trail.state line seen next.calm.line.no_interrupt
+      ∙ ap (λ (phase : Phase). record (led task trail.state seen tally phase) { tally = tally }) drained in
       let same = ap (λ (state : State). state.tally) is ∙ tally_is in
       subst (PlayedAll total) (sym next.over)
-      (stays_drained ran (after_steps one.round.steps next.new) next.course' next.later (ap (λ (state : State). state.phase) is ∙ drained) (ap (λ (tally : Tally). tally.course.ran) same ∙ how)
+      (stays_drained ran (after_steps one.round.steps next.new) next.trail' next.later (ap (λ (state : State). state.phase) is ∙ drained) (ap (λ (tally : Tally). tally.course.ran) same ∙ how)
       (subst (λ (tally : Tally). All (BeginsLate total) tally.silences) (sym same) late))
 
   -- ---- the last call
@@ -197,22 +197,22 @@ module _ (laws : StreamLaws) (task : Task) (graphs : List RawCodec) (closing : L
   sent_past : (world : World) → Rolls codecs tag word layout m.ring world → AllSent total world → total ≤ world.output.left
   sent_past world rolls sent = subst (λ (n : ℕ). total ≤ n) (left_carried codecs tag word layout m.ring world rolls) sent
 
-  feeds_last : (world : World) (course : Course) → AllSent total world → IsLeft task graphs [] closing world course → IsFed [] course world → PlayedAll total (state_over task [] closing world course)
-  feeds_last world course sent left fed =
+  feeds_last : (world : World) (trail : Trail) → AllSent total world → IsLeft task graphs [] closing world trail → IsFed [] trail world → PlayedAll total (state_over task [] closing world trail)
+  feeds_last world trail sent left fed =
       let on = fed.on in
-      let last = last_round task graphs closing world course left in
-      let run = last_run task on.since course last.course' closing world (later_in_time task graphs closing commands world.frames [] course world on (omega arith)) on.timed last.few left.closing_is last.honest last.is_called.noted last.turn in
+      let last = last_round task graphs closing world trail left in
+      let run = last_run task on.since trail last.trail' closing world (later_in_time task graphs closing commands world.frames [] trail world on (omega arith)) on.timed last.few left.closing_is last.honest last.is_called.noted last.turn in
       let shape = run.shape in
-      let tally = course.state.tally in
+      let tally = trail.state.tally in
       let facts = facts_of 0 (total - tally.course.used) shape.from shape.lpib shape.to in
       let body = within_call [] closing in
-      let seen = seen_in (course_made world course closing) in
+      let seen = seen_in (trail_made world trail closing) in
       let rest = shape.middle ++ Read WALCLK Four shape.to ∷ shape.back in
       let frames = call_frames [] closing left.closing_is in
       let soon = on.soon in
-      let looks = looks_at [] course world body (shape.front ++ Read WALCLK Four shape.from ∷ []) [] facts rest fed (subst (λ (events : List Event). AreHonest events world) (sym (alone_is closing)) last.honest)
+      let looks = looks_at [] trail world body (shape.front ++ Read WALCLK Four shape.from ∷ []) [] facts rest fed (subst (λ (events : List Event). AreHonest events world) (sym (alone_is closing)) last.honest)
       (accesses_are [] closing left.closing_is ∙ shape.is ∙ behind_clock shape.front rest shape.from shape.lpib)
-      (clock_beside shape.front shape.from (poll_beside task.blocks.rirb course.state.rings seen shape.front shape.front_are shape.front_asks))
+      (clock_beside shape.front shape.from (poll_beside task.blocks.rirb trail.state.rings seen shape.front shape.front_are shape.front_asks))
       (ap (λ (events : List Event). fed.so_far ++ events) (sym (stretch_is [] closing)) ∙ fed.rest_is) (omega (arith, frames, soon)) in
       let up = looks.up in
       let all = sent_past world fed.rolls sent in
@@ -256,38 +256,38 @@ module _ (laws : StreamLaws) (task : Task) (graphs : List RawCodec) (closing : L
       (steps_beside one.round.steps))
 
   -- a call of a round
-  pub record CallFeeds (one : RanRound) (ran : List RanRound) (world : World) (course : Course) : Type 0 where
-    pub on_next : IsNext task graphs one ran closing world course
-    pub run : HasPlayedOn task (Some (line_in one)) (asked_stops on_next.course'.state.tally) course on_next.course' one.accesses world
+  pub record CallFeeds (one : RanRound) (ran : List RanRound) (world : World) (trail : Trail) : Type 0 where
+    pub on_next : IsNext task graphs one ran closing world trail
+    pub run : HasPlayedOn task (Some (line_in one)) (asked_stops on_next.trail'.state.tally) trail on_next.trail' one.accesses world
     pub timed : IsTimed world.frames on_next.new
-    pub looks : LooksAt course world (within_call one.round.line.groups one.accesses) (facts_of one.round.line.budget (total - course.state.tally.course.used) run.shape.from run.shape.lpib run.shape.to)
+    pub looks : LooksAt trail world (within_call one.round.line.groups one.accesses) (facts_of one.round.line.budget (total - trail.state.tally.course.used) run.shape.from run.shape.lpib run.shape.to)
         (run.shape.middle ++ Read WALCLK Four run.shape.to ∷ run.shape.back)
-    pub full : IsFull m total on_next.course'.state.tally
+    pub full : IsFull m total on_next.trail'.state.tally
     pub front : All IsBesideSound (run.shape.front ++ Read WALCLK Four run.shape.from ∷ [])
 
-  pub call_feeds : (one : RanRound) (ran : List RanRound) (world : World) (course : Course) → ArePrompt m.limit m.slack (one ∷ ran) → AreGenerous m.ring (one ∷ ran) → IsLeft task graphs (one ∷ ran) closing world course → IsFed (one ∷ ran) course world
-      → CallFeeds one ran world course
-  call_feeds one ran world course prompt generous left fed =
+  pub call_feeds : (one : RanRound) (ran : List RanRound) (world : World) (trail : Trail) → ArePrompt m.limit m.slack (one ∷ ran) → AreGenerous m.ring (one ∷ ran) → IsLeft task graphs (one ∷ ran) closing world trail → IsFed (one ∷ ran) trail world
+      → CallFeeds one ran world trail
+  call_feeds one ran world trail prompt generous left fed =
       let on = fed.on in
-      let next = next_round task graphs one ran closing world course left in
+      let next = next_round task graphs one ran closing world trail left in
       let groups = one.round.line.groups in
       let quick = (prompt zero one refl).quick in
       let counted = next.is_called.frames in
-      let done = later_run task on.since course next.course' (line_in one) one.accesses world next.new (later_in_time task graphs closing commands next.new.frames (one ∷ ran) course world on counted) (omega (arith, quick, counted)) on.timed
+      let done = later_run task on.since trail next.trail' (line_in one) one.accesses world next.new (later_in_time task graphs closing commands next.new.frames (one ∷ ran) trail world on counted) (omega (arith, quick, counted)) on.timed
       next.are next.is_called.row next.is_called.noted next.turn next.calm.line.no_interrupt next.few in
       let run = done.0 in
       let shape = run.shape in
-      let tally = course.state.tally in
+      let tally = trail.state.tally in
       let facts = facts_of one.round.line.budget (total - tally.course.used) shape.from shape.lpib shape.to in
       let body = within_call groups one.accesses in
       let tail = map Stepped one.round.steps ++ rest_events ran closing in
-      let seen = seen_in (course_made world course one.accesses) in
+      let seen = seen_in (trail_made world trail one.accesses) in
       let rest = shape.middle ++ Read WALCLK Four shape.to ∷ shape.back in
       let whole = subst (λ (events : List Event). AreHonest events world) (stretch_is groups one.accesses) (honest_front (stretch groups one.accesses) tail world left.rest.honest) in
       let frames = call_frames groups one.accesses next.are in
       let soon = on.soon in
-      let front = clock_beside shape.front shape.from (poll_beside task.blocks.rirb course.state.rings seen shape.front shape.front_are shape.front_asks) in
-      let looks = looks_at (one ∷ ran) course world body (shape.front ++ Read WALCLK Four shape.from ∷ []) tail facts rest fed (honest_front body (End ∷ []) world whole.1)
+      let front = clock_beside shape.front shape.from (poll_beside task.blocks.rirb trail.state.rings seen shape.front shape.front_are shape.front_asks) in
+      let looks = looks_at (one ∷ ran) trail world body (shape.front ++ Read WALCLK Four shape.from ∷ []) tail facts rest fed (honest_front body (End ∷ []) world whole.1)
       (accesses_are groups one.accesses next.are ∙ shape.is ∙ behind_clock shape.front rest shape.from shape.lpib) front
       (ap (λ (events : List Event). fed.so_far ++ events) (sym (append_assoc (Begin ∷ body) (End ∷ []) tail) ∙ ap (λ (events : List Event). events ++ tail) (sym (stretch_is groups one.accesses))) ∙ fed.rest_is)
       (omega (arith, frames, soon)) in
@@ -301,9 +301,9 @@ module _ (laws : StreamLaws) (task : Task) (graphs : List RawCodec) (closing : L
       }
 
   -- where it plays on, what is known before the next call
-  pub fed_on : (one : RanRound) (ran : List RanRound) (world : World) (course : Course) → ArePrompt m.limit m.slack (one ∷ ran) → (fed : IsFed (one ∷ ran) course world) → (call : CallFeeds one ran world course) → call.on_next.course'.state.tally.course.ran ≡ ended.Playing
-      → IsFed ran call.on_next.course' (after_steps one.round.steps call.on_next.new)
-  fed_on one ran world course prompt fed call how =
+  pub fed_on : (one : RanRound) (ran : List RanRound) (world : World) (trail : Trail) → ArePrompt m.limit m.slack (one ∷ ran) → (fed : IsFed (one ∷ ran) trail world) → (call : CallFeeds one ran world trail) → call.on_next.trail'.state.tally.course.ran ≡ ended.Playing
+      → IsFed ran call.on_next.trail' (after_steps one.round.steps call.on_next.new)
+  fed_on one ran world trail prompt fed call how =
       let next = call.on_next in
       let run = call.run in
       let shape = run.shape in
@@ -313,7 +313,7 @@ module _ (laws : StreamLaws) (task : Task) (graphs : List RawCodec) (closing : L
       let body = within_call one.round.line.groups one.accesses in
       let none = none_asked shape.back shape.back_are (shape.back_asks ∙ ap (λ (how : Ran). requests_of (stop_accesses how)) how) in
       let behind_are : accesses_of finds.behind ≡ shape.middle ++ Read WALCLK Four shape.to ∷ [] = finds.behind_is ∙ ap (λ (back : List Event). shape.middle ++ Read WALCLK Four shape.to ∷ back) none in
-      let middle = store_beside shape.middle (appends_store task course.state one.round.line.budget (seen_in (course_made world course one.accesses)) shape.middle shape.middle_are shape.middle_asks) in
+      let middle = store_beside shape.middle (appends_store task trail.state one.round.line.budget (seen_in (trail_made world trail one.accesses)) shape.middle shape.middle_are shape.middle_asks) in
       let behind = by_accesses IsBesideSound others_beside finds.behind (subst (All IsBesideSound) (sym behind_are) (clock_beside shape.middle shape.to middle)) in
       let more = Read POSITION Four shape.lpib ∷ (finds.behind ++ End ∷ map Stepped steps) in
       let more_beside = All-cons IsBesideSound (Read POSITION Four shape.lpib) (finds.behind ++ End ∷ map Stepped steps) tt
@@ -321,7 +321,7 @@ module _ (laws : StreamLaws) (task : Task) (graphs : List RawCodec) (closing : L
       let world' = after_steps steps next.new in
       let is : after more there ≡ world' = rest_of one world finds.before finds.behind shape.lpib finds.is ∙ ap (after_steps steps) (sym next.new_is) in
       let moves = subst (Moves most there) is (events_move most word more there more_beside finds.rolls.steady.word_is ground.most_is) in
-      let at : next.course'.state.tally.course.at ≡ there.output.left = ap (λ (tally : Tally). tally.course.at) run.tally_is ∙ call.looks.at_is in
+      let at : next.trail'.state.tally.course.at ≡ there.output.left = ap (λ (tally : Tally). tally.course.at) run.tally_is ∙ call.looks.at_is in
       let counted = next.is_called.frames in
       let grown = steps_count steps next.new in
       let within = (prompt zero one refl).soon in
@@ -355,42 +355,42 @@ module _ (laws : StreamLaws) (task : Task) (graphs : List RawCodec) (closing : L
             ∙ ap (λ (events : List Event). fed.so_far ++ events) (append_assoc (stretch one.round.line.groups one.accesses) (map Stepped steps) (rest_events ran closing)) ∙ fed.rest_is;
       }
 
-  pub feeds : (ran : List RanRound) (world : World) (course : Course) → ArePrompt m.limit m.slack ran → AreGenerous m.ring ran → IsFedSoon total ran world → IsLeft task graphs ran closing world course → IsFed ran course world
-      → PlayedAll total (state_over task ran closing world course)
-  feeds [] world course prompt generous soon left fed = feeds_last world course soon left fed
-  feeds (one ∷ ran) world course prompt generous soon left fed =
-      by (has_drained m course.state.tally.course facts) refl
-      (λ how fedsoon. feeds ran (after_steps one.round.steps call.on_next.new) call.on_next.course' (prompt_later m.limit m.slack one ran prompt) (λ index other there. generous (suc index) other there) fedsoon call.on_next.later (fed_on one ran world course prompt fed call how))
+  pub feeds : (ran : List RanRound) (world : World) (trail : Trail) → ArePrompt m.limit m.slack ran → AreGenerous m.ring ran → IsFedSoon total ran world → IsLeft task graphs ran closing world trail → IsFed ran trail world
+      → PlayedAll total (state_over task ran closing world trail)
+  feeds [] world trail prompt generous soon left fed = feeds_last world trail soon left fed
+  feeds (one ∷ ran) world trail prompt generous soon left fed =
+      by (has_drained m trail.state.tally.course facts) refl
+      (λ how fedsoon. feeds ran (after_steps one.round.steps call.on_next.new) call.on_next.trail' (prompt_later m.limit m.slack one ran prompt) (λ index other there. generous (suc index) other there) fedsoon call.on_next.later (fed_on one ran world trail prompt fed call how))
     where
-      call : CallFeeds one ran world course
-      call = call_feeds one ran world course prompt generous left fed
+      call : CallFeeds one ran world trail
+      call = call_feeds one ran world trail prompt generous left fed
 
       facts : RunFacts
-      facts = facts_of one.round.line.budget (total - course.state.tally.course.used) call.run.shape.from call.run.shape.lpib call.run.shape.to
+      facts = facts_of one.round.line.budget (total - trail.state.tally.course.used) call.run.shape.from call.run.shape.lpib call.run.shape.to
 
-      how_is : call.on_next.course'.state.tally.course.ran ≡ (if has_drained m course.state.tally.course facts then ended.Drained else ended.Playing)
+      how_is : call.on_next.trail'.state.tally.course.ran ≡ (if has_drained m trail.state.tally.course facts then ended.Drained else ended.Playing)
       how_is = ap (λ (tally : Tally). tally.course.ran) call.run.tally_is
 
       -- the sound is sent before a later call, or all of it was found sent by this one, which drained
-      later_sent : has_drained m course.state.tally.course facts ≡ false → IsFedSoon total ran (after_steps one.round.steps call.on_next.new)
+      later_sent : has_drained m trail.state.tally.course facts ≡ false → IsFedSoon total ran (after_steps one.round.steps call.on_next.new)
       later_sent none = which soon
         where
           which : AllSent total world ⊎ IsFedSoon total ran (world_after one world) → IsFedSoon total ran (after_steps one.round.steps call.on_next.new)
           which (inl sent) =
               let all = sent_past world fed.rolls sent in
               let up = call.looks.up in
-              let drained = drains course.state.tally facts fed.full refl call.looks.later_on call.looks.soon call.looks.whole (omega (arith, all, up)) in
+              let drained = drains trail.state.tally facts fed.full refl call.looks.later_on call.looks.soon call.looks.whole (omega (arith, all, up)) in
               absurd (let z : true ≡ false = sym drained ∙ none in cc)
           which (inr fedsoon) = subst (λ (now : World). IsFedSoon total ran (after_steps one.round.steps now)) (sym call.on_next.new_is) fedsoon
 
-      by : (drained : Bool) → has_drained m course.state.tally.course facts ≡ drained
-          → (call.on_next.course'.state.tally.course.ran ≡ ended.Playing → IsFedSoon total ran (after_steps one.round.steps call.on_next.new)
-          → PlayedAll total (state_over task ran closing (after_steps one.round.steps call.on_next.new) call.on_next.course'))
-          → PlayedAll total (state_over task (one ∷ ran) closing world course)
+      by : (drained : Bool) → has_drained m trail.state.tally.course facts ≡ drained
+          → (call.on_next.trail'.state.tally.course.ran ≡ ended.Playing → IsFedSoon total ran (after_steps one.round.steps call.on_next.new)
+          → PlayedAll total (state_over task ran closing (after_steps one.round.steps call.on_next.new) call.on_next.trail'))
+          → PlayedAll total (state_over task (one ∷ ran) closing world trail)
       by true is go_on =
           let how = how_is ∙ ap (λ (drained : Bool). if drained then ended.Drained else ended.Playing) is in
           subst (PlayedAll total) (sym call.on_next.over)
-          (stays_drained ran (after_steps one.round.steps call.on_next.new) call.on_next.course' call.on_next.later (call.run.phase_is ∙ ap (phase_played task) how) how call.full.late)
+          (stays_drained ran (after_steps one.round.steps call.on_next.new) call.on_next.trail' call.on_next.later (call.run.phase_is ∙ ap (phase_played task) how) how call.full.late)
       by false is go_on =
           let how = how_is ∙ ap (λ (drained : Bool). if drained then ended.Drained else ended.Playing) is in
           subst (PlayedAll total) (sym call.on_next.over) (go_on how (later_sent is))

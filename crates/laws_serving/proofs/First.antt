@@ -21,7 +21,7 @@ use Rattle.hda_world.specs.Streaming.{HasPosition, HasSent}
 use Rattle.hda_world.specs.Tellings.{Telling}
 use Rattle.hda_world.proofs.Callers.{after-append, access_leaves, steps_after, events_front, events_back}
 use Rattle.command_engine.specs.declared.answers.Outstanding.{Outstanding}
-use Rattle.command_engine.specs.Courses.{Course as RingCourse, IsWordOf, RingPart}
+use Rattle.command_engine.specs.Fetchings.{Fetching as RingFetching, IsWordOf, RingPart}
 use Rattle.laws_hearing.specs.Steady.{AreIdle, IsBesideCommands, IsSteadyFrame, LeavesCommands}
 use Rattle.laws_stream.specs.Lives.{HasNotBegun, HasStopped, sets_going, stops}
 use Rattle.period_writer.specs.declared.geometry.Geometry.{Geometry}
@@ -29,11 +29,11 @@ use Rattle.period_writer.specs.declared.registers.TheConstants.{CONTROL, RING_LE
 use Rattle.period_writer.specs.Rings.{ring_bytes}
 use Rattle.period_writer.specs.Runs.{Measures, Tally, facts_of, measures}
 use Rattle.driver_progress.specs.Tasks.{Task}
-use Rattle.driver_progress.specs.Progress.{Course, seen_in}
+use Rattle.driver_progress.specs.Progress.{Trail, seen_in}
 use Rattle.schedule_reader.specs.declared.schedule.Group.{Group}
 use Rattle.rig.specs.Stretches.{is_access, accesses_of, stretch}
 use Rattle.rig.specs.Follows.{AreAccesses}
-use Rattle.laws_serving.proofs.Callers.{IsAccess, alone_is, IsNoRise, IsCalm, CalmRow, row_of, IsBeside, timed_row, timed_steps, steps_count, frames_so, event_frames_stay, write_is, within_call, calm_call, accesses_are, honest_front, stretch_is, course_made, RanRound, rest_events, IsLeft, IsNext, next_round, line_in, world_after, IsReady, first_run, ArePrompt, prompt_later, state_over}
+use Rattle.laws_serving.proofs.Callers.{IsAccess, alone_is, IsNoRise, IsCalm, CalmRow, row_of, IsBeside, timed_row, timed_steps, steps_count, frames_so, event_frames_stay, write_is, within_call, calm_call, accesses_are, honest_front, stretch_is, trail_made, RanRound, rest_events, IsLeft, IsNext, next_round, line_in, world_after, IsReady, first_run, ArePrompt, prompt_later, state_over}
 use Rattle.laws_serving.proofs.Full.{IsFull, first_full}
 use Rattle.laws_serving.proofs.Moments.{split_body, by_accesses, one_rise, along_end, never_begun}
 use Rattle.laws_serving.proofs.Rolling.{Moves, IsBesideSound, StreamLaws, Rolls, rolls_on, events_move, position_events}
@@ -177,7 +177,7 @@ pub record RiseLaws : Type 0 where
   pub begins : (world : World) (at value : ℕ) (width : Width) → rose world.registers.output (written world.registers at width value).output ≡ true → HasSent (length world.carried) (after_write at width value world)
   pub idle : (codecs : List CodecState) (events : List Event) (world : World) → All LeavesCommands events → AreIdle codecs world → AreIdle codecs (after events world)
 
-idle_rings : (outstanding : Option Outstanding) (part : RingPart) (word : ℕ) (gained : List TakenCommand) → outstanding ≡ None → RingCourse outstanding part word gained → part.corb_read_pointer ≡ part.corb_write_pointer
+idle_rings : (outstanding : Option Outstanding) (part : RingPart) (word : ℕ) (gained : List TakenCommand) → outstanding ≡ None → RingFetching outstanding part word gained → part.corb_read_pointer ≡ part.corb_write_pointer
 idle_rings outstanding part word gained none (inl all) = all.pointers
 idle_rings outstanding part word gained none (inr next) = absurd (subst (λ (outstanding : Option Outstanding). IsWordOf outstanding word) none next.is)
 
@@ -215,10 +215,10 @@ module _ (laws : StreamLaws) (rise_laws : RiseLaws) (task : Task) (graphs : List
     rest_is : behind ++ End ∷ (map Stepped one.round.steps ++ rest_events ran closing) ≡ stopped.during ++ stops ∷ stopped.later
     ends : after behind start ≡ after (within_call one.round.line.groups one.accesses) world
 
-  goes : (least : ℕ) (one : RanRound) (ran : List RanRound) (world : World) (course : Course) (from to : ℕ) (middle : List Event) → IsBehind telling (one ∷ ran) closing world → (left : IsLeft task graphs (one ∷ ran) closing world course)
-      → IsReady task commands least course world → one.accesses ≡ Read WALCLK Four from ∷ (middle ++ Read WALCLK Four to ∷ []) → All IsBeside middle → SetsGoing task.geometry task.blocks.list middle → (next : IsNext task graphs one ran closing world course)
+  goes : (least : ℕ) (one : RanRound) (ran : List RanRound) (world : World) (trail : Trail) (from to : ℕ) (middle : List Event) → IsBehind telling (one ∷ ran) closing world → (left : IsLeft task graphs (one ∷ ran) closing world trail)
+      → IsReady task commands least trail world → one.accesses ≡ Read WALCLK Four from ∷ (middle ++ Read WALCLK Four to ∷ []) → All IsBeside middle → SetsGoing task.geometry task.blocks.list middle → (next : IsNext task graphs one ran closing world trail)
       → IsGoing one ran world to
-  goes least one ran world course from to middle placed left ready is beside going next =
+  goes least one ran world trail from to middle placed left ready is beside going next =
       let groups = one.round.line.groups in
       let body = within_call groups one.accesses in
       let first = goes_first going.in_reset going.ready going.stores task.geometry task.blocks.list in
@@ -258,7 +258,7 @@ module _ (laws : StreamLaws) (rise_laws : RiseLaws) (task : Task) (graphs : List
       let nothing : there.carried ≡ [] = ap (λ (w : World). w.carried) (sym there_is) ∙ (along_end HasNotBegun before telling.start rise.silent).none in
       let carried : risen.carried ≡ [] = up.carried ∙ nothing in
       -- the rings are idle
-      let pointers = idle_rings course.state.rings.outstanding _ _ _ ready.idle ready.served.stands.course in
+      let pointers = idle_rings trail.state.rings.outstanding _ _ _ ready.idle ready.served.stands.fetching in
       let commands_none = All-append LeavesCommands split.before (sets_going ∷ [])
       (by_accesses LeavesCommands others_no_command split.before (subst (All LeavesCommands) (sym split.front_is) (first_no_command task.geometry task.blocks.list from going.in_reset going.ready going.stores going.are)))
       first_control in
@@ -297,25 +297,25 @@ module _ (laws : StreamLaws) (rise_laws : RiseLaws) (task : Task) (graphs : List
         ends = ap (after split.behind) start_is ∙ sym (ap (λ (events : List Event). after events world) split.is ∙ after-append split.before (sets_going ∷ split.behind) world);
       }
 
-  pub record FedBehind (one : RanRound) (ran : List RanRound) (world : World) (course : Course) : Type 0 where
-    pub next : IsNext task graphs one ran closing world course
+  pub record FedBehind (one : RanRound) (ran : List RanRound) (world : World) (trail : Trail) : Type 0 where
+    pub next : IsNext task graphs one ran closing world trail
     pub codecs : List CodecState
     pub tag : ℕ
-    pub runs : length next.course'.state.tally.runs ≡ 1
+    pub runs : length next.trail'.state.tally.runs ≡ 1
     pub alone : one.round.line.groups ≡ [] → next.new ≡ start
     pub none : start.output.left ≡ 0
     pub fresh : start.carried ≡ []
-    pub fed : IsFed laws task graphs closing commands codecs tag word layout most ground start stopped.during stopped.later stopped.runs ran next.course' (after_steps one.round.steps next.new)
+    pub fed : IsFed laws task graphs closing commands codecs tag word layout most ground start stopped.during stopped.later stopped.runs ran next.trail' (after_steps one.round.steps next.new)
 
   -- the first call that plays was made: what is known before the next one
-  pub begins_fed : (least : ℕ) (one : RanRound) (ran : List RanRound) (world : World) (course : Course) → task.plays ≡ true → ArePrompt m.limit m.slack (one ∷ ran) → m.ring ≤ one.round.line.budget → IsBehind telling (one ∷ ran) closing world
-      → IsLeft task graphs (one ∷ ran) closing world course → IsReady task commands least course world → FedBehind one ran world course
-  begins_fed least one ran world course loud prompt wide placed left ready =
-      let next = next_round task graphs one ran closing world course left in
-      let run = first_run task least course next.course' (line_in one) one.accesses world next.new loud ready.phase ready.tally_is ready.timed next.are next.is_called.row next.is_called.noted next.turn next.calm.line.no_interrupt next.few in
+  pub begins_fed : (least : ℕ) (one : RanRound) (ran : List RanRound) (world : World) (trail : Trail) → task.plays ≡ true → ArePrompt m.limit m.slack (one ∷ ran) → m.ring ≤ one.round.line.budget → IsBehind telling (one ∷ ran) closing world
+      → IsLeft task graphs (one ∷ ran) closing world trail → IsReady task commands least trail world → FedBehind one ran world trail
+  begins_fed least one ran world trail loud prompt wide placed left ready =
+      let next = next_round task graphs one ran closing world trail left in
+      let run = first_run task least trail next.trail' (line_in one) one.accesses world next.new loud ready.phase ready.tally_is ready.timed next.are next.is_called.row next.is_called.noted next.turn next.calm.line.no_interrupt next.few in
       let shape = run.shape in
-      let going = goes least one ran world course shape.from shape.to shape.middle placed left ready shape.is shape.aside.beside
-      (goes_as task course.state one.round.line.budget (seen_in (course_made world course one.accesses)) shape.middle shape.middle_are shape.middle_asks) next in
+      let going = goes least one ran world trail shape.from shape.to shape.middle placed left ready shape.is shape.aside.beside
+      (goes_as task trail.state one.round.line.budget (seen_in (trail_made world trail one.accesses)) shape.middle shape.middle_are shape.middle_asks) next in
       let steps = one.round.steps in
       let more = going.behind ++ End ∷ map Stepped steps in
       let world' = after_steps steps next.new in
@@ -324,7 +324,7 @@ module _ (laws : StreamLaws) (rise_laws : RiseLaws) (task : Task) (graphs : List
       let is : after more start ≡ world' =
       after-append going.behind (End ∷ map Stepped steps) start ∙ steps_after steps (after going.behind start) ∙ ap (after_steps steps) (going.ends ∙ sym next.new_is) in
       let moves = subst (Moves most start) is (events_move most word more start more_beside going.rolls.steady.word_is ground.most_is) in
-      let at : next.course'.state.tally.course.at ≡ 0 = ap (λ (tally : Tally). tally.course.at) run.tally_is in
+      let at : next.trail'.state.tally.course.at ≡ 0 = ap (λ (tally : Tally). tally.course.at) run.tally_is in
       let counted = next.is_called.frames in
       let grown = steps_count steps next.new in
       let within = (prompt zero one refl).soon in
@@ -364,11 +364,11 @@ module _ (laws : StreamLaws) (rise_laws : RiseLaws) (task : Task) (graphs : List
       }
 
   -- so it plays all
-  pub plays_all : (least : ℕ) (one : RanRound) (ran : List RanRound) (world : World) (course : Course) → task.plays ≡ true → ArePrompt m.limit m.slack (one ∷ ran) → AreGenerous m.ring (one ∷ ran) → IsFedSoon (length task.pcm) ran (world_after one world)
-      → IsBehind telling (one ∷ ran) closing world → IsLeft task graphs (one ∷ ran) closing world course → IsReady task commands least course world → PlayedAll (length task.pcm) (state_over task (one ∷ ran) closing world course)
-  plays_all least one ran world course loud prompt generous soon placed left ready =
-      let first = begins_fed least one ran world course loud prompt (generous zero one refl) placed left ready in
+  pub plays_all : (least : ℕ) (one : RanRound) (ran : List RanRound) (world : World) (trail : Trail) → task.plays ≡ true → ArePrompt m.limit m.slack (one ∷ ran) → AreGenerous m.ring (one ∷ ran) → IsFedSoon (length task.pcm) ran (world_after one world)
+      → IsBehind telling (one ∷ ran) closing world → IsLeft task graphs (one ∷ ran) closing world trail → IsReady task commands least trail world → PlayedAll (length task.pcm) (state_over task (one ∷ ran) closing world trail)
+  plays_all least one ran world trail loud prompt generous soon placed left ready =
+      let first = begins_fed least one ran world trail loud prompt (generous zero one refl) placed left ready in
       let next = first.next in
       subst (PlayedAll (length task.pcm)) (sym next.over)
-      (feeds laws task graphs closing commands first.codecs first.tag word layout most ground start stopped.during stopped.later stopped.runs ran (after_steps one.round.steps next.new) next.course' (prompt_later m.limit m.slack one ran prompt)
+      (feeds laws task graphs closing commands first.codecs first.tag word layout most ground start stopped.during stopped.later stopped.runs ran (after_steps one.round.steps next.new) next.trail' (prompt_later m.limit m.slack one ran prompt)
       (λ index other there. generous (suc index) other there) (subst (λ (now : World). IsFedSoon (length task.pcm) ran (after_steps one.round.steps now)) (sym next.new_is) soon) next.later first.fed)

@@ -13,8 +13,8 @@ use Rattle.hda_world.specs.Steps.{after_steps}
 use Rattle.hda_world.specs.Events.{Event, Stepped, Begin, End, happens, after, AreHonest}
 use Rattle.hda_world.proofs.Callers.{after-append, steps_after}
 use Rattle.driver_progress.specs.Tasks.{Task}
-use Rattle.driver_progress.specs.Progress.{Course, course_after, noted, Conforms}
-use Rattle.driver_progress.proofs.Callers.{steps_leave_course, conforms_back, conforms_front}
+use Rattle.driver_progress.specs.Progress.{Trail, trail_after, noted, Conforms}
+use Rattle.driver_progress.proofs.Callers.{steps_leave_trail, conforms_back, conforms_front}
 use Rattle.laws_bring_up.specs.Stretches.{FindsAll}
 use Rattle.rig.specs.Stretches.{all_steps_in, woven, stretch}
 use Rattle.rig.specs.Follows.{Piece, AreAccesses, laid_out}
@@ -86,10 +86,10 @@ rest_is (one ∷ ran) closing =
     ∙ append_assoc (stretch one.round.line.groups one.accesses) (map Stepped one.round.steps) (rest_events ran closing)
 
 -- some events of a journal that is progress
-pub record IsRest (task : Task) (events : List Event) (world : World) (course : Course) : Type 0 where
+pub record IsRest (task : Task) (events : List Event) (world : World) (trail : Trail) : Type 0 where
   pub honest : AreHonest events world
-  pub conforms : Conforms task events world course
-  pub finds : FindsAll task events world course
+  pub conforms : Conforms task events world trail
+  pub finds : FindsAll task events world trail
 
 pub honest_front : (front back : List Event) (world : World) → AreHonest (front ++ back) world → AreHonest front world
 honest_front [] back world honest = tt
@@ -99,29 +99,29 @@ pub honest_back : (front back : List Event) (world : World) → AreHonest (front
 honest_back [] back world honest = honest
 honest_back (event ∷ front) back world honest = honest_back front back (happens world event) honest.1
 
-finds_front : (task : Task) (front back : List Event) (world : World) (course : Course) → FindsAll task (front ++ back) world course → FindsAll task front world course
-finds_front task [] back world course all = tt
-finds_front task (event ∷ front) back world course all = (all.0, finds_front task front back (happens world event) (noted task course world event) all.1)
+finds_front : (task : Task) (front back : List Event) (world : World) (trail : Trail) → FindsAll task (front ++ back) world trail → FindsAll task front world trail
+finds_front task [] back world trail all = tt
+finds_front task (event ∷ front) back world trail all = (all.0, finds_front task front back (happens world event) (noted task trail world event) all.1)
 
-pub rest_front : (task : Task) (front back : List Event) (world : World) (course : Course) → IsRest task (front ++ back) world course → IsRest task front world course
-rest_front task front back world course rest = record {
+pub rest_front : (task : Task) (front back : List Event) (world : World) (trail : Trail) → IsRest task (front ++ back) world trail → IsRest task front world trail
+rest_front task front back world trail rest = record {
   honest = honest_front front back world rest.honest;
-  conforms = conforms_front task front back world course rest.conforms;
-  finds = finds_front task front back world course rest.finds;
+  conforms = conforms_front task front back world trail rest.conforms;
+  finds = finds_front task front back world trail rest.finds;
 }
 
-pub rest_back : (task : Task) (front back : List Event) (world : World) (course : Course) → IsRest task (front ++ back) world course → IsRest task back (after front world) (course_after task front world course)
-rest_back task front back world course rest = record {
+pub rest_back : (task : Task) (front back : List Event) (world : World) (trail : Trail) → IsRest task (front ++ back) world trail → IsRest task back (after front world) (trail_after task front world trail)
+rest_back task front back world trail rest = record {
   honest = honest_back front back world rest.honest;
-  conforms = conforms_back task front back world course rest.conforms;
-  finds = finds_back task front back world course rest.finds;
+  conforms = conforms_back task front back world trail rest.conforms;
+  finds = finds_back task front back world trail rest.finds;
 }
 
 -- over steps of the device
-pub rest_steps : (task : Task) (steps : List Step) (events : List Event) (world : World) (course : Course) → IsRest task (map Stepped steps ++ events) world course → IsRest task events (after_steps steps world) course
-rest_steps task steps events world course rest =
-    subst (λ (now : World). IsRest task events now course) (steps_after steps world)
-    (subst (IsRest task events (after (map Stepped steps) world)) (steps_leave_course task steps world course) (rest_back task (map Stepped steps) events world course rest))
+pub rest_steps : (task : Task) (steps : List Step) (events : List Event) (world : World) (trail : Trail) → IsRest task (map Stepped steps ++ events) world trail → IsRest task events (after_steps steps world) trail
+rest_steps task steps events world trail rest =
+    subst (λ (now : World). IsRest task events now trail) (steps_after steps world)
+    (subst (IsRest task events (after (map Stepped steps) world)) (steps_leave_trail task steps world trail) (rest_back task (map Stepped steps) events world trail rest))
 
 -- ---- a call
 
@@ -133,39 +133,39 @@ pub ends_there : (body : List Event) (world : World) → after (body ++ End ∷ 
 ends_there body world = after-append body (End ∷ []) world
 
 -- a call was made: its accesses one after another, it leads where progress says, and so many link frames passed at most
-pub record IsCalled (task : Task) (groups : List Group) (accesses : List Event) (world : World) (course : Course) (new : World) (course' : Course) : Type 0 where
+pub record IsCalled (task : Task) (groups : List Group) (accesses : List Event) (world : World) (trail : Trail) (new : World) (trail' : Trail) : Type 0 where
   pub row : CalmRow accesses world new
-  pub noted : IsNoted task world course accesses course'
+  pub noted : IsNoted task world trail accesses trail'
   pub frames : new.frames ≤ world.frames + sum_by group_frames groups
 
 -- where a call leads
 abbrev pub world_called : List Group → List Event → World → World
 world_called groups accesses world = after (within_call groups accesses) world
 
-abbrev pub course_called : Task → List Group → List Event → World → Course → Course
-course_called task groups accesses world course = course_after task (Begin ∷ (within_call groups accesses ++ End ∷ [])) world course
+abbrev pub trail_called : Task → List Group → List Event → World → Trail → Trail
+trail_called task groups accesses world trail = trail_after task (Begin ∷ (within_call groups accesses ++ End ∷ [])) world trail
 
-pub called : (task : Task) (groups : List Group) (accesses : List Event) (world : World) (course : Course) → All HasStreamsAlone groups → AreAccesses accesses → IsRest task (stretch groups accesses) world course
-    → IsCalled task groups accesses world course (world_called groups accesses world) (course_called task groups accesses world course)
-called task groups accesses world course calm are rest =
+pub called : (task : Task) (groups : List Group) (accesses : List Event) (world : World) (trail : Trail) → All HasStreamsAlone groups → AreAccesses accesses → IsRest task (stretch groups accesses) world trail
+    → IsCalled task groups accesses world trail (world_called groups accesses world) (trail_called task groups accesses world trail)
+called task groups accesses world trail calm are rest =
     let body = within_call groups accesses in
     let same = stretch_is groups accesses in
-    let rest' = subst (λ (events : List Event). IsRest task events world course) same rest in
+    let rest' = subst (λ (events : List Event). IsRest task events world trail) same rest in
     let still = calm_call groups accesses calm are in
     let made = accesses_are groups accesses are in record {
       row = subst (λ (accesses : List Event). CalmRow accesses world (after body world)) made (row_of body world still (honest_front body (End ∷ []) world rest'.honest.1));
-      noted = call_noted task body accesses world course still made rest'.conforms rest'.finds;
+      noted = call_noted task body accesses world trail still made rest'.conforms rest'.finds;
       frames = call_counts groups accesses world are;
     }
 
 -- what comes after it
-pub after_call : (task : Task) (groups : List Group) (accesses later : List Event) (world : World) (course : Course) → IsRest task (stretch groups accesses ++ later) world course
-    → IsRest task later (world_called groups accesses world) (course_called task groups accesses world course)
-after_call task groups accesses later world course rest =
+pub after_call : (task : Task) (groups : List Group) (accesses later : List Event) (world : World) (trail : Trail) → IsRest task (stretch groups accesses ++ later) world trail
+    → IsRest task later (world_called groups accesses world) (trail_called task groups accesses world trail)
+after_call task groups accesses later world trail rest =
     let body = within_call groups accesses in
     let same = stretch_is groups accesses in
-    let rest' = rest_back task (Begin ∷ (body ++ End ∷ [])) later world course (subst (λ (events : List Event). IsRest task (events ++ later) world course) same rest) in
-    subst (λ (now : World). IsRest task later now (course_called task groups accesses world course)) (ends_there body world) rest'
+    let rest' = rest_back task (Begin ∷ (body ++ End ∷ [])) later world trail (subst (λ (events : List Event). IsRest task (events ++ later) world trail) same rest) in
+    subst (λ (now : World). IsRest task later now (trail_called task groups accesses world trail)) (ends_there body world) rest'
 
 -- ---- the last call, in which the device makes no step
 

@@ -21,10 +21,10 @@ use Rattle.command_engine.specs.Entries.{answers_it}
 use Rattle.command_engine.specs.Polling.{asked_of, PollReads, entry_reads, batch_accesses, poll_accesses}
 use Rattle.command_engine.specs.Submitting.{submit_accesses}
 use Rattle.driver_progress.specs.Tasks.{Task}
-use Rattle.driver_progress.specs.Progress.{Course, begun, ended, noted, with_access, course_after, Conforms, Fits}
+use Rattle.driver_progress.specs.Progress.{Trail, begun, ended, noted, with_access, trail_after, Conforms, Fits}
 use Rattle.driver_progress.specs.Requests.{Request, Gets, Puts, Fetches, Stores, requests_of}
 use Rattle.driver_progress.specs.Seen.{values_of}
-use Rattle.driver_progress.proofs.Callers.{course_append, conforms_back}
+use Rattle.driver_progress.proofs.Callers.{trail_append, conforms_back}
 use Rattle.laws_bring_up.specs.Stretches.{Finds, FindsAll}
 use Rattle.laws_serving.specs.ServingSchedules.{IsOfStreams}
 use Rattle.laws_serving.proofs.Requests.{IsAccess}
@@ -34,24 +34,24 @@ use Rattle.rig.specs.Follows.{AreAccesses}
 
 -- ---- over accesses, while these are all responses that were written
 
-abbrev pub noted_by : List Response → Course → Event → Course
-noted_by all course (Stepped step) = course
-noted_by all course Begin = course
-noted_by all course End = course
-noted_by all course (Read at width value) =
-    record (with_access course (Read at width value)) { answered = if at == RIRBSTS then list_any (answers_it (asked_of course.state.rings.outstanding)) (drop course.written all) else course.answered }
-noted_by all course (Write at width value) =
-    record (with_access course (Write at width value)) { written = if at == CORBWP then length all else course.written }
-noted_by all course (DmaRead at bytes) = with_access course (DmaRead at bytes)
-noted_by all course (DmaWrite at bytes) = with_access course (DmaWrite at bytes)
+abbrev pub noted_by : List Response → Trail → Event → Trail
+noted_by all trail (Stepped step) = trail
+noted_by all trail Begin = trail
+noted_by all trail End = trail
+noted_by all trail (Read at width value) =
+    record (with_access trail (Read at width value)) { answered = if at == RIRBSTS then list_any (answers_it (asked_of trail.state.rings.outstanding)) (drop trail.written all) else trail.answered }
+noted_by all trail (Write at width value) =
+    record (with_access trail (Write at width value)) { written = if at == CORBWP then length all else trail.written }
+noted_by all trail (DmaRead at bytes) = with_access trail (DmaRead at bytes)
+noted_by all trail (DmaWrite at bytes) = with_access trail (DmaWrite at bytes)
 
-abbrev pub notes : List Response → Course → List Event → Course
-notes all course [] = course
-notes all course (event ∷ events) = notes all (noted_by all course event) events
+abbrev pub notes : List Response → Trail → List Event → Trail
+notes all trail [] = trail
+notes all trail (event ∷ events) = notes all (noted_by all trail event) events
 
-pub notes_both : (all : List Response) (course : Course) (front back : List Event) → notes all course (front ++ back) ≡ notes all (notes all course front) back
-notes_both all course [] back = refl
-notes_both all course (event ∷ front) back = notes_both all (noted_by all course event) front back
+pub notes_both : (all : List Response) (trail : Trail) (front back : List Event) → notes all trail (front ++ back) ≡ notes all (notes all trail front) back
+notes_both all trail [] back = refl
+notes_both all trail (event ∷ front) back = notes_both all (noted_by all trail event) front back
 
 -- steps of streams write nothing to RIRB
 frame_written : (b : Bool) (world : World) → (if b then output_framed (frame_of (output_of world)) (passed world) else world).written ≡ world.written
@@ -85,46 +85,46 @@ event_written (Write at width value) world is = (access_leaves world at value wi
 event_written (DmaRead at bytes) world is = refl
 event_written (DmaWrite at bytes) world is = refl
 
-pub course_call : (task : Task) (body : List Event) (world : World) (course : Course) → All IsCalm body → course_after task body world course ≡ notes world.written course (accesses_of body)
-course_call task [] world course calm = refl
-course_call task (event ∷ body) world course calm =
-    by event (event_written event world (All-head IsCalm event body calm)) (All-head IsCalm event body calm) (λ now next. course_call task body now next (All-tail IsCalm event body calm))
+pub trail_call : (task : Task) (body : List Event) (world : World) (trail : Trail) → All IsCalm body → trail_after task body world trail ≡ notes world.written trail (accesses_of body)
+trail_call task [] world trail calm = refl
+trail_call task (event ∷ body) world trail calm =
+    by event (event_written event world (All-head IsCalm event body calm)) (All-head IsCalm event body calm) (λ now next. trail_call task body now next (All-tail IsCalm event body calm))
   where
-    by : (event : Event) → (happens world event).written ≡ world.written → IsCalm event → ((now : World) (next : Course) → course_after task body now next ≡ notes now.written next (accesses_of body))
-        → course_after task body (happens world event) (noted task course world event) ≡ notes world.written course (accesses_of (event ∷ body))
-    by (Stepped one) same is later = later (happens world (Stepped one)) course ∙ ap (λ (all : List Response). notes all course (accesses_of body)) same
+    by : (event : Event) → (happens world event).written ≡ world.written → IsCalm event → ((now : World) (next : Trail) → trail_after task body now next ≡ notes now.written next (accesses_of body))
+        → trail_after task body (happens world event) (noted task trail world event) ≡ notes world.written trail (accesses_of (event ∷ body))
+    by (Stepped one) same is later = later (happens world (Stepped one)) trail ∙ ap (λ (all : List Response). notes all trail (accesses_of body)) same
     by Begin same is later = absurd is
     by End same is later = absurd is
-    by (Read at width value) same is later = later world (noted_by world.written course (Read at width value))
+    by (Read at width value) same is later = later world (noted_by world.written trail (Read at width value))
     by (Write at width value) same is later =
-        later (happens world (Write at width value)) (noted_by world.written course (Write at width value)) ∙ ap (λ (all : List Response). notes all (noted_by world.written course (Write at width value)) (accesses_of body)) same
-    by (DmaRead at bytes) same is later = later world (with_access course (DmaRead at bytes))
+        later (happens world (Write at width value)) (noted_by world.written trail (Write at width value)) ∙ ap (λ (all : List Response). notes all (noted_by world.written trail (Write at width value)) (accesses_of body)) same
+    by (DmaRead at bytes) same is later = later world (with_access trail (DmaRead at bytes))
     by (DmaWrite at bytes) same is later =
-        later (happens world (DmaWrite at bytes)) (with_access course (DmaWrite at bytes)) ∙ ap (λ (all : List Response). notes all (with_access course (DmaWrite at bytes)) (accesses_of body)) same
+        later (happens world (DmaWrite at bytes)) (with_access trail (DmaWrite at bytes)) ∙ ap (λ (all : List Response). notes all (with_access trail (DmaWrite at bytes)) (accesses_of body)) same
 
 -- ---- what it leaves
 
-pub record Stays (old new : Course) (accesses : List Event) : Type 0 where
+pub record Stays (old new : Trail) (accesses : List Event) : Type 0 where
   pub state : new.state ≡ old.state
   pub within : new.within ≡ old.within
   pub turn : new.turn ≡ old.turn
   pub left : new.left ≡ old.left
   pub made : new.made ≡ old.made ++ accesses
 
-pub notes_stay : (all : List Response) (course : Course) (events : List Event) → AreAccesses events → Stays course (notes all course events) events
-notes_stay all course [] are = record { state = refl; within = refl; turn = refl; left = refl; made = sym (append-nil course.made) }
-notes_stay all course (event ∷ events) are = by event (All-head IsAccess event events are) (notes_stay all (noted_by all course event) events (All-tail IsAccess event events are))
+pub notes_stay : (all : List Response) (trail : Trail) (events : List Event) → AreAccesses events → Stays trail (notes all trail events) events
+notes_stay all trail [] are = record { state = refl; within = refl; turn = refl; left = refl; made = sym (append-nil trail.made) }
+notes_stay all trail (event ∷ events) are = by event (All-head IsAccess event events are) (notes_stay all (noted_by all trail event) events (All-tail IsAccess event events are))
   where
-    by : (event : Event) → is_access event ≡ true → Stays (noted_by all course event) (notes all (noted_by all course event) events) events → Stays course (notes all (noted_by all course event) events) (event ∷ events)
+    by : (event : Event) → is_access event ≡ true → Stays (noted_by all trail event) (notes all (noted_by all trail event) events) events → Stays trail (notes all (noted_by all trail event) events) (event ∷ events)
     by (Stepped step) is rest = cc
     by Begin is rest = cc
     by End is rest = cc
     by (Read at width value) is rest =
-        record { state = rest.state; within = rest.within; turn = rest.turn; left = rest.left; made = rest.made ∙ append_assoc course.made (Read at width value ∷ []) events }
+        record { state = rest.state; within = rest.within; turn = rest.turn; left = rest.left; made = rest.made ∙ append_assoc trail.made (Read at width value ∷ []) events }
     by (Write at width value) is rest =
-        record { state = rest.state; within = rest.within; turn = rest.turn; left = rest.left; made = rest.made ∙ append_assoc course.made (Write at width value ∷ []) events }
-    by (DmaRead at bytes) is rest = record { state = rest.state; within = rest.within; turn = rest.turn; left = rest.left; made = rest.made ∙ append_assoc course.made (DmaRead at bytes ∷ []) events }
-    by (DmaWrite at bytes) is rest = record { state = rest.state; within = rest.within; turn = rest.turn; left = rest.left; made = rest.made ∙ append_assoc course.made (DmaWrite at bytes ∷ []) events }
+        record { state = rest.state; within = rest.within; turn = rest.turn; left = rest.left; made = rest.made ∙ append_assoc trail.made (Write at width value ∷ []) events }
+    by (DmaRead at bytes) is rest = record { state = rest.state; within = rest.within; turn = rest.turn; left = rest.left; made = rest.made ∙ append_assoc trail.made (DmaRead at bytes ∷ []) events }
+    by (DmaWrite at bytes) is rest = record { state = rest.state; within = rest.within; turn = rest.turn; left = rest.left; made = rest.made ∙ append_assoc trail.made (DmaWrite at bytes ∷ []) events }
 
 -- ---- whether an answer was found, and when a command was sent last
 
@@ -147,29 +147,29 @@ SendsNone (Write at width value) = (at == CORBWP) ≡ false
 SendsNone (DmaRead at bytes) = Unit {0}
 SendsNone (DmaWrite at bytes) = Unit {0}
 
-pub answered_stays : (all : List Response) (course : Course) (events : List Event) → All (ReadsNone RIRBSTS) events → (notes all course events).answered ≡ course.answered
-answered_stays all course [] none = refl
-answered_stays all course (event ∷ events) none = answered_stays all (noted_by all course event) events (All-tail (ReadsNone RIRBSTS) event events none) ∙ by event (All-head (ReadsNone RIRBSTS) event events none)
+pub answered_stays : (all : List Response) (trail : Trail) (events : List Event) → All (ReadsNone RIRBSTS) events → (notes all trail events).answered ≡ trail.answered
+answered_stays all trail [] none = refl
+answered_stays all trail (event ∷ events) none = answered_stays all (noted_by all trail event) events (All-tail (ReadsNone RIRBSTS) event events none) ∙ by event (All-head (ReadsNone RIRBSTS) event events none)
   where
-    by : (event : Event) → ReadsNone RIRBSTS event → (noted_by all course event).answered ≡ course.answered
+    by : (event : Event) → ReadsNone RIRBSTS event → (noted_by all trail event).answered ≡ trail.answered
     by (Stepped step) is = refl
     by Begin is = refl
     by End is = refl
-    by (Read at width value) is = ap (λ (looks : Bool). if looks then list_any (answers_it (asked_of course.state.rings.outstanding)) (drop course.written all) else course.answered) is
+    by (Read at width value) is = ap (λ (looks : Bool). if looks then list_any (answers_it (asked_of trail.state.rings.outstanding)) (drop trail.written all) else trail.answered) is
     by (Write at width value) is = refl
     by (DmaRead at bytes) is = refl
     by (DmaWrite at bytes) is = refl
 
-pub written_stays : (all : List Response) (course : Course) (events : List Event) → All SendsNone events → (notes all course events).written ≡ course.written
-written_stays all course [] none = refl
-written_stays all course (event ∷ events) none = written_stays all (noted_by all course event) events (All-tail SendsNone event events none) ∙ by event (All-head SendsNone event events none)
+pub written_stays : (all : List Response) (trail : Trail) (events : List Event) → All SendsNone events → (notes all trail events).written ≡ trail.written
+written_stays all trail [] none = refl
+written_stays all trail (event ∷ events) none = written_stays all (noted_by all trail event) events (All-tail SendsNone event events none) ∙ by event (All-head SendsNone event events none)
   where
-    by : (event : Event) → SendsNone event → (noted_by all course event).written ≡ course.written
+    by : (event : Event) → SendsNone event → (noted_by all trail event).written ≡ trail.written
     by (Stepped step) is = refl
     by Begin is = refl
     by End is = refl
     by (Read at width value) is = refl
-    by (Write at width value) is = ap (λ (sends : Bool). if sends then length all else course.written) is
+    by (Write at width value) is = ap (λ (sends : Bool). if sends then length all else trail.written) is
     by (DmaRead at bytes) is = refl
     by (DmaWrite at bytes) is = refl
 
@@ -238,40 +238,40 @@ none_read register (event ∷ events) none = by event (All-head (ReadsNone regis
     by (DmaWrite at bytes) is rest = rest
 
 -- a look finds what was written since the last command was sent
-pub look_answered : (all : List Response) (course : Course) (clock rirb : ℕ) (rings : RingPlaces) (reads : PollReads) (rest : List Event) → All (ReadsNone RIRBSTS) rest
-    → (notes all course (Read WALCLK Four clock ∷ (poll_accesses rirb rings reads ++ rest))).answered ≡ list_any (answers_it (asked_of course.state.rings.outstanding)) (drop course.written all)
-look_answered all course clock rirb rings reads rest none =
-    answered_stays all (noted_by all (noted_by all course (Read WALCLK Four clock)) (Read RIRBSTS One reads.flag)) (batch_if (has_bit reads.flag 0) rirb rings reads ++ rest)
+pub look_answered : (all : List Response) (trail : Trail) (clock rirb : ℕ) (rings : RingPlaces) (reads : PollReads) (rest : List Event) → All (ReadsNone RIRBSTS) rest
+    → (notes all trail (Read WALCLK Four clock ∷ (poll_accesses rirb rings reads ++ rest))).answered ≡ list_any (answers_it (asked_of trail.state.rings.outstanding)) (drop trail.written all)
+look_answered all trail clock rirb rings reads rest none =
+    answered_stays all (noted_by all (noted_by all trail (Read WALCLK Four clock)) (Read RIRBSTS One reads.flag)) (batch_if (has_bit reads.flag 0) rirb rings reads ++ rest)
     (reads_none_both RIRBSTS (batch_if (has_bit reads.flag 0) rirb rings reads) rest (batch_reads_none RIRBSTS refl (has_bit reads.flag 0) rirb rings reads) none)
 
 -- a submission is noted
-pub submission_written : (all : List Response) (course : Course) (front : List Event) (corb word : ℕ) (rings : RingPlaces) → (notes all course (front ++ submit_accesses corb rings word)).written ≡ length all
-submission_written all course front corb word rings = ap (λ (course : Course). course.written) (notes_both all course front (submit_accesses corb rings word))
+pub submission_written : (all : List Response) (trail : Trail) (front : List Event) (corb word : ℕ) (rings : RingPlaces) → (notes all trail (front ++ submit_accesses corb rings word)).written ≡ length all
+submission_written all trail front corb word rings = ap (λ (trail : Trail). trail.written) (notes_both all trail front (submit_accesses corb rings word))
 
 -- ---- a whole call
 
--- the course when the accesses of a call were made, before its end
-abbrev pub course_made : World → Course → List Event → Course
-course_made world course accesses = notes world.written (begun course) accesses
+-- the trail when the accesses of a call were made, before its end
+abbrev pub trail_made : World → Trail → List Event → Trail
+trail_made world trail accesses = notes world.written (begun trail) accesses
 
 -- where a call leads, and that it made what it was to make
-pub record IsNoted (task : Task) (world : World) (course : Course) (accesses : List Event) (course' : Course) : Type 0 where
-  pub course_is : course' ≡ ended task (course_made world course accesses)
-  pub fits : Fits task (course_made world course accesses)
-  pub finds : Finds (course_made world course accesses)
+pub record IsNoted (task : Task) (world : World) (trail : Trail) (accesses : List Event) (trail' : Trail) : Type 0 where
+  pub trail_is : trail' ≡ ended task (trail_made world trail accesses)
+  pub fits : Fits task (trail_made world trail accesses)
+  pub finds : Finds (trail_made world trail accesses)
 
-pub finds_back : (task : Task) (front back : List Event) (world : World) (course : Course) → FindsAll task (front ++ back) world course → FindsAll task back (after front world) (course_after task front world course)
-finds_back task [] back world course all = all
-finds_back task (event ∷ front) back world course all = finds_back task front back (happens world event) (noted task course world event) all.1
+pub finds_back : (task : Task) (front back : List Event) (world : World) (trail : Trail) → FindsAll task (front ++ back) world trail → FindsAll task back (after front world) (trail_after task front world trail)
+finds_back task [] back world trail all = all
+finds_back task (event ∷ front) back world trail all = finds_back task front back (happens world event) (noted task trail world event) all.1
 
-pub call_noted : (task : Task) (body accesses : List Event) (world : World) (course : Course) → All IsCalm body → accesses_of body ≡ accesses → Conforms task (Begin ∷ (body ++ End ∷ [])) world course
-    → FindsAll task (Begin ∷ (body ++ End ∷ [])) world course → IsNoted task world course accesses (course_after task (Begin ∷ (body ++ End ∷ [])) world course)
-call_noted task body accesses world course calm are conforms finds =
-    let made : course_after task body world (begun course) ≡ course_made world course accesses = course_call task body world (begun course) calm ∙ ap (notes world.written (begun course)) are in
-    let back = conforms_back task body (End ∷ []) world (begun course) conforms.1 in
-    let found = finds_back task body (End ∷ []) world (begun course) finds.1 in
+pub call_noted : (task : Task) (body accesses : List Event) (world : World) (trail : Trail) → All IsCalm body → accesses_of body ≡ accesses → Conforms task (Begin ∷ (body ++ End ∷ [])) world trail
+    → FindsAll task (Begin ∷ (body ++ End ∷ [])) world trail → IsNoted task world trail accesses (trail_after task (Begin ∷ (body ++ End ∷ [])) world trail)
+call_noted task body accesses world trail calm are conforms finds =
+    let made : trail_after task body world (begun trail) ≡ trail_made world trail accesses = trail_call task body world (begun trail) calm ∙ ap (notes world.written (begun trail)) are in
+    let back = conforms_back task body (End ∷ []) world (begun trail) conforms.1 in
+    let found = finds_back task body (End ∷ []) world (begun trail) finds.1 in
     record {
-      course_is = course_append task body (End ∷ []) world (begun course) ∙ ap (ended task) made;
+      trail_is = trail_append task body (End ∷ []) world (begun trail) ∙ ap (ended task) made;
       fits = subst (Fits task) made back.0;
       finds = subst Finds made found.0;
     }

@@ -20,8 +20,8 @@ use Rattle.hda_world.specs.Tellings.{Telling}
 use Rattle.hda_world.proofs.Callers.{steps_after}
 use Rattle.driver_progress.specs.Tasks.{Task, DriverLine}
 use Rattle.driver_progress.specs.States.{State}
-use Rattle.driver_progress.specs.Progress.{Course, begun, course_opened, course_after, course_of, state_of, ended_if}
-use Rattle.driver_progress.proofs.Callers.{course_append, steps_leave_course}
+use Rattle.driver_progress.specs.Progress.{Trail, begun, trail_opened, trail_after, trail_of, state_of, ended_if}
+use Rattle.driver_progress.proofs.Callers.{trail_append, steps_leave_trail}
 use Rattle.rig.specs.Stretches.{stretch}
 use Rattle.rig.specs.Follows.{Piece, laid_out}
 use Rattle.laws_serving.specs.Rounds.{Round, Rounds, rounds_with, rounds_of, frames_of_line, frames_of_steps}
@@ -102,16 +102,16 @@ there_too codecs world there codec is others same =
 
 -- ---- the whole journal
 
-within_over : (task : Task) (closing : List Event) (ran : List RanRound) (world : World) (course : Course) → (course_after task (rest_events ran closing) world course).within ≡ false
-within_over task closing [] world course =
-    ap (λ (events : List Event). (course_after task events world course).within) (stretch_is [] closing)
-    ∙ ap (λ (course : Course). course.within) (course_append task (within_call [] closing) (End ∷ []) world (begun course))
-within_over task closing (one ∷ ran) world course =
+within_over : (task : Task) (closing : List Event) (ran : List RanRound) (world : World) (trail : Trail) → (trail_after task (rest_events ran closing) world trail).within ≡ false
+within_over task closing [] world trail =
+    ap (λ (events : List Event). (trail_after task events world trail).within) (stretch_is [] closing)
+    ∙ ap (λ (trail : Trail). trail.within) (trail_append task (within_call [] closing) (End ∷ []) world (begun trail))
+within_over task closing (one ∷ ran) world trail =
     let front = stretch one.round.line.groups one.accesses in
     let steps = map Stepped one.round.steps in
-    ap (λ (course : Course). course.within) (course_append task front (steps ++ rest_events ran closing) world course)
-    ∙ ap (λ (course : Course). course.within) (course_append task steps (rest_events ran closing) (after front world) (course_after task front world course))
-    ∙ within_over task closing ran (after steps (after front world)) (course_after task steps (after front world) (course_after task front world course))
+    ap (λ (trail : Trail). trail.within) (trail_append task front (steps ++ rest_events ran closing) world trail)
+    ∙ ap (λ (trail : Trail). trail.within) (trail_append task steps (rest_events ran closing) (after front world) (trail_after task front world trail))
+    ∙ within_over task closing ran (after steps (after front world)) (trail_after task steps (after front world) (trail_after task front world trail))
 
 -- a run as its rounds
 pub record IsLaidRun (task : Task) (items : List Item) (telling : Telling) (closing : List Event) : Type 0 where
@@ -136,18 +136,18 @@ laid_run task items telling run =
     }
 
 state_is : (task : Task) (items : List Item) (telling : Telling) (closing : List Event) → (laid : IsLaidRun task items telling closing)
-    → state_of task (calls_of items) telling ≡ state_over task laid.ran closing (after_steps (rounds_of items).before telling.start) (course_opened (calls_of items))
+    → state_of task (calls_of items) telling ≡ state_over task laid.ran closing (after_steps (rounds_of items).before telling.start) (trail_opened (calls_of items))
 state_is task items telling closing laid =
     let lines = calls_of items in
     let before = (rounds_of items).before in
     let start = after_steps before telling.start in
-    let course : course_of task lines telling ≡ course_after task (rest_events laid.ran closing) start (course_opened lines) =
-    ap (λ (events : List Event). course_after task events telling.start (course_opened lines)) laid.journal_is
-    ∙ course_append task (map Stepped before) (rest_events laid.ran closing) telling.start (course_opened lines)
-    ∙ ap (λ (now : World). course_after task (rest_events laid.ran closing) now (course_after task (map Stepped before) telling.start (course_opened lines))) (steps_after before telling.start)
-    ∙ ap (course_after task (rest_events laid.ran closing) start) (steps_leave_course task before telling.start (course_opened lines)) in
-    let within = ap (λ (course : Course). course.within) course ∙ within_over task closing laid.ran start (course_opened lines) in
-    ap (λ (within : Bool). (ended_if within task (course_of task lines telling)).state) within ∙ ap (λ (course : Course). course.state) course
+    let trail : trail_of task lines telling ≡ trail_after task (rest_events laid.ran closing) start (trail_opened lines) =
+    ap (λ (events : List Event). trail_after task events telling.start (trail_opened lines)) laid.journal_is
+    ∙ trail_append task (map Stepped before) (rest_events laid.ran closing) telling.start (trail_opened lines)
+    ∙ ap (λ (now : World). trail_after task (rest_events laid.ran closing) now (trail_after task (map Stepped before) telling.start (trail_opened lines))) (steps_after before telling.start)
+    ∙ ap (trail_after task (rest_events laid.ran closing) start) (steps_leave_trail task before telling.start (trail_opened lines)) in
+    let within = ap (λ (trail : Trail). trail.within) trail ∙ within_over task closing laid.ran start (trail_opened lines) in
+    ap (λ (within : Bool). (ended_if within task (trail_of task lines telling)).state) within ∙ ap (λ (trail : Trail). trail.state) trail
 
 pub come_up : (laws : Laws) (task : Task) (codecs : List ℕ) (items : List Item) (telling : Telling) (Left : ℕ → List RanRound → World → Type 0) (Ends : State → Type 0) → IsTaskTo codecs task → IsStartFor codecs task telling.start
     → (run : IsRunOf task items telling) → ServesCommands codecs (length task.orders) (rounds_of items) → Onward task (graphs_of telling.start) run.closing (length (rounds_of items).rounds) Left Ends
@@ -159,13 +159,13 @@ come_up laws task codecs items telling Left Ends to start run serves onward kept
     let world = after_steps all.before telling.start in
     let graphs = graphs_of telling.start in
     let long : length laid.ran ≡ length all.rounds = sym (length-map laid.ran round_in) ∙ ap length laid.are in
-    let rest = rest_steps task all.before (rest_events laid.ran run.closing) telling.start (course_opened lines)
-    (subst (λ (events : List Event). IsRest task events telling.start (course_opened lines)) laid.journal_is (record { honest = run.honest; conforms = run.progress.conforms; finds = run.finds })) in
+    let rest = rest_steps task all.before (rest_events laid.ran run.closing) telling.start (trail_opened lines)
+    (subst (λ (events : List Event). IsRest task events telling.start (trail_opened lines)) laid.journal_is (record { honest = run.honest; conforms = run.progress.conforms; finds = run.finds })) in
     let frames = frames_are items in
     let ran_is = ran_frames_are laid.ran ∙ ap (sum_by round_frames) laid.are in
     let counted = steps_count all.before telling.start in
     let few = run.few in
-    let left : IsLeft task graphs laid.ran run.closing world (course_opened lines) = record {
+    let left : IsLeft task graphs laid.ran run.closing world (trail_opened lines) = record {
       rest = rest;
       left = ap (map call_of) (sym laid.are) ∙ sym (lines_are laid.ran);
       calm = calm_are laid.ran (subst (All IsCalmRound) (sym laid.are) serves.rounds);
@@ -176,6 +176,6 @@ come_up laws task codecs items telling Left Ends to start run serves onward kept
     } in
     let can = can_be_steps task.blocks.corb task.blocks.rirb all.before telling.start (record { blocks = start.blocks; ascend = start.ascend }) in
     let answers = answers_on codecs (length task.orders) laid.ran (subst (AnswersEach codecs (length task.orders)) (sym laid.are) serves.answers) in
-    let done = comes_over laws task codecs graphs to (there_too codecs telling.start start.there) run.closing (length all.rounds) Left Ends onward laid.ran world (course_opened lines) long
+    let done = comes_over laws task codecs graphs to (there_too codecs telling.start start.there) run.closing (length all.rounds) Left Ends onward laid.ran world (trail_opened lines) long
     (announces_on codecs (length task.orders) all laid.ran laid.are serves) answers kept left refl can in
     subst Ends (sym (state_is task items telling run.closing laid)) done

@@ -28,12 +28,12 @@ use Rattle.driver_progress.specs.States.{State}
 use Rattle.driver_progress.specs.Requests.{Request, Gets, Puts, requests_of}
 use Rattle.driver_progress.specs.Expected.{facts_seen, appends, starts, plays_on, stops, fetches, polls, shuts, runs, closes}
 use Rattle.driver_progress.specs.Next.{polled, phase_played, led, closed, tally_next, budget_of}
-use Rattle.driver_progress.specs.Progress.{Course, begun, seen_in}
+use Rattle.driver_progress.specs.Progress.{Trail, begun, seen_in}
 use Rattle.rig.specs.Follows.{AreAccesses}
 use Rattle.laws_serving.specs.ServingSchedules.{HasStreamsAlone}
 use Rattle.laws_serving.proofs.Requests.{IsAccess, reads_first, in_two, none_asked}
 use Rattle.laws_serving.proofs.Rows.{CalmRow, row_split, row_of, within_call, calm_call, accesses_are}
-use Rattle.laws_serving.proofs.Notes.{gets, asks_none, ReadsNone, course_made, IsNoted, notes_stay}
+use Rattle.laws_serving.proofs.Notes.{gets, asks_none, ReadsNone, trail_made, IsNoted, notes_stay}
 use Rattle.laws_serving.proofs.Worlds.{IsTimed, IsBeside, timed_row}
 use Rattle.laws_serving.proofs.Counting.{call_counts}
 use Rattle.laws_serving.proofs.Laid.{honest_front, alone_is}
@@ -186,37 +186,37 @@ and_none true b is = is
 and_none false b is = refl
 
 -- a run that ends in time is not late
-pub in_time : (m : Measures) (course : period.Course) (facts : RunFacts) → facts.to ≤ course.from + 500 * m.limit → facts.to ≤ facts.from + 500 * m.slack → is_late m course facts ≡ false
-in_time m course facts soon quick =
-    ap (λ (late : Bool). late || is_slow m course facts) (and_none course.started (is_over m.limit course.from facts.to) (not_over m.limit course.from facts.to soon))
-    ∙ and_none (takes_back m course facts) (is_over m.slack facts.from facts.to) (not_over m.slack facts.from facts.to quick)
+pub in_time : (m : Measures) (trail : period.Trail) (facts : RunFacts) → facts.to ≤ trail.from + 500 * m.limit → facts.to ≤ facts.from + 500 * m.slack → is_late m trail facts ≡ false
+in_time m trail facts soon quick =
+    ap (λ (late : Bool). late || is_slow m trail facts) (and_none trail.started (is_over m.limit trail.from facts.to) (not_over m.limit trail.from facts.to soon))
+    ∙ and_none (takes_back m trail facts) (is_over m.slack facts.from facts.to) (not_over m.slack facts.from facts.to quick)
 
 -- ---- where it leads
 
 -- a first run was made
-pub record HasStartedSound (task : Task) (line : DriverLine) (course course' : Course) (accesses : List Event) (world new : World) : Type 0 where
-  pub shape : IsFirst task course.state line.budget (seen_in (course_made world course accesses)) accesses
+pub record HasStartedSound (task : Task) (line : DriverLine) (trail trail' : Trail) (accesses : List Event) (world new : World) : Type 0 where
+  pub shape : IsFirst task trail.state line.budget (seen_in (trail_made world trail accesses)) accesses
   pub lpib : ℕ
-  pub phase : course'.state.phase ≡ Playing
-  pub sent_is : course'.state.sent ≡ course.state.sent
-  pub tally_is : course'.state.tally ≡ tally_if false (measures task.geometry) tally_opened (facts_of line.budget (length task.pcm) shape.from lpib shape.to)
+  pub phase : trail'.state.phase ≡ Playing
+  pub sent_is : trail'.state.sent ≡ trail.state.sent
+  pub tally_is : trail'.state.tally ≡ tally_if false (measures task.geometry) tally_opened (facts_of line.budget (length task.pcm) shape.from lpib shape.to)
   pub clocks : IsClocked shape.from shape.to world new
 
 no_less : (n : ℕ) → n - 0 ≡ n
 no_less n = omega arith
 
-pub first_run : (task : Task) (least : ℕ) (course course' : Course) (line : DriverLine) (accesses : List Event) (world new : World) → task.plays ≡ true → course.state.phase ≡ Ready → course.state.tally ≡ tally_opened → IsTimed least world → AreAccesses accesses
-    → CalmRow accesses world new → IsNoted task world course accesses course' → slice_get course.left 0 ≡ Some line → line.irq ≡ false → new.frames ≤ 8000000 → HasStartedSound task line course course' accesses world new
-first_run task least course course' line accesses world new plays ready opened timed are row noted turn calm few =
-    let seen = seen_in (course_made world course accesses) in
-    let state = course.state in
+pub first_run : (task : Task) (least : ℕ) (trail trail' : Trail) (line : DriverLine) (accesses : List Event) (world new : World) → task.plays ≡ true → trail.state.phase ≡ Ready → trail.state.tally ≡ tally_opened → IsTimed least world → AreAccesses accesses
+    → CalmRow accesses world new → IsNoted task world trail accesses trail' → slice_get trail.left 0 ≡ Some line → line.irq ≡ false → new.frames ≤ 8000000 → HasStartedSound task line trail trail' accesses world new
+first_run task least trail trail' line accesses world new plays ready opened timed are row noted turn calm few =
+    let seen = seen_in (trail_made world trail accesses) in
+    let state = trail.state in
     let m = measures task.geometry in
     let tally = tally_next task state (Some line) seen in
     let asks : requests_of accesses ≡ starts task state line.budget seen =
-    fits_so task world course course' accesses (Some line) are noted turn ∙ plainly_asked task state line seen tally calm ∙ ap (runs task state line.budget seen tally) ready
+    fits_so task world trail trail' accesses (Some line) are noted turn ∙ plainly_asked task state line seen tally calm ∙ ap (runs task state line.budget seen tally) ready
     ∙ ap (λ (plays : Bool). if plays then starts task state line.budget seen else []) plays in
     let first = first_as task state line.budget seen accesses are asks in
-    let made = (notes_stay world.written (begun course) accesses are).made in
+    let made = (notes_stay world.written (begun trail) accesses are).made in
     let clocks : seen.clocks ≡ first.from ∷ first.to ∷ [] =
     ap (λ (made : List Event). values_of made WALCLK) (made ∙ first.is) ∙ two_clocks [] first.middle [] first.from first.to (All-nil (ReadsNone WALCLK)) first.aside.no_clock (All-nil (ReadsNone WALCLK)) in
     let lpib = slice_index seen.positions 0 in
@@ -227,8 +227,8 @@ first_run task least course course' line accesses world new plays ready opened t
     ∙ taken_so m (length task.pcm) tally_opened stretch first.from first.to refl clocks
     ∙ ap (λ (left : ℕ). tally_after m tally_opened (facts_of line.budget left first.from lpib first.to)) (no_less (length task.pcm))
     ∙ ap (λ (late : Bool). tally_if late m tally_opened facts) (opened_late m facts) in
-    let leads : course'.state ≡ record state { phase = Playing; tally = tally } =
-    leads_so task world course course' accesses (Some line) are noted turn ∙ plainly_led task state line seen calm
+    let leads : trail'.state ≡ record state { phase = Playing; tally = tally } =
+    leads_so task world trail trail' accesses (Some line) are noted turn ∙ plainly_led task state line seen calm
     ∙ ap (λ (phase : Phase). record (led task state seen tally phase) { tally = tally }) ready
     ∙ ap (λ (plays : Bool). record (if plays then record state { phase = Playing } else state) { tally = tally }) plays in
     record {
@@ -242,12 +242,12 @@ first_run task least course course' line accesses world new plays ready opened t
     }
 
 -- a later run was made, which was not late
-pub record HasPlayedOn (task : Task) (turn : Option DriverLine) (later : List Request) (course course' : Course) (accesses : List Event) (world : World) : Type 0 where
-  pub shape : IsLater task course.state (budget_of turn) (seen_in (course_made world course accesses)) later accesses
+pub record HasPlayedOn (task : Task) (turn : Option DriverLine) (later : List Request) (trail trail' : Trail) (accesses : List Event) (world : World) : Type 0 where
+  pub shape : IsLater task trail.state (budget_of turn) (seen_in (trail_made world trail accesses)) later accesses
   pub clock : 500 * world.frames ≤ shape.from
-  pub phase_is : course'.state.phase ≡ phase_played task course'.state.tally.course.ran
-  pub sent_is : course'.state.sent ≡ course.state.sent
-  pub tally_is : course'.state.tally ≡ tally_if false (measures task.geometry) course.state.tally (facts_of (budget_of turn) (length task.pcm - course.state.tally.course.used) shape.from shape.lpib shape.to)
+  pub phase_is : trail'.state.phase ≡ phase_played task trail'.state.tally.course.ran
+  pub sent_is : trail'.state.sent ≡ trail.state.sent
+  pub tally_is : trail'.state.tally ≡ tally_if false (measures task.geometry) trail.state.tally (facts_of (budget_of turn) (length task.pcm - trail.state.tally.course.used) shape.from shape.lpib shape.to)
 
 -- it left the line played on, or drained
 pub ends_played : (task : Task) (phase : Phase) (how : Ran) (drained : Bool) → phase ≡ phase_played task how → how ≡ (if drained then ran.Drained else ran.Playing) → (phase ≡ Playing) ⊎ (phase ≡ Drained)
@@ -255,14 +255,14 @@ ends_played task phase how true is how_is = inr (is ∙ ap (phase_played task) h
 ends_played task phase how false is how_is = inl (is ∙ ap (phase_played task) how_is)
 
 -- before a later run: the stream plays, and so many link frames at most pass from the last run's first clock to the end of this one
-pub record IsInTime (task : Task) (frames : ℕ) (course : Course) : Type 0 where
-  pub phase : course.state.phase ≡ Playing
-  pub plays : course.state.tally.course.ran ≡ ran.Playing
-  pub soon : 500 * frames ≤ course.state.tally.course.from + 500 * (measures task.geometry).limit
+pub record IsInTime (task : Task) (frames : ℕ) (trail : Trail) : Type 0 where
+  pub phase : trail.state.phase ≡ Playing
+  pub plays : trail.state.tally.course.ran ≡ ran.Playing
+  pub soon : 500 * frames ≤ trail.state.tally.course.from + 500 * (measures task.geometry).limit
 
-module _ (task : Task) (course course' : Course) (accesses : List Event) (world : World) where
+module _ (task : Task) (trail trail' : Trail) (accesses : List Event) (world : World) where
   abbrev seen : Seen
-  seen = seen_in (course_made world course accesses)
+  seen = seen_in (trail_made world trail accesses)
 
   abbrev m : Measures
   m = measures task.geometry
@@ -280,14 +280,14 @@ module _ (task : Task) (course course' : Course) (accesses : List Event) (world 
       by false = refl
 
   -- what a run leads to that ended at a moment
-  ran_so : (turn : Option DriverLine) (later : List Request) (there : World) → AreAccesses accesses → (run : IsLater task course.state (budget_of turn) seen later accesses) → All (ReadsNone WALCLK) run.back
-      → IsClocked run.from run.to world there → IsInTime task there.frames course → there.frames ≤ world.frames + m.slack
-      → course'.state ≡ record course.state { phase = phase_played task (tally_next task course.state turn seen).course.ran; rings = polled course.state.rings seen; tally = tally_next task course.state turn seen }
-      → HasPlayedOn task turn later course course' accesses world
+  ran_so : (turn : Option DriverLine) (later : List Request) (there : World) → AreAccesses accesses → (run : IsLater task trail.state (budget_of turn) seen later accesses) → All (ReadsNone WALCLK) run.back
+      → IsClocked run.from run.to world there → IsInTime task there.frames trail → there.frames ≤ world.frames + m.slack
+      → trail'.state ≡ record trail.state { phase = phase_played task (tally_next task trail.state turn seen).trail.ran; rings = polled trail.state.rings seen; tally = tally_next task trail.state turn seen }
+      → HasPlayedOn task turn later trail trail' accesses world
   ran_so turn later there are run quiet clocks in_time_is quick leads =
-      let state = course.state in
+      let state = trail.state in
       let total = length task.pcm in
-      let made = (notes_stay world.written (begun course) accesses are).made in
+      let made = (notes_stay world.written (begun trail) accesses are).made in
       let facts = facts_of (budget_of turn) (total - state.tally.course.used) run.from run.lpib run.to in
       let stretch : Stretch = record { budget = budget_of turn; clocks = seen.clocks; lpibs = seen.positions } in
       let no_lpib : All (ReadsNone WALCLK) (Read POSITION Four run.lpib ∷ run.middle) = All-cons (ReadsNone WALCLK) (Read POSITION Four run.lpib) run.middle refl run.middle_aside.no_clock in
@@ -338,15 +338,15 @@ stops_aside tally = by tally.course.ran
     by (ran.Late from to limit) = All-cons IsAside (Puts CONTROL One 0) [] control (All-nil IsAside)
 
 -- a later run by a line
-pub later_run : (task : Task) (least : ℕ) (course course' : Course) (line : DriverLine) (accesses : List Event) (world new : World) → IsInTime task new.frames course → new.frames ≤ world.frames + (measures task.geometry).slack → IsTimed least world
-    → AreAccesses accesses → CalmRow accesses world new → IsNoted task world course accesses course' → slice_get course.left 0 ≡ Some line → line.irq ≡ false → new.frames ≤ 8000000
-    → HasPlayedOn task (Some line) (stops course'.state.tally) course course' accesses world × IsTimed world.frames new
-later_run task least course course' line accesses world new in_time_is quick timed are row noted turn calm few =
-    let seen = seen_in (course_made world course accesses) in
-    let state = course.state in
+pub later_run : (task : Task) (least : ℕ) (trail trail' : Trail) (line : DriverLine) (accesses : List Event) (world new : World) → IsInTime task new.frames trail → new.frames ≤ world.frames + (measures task.geometry).slack → IsTimed least world
+    → AreAccesses accesses → CalmRow accesses world new → IsNoted task world trail accesses trail' → slice_get trail.left 0 ≡ Some line → line.irq ≡ false → new.frames ≤ 8000000
+    → HasPlayedOn task (Some line) (stops trail'.state.tally) trail trail' accesses world × IsTimed world.frames new
+later_run task least trail trail' line accesses world new in_time_is quick timed are row noted turn calm few =
+    let seen = seen_in (trail_made world trail accesses) in
+    let state = trail.state in
     let tally = tally_next task state (Some line) seen in
     let asks : requests_of accesses ≡ plays_on task state line.budget seen (stops tally) =
-    fits_so task world course course' accesses (Some line) are noted turn ∙ plainly_asked task state line seen tally calm ∙ ap (runs task state line.budget seen tally) in_time_is.phase in
+    fits_so task world trail trail' accesses (Some line) are noted turn ∙ plainly_asked task state line seen tally calm ∙ ap (runs task state line.budget seen tally) in_time_is.phase in
     let run = later_as task state line.budget seen (stops tally) accesses are asks in
     let front = up_to_clock run.front run.from run.lpib run.middle run.to in
     let back = aside_accesses run.back run.back_are (subst (All IsAside) (sym run.back_asks) (stops_aside tally)) in
@@ -361,10 +361,10 @@ later_run task least course course' line accesses world new in_time_is quick tim
     let clocks = clocked run.front (Read POSITION Four run.lpib ∷ run.middle) run.from run.to world there run.front_aside.beside (lpib_beside run.lpib run.middle run.middle_aside.beside) here parts.1 (omega (arith, grows, few)) in
     let soon = in_time_is.soon in
     let since = before.later in
-    let leads : course'.state ≡ record state { phase = phase_played task tally.course.ran; rings = polled state.rings seen; tally = tally } =
-    leads_so task world course course' accesses (Some line) are noted turn ∙ plainly_led task state line seen calm ∙ ap (λ (phase : Phase). record (led task state seen tally phase) { tally = tally }) in_time_is.phase in (
-      subst (λ (later : Tally). HasPlayedOn task (Some line) (stops later) course course' accesses world) (sym (ap (λ (state : State). state.tally) leads))
-          (ran_so task course course' accesses world (Some line) (stops tally) there are run back.no_clock clocks
+    let leads : trail'.state ≡ record state { phase = phase_played task tally.course.ran; rings = polled state.rings seen; tally = tally } =
+    leads_so task world trail trail' accesses (Some line) are noted turn ∙ plainly_led task state line seen calm ∙ ap (λ (phase : Phase). record (led task state seen tally phase) { tally = tally }) in_time_is.phase in (
+      subst (λ (later : Tally). HasPlayedOn task (Some line) (stops later) trail trail' accesses world) (sym (ap (λ (state : State). state.tally) leads))
+          (ran_so task trail trail' accesses world (Some line) (stops tally) there are run back.no_clock clocks
           (record { phase = in_time_is.phase; plays = in_time_is.plays; soon = omega (arith, soon, grows) }) (omega (arith, quick, grows)) leads),
       record { out = end.out; time = end.time; later = omega (arith, since, grows) },
     )
@@ -377,15 +377,15 @@ later_run task least course course' line accesses world new in_time_is quick tim
         (All-append IsBeside middle (Read WALCLK Four to ∷ []) second (All-cons IsBeside (Read WALCLK Four to) [] (tt, tt) (All-nil IsBeside))))) row timed
 
 -- the last call, in which no link frame passes
-pub last_run : (task : Task) (least : ℕ) (course course' : Course) (accesses : List Event) (world : World) → IsInTime task world.frames course → IsTimed least world → world.frames ≤ 8000000 → AreAccesses accesses → AreHonest accesses world
-    → IsNoted task world course accesses course' → slice_get course.left 0 ≡ None → HasPlayedOn task None (Puts CONTROL One 0 ∷ shuts) course course' accesses world
-last_run task least course course' accesses world in_time_is timed few are honest noted turn =
-    let seen = seen_in (course_made world course accesses) in
-    let state = course.state in
+pub last_run : (task : Task) (least : ℕ) (trail trail' : Trail) (accesses : List Event) (world : World) → IsInTime task world.frames trail → IsTimed least world → world.frames ≤ 8000000 → AreAccesses accesses → AreHonest accesses world
+    → IsNoted task world trail accesses trail' → slice_get trail.left 0 ≡ None → HasPlayedOn task None (Puts CONTROL One 0 ∷ shuts) trail trail' accesses world
+last_run task least trail trail' accesses world in_time_is timed few are honest noted turn =
+    let seen = seen_in (trail_made world trail accesses) in
+    let state = trail.state in
     let tally = tally_next task state None seen in
     let later = Puts CONTROL One 0 ∷ shuts in
     let asks : requests_of accesses ≡ plays_on task state 0 seen later =
-    fits_so task world course course' accesses None are noted turn ∙ ap (closes task state seen) in_time_is.phase in
+    fits_so task world trail trail' accesses None are noted turn ∙ ap (closes task state seen) in_time_is.phase in
     let run = later_as task state 0 seen later accesses are asks in
     let front = up_to_clock run.front run.from run.lpib run.middle run.to in
     let is = run.is ∙ in_front run.front run.middle run.back run.from run.lpib run.to in
@@ -399,9 +399,9 @@ last_run task least course course' accesses world in_time_is timed few are hones
     let here : IsTimed world.frames world = record { out = timed.out; time = timed.time; later = omega arith } in
     let clocks = clocked run.front (Read POSITION Four run.lpib ∷ run.middle) run.from run.to world there run.front_aside.beside (lpib_beside run.lpib run.middle run.middle_aside.beside) here row (omega (arith, stays, few)) in
     let soon = in_time_is.soon in
-    ran_so task course course' accesses world None later there are run (asks_none WALCLK run.back (ap (list_any (gets WALCLK)) run.back_asks)) clocks
+    ran_so task trail trail' accesses world None later there are run (asks_none WALCLK run.back (ap (list_any (gets WALCLK)) run.back_asks)) clocks
     (record { phase = in_time_is.phase; plays = in_time_is.plays; soon = omega (arith, soon, stays) }) (omega (arith, stays))
-    (leads_so task world course course' accesses None are noted turn ∙ ap (λ (phase : Phase). record (closed task state seen tally phase) { tally = tally }) in_time_is.phase)
+    (leads_so task world trail trail' accesses None are noted turn ∙ ap (λ (phase : Phase). record (closed task state seen tally phase) { tally = tally }) in_time_is.phase)
   where
     made_both : (front back : List Event) → AreAccesses (front ++ back) → AreAccesses front
     made_both [] back are = All-nil IsAccess

@@ -17,7 +17,7 @@ use Rattle.command_engine.specs.declared.answers.Outstanding.{Outstanding}
 use Rattle.command_engine.specs.Submitting.{command_place, submit_accesses, rings_submitted}
 use Rattle.command_engine.specs.Polling.{PollReads, AreNew, poll_accesses, asked_of, found_by, rings_polled}
 use Rattle.command_engine.specs.Entries.{answer_among}
-use Rattle.command_engine.specs.Courses.{Stands}
+use Rattle.command_engine.specs.Fetchings.{Stands}
 use Rattle.command_engine.specs.Belonging.{from_after, as_held}
 use Rattle.command_engine.specs.Told.{found_since}
 use Rattle.command_engine.proofs.Callers.{poll_leaves, submit_leaves, steps_keep_standing, responses_apart}

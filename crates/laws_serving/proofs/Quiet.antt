@@ -26,10 +26,10 @@ use Rattle.driver_progress.specs.States.{State}
 use Rattle.driver_progress.specs.Requests.{Request, Gets, Puts, Fetches, Stores, requests_of}
 use Rattle.driver_progress.specs.Expected.{resets, settles, has_settled, rings_seen, sets_rings, fetches, polls, next_order, submits, asks, runs}
 use Rattle.driver_progress.specs.Next.{tally_next}
-use Rattle.driver_progress.specs.Progress.{Course, seen_in}
+use Rattle.driver_progress.specs.Progress.{Trail, seen_in}
 use Rattle.rig.specs.Follows.{AreAccesses}
 use Rattle.laws_serving.proofs.Requests.{IsAccess}
-use Rattle.laws_serving.proofs.Notes.{course_made, IsNoted}
+use Rattle.laws_serving.proofs.Notes.{trail_made, IsNoted}
 use Rattle.laws_serving.proofs.Asking.{fits_so, plainly_asked}
 
 -- ---- accesses that set nothing going
@@ -135,10 +135,10 @@ run_elsewhere task state budget seen tally Walking is = ask_elsewhere task state
 run_elsewhere task state budget seen tally SettingUp is = ask_elsewhere task state seen _ (submit_elsewhere task.blocks state.rings (next_order task state seen))
 run_elsewhere task state budget seen tally phase is = cc
 
-pub call_sets_none : (task : Task) (world : World) (course course' : Course) (line : DriverLine) (accesses : List Event) → AreAccesses accesses → IsNoted task world course accesses course' → slice_get course.left 0 ≡ Some line → line.irq ≡ false
-    → has_commands_left course.state.phase ≡ true → All IsNoRise accesses
-call_sets_none task world course course' line accesses are noted turn calm before =
-    let seen = seen_in (course_made world course accesses) in
-    let tally = tally_next task course.state (Some line) seen in
-    let is = fits_so task world course course' accesses (Some line) are noted turn ∙ plainly_asked task course.state line seen tally calm in
-    no_rise accesses are (subst (All IsElsewhere) (sym is) (run_elsewhere task course.state line.budget seen tally course.state.phase before))
+pub call_sets_none : (task : Task) (world : World) (trail trail' : Trail) (line : DriverLine) (accesses : List Event) → AreAccesses accesses → IsNoted task world trail accesses trail' → slice_get trail.left 0 ≡ Some line → line.irq ≡ false
+    → has_commands_left trail.state.phase ≡ true → All IsNoRise accesses
+call_sets_none task world trail trail' line accesses are noted turn calm before =
+    let seen = seen_in (trail_made world trail accesses) in
+    let tally = tally_next task trail.state (Some line) seen in
+    let is = fits_so task world trail trail' accesses (Some line) are noted turn ∙ plainly_asked task trail.state line seen tally calm in
+    no_rise accesses are (subst (All IsElsewhere) (sym is) (run_elsewhere task trail.state line.budget seen tally trail.state.phase before))

@@ -24,7 +24,7 @@ use Rattle.hda_world.specs.Steps.{after_step, after_steps, frame_step, times, ha
 use Rattle.hda_world.specs.Events.{Event, Read, Write, happens, after_write, registers_written, reset_if, counted_anew_if}
 use Rattle.hda_world.specs.Leaving.{StepsLeave}
 use Rattle.hda_world.proofs.Callers.{steps_leave, reset_write, found_all}
-use Rattle.command_engine.specs.Courses.{HasBlocks, AscendFrom, AscendByAddress}
+use Rattle.command_engine.specs.Fetchings.{HasBlocks, AscendFrom, AscendByAddress}
 use Rattle.command_engine.specs.Quiet.{IsQuiet, CanStart}
 use Rattle.command_engine.proofs.Callers.{can_start_steps, reset_quiet, risen_can_start, reset_registers, risen_registers, resets as resets_it, no_reset, leaves_reset}
 use Rattle.period_writer.specs.Runs.{Tally, tally_opened}
@@ -36,7 +36,7 @@ use Rattle.driver_progress.specs.Requests.{Gets, Puts, requests_of}
 use Rattle.driver_progress.specs.Expected as expected
 use Rattle.driver_progress.specs.Expected.{runs}
 use Rattle.driver_progress.specs.Next.{reset_if as reset_state_if, led, tally_next}
-use Rattle.driver_progress.specs.Progress.{Course, seen_in, begun}
+use Rattle.driver_progress.specs.Progress.{Trail, seen_in, begun}
 use Rattle.laws_bring_up.specs.Stretches.{FindsIn, FindsBy}
 use Rattle.laws_serving.specs.ServingDevices.{keeps_answers, KeepAnswers}
 use Rattle.driver_progress.specs.Resetting.{reset_accesses}
@@ -45,7 +45,7 @@ use Rattle.laws_serving.specs.ServingSchedules.{IsOfStreams}
 use Rattle.laws_serving.specs.Rounds.{frames_of_steps}
 use Rattle.laws_serving.proofs.Requests.{reads_first, writes_first, none_asked}
 use Rattle.laws_serving.proofs.Rows.{CalmRow}
-use Rattle.laws_serving.proofs.Notes.{course_made, IsNoted, notes_stay}
+use Rattle.laws_serving.proofs.Notes.{trail_made, IsNoted, notes_stay}
 use Rattle.laws_serving.proofs.Worlds.{step_link, step_control, step_counted, IsTimed, timed_step}
 use Rattle.laws_serving.proofs.Engines.{at_first}
 use Rattle.laws_serving.proofs.Asking.{fits_so, leads_so, plainly_asked, plainly_led, no_run, sees_them}
@@ -235,38 +235,38 @@ resets_as accesses are asks =
     }
 
 -- after the first call: the codecs have their time
-pub record HasBegun (task : Task) (course : Course) (world : World) : Type 0 where
-  pub phase : course.state.phase ≡ Settling
-  pub sent_is : course.state.sent ≡ 0
-  pub tally_is : course.state.tally ≡ tally_opened
-  pub reset : HasReset task.blocks.corb task.blocks.rirb course.state.kept world
+pub record HasBegun (task : Task) (trail : Trail) (world : World) : Type 0 where
+  pub phase : trail.state.phase ≡ Settling
+  pub sent_is : trail.state.sent ≡ 0
+  pub tally_is : trail.state.tally ≡ tally_opened
+  pub reset : HasReset task.blocks.corb task.blocks.rirb trail.state.kept world
 
 found_out : (task : Task) (line : DriverLine) (state : State) (seen : Seen) → state ≡ state_opened → line.irq ≡ false → FindsBy (Some line) state seen → has_bit seen.control 0 ≡ true
 found_out task line state seen opened calm finds =
     subst (λ (state : State). FindsIn state.phase state seen) opened
     (finds (ap (λ (irq : Bool). irq && not (has_bit seen.interrupts interrupts_at)) calm))
 
-pub first_call : (task : Task) (course course' : Course) (line : DriverLine) (accesses : List Event) (world new : World) → course.state ≡ state_opened → CanBeReset task.blocks.corb task.blocks.rirb world → AreAccesses accesses → CalmRow accesses world new
-    → IsNoted task world course accesses course' → slice_get course.left 0 ≡ Some line → line.irq ≡ false → HasBegun task course' new
-first_call task course course' line accesses world new opened can are row noted turn calm =
-    let c = course_made world course accesses in
+pub first_call : (task : Task) (trail trail' : Trail) (line : DriverLine) (accesses : List Event) (world new : World) → trail.state ≡ state_opened → CanBeReset task.blocks.corb task.blocks.rirb world → AreAccesses accesses → CalmRow accesses world new
+    → IsNoted task world trail accesses trail' → slice_get trail.left 0 ≡ Some line → line.irq ≡ false → HasBegun task trail' new
+first_call task trail trail' line accesses world new opened can are row noted turn calm =
+    let c = trail_made world trail accesses in
     let seen = seen_in c in
-    let stays = notes_stay world.written (begun course) accesses are in
-    let tally = tally_next task course.state (Some line) seen in
+    let stays = notes_stay world.written (begun trail) accesses are in
+    let tally = tally_next task trail.state (Some line) seen in
     let asks : requests_of accesses ≡ expected.resets =
-    fits_so task world course course' accesses (Some line) are noted turn ∙ plainly_asked task course.state line seen tally calm ∙ ap (λ (state : State). runs task state line.budget seen (tally_next task state (Some line) seen) state.phase) opened in
+    fits_so task world trail trail' accesses (Some line) are noted turn ∙ plainly_asked task trail.state line seen tally calm ∙ ap (λ (state : State). runs task state line.budget seen (tally_next task state (Some line) seen) state.phase) opened in
     let made = resets_as accesses are asks in
-    let clocks : seen.clocks ≡ made.clock ∷ [] = (sees_them world course accesses are).clocks ∙ ap (λ (accesses : List Event). values_of accesses WALCLK) made.is in
-    let finds = subst (λ (turn : Option DriverLine). FindsBy turn course.state seen) (stays.turn ∙ turn) (subst (λ (state : State). FindsBy c.turn state seen) stays.state noted.finds) in
-    let out = found_out task line course.state seen opened calm finds in
-    let none = no_run task course.state (Some line) seen made.clock (ap (λ (state : State). state.tally) opened) clocks in
-    let state : course'.state ≡ record state_opened { phase = Settling; kept = clock_of seen; tally = tally_opened } =
-    leads_so task world course course' accesses (Some line) are noted turn ∙ plainly_led task course.state line seen calm
-    ∙ ap (λ (tally' : Tally). record (led task course.state seen tally course.state.phase) { tally = tally' }) none
+    let clocks : seen.clocks ≡ made.clock ∷ [] = (sees_them world trail accesses are).clocks ∙ ap (λ (accesses : List Event). values_of accesses WALCLK) made.is in
+    let finds = subst (λ (turn : Option DriverLine). FindsBy turn trail.state seen) (stays.turn ∙ turn) (subst (λ (state : State). FindsBy c.turn state seen) stays.state noted.finds) in
+    let out = found_out task line trail.state seen opened calm finds in
+    let none = no_run task trail.state (Some line) seen made.clock (ap (λ (state : State). state.tally) opened) clocks in
+    let state : trail'.state ≡ record state_opened { phase = Settling; kept = clock_of seen; tally = tally_opened } =
+    leads_so task world trail trail' accesses (Some line) are noted turn ∙ plainly_led task trail.state line seen calm
+    ∙ ap (λ (tally' : Tally). record (led task trail.state seen tally trail.state.phase) { tally = tally' }) none
     ∙ ap (λ (state : State). record (led task state seen tally state.phase) { tally = tally_opened }) opened
     ∙ ap (λ (out : Bool). record (reset_state_if out (clock_of seen) state_opened) { tally = tally_opened }) out in
     let reset = reset_row task.blocks.corb task.blocks.rirb made.in_reset made.control made.clock world new can (subst (λ (accesses : List Event). CalmRow accesses world new) made.is row) in
-    let kept : made.clock ≡ course'.state.kept = sym (ap (λ (state : State). state.kept) state ∙ ap (λ (clocks : List ℕ). slice_index clocks 0) clocks) in
+    let kept : made.clock ≡ trail'.state.kept = sym (ap (λ (state : State). state.kept) state ∙ ap (λ (clocks : List ℕ). slice_index clocks 0) clocks) in
     record {
       phase = ap (λ (state : State). state.phase) state;
       sent_is = ap (λ (state : State). state.sent) state;

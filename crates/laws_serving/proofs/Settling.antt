@@ -25,7 +25,7 @@ use Rattle.hda_world.specs.Tellings.{world_of}
 use Rattle.command_engine.specs.declared.ring_places.RingPlaces.{RingPlaces}
 use Rattle.command_engine.specs.Sizes.{half_of, largest_size}
 use Rattle.command_engine.specs.Starting.{StartReads, codecs_in, rings_of, rings_found, rings_read, first_reads, settings_if, corb_accesses, rirb_accesses, start_accesses}
-use Rattle.command_engine.specs.Courses.{Stands, solicited, waiting_answers}
+use Rattle.command_engine.specs.Fetchings.{Stands, solicited, waiting_answers}
 use Rattle.command_engine.specs.Quiet.{CanStart, IsBlockAddress}
 use Rattle.command_engine.proofs.Callers.{start_leaves, steps_keep_standing, responses_apart}
 use Rattle.period_writer.specs.Runs.{Tally, tally_opened}
@@ -37,7 +37,7 @@ use Rattle.driver_progress.specs.States.{State}
 use Rattle.driver_progress.specs.Requests.{Request, Gets, Puts, requests_of}
 use Rattle.driver_progress.specs.Expected.{has_settled, rings_seen, sets_rings, settles, runs}
 use Rattle.driver_progress.specs.Next.{settled_if, walking_if, led, tally_next}
-use Rattle.driver_progress.specs.Progress.{Course, seen_in, begun}
+use Rattle.driver_progress.specs.Progress.{Trail, seen_in, begun}
 use Rattle.laws_bring_up.specs.Stretches.{FindsIn, FindsBy}
 use Rattle.rig.specs.Follows.{AreAccesses}
 use Rattle.laws_serving.specs.ServingDevices.{HasAnswersAlone, Serves, StandsServed}
@@ -46,7 +46,7 @@ use Rattle.laws_serving.proofs.Rows.{CalmRow, told_row, just}
 use Rattle.laws_serving.proofs.Worlds.{SameLink, link_same, link_then, step_link, event_link, step_control, write_is, IsTimed, IsBeside, timed_step, timed_access, timed_row}
 use Rattle.laws_serving.proofs.Engines.{at_first}
 use Rattle.laws_serving.proofs.Requests.{reads_first, writes_first, none_asked}
-use Rattle.laws_serving.proofs.Notes.{gets, asks_none, none_read, ReadsNone, course_made, IsNoted, notes_stay}
+use Rattle.laws_serving.proofs.Notes.{gets, asks_none, none_read, ReadsNone, trail_made, IsNoted, notes_stay}
 use Rattle.laws_serving.proofs.Asking.{fits_so, leads_so, plainly_asked, plainly_led, no_run}
 use Rattle.laws_serving.proofs.Resetting.{IsIdle, NothingWaits, IsOut, out_step}
 
@@ -240,12 +240,12 @@ start_serves corb rirb least reads rings old new corb_block rirb_block found can
 -- ---- the call
 
 -- the codecs had their time, and nothing else happened since the reset
-pub record HasWaited (task : Task) (least : ℕ) (course : Course) (world : World) : Type 0 where
-  pub phase : course.state.phase ≡ Settling
-  pub sent_is : course.state.sent ≡ 0
-  pub tally_is : course.state.tally ≡ tally_opened
+pub record HasWaited (task : Task) (least : ℕ) (trail : Trail) (world : World) : Type 0 where
+  pub phase : trail.state.phase ≡ Settling
+  pub sent_is : trail.state.sent ≡ 0
+  pub tally_is : trail.state.tally ≡ tally_opened
   pub out : IsOut task.blocks.corb task.blocks.rirb least world
-  pub kept : course.state.kept + 12500 ≤ 500 * least
+  pub kept : trail.state.kept + 12500 ≤ 500 * least
 
 -- the rings are set so
 sets_as : (corb rirb status : ℕ) (size : RingSize) (accesses : List Event) → AreAccesses accesses
@@ -395,42 +395,42 @@ second_by false task state seen given least accesses later clock world new had s
     let z : true ≡ false = sym late ∙ ap (has_settled state.kept) (sym seen_clock) ∙ had in cc
 
 -- after the second call: both rings run, and nothing was sent
-pub record HasStarted (task : Task) (least : ℕ) (course : Course) (world : World) : Type 0 where
-  pub phase : course.state.phase ≡ Walking
-  pub sent_is : course.state.sent ≡ 0
-  pub tally_is : course.state.tally ≡ tally_opened
-  pub idle : course.state.rings.outstanding ≡ None
+pub record HasStarted (task : Task) (least : ℕ) (trail : Trail) (world : World) : Type 0 where
+  pub phase : trail.state.phase ≡ Walking
+  pub sent_is : trail.state.sent ≡ 0
+  pub tally_is : trail.state.tally ≡ tally_opened
+  pub idle : trail.state.rings.outstanding ≡ None
   pub from : ℕ
   pub read : ℕ
-  pub served : StandsServed from read task.blocks.corb task.blocks.rirb course.state.rings world
+  pub served : StandsServed from read task.blocks.corb task.blocks.rirb trail.state.rings world
   pub timed : IsTimed least world
 
 found_rings : (line : DriverLine) (state : State) (seen : Seen) → state.phase ≡ Settling → line.irq ≡ false → FindsBy (Some line) state seen → has_settled state.kept (clock_of seen) ≡ true → is_some (rings_seen seen) ≡ true
 found_rings line state seen phase calm finds had =
     subst (λ (phase : Phase). FindsIn phase state seen) phase (finds (ap (λ (irq : Bool). irq && not (has_bit seen.interrupts interrupts_at)) calm)) had
 
-pub second_call : (task : Task) (least : ℕ) (course course' : Course) (line : DriverLine) (accesses : List Event) (world new : World) → IsBlockAddress task.blocks.corb → IsBlockAddress task.blocks.rirb → HasWaited task least course world → AreAccesses accesses
-    → CalmRow accesses world new → IsNoted task world course accesses course' → slice_get course.left 0 ≡ Some line → line.irq ≡ false → new.frames ≤ 8000000 → HasStarted task least course' new
-second_call task least course course' line accesses world new corb_block rirb_block waited are row noted turn calm few =
-    let c = course_made world course accesses in
+pub second_call : (task : Task) (least : ℕ) (trail trail' : Trail) (line : DriverLine) (accesses : List Event) (world new : World) → IsBlockAddress task.blocks.corb → IsBlockAddress task.blocks.rirb → HasWaited task least trail world → AreAccesses accesses
+    → CalmRow accesses world new → IsNoted task world trail accesses trail' → slice_get trail.left 0 ≡ Some line → line.irq ≡ false → new.frames ≤ 8000000 → HasStarted task least trail' new
+second_call task least trail trail' line accesses world new corb_block rirb_block waited are row noted turn calm few =
+    let c = trail_made world trail accesses in
     let seen = seen_in c in
-    let stays = notes_stay world.written (begun course) accesses are in
-    let tally = tally_next task course.state (Some line) seen in
-    let asks : requests_of accesses ≡ settles task course.state seen =
-    fits_so task world course course' accesses (Some line) are noted turn ∙ plainly_asked task course.state line seen tally calm ∙ ap (runs task course.state line.budget seen tally) waited.phase in
-    let first = reads_first accesses WALCLK Four (if has_settled course.state.kept (clock_of seen) then start_asked task seen (rings_seen seen) else []) are asks in
+    let stays = notes_stay world.written (begun trail) accesses are in
+    let tally = tally_next task trail.state (Some line) seen in
+    let asks : requests_of accesses ≡ settles task trail.state seen =
+    fits_so task world trail trail' accesses (Some line) are noted turn ∙ plainly_asked task trail.state line seen tally calm ∙ ap (runs task trail.state line.budget seen tally) waited.phase in
+    let first = reads_first accesses WALCLK Four (if has_settled trail.state.kept (clock_of seen) then start_asked task seen (rings_seen seen) else []) are asks in
     let seen_is : seen ≡ seen_by (values_of accesses) c.answered = ap (λ (made : List Event). seen_by (values_of made) c.answered) stays.made in
-    let finds = subst (λ (turn : Option DriverLine). FindsBy turn course.state seen) (stays.turn ∙ turn) (subst (λ (state : State). FindsBy c.turn state seen) stays.state noted.finds) in
-    let set = second_by (has_settled course.state.kept (clock_of seen)) task course.state seen c.answered least accesses first.later first.value world new refl seen_is first.is first.are
-    (subst (λ (accesses : List Event). CalmRow accesses world new) first.is row) corb_block rirb_block waited.out waited.kept few (found_rings line course.state seen waited.phase calm finds) first.rest_is in
+    let finds = subst (λ (turn : Option DriverLine). FindsBy turn trail.state seen) (stays.turn ∙ turn) (subst (λ (state : State). FindsBy c.turn state seen) stays.state noted.finds) in
+    let set = second_by (has_settled trail.state.kept (clock_of seen)) task trail.state seen c.answered least accesses first.later first.value world new refl seen_is first.is first.are
+    (subst (λ (accesses : List Event). CalmRow accesses world new) first.is row) corb_block rirb_block waited.out waited.kept few (found_rings line trail.state seen waited.phase calm finds) first.rest_is in
     let clocks : seen.clocks ≡ first.value ∷ [] = ap (λ (made : List Event). values_of made WALCLK) (stays.made ∙ first.is) ∙ ap (λ (rest : List ℕ). first.value ∷ rest) (none_read WALCLK first.later set.none) in
-    let none = no_run task course.state (Some line) seen first.value waited.tally_is clocks in
-    let state : course'.state ≡ record course.state { phase = Walking; rings = set.rings; tally = tally_opened } =
-    leads_so task world course course' accesses (Some line) are noted turn ∙ plainly_led task course.state line seen calm
-    ∙ ap (λ (tally' : Tally). record (led task course.state seen tally course.state.phase) { tally = tally' }) none
-    ∙ ap (λ (phase : Phase). record (led task course.state seen tally phase) { tally = tally_opened }) waited.phase
-    ∙ ap (λ (settled : Bool). record (settled_if settled (rings_seen seen) course.state) { tally = tally_opened }) set.had
-    ∙ ap (λ (rings : Option RingPlaces). record (walking_if rings course.state) { tally = tally_opened }) set.found in
+    let none = no_run task trail.state (Some line) seen first.value waited.tally_is clocks in
+    let state : trail'.state ≡ record trail.state { phase = Walking; rings = set.rings; tally = tally_opened } =
+    leads_so task world trail trail' accesses (Some line) are noted turn ∙ plainly_led task trail.state line seen calm
+    ∙ ap (λ (tally' : Tally). record (led task trail.state seen tally trail.state.phase) { tally = tally' }) none
+    ∙ ap (λ (phase : Phase). record (led task trail.state seen tally phase) { tally = tally_opened }) waited.phase
+    ∙ ap (λ (settled : Bool). record (settled_if settled (rings_seen seen) trail.state) { tally = tally_opened }) set.had
+    ∙ ap (λ (rings : Option RingPlaces). record (walking_if rings trail.state) { tally = tally_opened }) set.found in
     record {
       phase = ap (λ (state : State). state.phase) state;
       sent_is = ap (λ (state : State). state.sent) state ∙ waited.sent_is;

@@ -14,11 +14,11 @@ use Rattle.driver_progress.specs.declared.phase.Phase.TheVariants.{Ready, Playin
 use Rattle.driver_progress.specs.Tasks.{Task}
 use Rattle.driver_progress.specs.States.{State}
 use Rattle.driver_progress.specs.Next.{led, closed, phase_played, tally_next}
-use Rattle.driver_progress.specs.Progress.{Course, seen_in}
+use Rattle.driver_progress.specs.Progress.{Trail, seen_in}
 use Rattle.laws_serving.specs.Rounds.{Round, frames_of_line, frames_of_steps, frames_to}
 use Rattle.laws_serving.specs.ServingSchedules.{ServesSound}
 use Rattle.laws_serving.specs.Coming.{HasComeTo}
-use Rattle.laws_serving.proofs.Notes.{course_made}
+use Rattle.laws_serving.proofs.Notes.{trail_made}
 use Rattle.laws_serving.proofs.Worlds.{IsTimed}
 use Rattle.laws_serving.proofs.Counting.{steps_count, timed_steps}
 use Rattle.laws_serving.proofs.Asking.{leads_so, plainly_led, IsReady}
@@ -61,21 +61,21 @@ frames_so one [] = omega arith
 frames_so one (two ∷ ran) = omega arith
 
 -- before a call while the stream plays: since the begin of the call before, so many link frames passed at least, and the next one ends in time
-pub record PlaysOn (task : Task) (commands : ℕ) (ran : List RanRound) (course : Course) (world : World) : Type 0 where
-  pub phase : course.state.phase ≡ Playing
-  pub plays : course.state.tally.course.ran ≡ ended.Playing
-  pub sent_is : course.state.sent ≡ commands
+pub record PlaysOn (task : Task) (commands : ℕ) (ran : List RanRound) (trail : Trail) (world : World) : Type 0 where
+  pub phase : trail.state.phase ≡ Playing
+  pub plays : trail.state.tally.course.ran ≡ ended.Playing
+  pub sent_is : trail.state.sent ≡ commands
   pub since : ℕ
-  pub from : 500 * since ≤ course.state.tally.course.from
+  pub from : 500 * since ≤ trail.state.tally.course.from
   pub timed : IsTimed since world
   pub soon : world.frames + next_frames ran ≤ since + (measures task.geometry).limit
 
 -- and once it has drained
-pub record IsOver (commands : ℕ) (course : Course) : Type 0 where
-  pub phase : course.state.phase ≡ Drained
-  pub sent_is : course.state.sent ≡ commands
+pub record IsOver (commands : ℕ) (trail : Trail) : Type 0 where
+  pub phase : trail.state.phase ≡ Drained
+  pub sent_is : trail.state.sent ≡ commands
 
-how_played : (m : Measures) (tally : Tally) (budget left from lpib to : ℕ) → (tally_if false m tally (facts_of budget left from lpib to)).course.ran ≡ (if has_drained m tally.course (facts_of budget left from lpib to) then ended.Drained else ended.Playing)
+how_played : (m : Measures) (tally : Tally) (budget left from lpib to : ℕ) → (tally_if false m tally (facts_of budget left from lpib to)).trail.ran ≡ (if has_drained m tally.course (facts_of budget left from lpib to) then ended.Drained else ended.Playing)
 how_played m tally budget left from lpib to = refl
 
 module _ (task : Task) (graphs : List RawCodec) (closing : List Event) (commands : ℕ) where
@@ -83,9 +83,9 @@ module _ (task : Task) (graphs : List RawCodec) (closing : List Event) (commands
   m = measures task.geometry
 
   -- after a first run, and after a later one that did not drain
-  pub played_on : (one : RanRound) (ran : List RanRound) (course : Course) (world new : World) (from : ℕ) → IsPrompt m.limit m.slack one (slice_get (one ∷ ran) 1) → course.state.phase ≡ Playing → course.state.tally.course.ran ≡ ended.Playing → course.state.sent ≡ commands
-      → course.state.tally.course.from ≡ from → 500 * world.frames ≤ from → IsTimed world.frames new → new.frames ≤ world.frames + frames_of_line one.round.line → PlaysOn task commands ran course (after_steps one.round.steps new)
-  played_on one ran course world new from prompt phase plays sent from_is first timed counted =
+  pub played_on : (one : RanRound) (ran : List RanRound) (trail : Trail) (world new : World) (from : ℕ) → IsPrompt m.limit m.slack one (slice_get (one ∷ ran) 1) → trail.state.phase ≡ Playing → trail.state.tally.course.ran ≡ ended.Playing → trail.state.sent ≡ commands
+      → trail.state.tally.course.from ≡ from → 500 * world.frames ≤ from → IsTimed world.frames new → new.frames ≤ world.frames + frames_of_line one.round.line → PlaysOn task commands ran trail (after_steps one.round.steps new)
+  played_on one ran trail world new from prompt phase plays sent from_is first timed counted =
       let more = steps_count one.round.steps new in
       let within = prompt.soon in
       let all = frames_so one ran in
@@ -99,30 +99,30 @@ module _ (task : Task) (graphs : List RawCodec) (closing : List Event) (commands
         soon = omega (arith, more, within, all, counted);
       }
 
-  pub later_in_time : (frames : ℕ) (ran : List RanRound) (course : Course) (world : World) → PlaysOn task commands ran course world → frames ≤ world.frames + next_frames ran → IsInTime task frames course
-  later_in_time frames ran course world on few =
+  pub later_in_time : (frames : ℕ) (ran : List RanRound) (trail : Trail) (world : World) → PlaysOn task commands ran trail world → frames ≤ world.frames + next_frames ran → IsInTime task frames trail
+  later_in_time frames ran trail world on few =
       let from = on.from in
       let soon = on.soon in
       record { phase = on.phase; plays = on.plays; soon = omega (arith, from, soon, few) }
 
   -- ---- once it has drained
 
-  pub stays_over : (ran : List RanRound) (world : World) (course : Course) → IsLeft task graphs ran closing world course → IsOver commands course
-      → ((state_over task ran closing world course).phase ≡ Drained) × ((state_over task ran closing world course).sent ≡ commands)
-  stays_over [] world course left over =
-      let last = last_round task graphs closing world course left in
-      let seen = seen_in (course_made world course closing) in
-      let tally = tally_next task course.state None seen in
-      let is = leads_so task world course last.course' closing None left.closing_is last.is_called.noted last.turn ∙ ap (λ (phase : Phase). record (closed task course.state seen tally phase) { tally = tally }) over.phase in
+  pub stays_over : (ran : List RanRound) (world : World) (trail : Trail) → IsLeft task graphs ran closing world trail → IsOver commands trail
+      → ((state_over task ran closing world trail).phase ≡ Drained) × ((state_over task ran closing world trail).sent ≡ commands)
+  stays_over [] world trail left over =
+      let last = last_round task graphs closing world trail left in
+      let seen = seen_in (trail_made world trail closing) in
+      let tally = tally_next task trail.state None seen in
+      let is = leads_so task world trail last.trail' closing None left.closing_is last.is_called.noted last.turn ∙ ap (λ (phase : Phase). record (closed task trail.state seen tally phase) { tally = tally }) over.phase in
       (ap (λ (state : State). state.phase) (last.over ∙ is) ∙ over.phase, ap (λ (state : State). state.sent) (last.over ∙ is) ∙ over.sent_is)
-  stays_over (one ∷ ran) world course left over =
-      let next = next_round task graphs one ran closing world course left in
-      let seen = seen_in (course_made world course one.accesses) in
+  stays_over (one ∷ ran) world trail left over =
+      let next = next_round task graphs one ran closing world trail left in
+      let seen = seen_in (trail_made world trail one.accesses) in
       let line = line_in one in
-      let tally = tally_next task course.state (Some line) seen in
-      let is = leads_so task world course next.course' one.accesses (Some line) next.are next.is_called.noted next.turn ∙ plainly_led task course.state line seen next.calm.line.no_interrupt
-      ∙ ap (λ (phase : Phase). record (led task course.state seen tally phase) { tally = tally }) over.phase in
-      let rest = stays_over ran (after_steps one.round.steps next.new) next.course' next.later
+      let tally = tally_next task trail.state (Some line) seen in
+      let is = leads_so task world trail next.trail' one.accesses (Some line) next.are next.is_called.noted next.turn ∙ plainly_led task trail.state line seen next.calm.line.no_interrupt
+      ∙ ap (λ (phase : Phase). record (led task trail.state seen tally phase) { tally = tally }) over.phase in
+      let rest = stays_over ran (after_steps one.round.steps next.new) next.trail' next.later
       (record { phase = ap (λ (state : State). state.phase) is ∙ over.phase; sent_is = ap (λ (state : State). state.sent) is ∙ over.sent_is }) in
       (ap (λ (state : State). state.phase) next.over ∙ rest.0, ap (λ (state : State). state.sent) next.over ∙ rest.1)
 
@@ -132,38 +132,38 @@ module _ (task : Task) (graphs : List RawCodec) (closing : List Event) (commands
   abbrev pub Sounds : State → Type 0
   Sounds state = ((state.phase ≡ Playing) ⊎ (state.phase ≡ Drained)) × (state.sent ≡ commands)
 
-  pub plays_over : (ran : List RanRound) (world : World) (course : Course) → ArePrompt m.limit m.slack ran → IsLeft task graphs ran closing world course → PlaysOn task commands ran course world → Sounds (state_over task ran closing world course)
-  plays_over [] world course prompt left on =
-      let last = last_round task graphs closing world course left in
-      let run = last_run task on.since course last.course' closing world (later_in_time world.frames [] course world on (omega arith)) on.timed last.few left.closing_is last.honest last.is_called.noted last.turn in
+  pub plays_over : (ran : List RanRound) (world : World) (trail : Trail) → ArePrompt m.limit m.slack ran → IsLeft task graphs ran closing world trail → PlaysOn task commands ran trail world → Sounds (state_over task ran closing world trail)
+  plays_over [] world trail prompt left on =
+      let last = last_round task graphs closing world trail left in
+      let run = last_run task on.since trail last.trail' closing world (later_in_time world.frames [] trail world on (omega arith)) on.timed last.few left.closing_is last.honest last.is_called.noted last.turn in
       subst Sounds (sym last.over) (
-        ends_played task last.course'.state.phase last.course'.state.tally.course.ran (has_drained m course.state.tally.course (facts_of 0 (length task.pcm - course.state.tally.course.used) run.shape.from run.shape.lpib run.shape.to)) run.phase_is
+        ends_played task last.trail'.state.phase last.trail'.state.tally.course.ran (has_drained m trail.state.tally.course (facts_of 0 (length task.pcm - trail.state.tally.course.used) run.shape.from run.shape.lpib run.shape.to)) run.phase_is
             (ap (λ (tally : Tally). tally.course.ran) run.tally_is),
         run.sent_is ∙ on.sent_is,
       )
-  plays_over (one ∷ ran) world course prompt left on =
-      let next = next_round task graphs one ran closing world course left in
+  plays_over (one ∷ ran) world trail prompt left on =
+      let next = next_round task graphs one ran closing world trail left in
       let here = prompt zero one refl in
       let quick = here.quick in
       let counted = next.is_called.frames in
-      let done = later_run task on.since course next.course' (line_in one) one.accesses world next.new (later_in_time next.new.frames (one ∷ ran) course world on counted) (omega (arith, quick, counted)) on.timed
+      let done = later_run task on.since trail next.trail' (line_in one) one.accesses world next.new (later_in_time next.new.frames (one ∷ ran) trail world on counted) (omega (arith, quick, counted)) on.timed
       next.are next.is_called.row next.is_called.noted next.turn next.calm.line.no_interrupt next.few in
       let run = done.0 in
-      let drained = has_drained m course.state.tally.course (facts_of one.round.line.budget (length task.pcm - course.state.tally.course.used) run.shape.from run.shape.lpib run.shape.to) in
+      let drained = has_drained m trail.state.tally.course (facts_of one.round.line.budget (length task.pcm - trail.state.tally.course.used) run.shape.from run.shape.lpib run.shape.to) in
       subst Sounds (sym next.over)
-      (by next.new next.course' run.shape.from (state_over task ran closing (after_steps one.round.steps next.new) next.course') drained (ap (λ (tally : Tally). tally.course.ran) run.tally_is) run.phase_is (run.sent_is ∙ on.sent_is) (ap (λ (tally : Tally). tally.course.from) run.tally_is) run.clock
-      (played_on one ran next.course' world next.new run.shape.from here) done.1 counted (plays_over ran (after_steps one.round.steps next.new) next.course' (prompt_later m.limit m.slack one ran prompt) next.later)
-      (stays_over ran (after_steps one.round.steps next.new) next.course' next.later))
+      (by next.new next.trail' run.shape.from (state_over task ran closing (after_steps one.round.steps next.new) next.trail') drained (ap (λ (tally : Tally). tally.course.ran) run.tally_is) run.phase_is (run.sent_is ∙ on.sent_is) (ap (λ (tally : Tally). tally.course.from) run.tally_is) run.clock
+      (played_on one ran next.trail' world next.new run.shape.from here) done.1 counted (plays_over ran (after_steps one.round.steps next.new) next.trail' (prompt_later m.limit m.slack one ran prompt) next.later)
+      (stays_over ran (after_steps one.round.steps next.new) next.trail' next.later))
     where
-      by : (new : World) (course' : Course) (from : ℕ) (state : State) (drained : Bool) → course'.state.tally.course.ran ≡ (if drained then ended.Drained else ended.Playing) → course'.state.phase ≡ phase_played task course'.state.tally.course.ran → course'.state.sent ≡ commands
-          → course'.state.tally.course.from ≡ from → 500 * world.frames ≤ from
-          → (course'.state.phase ≡ Playing → course'.state.tally.course.ran ≡ ended.Playing → course'.state.sent ≡ commands → course'.state.tally.course.from ≡ from → 500 * world.frames ≤ from → IsTimed world.frames new
-          → new.frames ≤ world.frames + frames_of_line one.round.line → PlaysOn task commands ran course' (after_steps one.round.steps new))
-          → IsTimed world.frames new → new.frames ≤ world.frames + frames_of_line one.round.line → (PlaysOn task commands ran course' (after_steps one.round.steps new) → Sounds state)
-          → (IsOver commands course' → (state.phase ≡ Drained) × (state.sent ≡ commands)) → Sounds state
-      by new course' from state true how phase sent from_is first on timed counted plays over =
+      by : (new : World) (trail' : Trail) (from : ℕ) (state : State) (drained : Bool) → trail'.state.tally.course.ran ≡ (if drained then ended.Drained else ended.Playing) → trail'.state.phase ≡ phase_played task trail'.state.tally.course.ran → trail'.state.sent ≡ commands
+          → trail'.state.tally.course.from ≡ from → 500 * world.frames ≤ from
+          → (trail'.state.phase ≡ Playing → trail'.state.tally.course.ran ≡ ended.Playing → trail'.state.sent ≡ commands → trail'.state.tally.course.from ≡ from → 500 * world.frames ≤ from → IsTimed world.frames new
+          → new.frames ≤ world.frames + frames_of_line one.round.line → PlaysOn task commands ran trail' (after_steps one.round.steps new))
+          → IsTimed world.frames new → new.frames ≤ world.frames + frames_of_line one.round.line → (PlaysOn task commands ran trail' (after_steps one.round.steps new) → Sounds state)
+          → (IsOver commands trail' → (state.phase ≡ Drained) × (state.sent ≡ commands)) → Sounds state
+      by new trail' from state true how phase sent from_is first on timed counted plays over =
           let done = over (record { phase = phase ∙ ap (phase_played task) how; sent_is = sent }) in (inr done.0, done.1)
-      by new course' from state false how phase sent from_is first on timed counted plays over = plays (on (phase ∙ ap (phase_played task) how) how sent from_is first timed counted)
+      by new trail' from state false how phase sent from_is first on timed counted plays over = plays (on (phase ∙ ap (phase_played task) how) how sent from_is first timed counted)
 
   -- ---- from Ready on
 
@@ -188,24 +188,24 @@ module _ (task : Task) (graphs : List RawCodec) (closing : List Event) (commands
     sounds = λ late plays. sounds.0;
   }
 
-  ready_over : (total : ℕ) → task.plays ≡ true → (ran : List RanRound) (least : ℕ) (world : World) (course : Course) → 3 + commands + length ran ≡ total → SoundServed commands m.limit m.slack (3 + commands) ran world
-      → IsLeft task graphs ran closing world course → IsReady task commands least course world → HasComeTo commands total task.plays (state_over task ran closing world course)
-  ready_over total loud [] least world course counted served left ready =
-      let last = last_round task graphs closing world course left in
-      let seen = seen_in (course_made world course closing) in
-      let tally = tally_next task course.state None seen in
-      let is = leads_so task world course last.course' closing None left.closing_is last.is_called.noted last.turn ∙ ap (λ (phase : Phase). record (closed task course.state seen tally phase) { tally = tally }) ready.phase in
+  ready_over : (total : ℕ) → task.plays ≡ true → (ran : List RanRound) (least : ℕ) (world : World) (trail : Trail) → 3 + commands + length ran ≡ total → SoundServed commands m.limit m.slack (3 + commands) ran world
+      → IsLeft task graphs ran closing world trail → IsReady task commands least trail world → HasComeTo commands total task.plays (state_over task ran closing world trail)
+  ready_over total loud [] least world trail counted served left ready =
+      let last = last_round task graphs closing world trail left in
+      let seen = seen_in (trail_made world trail closing) in
+      let tally = tally_next task trail.state None seen in
+      let is = leads_so task world trail last.trail' closing None left.closing_is last.is_called.noted last.turn ∙ ap (λ (phase : Phase). record (closed task trail.state seen tally phase) { tally = tally }) ready.phase in
       subst (HasComeTo commands total task.plays) (sym last.over)
-      (ready_ends total last.course'.state (omega (arith, counted)) loud (ap (λ (state : State). state.phase) is ∙ ready.phase) (ap (λ (state : State). state.sent) is ∙ ready.sent_is))
-  ready_over total loud (one ∷ ran) least world course counted served left ready =
-      let next = next_round task graphs one ran closing world course left in
+      (ready_ends total last.trail'.state (omega (arith, counted)) loud (ap (λ (state : State). state.phase) is ∙ ready.phase) (ap (λ (state : State). state.sent) is ∙ ready.sent_is))
+  ready_over total loud (one ∷ ran) least world trail counted served left ready =
+      let next = next_round task graphs one ran closing world trail left in
       let prompt : ArePrompt m.limit m.slack (one ∷ ran) = λ index other there. served index other (omega arith) there in
-      let run = first_run task least course next.course' (line_in one) one.accesses world next.new loud ready.phase ready.tally_is ready.timed next.are next.is_called.row next.is_called.noted next.turn next.calm.line.no_interrupt next.few in
-      let on = played_on one ran next.course' world next.new run.shape.from (prompt zero one refl) run.phase (ap (λ (tally : Tally). tally.course.ran) run.tally_is) (run.sent_is ∙ ready.sent_is) (ap (λ (tally : Tally). tally.course.from) run.tally_is)
+      let run = first_run task least trail next.trail' (line_in one) one.accesses world next.new loud ready.phase ready.tally_is ready.timed next.are next.is_called.row next.is_called.noted next.turn next.calm.line.no_interrupt next.few in
+      let on = played_on one ran next.trail' world next.new run.shape.from (prompt zero one refl) run.phase (ap (λ (tally : Tally). tally.course.ran) run.tally_is) (run.sent_is ∙ ready.sent_is) (ap (λ (tally : Tally). tally.course.from) run.tally_is)
       run.clocks.first run.clocks.timed next.is_called.frames in
       subst (HasComeTo commands total task.plays) (sym next.over)
-      (sound_ends total (state_over task ran closing (after_steps one.round.steps next.new) next.course') (omega (arith, counted)) loud
-      (plays_over ran (after_steps one.round.steps next.new) next.course' (prompt_later m.limit m.slack one ran prompt) next.later on))
+      (sound_ends total (state_over task ran closing (after_steps one.round.steps next.new) next.trail') (omega (arith, counted)) loud
+      (plays_over ran (after_steps one.round.steps next.new) next.trail' (prompt_later m.limit m.slack one ran prompt) next.later on))
 
 -- where it leads, if the sound is served
 pub sound_onward : (task : Task) (graphs : List RawCodec) (closing : List Event) (total : ℕ) → task.plays ≡ true

@@ -23,7 +23,7 @@ use Rattle.std.specs.Option.{is_some}
 use Rattle.world_rings.specs.Memory.{word_at}
 use Rattle.world_rings.proofs.Callers.{shape_responded, batch_none, batch_first}
 use Rattle.command_engine.specs.declared.answers.Outstanding.{Outstanding}
-use Rattle.command_engine.specs.Courses.{AscendByAddress, Stands, HasRings, Course, IsWordOf, part_of, solicited, waiting_answers}
+use Rattle.command_engine.specs.Fetchings.{AscendByAddress, Stands, HasRings, Fetching, IsWordOf, part_of, solicited, waiting_answers}
 use Rattle.command_engine.proofs.Callers.{keeps_standing, responses_apart, changed_all, changed_sum}
 use Rattle.laws_serving.specs.ServingDevices.{keeps_answers, HasItsCodec, HasAnswersAlone, ServesBy, Serves, StandsServed, taken_since, unread_answers, IsComing}
 
@@ -171,12 +171,12 @@ module _ (from read corb rirb : ℕ) (rings : RingPlaces) where
           taken = both.1;
           written = omega arith;
           sent = both.2;
-          coming = by served.stands.course;
+          coming = by served.stands.fetching;
           there = λ address. there_with address (address_of word) (λ codec. taken codec word) (λ codec. refl) world.codecs;
         },
       )
     where
-      by : Course rings.outstanding (part_of world.registers) (word_at world.memory (corb + 4 * rings.submitted)) (drop from world.commands) → IsComing from world → IsComing from (handed (next_command world.registers world.memory) world)
+      by : Fetching rings.outstanding (part_of world.registers) (word_at world.memory (corb + 4 * rings.submitted)) (drop from world.commands) → IsComing from world → IsComing from (handed (next_command world.registers world.memory) world)
       by (inl all) coming = absurd (fetch_some world.registers can all.pointers)
       by (inr next) coming =
           let word = next_command world.registers world.memory in

@@ -35,8 +35,8 @@ use Rattle.driver_progress.specs.Tasks.{Task}
 use Rattle.driver_progress.specs.States.{State}
 use Rattle.driver_progress.specs.Requests.{requests_of}
 use Rattle.driver_progress.specs.Next.{closed, phase_played, tally_next}
-use Rattle.driver_progress.specs.Progress.{Course, seen_in}
-use Rattle.laws_serving.proofs.Callers.{IsAccess, none_asked, within_call, alone_is, course_made, leads_so, RanRound, round_in, rest_events, IsLeft, last_round, state_over, world_after, ArePrompt, prompt_later}
+use Rattle.driver_progress.specs.Progress.{Trail, seen_in}
+use Rattle.laws_serving.proofs.Callers.{IsAccess, none_asked, within_call, alone_is, trail_made, leads_so, RanRound, round_in, rest_events, IsLeft, last_round, state_over, world_after, ArePrompt, prompt_later}
 use Rattle.laws_serving.proofs.SoundCallers.{IsFull, IsBesideSound, StreamLaws, appends_store, store_beside, runs_at, Ground, AreGenerous, IsFed, CallFeeds, call_feeds, fed_on, drains}
 use Rattle.laws_serving.specs.Turns.{IsTurn, IsLastCall, AreInTurns, CarriedBytes}
 use Rattle.laws_serving.proofs.Serving.{Serves, turn_serves}
@@ -79,26 +79,26 @@ module _ (laws : StreamLaws) (shapes : KeepShapes) (task : Task) (graphs : List 
   abbrev total : ℕ
   total = length task.pcm
 
-  abbrev Fed : List RanRound → Course → World → Type 0
-  Fed ran course world = IsFed laws task graphs closing commands codecs tag word layout most ground start during later along ran course world
+  abbrev Fed : List RanRound → Trail → World → Type 0
+  Fed ran trail world = IsFed laws task graphs closing commands codecs tag word layout most ground start during later along ran trail world
 
-  abbrev Calls : RanRound → List RanRound → World → Course → Type 0
-  Calls one ran world course = CallFeeds laws task graphs closing commands codecs tag word layout most ground start during later along one ran world course
+  abbrev Calls : RanRound → List RanRound → World → Trail → Type 0
+  Calls one ran world trail = CallFeeds laws task graphs closing commands codecs tag word layout most ground start during later along one ran world trail
 
   -- before a call, after so many link frames and runs
-  pub record IsTurning (so_far count : ℕ) (ran : List RanRound) (course : Course) (world : World) : Type 0 where
-    pub fed : Fed ran course world
+  pub record IsTurning (so_far count : ℕ) (ran : List RanRound) (trail : Trail) (world : World) : Type 0 where
+    pub fed : Fed ran trail world
     pub left : world.output.left ≡ so_far * m.block
-    pub runs : length course.state.tally.runs ≡ count
+    pub runs : length trail.state.tally.runs ≡ count
     pub carried : length world.carried ≡ so_far
     pub sent : All (CarriedBytes m.block) world.carried
 
   -- ---- the link frames of a turn
 
-  pub turned : (so_far here count : ℕ) (one : RanRound) (ran : List RanRound) (new : World) (course : Course) → Fed ran course (after_steps one.round.steps new) → IsTurn m.ring m.block fifo here one.round
-      → new.output.left ≡ so_far * m.block → new.output.left ≤ length new.output.entered → length new.carried ≡ so_far → All (CarriedBytes m.block) new.carried → length course.state.tally.runs ≡ count
-      → IsTurning (so_far + here) count ran course (after_steps one.round.steps new)
-  turned so_far here count one ran new course fed turn left behind carried sent runs =
+  pub turned : (so_far here count : ℕ) (one : RanRound) (ran : List RanRound) (new : World) (trail : Trail) → Fed ran trail (after_steps one.round.steps new) → IsTurn m.ring m.block fifo here one.round
+      → new.output.left ≡ so_far * m.block → new.output.left ≤ length new.output.entered → length new.carried ≡ so_far → All (CarriedBytes m.block) new.carried → length trail.state.tally.runs ≡ count
+      → IsTurning (so_far + here) count ran trail (after_steps one.round.steps new)
+  turned so_far here count one ran new trail fed turn left behind carried sent runs =
       let world = after_steps one.round.steps new in
       let leaves : StepsLeave new world = steps_leave one.round.steps new in
       let word_new : new.registers.output.format ≡ word = sym (ap (λ (descriptor : Descriptor). descriptor.format) leaves.registers.output.only) ∙ fed.rolls.steady.word_is in
@@ -125,13 +125,13 @@ module _ (laws : StreamLaws) (shapes : KeepShapes) (task : Task) (graphs : List 
 
   -- ---- the call of a turn
 
-  abbrev facts_in : (one : RanRound) (ran : List RanRound) (world : World) (course : Course) → Calls one ran world course → RunFacts
-  facts_in one ran world course call = facts_of one.round.line.budget (total - course.state.tally.course.used) call.run.shape.from call.run.shape.lpib call.run.shape.to
+  abbrev facts_in : (one : RanRound) (ran : List RanRound) (world : World) (trail : Trail) → Calls one ran world trail → RunFacts
+  facts_in one ran world trail call = facts_of one.round.line.budget (total - trail.state.tally.course.used) call.run.shape.from call.run.shape.lpib call.run.shape.to
 
   -- a run stands where the link is
-  at_link : (so_far count : ℕ) (one : RanRound) (ran : List RanRound) (world : World) (course : Course) → one.round.line.groups ≡ [] → IsTurning so_far count (one ∷ ran) course world → (call : Calls one ran world course)
-      → run_at m course.state.tally.course (facts_in one ran world course call) ≡ so_far * m.block
-  at_link so_far count one ran world course alone turning call =
+  at_link : (so_far count : ℕ) (one : RanRound) (ran : List RanRound) (world : World) (trail : Trail) → one.round.line.groups ≡ [] → IsTurning so_far count (one ∷ ran) trail world → (call : Calls one ran world trail)
+      → run_at m trail.state.tally.course (facts_in one ran world trail call) ≡ so_far * m.block
+  at_link so_far count one ran world trail alone turning call =
       let finds = call.looks.finds in
       let back = Read POSITION Four call.run.shape.lpib ∷ finds.behind in
       let body : one.accesses ≡ finds.before ++ back = sym (ap (λ (groups : List Group). within_call groups one.accesses) alone ∙ alone_is one.accesses) ∙ finds.is in
@@ -140,20 +140,20 @@ module _ (laws : StreamLaws) (shapes : KeepShapes) (task : Task) (graphs : List 
       call.looks.at_is ∙ ap (λ (state : StreamState). state.left) stands.output ∙ turning.left
 
   -- the tally after it has one run more
-  runs_on : (so_far count : ℕ) (one : RanRound) (ran : List RanRound) (world : World) (course : Course) → IsTurning so_far count (one ∷ ran) course world → (call : Calls one ran world course) → length call.on_next.course'.state.tally.runs ≡ count + 1
-  runs_on so_far count one ran world course turning call =
+  runs_on : (so_far count : ℕ) (one : RanRound) (ran : List RanRound) (world : World) (trail : Trail) → IsTurning so_far count (one ∷ ran) trail world → (call : Calls one ran world trail) → length call.on_next.trail'.state.tally.runs ≡ count + 1
+  runs_on so_far count one ran world trail turning call =
       let is = ap (λ (tally : Tally). length tally.runs) call.run.tally_is in
-      let more = length-append course.state.tally.runs (run_of m course.state.tally.course (facts_in one ran world course call) ∷ []) in
+      let more = length-append trail.state.tally.runs (run_of m trail.state.tally.course (facts_in one ran world trail call) ∷ []) in
       let was = turning.runs in omega (arith, is, more, was)
 
   -- and has not drained, while the link is before the sound's end
-  not_drained : (so_far count : ℕ) (one : RanRound) (ran : List RanRound) (world : World) (course : Course) → one.round.line.groups ≡ [] → IsTurning so_far count (one ∷ ran) course world → (call : Calls one ran world course) → so_far < frames
-      → has_drained m course.state.tally.course (facts_in one ran world course call) ≡ false
-  not_drained so_far count one ran world course alone turning call less =
-      let facts = facts_in one ran world course call in
-      let was = course.state.tally.course in
-      let at = at_link so_far count one ran world course alone turning call in
-      let full : IsFull m total (tally_if false m course.state.tally facts) = subst (IsFull m total) call.run.tally_is call.full in
+  not_drained : (so_far count : ℕ) (one : RanRound) (ran : List RanRound) (world : World) (trail : Trail) → one.round.line.groups ≡ [] → IsTurning so_far count (one ∷ ran) trail world → (call : Calls one ran world trail) → so_far < frames
+      → has_drained m trail.state.tally.course (facts_in one ran world trail call) ≡ false
+  not_drained so_far count one ran world trail alone turning call less =
+      let facts = facts_in one ran world trail call in
+      let was = trail.state.tally.course in
+      let at = at_link so_far count one ran world trail alone turning call in
+      let full : IsFull m total (tally_if false m trail.state.tally facts) = subst (IsFull m total) call.run.tally_is call.full in
       let wide = mul-le (so_far + 1) m.block frames m.block (omega (arith, less)) (omega arith) in
       let some = ground.whole.some_block in
       let before : run_at m was facts < total = omega (arith, at, wide, long, some) in
@@ -163,17 +163,17 @@ module _ (laws : StreamLaws) (shapes : KeepShapes) (task : Task) (graphs : List 
       numbers : (end used at ring total : ℕ) → end ≡ used → used ≡ min (at + ring) total → at < total → 1 ≤ ring → at < end
       numbers end used at ring total a b c d = grind (arith, a, b, c, d)
 
-  how_is : (one : RanRound) (ran : List RanRound) (world : World) (course : Course) → (call : Calls one ran world course) → (drained : Bool) → has_drained m course.state.tally.course (facts_in one ran world course call) ≡ drained
-      → call.on_next.course'.state.tally.course.ran ≡ (if drained then ended.Drained else ended.Playing)
-  how_is one ran world course call drained is = ap (λ (tally : Tally). tally.course.ran) call.run.tally_is ∙ ap (λ (drained : Bool). if drained then ended.Drained else ended.Playing) is
+  how_is : (one : RanRound) (ran : List RanRound) (world : World) (trail : Trail) → (call : Calls one ran world trail) → (drained : Bool) → has_drained m trail.state.tally.course (facts_in one ran world trail call) ≡ drained
+      → call.on_next.trail'.state.tally.course.ran ≡ (if drained then ended.Drained else ended.Playing)
+  how_is one ran world trail call drained is = ap (λ (tally : Tally). tally.course.ran) call.run.tally_is ∙ ap (λ (drained : Bool). if drained then ended.Drained else ended.Playing) is
 
   -- a call that plays on leaves the stream as it is
-  call_stands : (one : RanRound) (ran : List RanRound) (world : World) (course : Course) → one.round.line.groups ≡ [] → (call : Calls one ran world course) → call.on_next.course'.state.tally.course.ran ≡ ended.Playing → StreamsStay world call.on_next.new
-  call_stands one ran world course alone call how =
+  call_stands : (one : RanRound) (ran : List RanRound) (world : World) (trail : Trail) → one.round.line.groups ≡ [] → (call : Calls one ran world trail) → call.on_next.trail'.state.tally.course.ran ≡ ended.Playing → StreamsStay world call.on_next.new
+  call_stands one ran world trail alone call how =
       let next = call.on_next in
       let shape = call.run.shape in
       let none = none_asked shape.back shape.back_are (shape.back_asks ∙ ap (λ (how : Ran). requests_of (stop_accesses how)) how) in
-      let middle = store_beside shape.middle (appends_store task course.state one.round.line.budget (seen_in (course_made world course one.accesses)) shape.middle shape.middle_are shape.middle_asks) in
+      let middle = store_beside shape.middle (appends_store task trail.state one.round.line.budget (seen_in (trail_made world trail one.accesses)) shape.middle shape.middle_are shape.middle_asks) in
       let last : List Event = Read WALCLK Four shape.to ∷ shape.back in
       let back : List Event = Read POSITION Four shape.lpib ∷ (shape.middle ++ last) in
       let back_beside = All-cons IsBesideSound (Read POSITION Four shape.lpib) (shape.middle ++ last) tt
@@ -194,38 +194,38 @@ module _ (laws : StreamLaws) (shapes : KeepShapes) (task : Task) (graphs : List 
     pub sent : All (CarriedBytes m.block) world.carried
 
   -- the closing call finds it drained, and leaves it
-  closes_drained : (world : World) (course : Course) → IsLeft task graphs [] closing world course → course.state.phase ≡ Drained → course.state.tally.course.ran ≡ ended.Drained
-      → ((state_over task [] closing world course).phase ≡ Drained) × ((state_over task [] closing world course).tally ≡ course.state.tally)
-  closes_drained world course left drained how =
-      let last = last_round task graphs closing world course left in
-      let seen = seen_in (course_made world course closing) in
-      let tally = tally_next task course.state None seen in
-      let tally_is : tally ≡ course.state.tally = ap (λ (how : Ran). taken_up_if how seen.clocks m total (record { budget = 0; clocks = seen.clocks; lpibs = seen.positions }) course.state.tally) how in
-      let is = last.over ∙ leads_so task world course last.course' closing None left.closing_is last.is_called.noted last.turn ∙ ap (λ (phase : Phase). record (closed task course.state seen tally phase) { tally = tally }) drained in
+  closes_drained : (world : World) (trail : Trail) → IsLeft task graphs [] closing world trail → trail.state.phase ≡ Drained → trail.state.tally.course.ran ≡ ended.Drained
+      → ((state_over task [] closing world trail).phase ≡ Drained) × ((state_over task [] closing world trail).tally ≡ trail.state.tally)
+  closes_drained world trail left drained how =
+      let last = last_round task graphs closing world trail left in
+      let seen = seen_in (trail_made world trail closing) in
+      let tally = tally_next task trail.state None seen in
+      let tally_is : tally ≡ trail.state.tally = ap (λ (how : Ran). taken_up_if how seen.clocks m total (record { budget = 0; clocks = seen.clocks; lpibs = seen.positions }) trail.state.tally) how in
+      let is = last.over ∙ leads_so task world trail last.trail' closing None left.closing_is last.is_called.noted last.turn ∙ ap (λ (phase : Phase). record (closed task trail.state seen tally phase) { tally = tally }) drained in
       (ap (λ (state : State). state.phase) is ∙ drained, ap (λ (state : State). state.tally) is ∙ tally_is)
 
   -- the last call of the schedule finds the link at the sound's end or behind it
-  ends : (so_far count : ℕ) (one : RanRound) (world final : World) (course : Course) → ArePrompt m.limit m.slack (one ∷ []) → IsLastCall m.ring one.round → AreGenerous m.ring (one ∷ []) → IsLeft task graphs (one ∷ []) closing world course
-      → IsTurning so_far count (one ∷ []) course world → final ≡ after (rest_events (one ∷ []) closing) world → frames ≤ so_far → HasTurned so_far (count + 1) (state_over task (one ∷ []) closing world course) final
-  ends so_far count one world final course prompt last generous left turning final_is enough =
-      let call = call_feeds laws task graphs closing commands codecs tag word layout most ground start during later along one [] world course prompt generous left turning.fed in
+  ends : (so_far count : ℕ) (one : RanRound) (world final : World) (trail : Trail) → ArePrompt m.limit m.slack (one ∷ []) → IsLastCall m.ring one.round → AreGenerous m.ring (one ∷ []) → IsLeft task graphs (one ∷ []) closing world trail
+      → IsTurning so_far count (one ∷ []) trail world → final ≡ after (rest_events (one ∷ []) closing) world → frames ≤ so_far → HasTurned so_far (count + 1) (state_over task (one ∷ []) closing world trail) final
+  ends so_far count one world final trail prompt last generous left turning final_is enough =
+      let call = call_feeds laws task graphs closing commands codecs tag word layout most ground start during later along one [] world trail prompt generous left turning.fed in
       let next = call.on_next in
-      let tally = course.state.tally in
-      let facts = facts_in one [] world course call in
+      let tally = trail.state.tally in
+      let facts = facts_in one [] world trail call in
       let alone = last.call.alone in
-      let at = at_link so_far count one [] world course alone turning call in
+      let at = at_link so_far count one [] world trail alone turning call in
       let wide = mul-le frames m.block so_far m.block enough (omega arith) in
       let past : total ≤ run_at m tally.course facts = omega (arith, at, wide, long) in
       let drained = drains laws task graphs closing commands codecs tag word layout most ground start during later along tally facts turning.fed.full refl call.looks.later_on call.looks.soon call.looks.whole past in
-      let how = how_is one [] world course call true drained in
+      let how = how_is one [] world trail call true drained in
       let there = after_steps one.round.steps next.new in
-      let closes = closes_drained there next.course' next.later (call.run.phase_is ∙ ap (phase_played task) how) how in
-      let tally_then : Tally = (state_over task (one ∷ []) closing world course).tally in
-      let tally_is : tally_then ≡ next.course'.state.tally = ap (λ (state : State). state.tally) next.over ∙ closes.1 in
-      let at_then : next.course'.state.tally.course.at ≡ so_far * m.block = ap (λ (tally : Tally). tally.course.at) call.run.tally_is ∙ at in
+      let closes = closes_drained there next.trail' next.later (call.run.phase_is ∙ ap (phase_played task) how) how in
+      let tally_then : Tally = (state_over task (one ∷ []) closing world trail).tally in
+      let tally_is : tally_then ≡ next.trail'.state.tally = ap (λ (state : State). state.tally) next.over ∙ closes.1 in
+      let at_then : next.trail'.state.tally.course.at ≡ so_far * m.block = ap (λ (tally : Tally). tally.course.at) call.run.tally_is ∙ at in
       let reach = call.full.reach in
       let some = ground.whole.some_ring in
-      let reach_is : next.course'.state.tally.course.reach ≡ so_far * m.block + m.ring = omega (arith, reach, at_then) in
+      let reach_is : next.trail'.state.tally.course.reach ≡ so_far * m.block + m.ring = omega (arith, reach, at_then) in
       let silences = call.full.one (omega (arith, reach_is, wide, long, some)) in
       let steps_are : world_after one world ≡ after one.accesses world =
       ap (λ (steps : List Step). after_steps steps (after (within_call one.round.line.groups one.accesses) world)) last.none
@@ -237,8 +237,8 @@ module _ (laws : StreamLaws) (shapes : KeepShapes) (task : Task) (graphs : List 
       ∙ accesses_carry one.accesses world next.are in
       record {
         phase = ap (λ (state : State). state.phase) next.over ∙ closes.0;
-        runs = ap (λ (tally : Tally). length tally.runs) tally_is ∙ runs_on so_far count one [] world course turning call;
-        silences = one_silence tally_then.silences next.course'.state.tally.silences total (frames * m.block) next.course'.state.tally.course.reach (so_far * m.block + m.ring)
+        runs = ap (λ (tally : Tally). length tally.runs) tally_is ∙ runs_on so_far count one [] world trail turning call;
+        silences = one_silence tally_then.silences next.trail'.state.tally.silences total (frames * m.block) next.trail'.state.tally.course.reach (so_far * m.block + m.ring)
             (ap (λ (tally : Tally). tally.silences) tally_is) silences long reach_is;
         carried = ap length carried ∙ turning.carried;
         sent = subst (All (CarriedBytes m.block)) (sym carried) turning.sent;
@@ -250,39 +250,39 @@ module _ (laws : StreamLaws) (shapes : KeepShapes) (task : Task) (graphs : List 
 
   -- ---- all turns that are left
 
-  pub turns_on : (lengths : List ℕ) (so_far count : ℕ) (ran : List RanRound) (world final : World) (course : Course) → ArePrompt m.limit m.slack ran → AreInTurns m.ring m.block fifo lengths (map round_in ran) → IsLeft task graphs ran closing world course
-      → IsTurning so_far count ran course world → final ≡ after (rest_events ran closing) world → frames ≤ so_far + sum lengths → AreFewer frames so_far lengths
-      → HasTurned (so_far + sum lengths) (count + length lengths + 1) (state_over task ran closing world course) final
-  turns_on [] so_far count [] world final course prompt turns left turning final_is enough fewer = absurd turns
-  turns_on [] so_far count (one ∷ []) world final course prompt turns left turning final_is enough fewer =
+  pub turns_on : (lengths : List ℕ) (so_far count : ℕ) (ran : List RanRound) (world final : World) (trail : Trail) → ArePrompt m.limit m.slack ran → AreInTurns m.ring m.block fifo lengths (map round_in ran) → IsLeft task graphs ran closing world trail
+      → IsTurning so_far count ran trail world → final ≡ after (rest_events ran closing) world → frames ≤ so_far + sum lengths → AreFewer frames so_far lengths
+      → HasTurned (so_far + sum lengths) (count + length lengths + 1) (state_over task ran closing world trail) final
+  turns_on [] so_far count [] world final trail prompt turns left turning final_is enough fewer = absurd turns
+  turns_on [] so_far count (one ∷ []) world final trail prompt turns left turning final_is enough fewer =
       let none : so_far ≡ so_far + sum [] = omega arith in
       let same : count + 1 ≡ count + length {A = ℕ} [] + 1 = omega arith in
-      subst (λ (n : ℕ). HasTurned n (count + length {A = ℕ} [] + 1) (state_over task (one ∷ []) closing world course) final) none
-      (subst (λ (n : ℕ). HasTurned so_far n (state_over task (one ∷ []) closing world course) final) same
-      (ends so_far count one world final course prompt turns (generous_turns m.ring m.block fifo [] (one ∷ []) turns) left turning final_is (omega (arith, enough, none))))
-  turns_on [] so_far count (one ∷ two ∷ ran) world final course prompt turns left turning final_is enough fewer = absurd turns
-  turns_on (here ∷ lengths) so_far count [] world final course prompt turns left turning final_is enough fewer = absurd turns
-  turns_on (here ∷ lengths) so_far count (one ∷ ran) world final course prompt turns left turning final_is enough fewer =
-      let call = call_feeds laws task graphs closing commands codecs tag word layout most ground start during later along one ran world course prompt (generous_turns m.ring m.block fifo (here ∷ lengths) (one ∷ ran) turns) left turning.fed in
+      subst (λ (n : ℕ). HasTurned n (count + length {A = ℕ} [] + 1) (state_over task (one ∷ []) closing world trail) final) none
+      (subst (λ (n : ℕ). HasTurned so_far n (state_over task (one ∷ []) closing world trail) final) same
+      (ends so_far count one world final trail prompt turns (generous_turns m.ring m.block fifo [] (one ∷ []) turns) left turning final_is (omega (arith, enough, none))))
+  turns_on [] so_far count (one ∷ two ∷ ran) world final trail prompt turns left turning final_is enough fewer = absurd turns
+  turns_on (here ∷ lengths) so_far count [] world final trail prompt turns left turning final_is enough fewer = absurd turns
+  turns_on (here ∷ lengths) so_far count (one ∷ ran) world final trail prompt turns left turning final_is enough fewer =
+      let call = call_feeds laws task graphs closing commands codecs tag word layout most ground start during later along one ran world trail prompt (generous_turns m.ring m.block fifo (here ∷ lengths) (one ∷ ran) turns) left turning.fed in
       let next = call.on_next in
       let turn = turns.0 in
       let alone = turn.call.alone in
       let soon = fewer 0 (omega arith) in
-      let playing = not_drained so_far count one ran world course alone turning call (omega (arith, soon)) in
-      let how = how_is one ran world course call false playing in
-      let fed = fed_on laws task graphs closing commands codecs tag word layout most ground start during later along one ran world course prompt turning.fed call how in
-      let stands = call_stands one ran world course alone call how in
+      let playing = not_drained so_far count one ran world trail alone turning call (omega (arith, soon)) in
+      let how = how_is one ran world trail call false playing in
+      let fed = fed_on laws task graphs closing commands codecs tag word layout most ground start during later along one ran world trail prompt turning.fed call how in
+      let stands = call_stands one ran world trail alone call how in
       let there = after_steps one.round.steps next.new in
-      let on = turned so_far here (count + 1) one ran next.new next.course' fed turn (ap (λ (state : StreamState). state.left) stands.output ∙ turning.left)
+      let on = turned so_far here (count + 1) one ran next.new next.trail' fed turn (ap (λ (state : StreamState). state.left) stands.output ∙ turning.left)
       (subst (λ (state : StreamState). state.left ≤ length state.entered) (sym stands.output) turning.fed.rolls.sent.behind) (ap length stands.carried ∙ turning.carried)
-      (subst (All (CarriedBytes m.block)) (sym stands.carried) turning.sent) (runs_on so_far count one ran world course turning call) in
+      (subst (All (CarriedBytes m.block)) (sym stands.carried) turning.sent) (runs_on so_far count one ran world trail turning call) in
       let all = sum_by-cons (λ (n : ℕ). n) here lengths in
       let final_there : final ≡ after (rest_events ran closing) there =
       final_is ∙ rest_on one ran closing world ∙ ap (λ (new : World). after (rest_events ran closing) (after_steps one.round.steps new)) (sym next.new_is) in
-      let done = turns_on lengths (so_far + here) (count + 1) ran there final next.course' (prompt_later m.limit m.slack one ran prompt) turns.1 next.later on final_there (omega (arith, enough, all))
+      let done = turns_on lengths (so_far + here) (count + 1) ran there final next.trail' (prompt_later m.limit m.slack one ran prompt) turns.1 next.later on final_there (omega (arith, enough, all))
       (λ fewer_on less. let few = fewer (suc fewer_on) (omega (arith, less)) in let cons = sum_by-cons (λ (n : ℕ). n) here (take fewer_on lengths) in omega (arith, few, cons)) in
       let sum_is : so_far + here + sum lengths ≡ so_far + sum (here ∷ lengths) = omega (arith, all) in
       let count_is : count + 1 + length lengths + 1 ≡ count + length (here ∷ lengths) + 1 = omega arith in
       subst (λ (state : State). HasTurned (so_far + sum (here ∷ lengths)) (count + length (here ∷ lengths) + 1) state final) (sym next.over)
-      (subst (λ (n : ℕ). HasTurned n (count + length (here ∷ lengths) + 1) (state_over task ran closing there next.course') final) sum_is
-      (subst (λ (n : ℕ). HasTurned (so_far + here + sum lengths) n (state_over task ran closing there next.course') final) count_is done))
+      (subst (λ (n : ℕ). HasTurned n (count + length (here ∷ lengths) + 1) (state_over task ran closing there next.trail') final) sum_is
+      (subst (λ (n : ℕ). HasTurned (so_far + here + sum lengths) n (state_over task ran closing there next.trail') final) count_is done))

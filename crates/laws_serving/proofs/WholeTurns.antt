@@ -24,7 +24,7 @@ use Rattle.laws_stream.specs.Lives.{HasStopped, sets_going}
 use Rattle.period_writer.specs.Runs.{measures}
 use Rattle.driver_progress.specs.Tasks.{Task}
 use Rattle.driver_progress.specs.States.{State}
-use Rattle.driver_progress.specs.Progress.{Course, state_of}
+use Rattle.driver_progress.specs.Progress.{Trail, state_of}
 use Rattle.rig.specs.Follows.{AreAccesses}
 use Rattle.laws_serving.specs.Rounds.{Round, rounds_of}
 use Rattle.laws_serving.specs.ServingSchedules.{ServesCommands, ServesSound}
@@ -91,19 +91,19 @@ module _ (laws : StreamLaws) (rise_laws : RiseLaws) (shapes : KeepShapes) (task 
   abbrev pub Ends : List ℕ → State → Type 0
   Ends lengths state = HasPlayedInTurns (measures task.geometry).ring (measures task.geometry).block frames lengths state (after telling.journal telling.start)
 
-  plays_turns : (lengths : List ℕ) (ran : List RanRound) (least : ℕ) (world : World) (course : Course) → EndsInTheLast frames lengths → AreInTurns (measures task.geometry).ring (measures task.geometry).block fifo lengths (map round_in ran)
-      → SoundServed (length task.orders) (measures task.geometry).limit (measures task.geometry).slack (3 + length task.orders) ran world → IsBehind telling ran closing world → IsLeft task graphs ran closing world course
-      → IsReady task (length task.orders) least course world → Ends lengths (state_over task ran closing world course)
-  plays_turns [] ran least world course ends turns served placed left ready = absurd (let some = ends.some in let enough = ends.enough in omega (arith, some, enough))
-  plays_turns (here ∷ lengths) [] least world course ends turns served placed left ready = absurd turns
-  plays_turns (here ∷ lengths) (one ∷ ran) least world course ends turns served placed left ready =
+  plays_turns : (lengths : List ℕ) (ran : List RanRound) (least : ℕ) (world : World) (trail : Trail) → EndsInTheLast frames lengths → AreInTurns (measures task.geometry).ring (measures task.geometry).block fifo lengths (map round_in ran)
+      → SoundServed (length task.orders) (measures task.geometry).limit (measures task.geometry).slack (3 + length task.orders) ran world → IsBehind telling ran closing world → IsLeft task graphs ran closing world trail
+      → IsReady task (length task.orders) least trail world → Ends lengths (state_over task ran closing world trail)
+  plays_turns [] ran least world trail ends turns served placed left ready = absurd (let some = ends.some in let enough = ends.enough in omega (arith, some, enough))
+  plays_turns (here ∷ lengths) [] least world trail ends turns served placed left ready = absurd turns
+  plays_turns (here ∷ lengths) (one ∷ ran) least world trail ends turns served placed left ready =
       let word = format_word task.geometry.format % 2 ^ 16 in
       let format = layout task.geometry.format in
       let most = most_bytes task.geometry.format in
       let ground = ground_of task frames long in
       let prompt : ArePrompt (measures task.geometry).limit (measures task.geometry).slack (one ∷ ran) = λ index other there. served index other (omega arith) there in
       let turn = turns.0 in
-      let first = begins_fed laws rise_laws task graphs closing (length task.orders) word format most ground (fits_of task) telling stopped least one ran world course loud prompt turn.call.wide placed left ready in
+      let first = begins_fed laws rise_laws task graphs closing (length task.orders) word format most ground (fits_of task) telling stopped least one ran world trail loud prompt turn.call.wide placed left ready in
       let next = first.next in
       let start = after (stopped.before ++ sets_going ∷ []) telling.start in
       let new_is = first.alone turn.call.alone in
@@ -113,7 +113,7 @@ module _ (laws : StreamLaws) (rise_laws : RiseLaws) (shapes : KeepShapes) (task 
       let due : (frame : ℕ) → due_by (layout_of word) frame ≡ block_bytes task.geometry.format = λ frame. one_block task.geometry.format word frame ground.word_is rate in
       let there = after_steps one.round.steps next.new in
       let on = turned laws shapes task graphs closing (length task.orders) first.codecs first.tag word format most ground start stopped.during stopped.later stopped.runs frames fifo long due fifo_is
-      0 here 1 one ran next.new next.course' first.fed turn (omega (arith, none)) (omega (arith, none)) (ap length fresh) (subst (All (CarriedBytes (measures task.geometry).block)) (sym fresh) (All-nil (CarriedBytes (measures task.geometry).block))) first.runs in
+      0 here 1 one ran next.new next.trail' first.fed turn (omega (arith, none)) (omega (arith, none)) (ap length fresh) (subst (All (CarriedBytes (measures task.geometry).block)) (sym fresh) (All-nil (CarriedBytes (measures task.geometry).block))) first.runs in
       let final_is : after telling.journal telling.start ≡ after (rest_events ran closing) there =
       ap (λ (events : List Event). after events telling.start) placed.journal_is
       ∙ after-append placed.so_far (rest_events (one ∷ ran) closing) telling.start
@@ -123,7 +123,7 @@ module _ (laws : StreamLaws) (rise_laws : RiseLaws) (shapes : KeepShapes) (task 
       let all = sum_by-cons (λ (n : ℕ). n) here lengths in
       let enough = ends.enough in
       let done = turns_on laws shapes task graphs closing (length task.orders) first.codecs first.tag word format most ground start stopped.during stopped.later stopped.runs frames fifo long due fifo_is
-      lengths (0 + here) 1 ran there (after telling.journal telling.start) next.course' (prompt_later (measures task.geometry).limit (measures task.geometry).slack one ran prompt) turns.1 next.later on final_is (omega (arith, enough, all))
+      lengths (0 + here) 1 ran there (after telling.journal telling.start) next.trail' (prompt_later (measures task.geometry).limit (measures task.geometry).slack one ran prompt) turns.1 next.later on final_is (omega (arith, enough, all))
       (λ fewer less. let few = ends.fewest (suc fewer) (omega (arith, less)) in let cons = sum_by-cons (λ (n : ℕ). n) here (take fewer lengths) in omega (arith, few, cons)) in
       let over = next.over in
       let sum_is : 0 + here + sum lengths ≡ sum (here ∷ lengths) = omega (arith, all) in
@@ -138,20 +138,20 @@ module _ (laws : StreamLaws) (rise_laws : RiseLaws) (shapes : KeepShapes) (task 
         sent = done.sent;
       }
 
-  turns_ready : (lengths : List ℕ) (ran : List RanRound) (least : ℕ) (world : World) (course : Course) → EndsInTheLast frames lengths → TurnsLeft task telling closing fifo lengths (3 + length task.orders) ran world → IsLeft task graphs ran closing world course
-      → IsReady task (length task.orders) least course world → Ends lengths (state_over task ran closing world course)
-  turns_ready lengths ran least world course ends kept left ready = by kept.before kept.rounds_are kept.counted
+  turns_ready : (lengths : List ℕ) (ran : List RanRound) (least : ℕ) (world : World) (trail : Trail) → EndsInTheLast frames lengths → TurnsLeft task telling closing fifo lengths (3 + length task.orders) ran world → IsLeft task graphs ran closing world trail
+      → IsReady task (length task.orders) least trail world → Ends lengths (state_over task ran closing world trail)
+  turns_ready lengths ran least world trail ends kept left ready = by kept.before kept.rounds_are kept.counted
     where
-      by : (before : List Round) → map round_in ran ≡ before ++ kept.turns → 3 + length task.orders + length before ≡ 3 + length task.orders → Ends lengths (state_over task ran closing world course)
+      by : (before : List Round) → map round_in ran ≡ before ++ kept.turns → 3 + length task.orders + length before ≡ 3 + length task.orders → Ends lengths (state_over task ran closing world trail)
       by [] is counted =
-          plays_turns lengths ran least world course ends (subst (AreInTurns (measures task.geometry).ring (measures task.geometry).block fifo lengths) (sym is) kept.are) kept.served kept.behind left ready
+          plays_turns lengths ran least world trail ends (subst (AreInTurns (measures task.geometry).ring (measures task.geometry).block fifo lengths) (sym is) kept.are) kept.served kept.behind left ready
       by (first ∷ before) is counted = absurd (omega (arith, counted))
 
   pub turns_onward : (total : ℕ) (lengths : List ℕ) → EndsInTheLast frames lengths → 3 + length task.orders ≤ total → Onward task graphs closing total (TurnsLeft task telling closing fifo lengths) (Ends lengths)
   turns_onward total lengths ends many = record {
     later = λ count next one ran world few quiet same kept. turns_later task telling closing fifo lengths count next one ran world few quiet same kept;
     early = λ state few come. absurd (omega (arith, few, many));
-    ready = λ ran least world course counted kept left ready. turns_ready lengths ran least world course ends kept left ready;
+    ready = λ ran least world trail counted kept left ready. turns_ready lengths ran least world trail ends kept left ready;
   }
 
 -- ---- the whole journal

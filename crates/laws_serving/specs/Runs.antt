@@ -9,7 +9,7 @@ use Rattle.hda_world.specs.Worlds.{World, codec_at}
 use Rattle.hda_world.specs.Steps.{address_of}
 use Rattle.hda_world.specs.Events.{Event, AreHonest}
 use Rattle.hda_world.specs.Tellings.{Telling}
-use Rattle.command_engine.specs.Courses.{HasBlocks, AscendByAddress}
+use Rattle.command_engine.specs.Fetchings.{HasBlocks, AscendByAddress}
 use Rattle.command_engine.specs.Quiet.{IsBlockAddress}
 use Rattle.driver_progress.specs.Tasks.{Task, Order, DriverLine}
 use Rattle.driver_progress.specs.Progress.{IsProgress}

@@ -13,7 +13,7 @@ use Rattle.hda_world.specs.Worlds.{World, TakenCommand, codec_at}
 use Rattle.hda_world.specs.Steps.{address_of}
 use Rattle.command_engine.specs.declared.answers.Outstanding.{Outstanding}
 use Rattle.command_engine.specs.declared.ring_places.RingPlaces.{RingPlaces}
-use Rattle.command_engine.specs.Courses.{Stands, solicited, waiting_answers}
+use Rattle.command_engine.specs.Fetchings.{Stands, solicited, waiting_answers}
 
 -- ---- steps
 

@@ -14,7 +14,7 @@ use Rattle.hda_world.specs.declared.world.TheConstants.{REGION_BYTES}
 use Rattle.hda_controller.specs.Openings.{codecs_in}
 use Rattle.rig.specs.Replays.{zeros, start_of}
 use Rattle.command_engine.specs.declared.ring_places.RingPlaces.{RingPlaces}
-use Rattle.command_engine.specs.Courses.{HasBlocks, AscendFrom, AscendByAddress, graphs_in}
+use Rattle.command_engine.specs.Fetchings.{HasBlocks, AscendFrom, AscendByAddress, graphs_in}
 use Rattle.period_writer.specs.declared.geometry.Geometry.{Geometry}
 use Rattle.period_writer.specs.Writers.{WriterState}
 use Rattle.driver_progress.specs.declared.phase.Phase.{Phase}

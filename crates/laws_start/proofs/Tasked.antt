@@ -17,7 +17,7 @@ use Rattle.hda_files.specs.declared.machine.CodecFile.{CodecFile}
 use Rattle.hda_files.specs.declared.machine.Machine.{Machine}
 use Rattle.hda_files.specs.Machines.{IsSoundCodec, IsSound}
 use Rattle.period_writer.specs.declared.geometry.Geometry.{Geometry}
-use Rattle.command_engine.specs.Courses.{AscendFrom}
+use Rattle.command_engine.specs.Fetchings.{AscendFrom}
 use Rattle.driver_progress.specs.Tasks.{Blocks, order_of, walks_over}
 use Rattle.laws_bring_up.specs.Standing.{IsTaskOfCodecs}
 use Rattle.heard_lists.specs.Listings.{graphs_in}

@@ -3,7 +3,7 @@ ghost use Rattle.std.specs.Prelude.{◌≡◌, ℕ, Bool, List, All, length, tru
 ghost use Rattle.verb_codes.specs.declared.verbs.Command.{Command};
 ghost use Rattle.hda_world.specs.declared.world.TheConstants.{REGION_BYTES};
 ghost use Rattle.hda_world.specs.Worlds.{World};
-ghost use Rattle.command_engine.specs.Courses.{AscendByAddress, graphs_in};
+ghost use Rattle.command_engine.specs.Fetchings.{AscendByAddress, graphs_in};
 ghost use Rattle.laws_settings.specs.Readings.{KeepsDefaults};
 ghost use Rattle.driver_progress.specs.States.{state_opened};
 ghost use Rattle.driver_progress.specs.Beginning.{HasOnly};

@@ -7,7 +7,7 @@ use Rattle.hda_registers.specs.declared.shapes.Shape.{Shape}
 use Rattle.hda_registers.specs.Fields.{entries_of}
 use Rattle.hda_world.specs.Worlds.{World}
 use Rattle.command_engine.specs.declared.ring_places.RingPlaces.{RingPlaces}
-use Rattle.command_engine.specs.Courses.{Stands}
+use Rattle.command_engine.specs.Fetchings.{Stands}
 use Rattle.period_writer.specs.Rings.{list_bytes}
 use Rattle.period_writer.specs.Standing.{Ring, IsBesideRirb, bytes_in}
 use Rattle.period_writer.specs.Outcomes.{CanBegin}

@@ -16,7 +16,7 @@ use Rattle.hda_world.specs.Tellings.{Telling, world_of, Went, Makes}
 use Rattle.hda_world.specs.Moments.{AreWoven}
 use Rattle.hda_world.proofs.Callers.{world_of-went, after-append, access_leaves, Weaving, woven}
 use Rattle.command_engine.specs.declared.ring_places.RingPlaces.{RingPlaces}
-use Rattle.command_engine.specs.Courses as engine
+use Rattle.command_engine.specs.Fetchings as engine
 use Rattle.command_engine.proofs.Callers.{event_keeps, responses_apart}
 use Rattle.period_writer.specs.declared.course.Ran.{Ran}
 use Rattle.period_writer.specs.Runs.{Tally, measures, facts_of}

@@ -5,7 +5,7 @@ ghost use Rattle.world_steps.specs.declared.Step.{Step};
 ghost use Rattle.hda_world.specs.Worlds.{World};
 ghost use Rattle.hda_world.specs.Events.{Event, Stepped, Begin, End, IsNoStep};
 ghost use Rattle.hda_world.specs.Tellings.{Telling, world_of, Went, Accessed, Makes};
-ghost use Rattle.command_engine.specs.Courses.{Stands};
+ghost use Rattle.command_engine.specs.Fetchings.{Stands};
 ghost use Rattle.period_writer.specs.Runs.{Tally};
 ghost use Rattle.period_writer.specs.Standing.{Ring};
 ghost use Rattle.period_writer.specs.Writers.{WriterState, tally_of, ring_of};

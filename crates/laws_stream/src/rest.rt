@@ -8,7 +8,7 @@ ghost use Rattle.hda_registers.specs.declared.places.TheConstants.{GCTL};
 ghost use Rattle.hda_world.specs.Events.{Event, after, after_write};
 ghost use Rattle.hda_world.specs.Tellings.{Telling, world_of, Makes};
 ghost use Rattle.command_engine.specs.declared.ring_places.RingPlaces.{RingPlaces};
-ghost use Rattle.command_engine.specs.Courses.{Stands};
+ghost use Rattle.command_engine.specs.Fetchings.{Stands};
 ghost use Rattle.period_writer.specs.Standing.{Ring};
 ghost use Rattle.period_writer.specs.Outcomes.{CanBegin};
 ghost use Rattle.driver_progress.specs.Tasks.{Task, DriverLine};

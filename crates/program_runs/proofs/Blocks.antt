@@ -6,7 +6,7 @@ use Rattle.dma_pool.specs.Pools.{IsApart, granules_for}
 use Rattle.dma_pool.specs.Blocks.{run_at}
 use Rattle.hda_world.specs.declared.world.TheConstants.{REGION_BYTES}
 use Rattle.command_engine.specs.Blocks.{corb_bytes, rirb_bytes, are_apart}
-use Rattle.command_engine.specs.Courses.{HasBlocks}
+use Rattle.command_engine.specs.Fetchings.{HasBlocks}
 use Rattle.command_engine.specs.Quiet.{IsBlockAddress}
 use Rattle.period_writer.specs.declared.geometry.Geometry.{Geometry}
 use Rattle.period_writer.proofs.Callers.{adds_has}

@@ -25,7 +25,7 @@ use Rattle.audio_driver.specs.Opening.{IsOpened}
 use Rattle.driver_bring_up.specs.declared.answers.TheConstants.{TAG}
 use Rattle.driver_progress.specs.declared.phase.Phase.{Phase}
 use Rattle.driver_progress.specs.Tasks.{Task}
-use Rattle.driver_progress.specs.Progress.{course_of, course_opened}
+use Rattle.driver_progress.specs.Progress.{trail_of, trail_opened}
 use Rattle.driver_bring_up.specs.Counted.{IsCount}
 use Rattle.driver_bring_up.specs.Jacks.{Counts}
 use Rattle.driver_bring_up.specs.declared.bringing.BringUp.{BringUp}
@@ -52,7 +52,7 @@ use Rattle.program_runs.specs.FrameCounts.{written_by}
 use Rattle.program_runs.proofs.Written.{used_written}
 use Rattle.program_runs.proofs.LinkFrames.{follows_frames}
 use Rattle.program_runs.proofs.Goes.{Keeps}
-use Rattle.program_runs.proofs.Phases.{is_failed, course_well, ended_well, ends}
+use Rattle.program_runs.proofs.Phases.{is_failed, trail_well, ended_well, ends}
 
 pub some_same : {A : Type 0} {one other : A} → Some one ≡ Some other → one ≡ other
 some_same {A} {one} {other} same = cc
@@ -215,8 +215,8 @@ module _ (machine : Machine) (format : Format) (play : Bool) (task : Task) (sche
   pub unplayed_ends : gone.tally.course.started ≡ false → walk_can_end closed.phase ≡ true
   unplayed_ends none =
       let telling = telling_from REGION_BYTES machine journal in
-      let course = course_of task (lines_of schedule) telling in
-      let well = ended_well course.within task course (course_well task telling.journal telling.start (course_opened (lines_of schedule)) refl) in
+      let trail = trail_of task (lines_of schedule) telling in
+      let well = ended_well trail.within task trail (trail_well task telling.journal telling.start (trail_opened (lines_of schedule)) refl) in
       let left : is_failed (state_with gone.ended gone.tally).phase ≡ false = ap (λ state. is_failed state.phase) (sym gone.has.state_is) ∙ well in
       let own = failed_if gone.tally.course.started gone.ended.phase gone.tally none left in
       ap walk_can_end (unplayed_phase none) ∙ ends gone.ended.phase (gone.ended.agenda.graphs.items ≡ graphs_in machine.codecs) own gone.has.ended_is.by_phase

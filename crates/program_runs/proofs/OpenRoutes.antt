@@ -8,7 +8,7 @@ use Rattle.hda_files.specs.declared.machine.Machine.{Machine}
 use Rattle.hda_world.specs.Worlds.{World}
 use Rattle.hda_world.specs.Events.{Event, happens, after}
 use Rattle.hda_world.specs.Tellings.{Telling}
-use Rattle.driver_progress.specs.Progress.{Course, course_after, course_opened, noted}
+use Rattle.driver_progress.specs.Progress.{Trail, trail_after, trail_opened, noted}
 use Rattle.driver_progress.specs.Tasks.{Task}
 use Rattle.route_setup.specs.Means.{Means, analog}
 use Rattle.laws_bring_up.specs.SettingUp.{Always, IsThere, SetUpAt, StaysSetUp, are_answered}
@@ -18,8 +18,8 @@ use Rattle.program_runs.specs.Lines.{lines_of}
 use Rattle.program_runs.specs.Histories.{IsOpenFor, StaysOpen}
 
 -- what holds always holds at each moment
-at_moment : (Holds : World → Course → Type 0) (task : Task) (before later : List Event) (world : World) (course : Course) → Always Holds task (before ++ later) world course
-    → Holds (after before world) (course_after task before world course)
+at_moment : (Holds : World → Trail → Type 0) (task : Task) (before later : List Event) (world : World) (course : Trail) → Always Holds task (before ++ later) world course
+    → Holds (after before world) (trail_after task before world course)
 at_moment Holds task [] [] world course always = always
 at_moment Holds task [] (event ∷ later) world course always = always.0
 at_moment Holds task (event ∷ before) later world course always = at_moment Holds task before later (happens world event) (noted task course world event) always.1
@@ -32,7 +32,7 @@ pub stays_open : (format : Format) (machine : Machine) (schedule : Schedule) (ta
     → StaysOpen format machine schedule task telling
 stays_open format machine schedule task telling always = λ before later split answered graph among.
     let means : Means = analog format stream_tag in
-    let opened : Course = course_opened (lines_of schedule) in
+    let opened : Trail = trail_opened (lines_of schedule) in
     open_there format (after before telling.start) graph
     (at_moment (SetUpAt means (graphs_in machine.codecs) task) task before later telling.start opened
     (subst (λ (journal : List Event). Always (SetUpAt means (graphs_in machine.codecs) task) task journal telling.start opened) split always) answered graph among)

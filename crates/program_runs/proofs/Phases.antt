@@ -17,7 +17,7 @@ use Rattle.driver_progress.specs.Seen.{Seen, clock_of}
 use Rattle.driver_progress.specs.States.{State}
 use Rattle.driver_progress.specs.Next.{next, led, closed, tally_next, phase_polled, phase_of_answers, outstanding_if, after_poll, submitted_if, walking_if, settled_if, reset_if, phase_played, finds_none}
 use Rattle.driver_progress.specs.Expected.{next_order, has_settled, rings_seen}
-use Rattle.driver_progress.specs.Progress.{Course, course_after, noted, ended_if, seen_in}
+use Rattle.driver_progress.specs.Progress.{Trail, trail_after, noted, ended_if, seen_in}
 use Rattle.laws_bring_up.specs.Standing.{WalkedIn}
 use Rattle.program_runs.specs.Ends.{play_can_end, walk_can_end}
 
@@ -93,22 +93,22 @@ next_well task state (Some line) seen well =
     let tally = tally_next task state (Some line) seen in
     unless_well (finds_none line seen) state (led task state seen tally state.phase) well (led_well task state seen tally state.phase well)
 
-noted_well : (task : Task) (course : Course) (world : World) (event : Event) → IsWell course.state → IsWell (noted task course world event).state
-noted_well task course world (Stepped step) well = well
-noted_well task course world Begin well = well
-noted_well task course world End well = next_well task course.state course.turn (seen_in course) well
-noted_well task course world (Read at width value) well = well
-noted_well task course world (Write at width value) well = well
-noted_well task course world (DmaRead at bytes) well = well
-noted_well task course world (DmaWrite at bytes) well = well
+noted_well : (task : Task) (trail : Trail) (world : World) (event : Event) → IsWell trail.state → IsWell (noted task trail world event).state
+noted_well task trail world (Stepped step) well = well
+noted_well task trail world Begin well = well
+noted_well task trail world End well = next_well task trail.state trail.turn (seen_in trail) well
+noted_well task trail world (Read at width value) well = well
+noted_well task trail world (Write at width value) well = well
+noted_well task trail world (DmaRead at bytes) well = well
+noted_well task trail world (DmaWrite at bytes) well = well
 
-pub course_well : (task : Task) (events : List Event) (world : World) (course : Course) → IsWell course.state → IsWell (course_after task events world course).state
-course_well task [] world course well = well
-course_well task (event ∷ events) world course well = course_well task events (happens world event) (noted task course world event) (noted_well task course world event well)
+pub trail_well : (task : Task) (events : List Event) (world : World) (trail : Trail) → IsWell trail.state → IsWell (trail_after task events world trail).state
+trail_well task [] world trail well = well
+trail_well task (event ∷ events) world trail well = trail_well task events (happens world event) (noted task trail world event) (noted_well task trail world event well)
 
-pub ended_well : (within : Bool) (task : Task) (course : Course) → IsWell course.state → IsWell (ended_if within task course).state
-ended_well true task course well = next_well task course.state course.turn (seen_in course) well
-ended_well false task course well = well
+pub ended_well : (within : Bool) (task : Task) (trail : Trail) → IsWell trail.state → IsWell (ended_if within task trail).state
+ended_well true task trail well = next_well task trail.state trail.turn (seen_in trail) well
+ended_well false task trail well = well
 
 -- in a phase in which the walked graphs are known walks can end
 pub ends : (phase : Phase) (all : Type 0) → is_failed phase ≡ false → WalkedIn phase all → walk_can_end phase ≡ true

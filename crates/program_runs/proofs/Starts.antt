@@ -22,7 +22,7 @@ use Rattle.hda_world.specs.Events.{Event}
 use Rattle.hda_controller.specs.Openings.{codec_in, codecs_in}
 use Rattle.heard_lists.specs.Listings.{graphs_in as graphs_of}
 use Rattle.rig.specs.Replays.{zeros, start_of, telling_from}
-use Rattle.command_engine.specs.Courses.{HasBlocks, AscendFrom}
+use Rattle.command_engine.specs.Fetchings.{HasBlocks, AscendFrom}
 use Rattle.driver_progress.specs.Tasks.{Task, DriverLine}
 use Rattle.driver_progress.specs.Progress.{IsProgress}
 use Rattle.laws_bring_up.specs.Stretches.{HasFound}

@@ -13,7 +13,7 @@ use Rattle.period_writer.specs.declared.course.Ran.TheVariants as ran
 use Rattle.period_writer.specs.declared.course.Course as played
 use Rattle.period_writer.specs.Runs.{Measures, RunFacts, Stretch, Tally, facts_of, is_late, is_late_since, run_at, run_of, run_room, run_sound, run_sound_end, tally_if, tally_opened, taken_up_if, whole_blocks}
 use Rattle.driver_progress.specs.Tasks.{Task, DriverLine}
-use Rattle.driver_progress.specs.Progress.{Course, course_after, course_of, course_opened, ended, ended_if, noted, state_of}
+use Rattle.driver_progress.specs.Progress.{Trail, trail_after, trail_of, trail_opened, ended, ended_if, noted, state_of}
 use Rattle.program_runs.specs.Hearing.{HasPlayedAll}
 use Rattle.program_runs.specs.FrameCounts.{written_in, written_by}
 
@@ -81,28 +81,28 @@ within_taken (ran.Late from to limit) clocks total m stretch tally within = with
 
 -- ---- of all that is told
 
-abbrev HasWithin : Task → Course → Type 0
-HasWithin task course = IsWithin (length task.pcm) course.state.tally
+abbrev HasWithin : Task → Trail → Type 0
+HasWithin task trail = IsWithin (length task.pcm) trail.state.tally
 
-within_ended : (task : Task) (course : Course) → HasWithin task course → HasWithin task (ended task course)
-within_ended task course within = within_taken course.state.tally.course.ran _ (length task.pcm) _ _ course.state.tally within
+within_ended : (task : Task) (trail : Trail) → HasWithin task trail → HasWithin task (ended task trail)
+within_ended task trail within = within_taken trail.state.tally.course.ran _ (length task.pcm) _ _ trail.state.tally within
 
-within_noted : (task : Task) (course : Course) (world : World) (event : Event) → HasWithin task course → HasWithin task (noted task course world event)
-within_noted task course world (Stepped step) within = within
-within_noted task course world Begin within = within
-within_noted task course world End within = within_ended task course within
-within_noted task course world (Read at width value) within = within
-within_noted task course world (Write at width value) within = within
-within_noted task course world (DmaRead at bytes) within = within
-within_noted task course world (DmaWrite at bytes) within = within
+within_noted : (task : Task) (trail : Trail) (world : World) (event : Event) → HasWithin task trail → HasWithin task (noted task trail world event)
+within_noted task trail world (Stepped step) within = within
+within_noted task trail world Begin within = within
+within_noted task trail world End within = within_ended task trail within
+within_noted task trail world (Read at width value) within = within
+within_noted task trail world (Write at width value) within = within
+within_noted task trail world (DmaRead at bytes) within = within
+within_noted task trail world (DmaWrite at bytes) within = within
 
-within_after : (task : Task) (events : List Event) (world : World) (course : Course) → HasWithin task course → HasWithin task (course_after task events world course)
-within_after task [] world course within = within
-within_after task (event ∷ events) world course within = within_after task events (happens world event) (noted task course world event) (within_noted task course world event within)
+within_after : (task : Task) (events : List Event) (world : World) (trail : Trail) → HasWithin task trail → HasWithin task (trail_after task events world trail)
+within_after task [] world trail within = within
+within_after task (event ∷ events) world trail within = within_after task events (happens world event) (noted task trail world event) (within_noted task trail world event within)
 
-within_if_open : (within : Bool) (task : Task) (course : Course) → HasWithin task course → HasWithin task (ended_if within task course)
-within_if_open true task course within = within_ended task course within
-within_if_open false task course within = within
+within_if_open : (within : Bool) (task : Task) (trail : Trail) → HasWithin task trail → HasWithin task (ended_if within task trail)
+within_if_open true task trail within = within_ended task trail within
+within_if_open false task trail within = within
 
 opened_within : (total : ℕ) → IsWithin total tally_opened
 opened_within total = record { used = refl; few = omega arith; drained = λ is. absurd (playing_drained is) }
@@ -110,20 +110,20 @@ opened_within total = record { used = refl; few = omega arith; drained = λ is. 
 -- so the runs of a state to which progress leads wrote no more than there is
 pub written_within : (task : Task) (lines : List DriverLine) (telling : Telling) → written_by (state_of task lines telling).tally.runs ≤ length task.pcm
 written_within task lines telling =
-    let course = course_of task lines telling in
-    let within = within_if_open course.within task course (within_after task telling.journal telling.start (course_opened lines) (record { used = refl; few = omega arith; drained = λ is. absurd (playing_drained is) })) in
+    let trail = trail_of task lines telling in
+    let within = within_if_open trail.within task trail (within_after task telling.journal telling.start (trail_opened lines) (record { used = refl; few = omega arith; drained = λ is. absurd (playing_drained is) })) in
     let used = within.used in
     let few = within.few in omega (arith, used, few)
 
 -- they wrote what was used
 pub used_written : (task : Task) (lines : List DriverLine) (telling : Telling) → written_by (state_of task lines telling).tally.runs ≡ (state_of task lines telling).tally.course.used
 used_written task lines telling =
-    let course = course_of task lines telling in
-    (within_if_open course.within task course (within_after task telling.journal telling.start (course_opened lines) (opened_within (length task.pcm)))).used
+    let trail = trail_of task lines telling in
+    (within_if_open trail.within task trail (within_after task telling.journal telling.start (trail_opened lines) (opened_within (length task.pcm)))).used
 
 -- and once the line has drained all of it was written, and the link had played the last of it
 pub drained_whole : (task : Task) (lines : List DriverLine) (telling : Telling) → (state_of task lines telling).tally.course.ran ≡ ran.Drained → HasPlayedAll task.pcm (state_of task lines telling).tally
 drained_whole task lines telling is =
-    let course = course_of task lines telling in
-    let within = within_if_open course.within task course (within_after task telling.journal telling.start (course_opened lines) (opened_within (length task.pcm))) in
+    let trail = trail_of task lines telling in
+    let within = within_if_open trail.within task trail (within_after task telling.journal telling.start (trail_opened lines) (opened_within (length task.pcm))) in
     let all = within.drained is in record { written = all.0; past = all.1 }

@@ -18,7 +18,7 @@ use Rattle.hda_world.specs.Tellings.{Telling}
 use Rattle.driver_progress.specs.Phases.{walked_all}
 use Rattle.driver_progress.specs.Tasks.{Task}
 use Rattle.driver_progress.specs.States.{State}
-use Rattle.driver_progress.specs.Progress.{state_of, course_after, course_opened, IsProgress}
+use Rattle.driver_progress.specs.Progress.{state_of, trail_after, trail_opened, IsProgress}
 use Rattle.driver_bring_up.specs.Standing.{answers_of}
 use Rattle.laws_bring_up.specs.Stretches.{HasFound}
 use Rattle.laws_bring_up.specs.Standing.{AreWalked}
@@ -79,7 +79,7 @@ pub record IsOpenFor (format : Format) (world : World) (graph : RawCodec) : Type
 abbrev pub StaysOpen : Format → Machine → Schedule → Task → Telling → Type 0
 StaysOpen format machine schedule task telling =
     (before later : List Event) → telling.journal ≡ before ++ later
-    → are_answered task (course_after task before telling.start (course_opened (lines_of schedule))) ≡ true
+    → are_answered task (trail_after task before telling.start (trail_opened (lines_of schedule))) ≡ true
     → (graph : RawCodec) → Contains (graphs_in machine.codecs) graph
     → IsOpenFor format (after before telling.start) graph
 

@@ -3,7 +3,7 @@ use Rattle.hda_world.specs.Events.{Read}
 use Rattle.hda_world.specs.Tellings.{Telling, Accessed, Then}
 use Rattle.hda_world.proofs.Callers.{told_both, told_map, accessed_then}
 use Rattle.command_engine.specs.Told.{PollTellsOf}
-use Rattle.command_engine.specs.Courses.{Stands}
+use Rattle.command_engine.specs.Fetchings.{Stands}
 use Rattle.command_engine.proofs.Callers.{responses_apart, keeps_standing}
 use Rattle.driver_progress.proofs.commands.ask.Goals as goal
 

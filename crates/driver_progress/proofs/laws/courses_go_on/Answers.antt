@@ -1,8 +1,8 @@
-use Rattle.driver_progress.proofs.CourseLaws.{course_append, conforms_both, conforms_front, conforms_back}
-use Rattle.driver_progress.proofs.laws.courses_go_on.Goals as goal
+use Rattle.driver_progress.proofs.TrailLaws.{trail_append, conforms_both, conforms_front, conforms_back}
+use Rattle.driver_progress.proofs.laws.trails_go_on.Goals as goal
 
-pub returns-clause-course : goal.returns-clause-course
-returns-clause-course c = course_append
+pub returns-clause-trail : goal.returns-clause-trail
+returns-clause-trail c = trail_append
 
 pub returns-clause-both : goal.returns-clause-both
 returns-clause-both c = conforms_both

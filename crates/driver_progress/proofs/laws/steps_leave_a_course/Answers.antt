@@ -1,8 +1,8 @@
-use Rattle.driver_progress.proofs.CourseLaws.{steps_leave_course, steps_conform}
-use Rattle.driver_progress.proofs.laws.steps_leave_a_course.Goals as goal
+use Rattle.driver_progress.proofs.TrailLaws.{steps_leave_trail, steps_conform}
+use Rattle.driver_progress.proofs.laws.steps_leave_a_trail.Goals as goal
 
-pub returns-clause-course : goal.returns-clause-course
-returns-clause-course c = steps_leave_course
+pub returns-clause-trail : goal.returns-clause-trail
+returns-clause-trail c = steps_leave_trail
 
 pub returns-clause-conforms : goal.returns-clause-conforms
 returns-clause-conforms c = steps_conform

@@ -1,5 +1,5 @@
-use Rattle.driver_progress.proofs.Polled.{poll_course}
+use Rattle.driver_progress.proofs.Polled.{poll_trail}
 use Rattle.driver_progress.proofs.stretch_laws.polls_are_noted.Goals as goal
 
 pub returns : goal.returns
-returns c = poll_course
+returns c = poll_trail
