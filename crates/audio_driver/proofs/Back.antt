@@ -11,7 +11,7 @@ use Rattle.command_engine.specs.Blocks.{corb_bytes, rirb_bytes}
 use Rattle.period_writer.specs.declared.geometry.Geometry.{Geometry}
 use Rattle.period_writer.specs.Blocks.{AddsAll}
 use Rattle.period_writer.specs.Rings.{period_bytes, list_bytes}
-use Rattle.audio_driver.specs.Opening.{Opens}
+use Rattle.audio_driver.specs.Opening.{OpensDriver}
 use Rattle.audio_driver.specs.Closing.{GivesBack}
 use Rattle.period_writer.proofs.Callers.{adds_keeps}
 use Rattle.audio_driver.proofs.Taken.{are_same, is_taken, same_run, run_same}
@@ -129,7 +129,7 @@ runs_of geometry corb rirb list periods =
     run_at corb corb_bytes ∷ run_at rirb rirb_bytes ∷ run_at list (list_bytes geometry.periods) ∷ runs_at (period_bytes geometry.period) periods
 
 -- none was taken before
-opens_fresh : (geometry : Geometry) (pool : PoolState) (corb rirb list : ℕ) (periods : List ℕ) (pool' : PoolState) (run : Run) → Opens geometry pool corb rirb list periods pool' → Contains pool.taken run
+opens_fresh : (geometry : Geometry) (pool : PoolState) (corb rirb list : ℕ) (periods : List ℕ) (pool' : PoolState) (run : Run) → OpensDriver geometry pool corb rirb list periods pool' → Contains pool.taken run
     → is_taken (runs_of geometry corb rirb list periods) run ≡ false
 opens_fresh geometry pool corb rirb list periods pool' run opens has =
     let first = adds_keeps pool.taken (run_at corb corb_bytes) opens.engine.middle opens.engine.corb_taken.adds run has in
@@ -163,7 +163,7 @@ own geometry corb rirb list periods =
           (in_more second (third ∷ rest) (period_bytes geometry.period) periods (in_more third rest (period_bytes geometry.period) periods (in_own (period_bytes geometry.period) periods)));
     }
 
-opens_beside : (runs : List Run) (geometry : Geometry) (pool : PoolState) (corb rirb list : ℕ) (periods : List ℕ) (pool' : PoolState) → AreOwn runs geometry corb rirb list periods → Opens geometry pool corb rirb list periods pool'
+opens_beside : (runs : List Run) (geometry : Geometry) (pool : PoolState) (corb rirb list : ℕ) (periods : List ℕ) (pool' : PoolState) → AreOwn runs geometry corb rirb list periods → OpensDriver geometry pool corb rirb list periods pool'
     → filter (is_other runs) pool'.taken ≡ filter (is_other runs) pool.taken
 opens_beside runs geometry pool corb rirb list periods pool' are opens =
     all_beside runs (period_bytes geometry.period) opens.writer.middle periods pool'.taken are.periods_are (takes_add opens.middle.granules (period_bytes geometry.period) opens.writer.middle periods pool'.taken opens.writer.periods_taken)
@@ -171,7 +171,7 @@ opens_beside runs geometry pool corb rirb list periods pool' are opens =
     ∙ adds_beside runs opens.engine.middle (run_at rirb rirb_bytes) opens.middle.taken are.rirb_is opens.engine.rirb_taken.adds
     ∙ adds_beside runs pool.taken (run_at corb corb_bytes) opens.engine.middle are.corb_is opens.engine.corb_taken.adds
 
-opens_length : (geometry : Geometry) (pool : PoolState) (corb rirb list : ℕ) (periods : List ℕ) (pool' : PoolState) → Opens geometry pool corb rirb list periods pool' → length pool'.taken ≡ length pool.taken + 3 + length periods
+opens_length : (geometry : Geometry) (pool : PoolState) (corb rirb list : ℕ) (periods : List ℕ) (pool' : PoolState) → OpensDriver geometry pool corb rirb list periods pool' → length pool'.taken ≡ length pool.taken + 3 + length periods
 opens_length geometry pool corb rirb list periods pool' opens =
     let first = adds_length pool.taken (run_at corb corb_bytes) opens.engine.middle opens.engine.corb_taken.adds in
     let second = adds_length opens.engine.middle (run_at rirb rirb_bytes) opens.middle.taken opens.engine.rirb_taken.adds in
@@ -196,7 +196,7 @@ gives_length geometry pool corb rirb list periods pool' gives =
     omega (arith, first, second, third, rest)
 
 -- the pool is as it was before they were taken
-pub as_before : (geometry : Geometry) (before pool after : PoolState) (corb rirb list : ℕ) (periods : List ℕ) → Opens geometry before corb rirb list periods pool → GivesBack geometry pool corb rirb list periods after → after ≡ before
+pub as_before : (geometry : Geometry) (before pool after : PoolState) (corb rirb list : ℕ) (periods : List ℕ) → OpensDriver geometry before corb rirb list periods pool → GivesBack geometry pool corb rirb list periods after → after ≡ before
 as_before geometry before pool after corb rirb list periods opens gives =
     let runs = runs_of geometry corb rirb list periods in
     let are = own geometry corb rirb list periods in

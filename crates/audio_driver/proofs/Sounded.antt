@@ -37,7 +37,7 @@ use Rattle.driver_bring_up.specs.Calls.{IsKept, Listens}
 use Rattle.driver_bring_up.specs.Told.{found_none}
 use Rattle.driver_bring_up.proofs.Callers.{unread_none, answer_none, same_answer, same_found, interrupt_entries, inactive_stretch, none_stretch_of, interrupted_stretch}
 use Rattle.audio_driver.specs.States.{phase_if, played_as, state_of, is_open, was_late, IsLeft}
-use Rattle.audio_driver.specs.Sounding.{SoundTells, Sounds}
+use Rattle.audio_driver.specs.Sounding.{SoundTells, PlaysSound}
 use Rattle.audio_driver.proofs.Accesses.{interrupt_are, poll_are, start_are, play_are}
 use Rattle.audio_driver.proofs.Seeing.{writes_entries, poll_entries}
 use Rattle.audio_driver.proofs.Stretches.{over_stretch, over_inactive, open_active}
@@ -89,7 +89,7 @@ answer_of rings entries = answer_among (asked_of rings.outstanding) (responses_i
 over_phase : (old : BringUp) (writer : WriterState) → writer.course.started ≡ true → (state_of old writer).phase ≡ played_as writer.course.ran
 over_phase old writer started = ap (λ (started : Bool). phase_if started old.phase writer.course.ran) started
 
-pub over_sounds : (old : BringUp) (writer : WriterState) (supply : List ℕ) (budget : ℕ) (told : Option Telling) → writer.course.started ≡ true → is_open writer.course.ran ≡ false → Sounds false budget old old writer writer supply supply told told
+pub over_sounds : (old : BringUp) (writer : WriterState) (supply : List ℕ) (budget : ℕ) (told : Option Telling) → writer.course.started ≡ true → is_open writer.course.ran ≡ false → PlaysSound false budget old old writer writer supply supply told told
 over_sounds old writer supply budget told started over = record {
   made = [];
   are = tt {0};
@@ -102,7 +102,7 @@ over_sounds old writer supply budget told started over = record {
 }
 
 -- a call for an interrupt does not look for one then
-pub over_sounds_irq : (old : BringUp) (writer : WriterState) (supply : List ℕ) (budget : ℕ) (told : Option Telling) → writer.course.started ≡ true → is_open writer.course.ran ≡ false → Sounds true budget old old writer writer supply supply told told
+pub over_sounds_irq : (old : BringUp) (writer : WriterState) (supply : List ℕ) (budget : ℕ) (told : Option Telling) → writer.course.started ≡ true → is_open writer.course.ran ≡ false → PlaysSound true budget old old writer writer supply supply told told
 over_sounds_irq old writer supply budget told started over = record {
   made = [];
   are = tt {0};
@@ -128,7 +128,7 @@ start_entries writer from in_reset ready to written =
 pub start_sounds : (old : BringUp) (writer writer' : WriterState) (supply supply' : List ℕ) (budget : ℕ) (before after : Option Telling) → old.phase ≡ Ready → writer.course.started ≡ false → tally_of writer ≡ tally_opened
     → Starts writer.geometry writer.list.address (periods_of writer) budget supply (tally_of writer) (tally_of writer') supply' before after
     → Between (StartTellsOf (ring_of writer) supply budget (tally_of writer) (tally_of writer')) before after → KeepsRing writer writer'
-    → Sounds false budget old old writer writer' supply supply' before after
+    → PlaysSound false budget old old writer writer' supply supply' before after
 start_sounds old writer writer' supply supply' budget before after ready fresh opened starts tells same =
     let facts = facts_of budget (length supply) starts.from 0 starts.to in
     let written = run_bytes (measures_of writer) writer.course facts supply in
@@ -181,7 +181,7 @@ run_entries writer facts supply later none =
 pub play_sounds : (old new : BringUp) (writer writer' : WriterState) (supply supply' : List ℕ) (budget : ℕ) (answer : Ran) (before middle after : Option Telling) → writer.course.started ≡ true → is_open writer.course.ran ≡ true
     → Listens old new before middle → IsKept old new → Plays writer.geometry (periods_of writer) budget supply (tally_of writer) answer (tally_of writer') supply' middle after
     → ((pcm : List ℕ) → supply ≡ drop writer.course.used pcm → Between (RunTellsOf (ring_of writer) pcm budget (tally_of writer) answer (tally_of writer')) middle after) → KeepsRing writer writer'
-    → Sounds false budget old new writer writer' supply supply' before after
+    → PlaysSound false budget old new writer writer' supply supply' before after
 play_sounds old new writer writer' supply supply' budget answer before middle after started more listens kept plays tells same =
     let facts = facts_of budget (length supply) plays.from plays.lpib plays.to in
     let was = writer'.course.ran in
@@ -228,7 +228,7 @@ never is = cc
 
 -- there is none
 pub quiet_sounds : (old : BringUp) (writer : WriterState) (supply : List ℕ) (budget interrupts stream : ℕ) (before after : Option Telling) → old.phase ≡ Ready → is_open writer.course.ran ≡ true → has_bit interrupts 31 ≡ false
-    → Between (Makes (interrupt_accesses interrupts stream)) before after → Sounds true budget old old writer writer supply supply before after
+    → Between (Makes (interrupt_accesses interrupts stream)) before after → PlaysSound true budget old old writer writer supply supply before after
 quiet_sounds old writer supply budget interrupts stream before after ready more off looked =
     let made = interrupt_accesses interrupts stream in
     let none = unread_none made (interrupt_unread interrupts stream) in
@@ -287,7 +287,7 @@ irq_tells old new writer writer' supply budget interrupts stream made before mid
     }))
 
 pub irq_sounds : (old new : BringUp) (writer writer' : WriterState) (supply supply' : List ℕ) (budget interrupts stream : ℕ) (before middle after : Option Telling) → old.phase ≡ Ready → is_open writer.course.ran ≡ true → has_bit interrupts 31 ≡ true
-    → Between (Makes (interrupt_accesses interrupts stream)) before middle → Sounds false budget old new writer writer' supply supply' middle after → Sounds true budget old new writer writer' supply supply' before after
+    → Between (Makes (interrupt_accesses interrupts stream)) before middle → PlaysSound false budget old new writer writer' supply supply' middle after → PlaysSound true budget old new writer writer' supply supply' before after
 irq_sounds old new writer writer' supply supply' budget interrupts stream before middle after ready more on looked sounds =
     let made = interrupt_accesses interrupts stream ++ sounds.made in
     let entries = interrupt_entries interrupts stream sounds.made in

@@ -41,7 +41,7 @@ run_same one other is =
 -- ---- runs that stay
 
 -- a run stays taken as a writer is opened
-pub opens_keep : (geometry : Geometry) (pool : PoolState) (list : ℕ) (periods : List ℕ) (pool' : PoolState) (run : Run) → of_writer.Opens geometry pool list periods pool' → Contains pool.taken run → Contains pool'.taken run
+pub opens_keep : (geometry : Geometry) (pool : PoolState) (list : ℕ) (periods : List ℕ) (pool' : PoolState) (run : Run) → of_writer.OpensWriter geometry pool list periods pool' → Contains pool.taken run → Contains pool'.taken run
 opens_keep geometry pool list periods pool' run opens has =
     takes_keep pool.granules (period_bytes geometry.period) opens.middle periods pool'.taken run opens.periods_taken
     (adds_keeps pool.taken (run_at list (list_bytes geometry.periods)) opens.middle opens.list_taken.adds run has)

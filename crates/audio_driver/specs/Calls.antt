@@ -10,7 +10,7 @@ use Rattle.driver_bring_up.specs.declared.bringing.BringUp.{BringUp}
 use Rattle.driver_bring_up.specs.Calls.{Leads, Ends}
 use Rattle.audio_driver.specs.declared.driver.closing.Closed.{Closed}
 use Rattle.audio_driver.specs.States.{is_open, EndsWhilePlaying}
-use Rattle.audio_driver.specs.Sounding.{Sounds, EndsSound}
+use Rattle.audio_driver.specs.Sounding.{PlaysSound, EndsSound}
 use Rattle.audio_driver.specs.Closing.{Closes}
 use Rattle.audio_driver.specs.Drivers.{DriverState}
 
@@ -24,7 +24,7 @@ SufficesIfOpen budget writer supply = is_open writer.course.ran ≡ true → Suf
 abbrev pub SoundsAny : (irq : Bool) → (budget : ℕ) → (old new : BringUp) → (writer writer' : WriterState) → (supply supply' : Supplied) → (before after : Option Telling) → Type 0
 SoundsAny irq budget old new writer writer' supply supply' before after =
     (later : List ℕ) → MayGive supply' later → EndsWhilePlaying writer.course supply (sound_before supply supply' later)
-    → Sounds irq budget old new writer writer' (sound_before supply supply' later) later before after
+    → PlaysSound irq budget old new writer writer' (sound_before supply supply' later) later before after
 
 -- the last call of a driver whose calls play
 abbrev pub EndsAny : (old ended : BringUp) → WriterState → Tally → Supplied → (before after : Option Telling) → Type 0

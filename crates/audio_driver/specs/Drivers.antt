@@ -67,7 +67,7 @@ module _ {T : Type 0} where
   -- a driver for a ring of this geometry took them from a pool
   abbrev pub TakesBlocks : Geometry → PoolState → DriverState T → Type 0
   TakesBlocks geometry pool driver =
-      opening.Opens geometry pool driver.bring_up.engine.corb.address driver.bring_up.engine.rirb.address driver.writer.list.address
+      opening.OpensDriver geometry pool driver.bring_up.engine.corb.address driver.bring_up.engine.rirb.address driver.writer.list.address
       (periods_of driver.writer) driver.pool
 
   -- all of them were given back to its pool

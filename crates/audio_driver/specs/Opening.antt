@@ -11,17 +11,17 @@ use Rattle.driver_bring_up.specs.Counted.{IsCount}
 use Rattle.driver_bring_up.specs.declared.bringing.BringUp.{BringUp}
 
 -- CORB and RIRB were taken, and then the list of buffers and the periods
-pub record Opens (geometry : Geometry) (pool : PoolState) (corb rirb list : ℕ) (periods : List ℕ) (pool' : PoolState) : Type 0 where
+pub record OpensDriver (geometry : Geometry) (pool : PoolState) (corb rirb list : ℕ) (periods : List ℕ) (pool' : PoolState) : Type 0 where
   pub middle : PoolState
-  pub engine : of_engine.Opens pool corb rirb middle
-  pub writer : of_writer.Opens geometry middle list periods pool'
+  pub engine : of_engine.OpensEngine pool corb rirb middle
+  pub writer : of_writer.OpensWriter geometry middle list periods pool'
 
 -- there are runs for CORB and RIRB, and after them none for the list of buffers or one of the periods
 pub record HasNoRing (geometry : Geometry) (pool : PoolState) : Type 0 where
   pub corb : ℕ
   pub rirb : ℕ
   pub middle : PoolState
-  pub engine : of_engine.Opens pool corb rirb middle
+  pub engine : of_engine.OpensEngine pool corb rirb middle
   pub none : of_writer.HasNoRuns geometry middle
 
 -- one of the takes meets no run
@@ -31,7 +31,7 @@ HasNoRuns geometry pool = of_engine.HasNoRuns pool ⊎ HasNoRing geometry pool
 -- all of them meet one
 abbrev pub HasRuns : Geometry → PoolState → Type 0
 HasRuns geometry pool =
-    (corb : ℕ) × (rirb : ℕ) × (list : ℕ) × (periods : List ℕ) × (pool' : PoolState) × Opens geometry pool corb rirb list periods pool'
+    (corb : ℕ) × (rirb : ℕ) × (list : ℕ) × (periods : List ℕ) × (pool' : PoolState) × OpensDriver geometry pool corb rirb list periods pool'
 
 -- where a driver begins: nothing was done yet, and nothing was played
 pub record IsOpened (geometry : Geometry) (most : ℕ) (bring_up : BringUp) (writer : WriterState) : Type 0 where

@@ -84,7 +84,7 @@ pub record StaysSet (old new : BringUp) (writer writer' : WriterState) : Type 0 
 
 -- a call, for an interrupt or not, with this budget: it makes just the accesses that are to be made, and leads where it is to lead, for
 -- every task of the driver. Of the sound what it did not write is left
-pub record Sounds (irq : Bool) (budget : ℕ) (old new : BringUp) (writer writer' : WriterState) (supply supply' : List ℕ) (before after : Option Telling) : Type 0 where
+pub record PlaysSound (irq : Bool) (budget : ℕ) (old new : BringUp) (writer writer' : WriterState) (supply supply' : List ℕ) (before after : Option Telling) : Type 0 where
   pub made : List Event
   pub are : AreAccesses made
   pub by : Between (Makes made) before after

@@ -16,7 +16,7 @@ use Rattle.codec_sound.specs.declared.signals.Signal.{Signal}
 use Rattle.codec_sound.specs.declared.heard.Heard.{Heard}
 use Rattle.codec_sound.specs.declared.heard.Heard.TheVariants.{Hole}
 use Rattle.codec_sound.specs.Keeping.{signal_by}
-use Rattle.codec_sound.specs.HeardLists.{block_size, block_at, blocks, item_of, items_sent, items_of, signal_with, signal_in, frame_items, heard}
+use Rattle.codec_sound.specs.HeardLists.{block_size, block_at, blocks, item_of, items_sent, heard_in, signal_with, signal_in, frame_items, heard}
 
 pub heard-append : (address pin : ℕ) (before added : List CarriedFrame) → heard address pin (before ++ added) ≡ heard address pin before ++ heard address pin added
 heard-append address pin before added = flat_map-append (frame_items address pin) before added
@@ -25,15 +25,15 @@ pub heard-push : (address pin : ℕ) (before : List CarriedFrame) (frame : Carri
 heard-push address pin before frame = heard-append address pin before (frame ∷ []) ∙ ap (λ (items : List Heard). heard address pin before ++ items) (append-nil (frame_items address pin frame))
 
 pub items-missed : (address pin : ℕ) (frame : CarriedFrame) → frame.carriage ≡ Missed → frame_items address pin frame ≡ Hole ∷ []
-items-missed address pin frame e = ap (items_of (layout_of frame.format) (signal_in address pin frame)) e
+items-missed address pin frame e = ap (heard_in (layout_of frame.format) (signal_in address pin frame)) e
 
 -- as many items as blocks
-pub length-items : (layout : Layout) (signal : Signal) (bytes : List ℕ) → length (items_of (Some layout) signal (Sent bytes)) ≡ length bytes / block_size layout
+pub length-items : (layout : Layout) (signal : Signal) (bytes : List ℕ) → length (heard_in (Some layout) signal (Sent bytes)) ≡ length bytes / block_size layout
 length-items layout signal bytes = simp (length-map, length-range_with_len)
 
 -- and each of its block
 pub item-of-block : (layout : Layout) (signal : Signal) (bytes : List ℕ) (place : ℕ) → place < length bytes / block_size layout
-    → get_or (items_of (Some layout) signal (Sent bytes)) place Hole ≡ item_of layout signal (block_at (block_size layout) bytes place)
+    → get_or (heard_in (Some layout) signal (Sent bytes)) place Hole ≡ item_of layout signal (block_at (block_size layout) bytes place)
 item-of-block layout signal bytes place within =
     let count : ℕ = length bytes / block_size layout in
     let inside : place < length (blocks (block_size layout) bytes) = subst (λ (n : ℕ). place < n) (sym (length-map-range_with_len (block_at (block_size layout) bytes) 0 count)) within in
@@ -45,7 +45,7 @@ no_items None signal = refl
 no_items (Some layout) signal = ap (λ (n : ℕ). map (item_of layout signal) (map (block_at (block_size layout) []) (range_with_len 0 n))) (zero-div (block_size layout))
 
 pub items-empty : (address pin : ℕ) (frame : CarriedFrame) → frame.carriage ≡ Sent [] → frame_items address pin frame ≡ []
-items-empty address pin frame e = ap (items_of (layout_of frame.format) (signal_in address pin frame)) e ∙ no_items (layout_of frame.format) (signal_in address pin frame)
+items-empty address pin frame e = ap (heard_in (layout_of frame.format) (signal_in address pin frame)) e ∙ no_items (layout_of frame.format) (signal_in address pin frame)
 
 -- the signal by the format of a word
 pub signal_by-word : (codec : CodecState) (tag word pin : ℕ) (format : Option Format) → option_map layout format ≡ layout_of word → MatchOption format (HasNoFormat word) (λ f. format_word f ≡ word) → signal_by codec.graph codec.settings tag format pin ≡ signal_with (Some codec) tag word (layout_of word) pin

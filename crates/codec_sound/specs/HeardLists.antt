@@ -45,9 +45,9 @@ items_sent None signal bytes = []
 items_sent (Some layout) signal bytes = map (item_of layout signal) (blocks (block_size layout) bytes)
 
 -- what a frame adds to the list of a pin with this signal
-abbrev pub items_of : Option Layout → Signal → Carriage → List Heard
-items_of layout signal Missed = Hole ∷ []
-items_of layout signal (Sent bytes) = items_sent layout signal bytes
+abbrev pub heard_in : Option Layout → Signal → Carriage → List Heard
+heard_in layout signal Missed = Hole ∷ []
+heard_in layout signal (Sent bytes) = items_sent layout signal bytes
 
 -- ---- the list of a pin
 
@@ -65,7 +65,7 @@ signal_in address pin frame = signal_with (codec_at address frame.codecs) frame.
 
 -- what a link frame adds to its list
 abbrev pub frame_items : ℕ → ℕ → CarriedFrame → List Heard
-frame_items address pin frame = items_of (layout_of frame.format) (signal_in address pin frame) frame.carriage
+frame_items address pin frame = heard_in (layout_of frame.format) (signal_in address pin frame) frame.carriage
 
 -- the list of the pin, of all link frames that carried the stream
 abbrev pub heard : ℕ → ℕ → List CarriedFrame → List Heard

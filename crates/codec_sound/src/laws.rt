@@ -19,7 +19,7 @@ ghost use Rattle.stream_format.specs.declared.format.Rate.TheVariants.{R48};
 ghost use Rattle.stream_format.specs.declared.format.Bits.TheVariants.{B16};
 ghost use Rattle.codec_sound.specs.Signals.{IsAmong, gives, out, signal_of};
 ghost use Rattle.codec_sound.specs.Keeping.{signal_by};
-ghost use Rattle.codec_sound.specs.HeardLists.{block_at, block_size, sample_in, item_of, items_of, signal_with};
+ghost use Rattle.codec_sound.specs.HeardLists.{block_at, block_size, sample_in, item_of, heard_in, signal_with};
 ghost use Rattle.codec_sound.specs.HeardLists.{frame_items, heard};
 
 /// What the nodes of a well-formed graph give fits the step at every node, and nothing else does.
@@ -68,23 +68,23 @@ pub fn frames_add_their_items()
     ensures empty { (address pin : ℕ) (frame : CarriedFrame) → frame.carriage ≡ Sent []
         → frame_items address pin frame ≡ [] }
     ensures each { (layout : Layout) (signal : Signal) (bytes : List ℕ)
-        → length (items_of (Some layout) signal (Sent bytes)) ≡ length bytes / block_size layout }
+        → length (heard_in (Some layout) signal (Sent bytes)) ≡ length bytes / block_size layout }
     ensures item { (layout : Layout) (signal : Signal) (bytes : List ℕ) (place : ℕ)
         → place < length bytes / block_size layout
-        → get_or (items_of (Some layout) signal (Sent bytes)) place Hole ≡ item_of layout signal
+        → get_or (heard_in (Some layout) signal (Sent bytes)) place Hole ≡ item_of layout signal
         (block_at (block_size layout) bytes place) }
 {}
 
 /// Bytes as items: of two blocks of two channels of 16 bits, and of one of four. The left sample of a pair comes first,
 /// and so does a sample's lower byte.
 pub fn bytes_are_items()
-    ensures sound { items_of (Some (record { rate = R48; bits = B16; channels = 2 })) (Pair 0)
+    ensures sound { heard_in (Some (record { rate = R48; bits = B16; channels = 2 })) (Pair 0)
         (Sent (1 ∷ 0 ∷ 2 ∷ 0 ∷ 3 ∷ 0 ∷ 255 ∷ 255 ∷ []))
         ≡ Sound (pos 1) (pos 2) ∷ Sound (pos 3) (negsuc 0) ∷ [] }
-    ensures other_pair { items_of (Some (record { rate = R48; bits = B16; channels = 4 })) (Pair 1)
+    ensures other_pair { heard_in (Some (record { rate = R48; bits = B16; channels = 4 })) (Pair 1)
         (Sent (1 ∷ 0 ∷ 2 ∷ 0 ∷ 3 ∷ 0 ∷ 255 ∷ 255 ∷ []))
         ≡ Sound (pos 3) (negsuc 0) ∷ [] }
-    ensures quiet { items_of (Some (record { rate = R48; bits = B16; channels = 2 })) Silence
+    ensures quiet { heard_in (Some (record { rate = R48; bits = B16; channels = 2 })) Silence
         (Sent (1 ∷ 0 ∷ 2 ∷ 0 ∷ 3 ∷ 0 ∷ 255 ∷ 255 ∷ []))
         ≡ Quiet ∷ Quiet ∷ [] }
 {}

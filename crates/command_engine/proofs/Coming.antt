@@ -14,7 +14,7 @@ use Rattle.codec_graph.proofs.Callers.{answers-push, answers-cons}
 use Rattle.hda_registers.specs.Fields.{Fields}
 use Rattle.world_rings.specs.declared.response.Response.{Response}
 use Rattle.hda_world.specs.Worlds.{TakenCommand, codec_at, with_codec}
-use Rattle.hda_world.specs.Steps.{address_of, responses_of, items_of}
+use Rattle.hda_world.specs.Steps.{address_of, responses_of, waiting_of}
 use Rattle.command_engine.specs.Fetchings.{AscendFrom, AscendByAddress, IsAnswerTo, ResponseCanCome, ItemCanCome, CodecCanSend, solicited, IsOnItsWay}
 use Rattle.hda_world.proofs.Callers.{found_address, found_all, absent}
 use Rattle.command_engine.proofs.Codecs.{changed_all, changed_sum}
@@ -102,11 +102,11 @@ ascend_all from [] ascend = All-nil (λ (codec : CodecState). codec.graph.addres
 ascend_all from (codec ∷ codecs) ascend = All-cons (λ (codec : CodecState). codec.graph.address ≤ 14) codec codecs ascend.1 (ascend_all (codec.graph.address + 1) codecs ascend.2)
 
 pub coming_sent : (gained : List TakenCommand) (fields : Fields) (address : ℕ) (item : Waiting) (rest : List Waiting) (unread waiting : List Response) (codecs : List CodecState)
-    → AscendByAddress codecs → items_of (codec_at address codecs) ≡ item ∷ rest → IsOnItsWay gained unread waiting codecs
+    → AscendByAddress codecs → waiting_of (codec_at address codecs) ≡ item ∷ rest → IsOnItsWay gained unread waiting codecs
     → IsOnItsWay gained unread (waiting ++ responses_of fields address item) (with_codec address without_first codecs)
 coming_sent gained fields address item rest unread waiting codecs ascend are way = by (codec_at address codecs) refl are
   where
-    by : (found : Option CodecState) → codec_at address codecs ≡ found → items_of found ≡ item ∷ rest
+    by : (found : Option CodecState) → codec_at address codecs ≡ found → waiting_of found ≡ item ∷ rest
         → IsOnItsWay gained unread (waiting ++ responses_of fields address item) (with_codec address without_first codecs)
     by None there are = cc
     by (Some codec) there are =

@@ -22,7 +22,7 @@ use Rattle.codec_graph.proofs.Callers.{graph-plugged}
 use Rattle.world_rings.proofs.Callers.{flag_clear, batch_first}
 use Rattle.hda_world.specs.declared.step.TheConstants.{FRAMES_TO_DISCOVERY}
 use Rattle.hda_world.specs.Worlds.{World, TakenCommand, codec_at, with_codec}
-use Rattle.hda_world.specs.Steps.{address_of, taking, items_of, handed, responses_of, responded, discovered, passed, after_steps}
+use Rattle.hda_world.specs.Steps.{address_of, taking, waiting_of, handed, responses_of, responded, discovered, passed, after_steps}
 use Rattle.hda_world.specs.Kept.{Kept}
 use Rattle.hda_world.specs.Unread.{IsReadTo}
 use Rattle.hda_world.proofs.Callers.{graphs-with_codec, keeps_reading, frames_after, kept_steps, absent}
@@ -139,7 +139,7 @@ module _ (from read corb rirb : ℕ) (rings : RingPlaces) where
 
   -- ---- what waits at codecs
 
-  sends : (world : World) (address : ℕ) (item : Waiting) (rest : List Waiting) → Stands from read corb rirb rings world → items_of (codec_at address world.codecs) ≡ item ∷ rest
+  sends : (world : World) (address : ℕ) (item : Waiting) (rest : List Waiting) → Stands from read corb rirb rings world → waiting_of (codec_at address world.codecs) ≡ item ∷ rest
       → StandsBy from read corb rirb rings (part_of world.registers) world.memory (with_codec address without_first world.codecs) (world.waiting ++ responses_of world.registers address item) world.commands world.written
   sends world address item rest holds are = record {
     has_rings = holds.has_rings;

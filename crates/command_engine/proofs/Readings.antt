@@ -12,7 +12,7 @@ use Rattle.hda_world.specs.Events as happens
 use Rattle.hda_world.specs.Tellings.{Telling, Between, BetweenBy, Makes, Accessed}
 use Rattle.hda_world.proofs.Callers.{row_one, row_more, row_both}
 use Rattle.command_engine.specs.declared.answers.Event.{Event}
-use Rattle.command_engine.specs.Entries.{response_in, responses_in, event_of, events_of, answers_it, answer_among}
+use Rattle.command_engine.specs.Entries.{response_in, responses_in, event_of, unasked_events_of, answers_it, answer_among}
 use Rattle.command_engine.specs.declared.answers.Outstanding.{Outstanding}
 use Rattle.command_engine.specs.declared.answers.Poll.{Poll}
 use Rattle.command_engine.specs.declared.ring_places.RingPlaces.{RingPlaces}
@@ -38,18 +38,18 @@ reads-push rirb size place (first ∷ entries) entry =
     let e : place + 1 + length entries ≡ place + length (first ∷ entries) = omega arith in
     ap (λ (rest : List happens.Event). happens.DmaRead (rirb + RESPONSE_BYTES * (place % size)) first ∷ rest) (reads-push rirb size (place + 1) entries entry ∙ ap (λ (at : ℕ). entry_reads rirb size (place + 1) entries ++ happens.DmaRead (rirb + RESPONSE_BYTES * (at % size)) entry ∷ []) e)
 
-event-one : (response : Response) → events_of (response ∷ []) ≡ event_in response
+event-one : (response : Response) → unasked_events_of (response ∷ []) ≡ event_in response
 event-one response = by response.unsolicited
   where
     by : (told : Bool) → map event_of (if told then response ∷ [] else []) ≡ (if told then event_of response ∷ [] else [])
     by true = refl
     by false = refl
 
-events-push : (responses : List Response) (response : Response) → events_of (responses ++ response ∷ []) ≡ events_of responses ++ event_in response
+events-push : (responses : List Response) (response : Response) → unasked_events_of (responses ++ response ∷ []) ≡ unasked_events_of responses ++ event_in response
 events-push responses response =
     ap (map event_of) (filter-append (λ (r : Response). r.unsolicited) responses (response ∷ []))
     ∙ map-append event_of (filter (λ (r : Response). r.unsolicited) responses) (filter (λ (r : Response). r.unsolicited) (response ∷ []))
-    ∙ ap (λ (rest : List Event). events_of responses ++ rest) (event-one response)
+    ∙ ap (λ (rest : List Event). unasked_events_of responses ++ rest) (event-one response)
 
 answer-push : (asked : Option ℕ) (responses : List Response) (response : Response) → found_with (answer_among asked responses) asked response ≡ answer_among asked (responses ++ response ∷ [])
 answer-push asked responses response =
@@ -62,9 +62,9 @@ answer-push asked responses response =
     by None true e = rw e refl
     by None false e = rw e refl
 
-event_read : (responses : List Response) (response : Response) (before after : List Event) → after ≡ before ++ events_of responses → after ++ event_in response ≡ before ++ events_of (responses ++ response ∷ [])
+event_read : (responses : List Response) (response : Response) (before after : List Event) → after ≡ before ++ unasked_events_of responses → after ++ event_in response ≡ before ++ unasked_events_of (responses ++ response ∷ [])
 event_read responses response before after e =
-    ap (λ (events : List Event). events ++ event_in response) e ∙ append_assoc before (events_of responses) (event_in response) ∙ ap (λ (events : List Event). before ++ events) (sym (events-push responses response))
+    ap (λ (events : List Event). events ++ event_in response) e ∙ append_assoc before (unasked_events_of responses) (event_in response) ∙ ap (λ (events : List Event). before ++ events) (sym (events-push responses response))
 
 -- nothing was read
 pub reads_none : (rirb size place : ℕ) (asked : Option ℕ) (events : List Event) (told : Option Telling) → ReadsEntries rirb size place 0 asked events events None told told
@@ -91,7 +91,7 @@ reads_more rirb size place count asked before after found old new newer entry re
       number = length-append reads.entries (entry ∷ []) ∙ ap (λ (n : ℕ). n + 1) reads.number;
       whole = All-push (λ (entry : List ℕ). length entry ≡ RESPONSE_BYTES) reads.entries entry reads.whole is;
       made = subst (λ (events : List happens.Event). Between (Makes events) old newer) (sym (reads-push rirb size place reads.entries entry)) (row_both reads.made once);
-      events = subst (λ (rs : List Response). after ++ event_in (response_in entry) ≡ before ++ events_of rs) (sym responses) (event_read (responses_in reads.entries) (response_in entry) before after reads.events);
+      events = subst (λ (rs : List Response). after ++ event_in (response_in entry) ≡ before ++ unasked_events_of rs) (sym responses) (event_read (responses_in reads.entries) (response_in entry) before after reads.events);
       answer = subst (λ (rs : List Response). found_with found asked (response_in entry) ≡ answer_among asked rs) (sym responses) (ap (λ (f : Option ℕ). found_with f asked (response_in entry)) reads.answer ∙ answer-push asked (responses_in reads.entries) (response_in entry));
     }
 
@@ -137,7 +137,7 @@ batch_read rirb rings pointer count read before after found old middle next new 
   whole = reads.whole;
   made = row_more first (row_both reads.made (row_one last));
   rings_are = ap (λ (read : ℕ). record rings { read = read }) there;
-  events_are = reads.events ∙ ap (λ (events : List Event). events ++ events_of (responses_in reads.entries)) none;
+  events_are = reads.events ∙ ap (λ (events : List Event). events ++ unasked_events_of (responses_in reads.entries)) none;
   found_is = reads.answer;
 }
 

@@ -7,7 +7,7 @@ use Rattle.command_engine.specs.declared.ring_places.RingPlaces.{RingPlaces}
 use Rattle.command_engine.specs.declared.answers.Event.{Event}
 use Rattle.command_engine.specs.declared.answers.Outstanding.{Outstanding}
 use Rattle.command_engine.specs.declared.answers.Poll.{Poll}
-use Rattle.command_engine.specs.Entries.{events_of, answer_among}
+use Rattle.command_engine.specs.Entries.{unasked_events_of, answer_among}
 use Rattle.command_engine.specs.Polling.{asked_of, found_by, poll_of, Polls}
 use Rattle.command_engine.specs.Submitting.{submit_accesses, rings_submitted}
 use Rattle.command_engine.specs.Starting.{codecs_if, rings_if, rings_read, Starts}
@@ -32,7 +32,7 @@ poll_tells clock corb rirb rings rings' answer events old new polls =
     let found : found_by rings polls.reads ≡ found_since read rings (world_of new) = ap (answer_among (asked_of rings.outstanding)) leaves.responses in
     record {
       answer_is = polls.answer_is ∙ ap (λ (f : Option ℕ). poll_of rings.outstanding f clock) found;
-      events_are = polls.events_are ∙ ap events_of leaves.responses;
+      events_are = polls.events_are ∙ ap unasked_events_of leaves.responses;
       belongs = subst (λ (f : Option ℕ). Belongs from rings.outstanding (world_of new).codecs (world_of new).commands f) found leaves.belongs;
       stands = subst (λ (f : Option ℕ). Stands (from_after f from (world_of new).commands) (length (world_of new).written) corb rirb rings' (world_of new)) found
           (subst (λ (r : RingPlaces). Stands (from_after (found_by rings polls.reads) from (world_of new).commands) (length (world_of new).written) corb rirb r (world_of new)) (sym polls.rings_are) leaves.stands);

@@ -23,8 +23,8 @@ abbrev pub event_of : Response → Event
 event_of response = record { codec = response.codec; tag = bits_of response.answer 26 6 }
 
 -- the events that responses tell, in their order
-abbrev pub events_of : List Response → List Event
-events_of responses = map event_of (filter (λ (response : Response). response.unsolicited) responses)
+abbrev pub unasked_events_of : List Response → List Event
+unasked_events_of responses = map event_of (filter (λ (response : Response). response.unsolicited) responses)
 
 -- a response to a command, of the codec that is asked, if one is
 abbrev pub is_from : Option ℕ → ℕ → Bool

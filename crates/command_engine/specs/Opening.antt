@@ -13,7 +13,7 @@ pub record TakesFirst (granules : ℕ) (taken : List Run) (address bytes : ℕ) 
   pub adds : AddsRun taken (run_at address bytes) taken'
 
 -- both blocks were taken, CORB's first
-pub record Opens (pool : PoolState) (corb rirb : ℕ) (pool' : PoolState) : Type 0 where
+pub record OpensEngine (pool : PoolState) (corb rirb : ℕ) (pool' : PoolState) : Type 0 where
   pub middle : List Run
   pub corb_taken : TakesFirst pool.granules pool.taken corb corb_bytes middle
   pub rirb_taken : TakesFirst pool.granules middle rirb rirb_bytes pool'.taken
@@ -36,7 +36,7 @@ HasNoRuns pool = HasNoFirst pool ⊎ HasNoSecond pool
 
 -- both meet one
 abbrev pub HasRuns : PoolState → Type 0
-HasRuns pool = (corb : ℕ) × (rirb : ℕ) × (pool' : PoolState) × Opens pool corb rirb pool'
+HasRuns pool = (corb : ℕ) × (rirb : ℕ) × (pool' : PoolState) × OpensEngine pool corb rirb pool'
 
 -- both rings before the engine was started
 abbrev pub rings_opened : RingPlaces

@@ -13,7 +13,7 @@ use Rattle.command_engine.specs.declared.answers.Outstanding.{Outstanding}
 use Rattle.command_engine.specs.declared.answers.Poll.{Poll}
 use Rattle.command_engine.specs.declared.answers.Poll.TheVariants.{Idle, Answered, Waiting, Unanswered}
 use Rattle.command_engine.specs.Sizes.{entries_up_to}
-use Rattle.command_engine.specs.Entries.{responses_in, events_of, answer_among}
+use Rattle.command_engine.specs.Entries.{responses_in, unasked_events_of, answer_among}
 
 -- what was read: RIRBSTS, and where its bit 0 is set RIRBWP and the bytes of each new entry
 pub record PollReads : Type 0 where
@@ -93,4 +93,4 @@ pub record Polls (rirb clock : ℕ) (rings : RingPlaces) (answer : Poll) (rings'
   pub made : Between (Makes (poll_accesses rirb rings reads)) old new
   pub answer_is : answer ≡ poll_of rings.outstanding (found_by rings reads) clock
   pub rings_are : rings' ≡ rings_polled rings reads
-  pub events_are : events ≡ events_of (responses_in reads.entries)
+  pub events_are : events ≡ unasked_events_of (responses_in reads.entries)

@@ -6,7 +6,7 @@ use Rattle.world_rings.specs.declared.response.Response.{Response}
 use Rattle.world_rings.specs.declared.entries.TheConstants.{RESPONSE_BYTES}
 use Rattle.hda_world.specs.Tellings.{Telling, Between, Makes}
 use Rattle.command_engine.specs.declared.answers.Event.{Event}
-use Rattle.command_engine.specs.Entries.{responses_in, event_of, events_of, answers_it, answer_among}
+use Rattle.command_engine.specs.Entries.{responses_in, event_of, unasked_events_of, answers_it, answer_among}
 use Rattle.command_engine.specs.declared.ring_places.RingPlaces.{RingPlaces}
 use Rattle.command_engine.specs.Polling.{entry_reads, batch_accesses, new_entries, asked_of}
 
@@ -25,7 +25,7 @@ pub record ReadsEntries (rirb size place count : ℕ) (asked : Option ℕ) (befo
   pub number : length entries ≡ count
   pub whole : All (λ (entry : List ℕ). length entry ≡ RESPONSE_BYTES) entries
   pub made : Between (Makes (entry_reads rirb size place entries)) old new
-  pub events : after ≡ before ++ events_of (responses_in entries)
+  pub events : after ≡ before ++ unasked_events_of (responses_in entries)
   pub answer : found ≡ answer_among asked (responses_in entries)
 
 -- the new entries up to RIRB's write pointer were read, where the flag says that responses were written
@@ -36,7 +36,7 @@ pub record ReadsNew (rirb : ℕ) (rings : RingPlaces) (flag : ℕ) (found : Opti
   pub whole : All (λ (entry : List ℕ). length entry ≡ RESPONSE_BYTES) entries
   pub made : Between (Makes (if has_bit flag 0 then batch_accesses rirb rings pointer entries else [])) old new
   pub rings_are : rings' ≡ record rings { read = if has_bit flag 0 then pointer % entries_of rings.rirb else rings.read }
-  pub events_are : events ≡ events_of (responses_in entries)
+  pub events_are : events ≡ unasked_events_of (responses_in entries)
   pub found_is : found ≡ answer_among (asked_of rings.outstanding) (responses_in entries)
 
 -- the new entries up to RIRB's write pointer were read
@@ -47,5 +47,5 @@ pub record ReadsBatch (rirb : ℕ) (rings : RingPlaces) (found : Option ℕ) (ri
   pub whole : All (λ (entry : List ℕ). length entry ≡ RESPONSE_BYTES) entries
   pub made : Between (Makes (batch_accesses rirb rings pointer entries)) old new
   pub rings_are : rings' ≡ record rings { read = pointer % entries_of rings.rirb }
-  pub events_are : events ≡ events_of (responses_in entries)
+  pub events_are : events ≡ unasked_events_of (responses_in entries)
   pub found_is : found ≡ answer_among (asked_of rings.outstanding) (responses_in entries)

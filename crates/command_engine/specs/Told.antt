@@ -5,7 +5,7 @@ use Rattle.hda_world.specs.Tellings.{Telling, world_of}
 use Rattle.command_engine.specs.declared.ring_places.RingPlaces.{RingPlaces}
 use Rattle.command_engine.specs.declared.answers.Event.{Event}
 use Rattle.command_engine.specs.declared.answers.Poll.{Poll}
-use Rattle.command_engine.specs.Entries.{events_of, answer_among}
+use Rattle.command_engine.specs.Entries.{unasked_events_of, answer_among}
 use Rattle.command_engine.specs.Polling.{asked_of, poll_of}
 use Rattle.command_engine.specs.Fetchings.{Stands}
 use Rattle.command_engine.specs.Belonging.{as_held, Belongs, from_after}
@@ -30,7 +30,7 @@ found_since read rings world = answer_among (asked_of rings.outstanding) (map as
 -- order. An answer belongs to the outstanding command. Then all is read, and the engine stands as it does after the poll
 pub record PollTells (clock from read corb rirb : ℕ) (rings : RingPlaces) (answer : Poll) (rings' : RingPlaces) (events : List Event) (world : World) : Type 0 where
   pub answer_is : answer ≡ poll_of rings.outstanding (found_since read rings world) clock
-  pub events_are : events ≡ events_of (map as_held (drop read world.written))
+  pub events_are : events ≡ unasked_events_of (map as_held (drop read world.written))
   pub belongs : Belongs from rings.outstanding world.codecs world.commands (found_since read rings world)
   pub stands : Stands (from_after (found_since read rings world) from world.commands) (length world.written) corb rirb rings' world
 

@@ -8,7 +8,7 @@ use Rattle.codec_nodes.specs.Queues.{marked}
 use Rattle.hda_registers.specs.Fields.{Fields, is_out_of_reset}
 use Rattle.world_rings.specs.declared.response.Response.{Response}
 use Rattle.hda_world.specs.Worlds.{World, codec_at, with_codec}
-use Rattle.hda_world.specs.Steps.{items_of, sent_first, answer_step, responses_of, lost, lose_step, plugged_at}
+use Rattle.hda_world.specs.Steps.{waiting_of, sent_first, answer_step, responses_of, lost, lose_step, plugged_at}
 use Rattle.device_core.specs.Codecs.{addresses_of}
 use Rattle.device_core.specs.Devices.{DeviceState, IsWorld, can_receive_now}
 use Rattle.device_core.specs.Keeping.{IsDevice}
@@ -52,20 +52,20 @@ module _ (memory : List ℕ) (old : DeviceState) (world : World) (is : IsWorld m
   -- ---- answer
 
   pub answer_refused : (address : ℕ) → can_receive_now old.registers old.waiting ≡ false → IsWorld memory old (answer_step address world)
-  answer_refused address no_room = subst (λ (t : Bool). IsWorld memory old (if t then sent_first address (items_of (codec_at address world.codecs)) world else world)) (sym (receive_same ∙ no_room)) is
+  answer_refused address no_room = subst (λ (t : Bool). IsWorld memory old (if t then sent_first address (waiting_of (codec_at address world.codecs)) world else world)) (sym (receive_same ∙ no_room)) is
 
-  first_same : (address : ℕ) → option_map marked (slice_get (items_of (codec_at address world.codecs)) 0) ≡ option_map marked (slice_get (items_of (codec_at address old.codecs)) 0)
-  first_same address = ap (λ (codecs : List CodecState). option_map marked (slice_get (items_of (codec_at address codecs)) 0)) is.codecs_are
+  first_same : (address : ℕ) → option_map marked (slice_get (waiting_of (codec_at address world.codecs)) 0) ≡ option_map marked (slice_get (waiting_of (codec_at address old.codecs)) 0)
+  first_same address = ap (λ (codecs : List CodecState). option_map marked (slice_get (waiting_of (codec_at address codecs)) 0)) is.codecs_are
 
   nothing_sent : (address : ℕ) (items : List Waiting) → option_map marked (slice_get items 0) ≡ None → IsWorld memory old (sent_first address items world)
   nothing_sent address [] none = is
   nothing_sent address (item ∷ items) none = (let never : Some (marked item) ≡ None = none in cc)
 
-  pub answer_none : (address : ℕ) → can_receive_now old.registers old.waiting ≡ true → option_map marked (slice_get (items_of (codec_at address old.codecs)) 0) ≡ None
+  pub answer_none : (address : ℕ) → can_receive_now old.registers old.waiting ≡ true → option_map marked (slice_get (waiting_of (codec_at address old.codecs)) 0) ≡ None
       → IsWorld memory old (answer_step address world)
   answer_none address room none =
-      subst (λ (t : Bool). IsWorld memory old (if t then sent_first address (items_of (codec_at address world.codecs)) world else world)) (sym (receive_same ∙ room))
-      (nothing_sent address (items_of (codec_at address world.codecs)) (first_same address ∙ none))
+      subst (λ (t : Bool). IsWorld memory old (if t then sent_first address (waiting_of (codec_at address world.codecs)) world else world)) (sym (receive_same ∙ room))
+      (nothing_sent address (waiting_of (codec_at address world.codecs)) (first_same address ∙ none))
 
   module _ (address : ℕ) (codecs : List CodecState) (waiting : List Response) (answer : ℕ) (unasked : Bool) (codecs_are : codecs ≡ with_codec address without_first old.codecs)
       (waiting_is : (item : Waiting) → marked item ≡ (answer, unasked) → waiting ≡ old.waiting ++ responses_of old.registers address item) where
@@ -80,11 +80,11 @@ module _ (memory : List ℕ) (old : DeviceState) (world : World) (is : IsWorld m
         (ap (with_codec address without_first) is.codecs_are ∙ sym codecs_are)
         (ap (λ (w : List Response). w ++ responses_of world.registers address item) is.waiting_is ∙ (ap (λ (f : Fields). old.waiting ++ responses_of f address item) is.registers_are ∙ sym (waiting_is item first)))
 
-    pub answer_sent : can_receive_now old.registers old.waiting ≡ true → option_map marked (slice_get (items_of (codec_at address old.codecs)) 0) ≡ Some (answer, unasked)
+    pub answer_sent : can_receive_now old.registers old.waiting ≡ true → option_map marked (slice_get (waiting_of (codec_at address old.codecs)) 0) ≡ Some (answer, unasked)
         → IsWorld memory sender (answer_step address world)
     answer_sent room some =
-        subst (λ (t : Bool). IsWorld memory sender (if t then sent_first address (items_of (codec_at address world.codecs)) world else world)) (sym (receive_same ∙ room))
-        (first_sent (items_of (codec_at address world.codecs)) (first_same address ∙ some))
+        subst (λ (t : Bool). IsWorld memory sender (if t then sent_first address (waiting_of (codec_at address world.codecs)) world else world)) (sym (receive_same ∙ room))
+        (first_sent (waiting_of (codec_at address world.codecs)) (first_same address ∙ some))
 
   -- ---- lose, plug
 

@@ -85,7 +85,7 @@ fn clear_all(codecs: &mut [Codec])
 /// `None` exactly where nothing waits there, and then nothing changes.
 pub(crate) fn pop(codecs: &mut [Codec], wanted: u8) -> Option<(u32, bool)>
     requires { spec.AreAddresses (spec.addresses_of codecs.old) }
-    ensures item { result ≡ option_map queues.marked (slice_get (steps.items_of (codec_at wanted codecs.old)) 0) }
+    ensures item { result ≡ option_map queues.marked (slice_get (steps.waiting_of (codec_at wanted codecs.old)) 0) }
     ensures codecs { codecs.new ≡ with_codec wanted states.without_first codecs.old }
     ensures unchanged { result ≡ None → codecs.new ≡ codecs.old }
     ensures few { IfSome result (λ _. wanted ≤ 14) }

@@ -10,7 +10,7 @@ abbrev pub TellsOf : ℕ → Dialogue → Type 0
 TellsOf address dialogue = (answers : List ℕ) (codec : RawCodec) → told (after dialogue answers) ≡ Some codec → codec.address ≡ address
 
 -- a walk is over the codec of this place, and not at its end
-pub record IsUnderWay (addresses : List ℕ) (place : ℕ) (walk : Walk) : Type 0 where
+pub record WalkGoesOn (addresses : List ℕ) (place : ℕ) (walk : Walk) : Type 0 where
   pub there : place < length addresses
   pub asks : IsSome (question (remaining walk))
   pub tells : TellsOf (slice_index addresses place) (remaining walk)

@@ -3,7 +3,7 @@ ghost use Rattle.std.specs.Prelude.{◌≡◌, ◌≤◌, All, length};
 ghost use Rattle.std.specs.Option.{ForSome};
 ghost use Rattle.std.proofs.Props.{props};
 ghost use Rattle.verb_codes.specs.Verbs.{IsInRange};
-ghost use Rattle.driver_agenda.specs.Sound.{IsUnderWay};
+ghost use Rattle.driver_agenda.specs.Sound.{WalkGoesOn};
 
 mod taking;
 
@@ -33,7 +33,7 @@ pub struct Agenda {
     /// How many of these were answered.
     answered: usize,
     pub ghost few: { All (λ address. address ≤ 14) addresses.items } by { Prim.hlevel props },
-    pub ghost under_way: { ForSome walk (λ walk. IsUnderWay addresses.items (length graphs.items) walk) },
+    pub ghost under_way: { ForSome walk (λ walk. WalkGoesOn addresses.items (length graphs.items) walk) },
     pub ghost fresh: { ForSome walk (λ _. answered ≡ 0) },
     pub ghost of_them: { All (λ graph. graph.address ≤ 14) graphs.items } by { Prim.hlevel props },
     pub ghost in_range: { All IsInRange verbs.items } by { Prim.hlevel props },

@@ -7,7 +7,7 @@ use Rattle.hda_registers.specs.Fields.{entries_of}
 use Rattle.hda_world.specs.Events.{Event, Write}
 use Rattle.command_engine.specs.declared.answers.Event as told
 use Rattle.command_engine.specs.declared.ring_places.RingPlaces.{RingPlaces}
-use Rattle.command_engine.specs.Entries.{responses_in, events_of}
+use Rattle.command_engine.specs.Entries.{responses_in, unasked_events_of}
 use Rattle.command_engine.specs.Polling.{PollReads, AreNew, entry_reads, batch_accesses, new_entries}
 use Rattle.driver_progress.specs.Commands.{ask_accesses}
 use Rattle.driver_bring_up.specs.Commanding.{entries_in, with_told}
@@ -29,6 +29,6 @@ read_entries false rirb rings reads rest number none = none ∙ no_entries reads
 pub asked_entries : (rirb clock : ℕ) (rings : RingPlaces) (reads : PollReads) (rest : List Event) → AreNew rings reads → entries_in rest ≡ [] → entries_in (ask_accesses rirb clock rings reads ++ rest) ≡ reads.entries
 asked_entries rirb clock rings reads rest new none = read_entries (has_bit reads.flag 0) rirb rings reads rest new.number none
 
-pub told_same : (events : List told.Event) (entries : List (List ℕ)) → events ++ events_of (responses_in entries) ≡ with_told events entries
+pub told_same : (events : List told.Event) (entries : List (List ℕ)) → events ++ unasked_events_of (responses_in entries) ≡ with_told events entries
 told_same events [] = append-nil events
 told_same events (entry ∷ entries) = refl

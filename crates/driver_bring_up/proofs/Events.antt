@@ -9,7 +9,7 @@ use Rattle.hda_registers.specs.declared.shapes.RingSize.TheVariants.{Two, Sixtee
 use Rattle.world_rings.specs.declared.response.Response.{Response}
 use Rattle.command_engine.specs.declared.ring_places.RingPlaces.{RingPlaces}
 use Rattle.command_engine.specs.Sizes.{entries_up_to}
-use Rattle.command_engine.specs.Entries.{response_in, responses_in, events_of, event_of}
+use Rattle.command_engine.specs.Entries.{response_in, responses_in, unasked_events_of, event_of}
 use Rattle.command_engine.specs.Polling.{PollReads, AreNew, new_entries}
 
 few_more : (keeps : Response → Bool) (response : Response) (responses : List Response) (is : Bool) → keeps response ≡ is → length (filter keeps responses) ≤ length responses
@@ -30,7 +30,7 @@ few_read : (written : Bool) (count number : ℕ) → number ≤ 256 → count �
 few_read true count number few is = omega arith
 few_read false count number few is = omega arith
 
-pub few_events : (rings : RingPlaces) (reads : PollReads) → AreNew rings reads → length (events_of (responses_in reads.entries)) ≤ 256
+pub few_events : (rings : RingPlaces) (reads : PollReads) → AreNew rings reads → length (unasked_events_of (responses_in reads.entries)) ≤ 256
 few_events rings reads new =
     let events = length-map (filter (λ (response : Response). response.unsolicited) (responses_in reads.entries)) event_of in
     let left = few_left (λ (response : Response). response.unsolicited) (responses_in reads.entries) in

@@ -14,7 +14,7 @@ use Rattle.codec_walk.specs.Remaining.{remaining}
 use Rattle.driver_agenda.specs.declared.agenda.Agenda.{Agenda}
 use Rattle.driver_bring_up.specs.Addresses.{addresses_in}
 use Rattle.driver_bring_up.specs.Calls.{Begins}
-use Rattle.driver_agenda.specs.Sound.{IsUnderWay}
+use Rattle.driver_agenda.specs.Sound.{WalkGoesOn}
 use Rattle.driver_agenda.specs.Agendas.{next_of, BeginsWalk}
 use Rattle.command_engine.specs.declared.ring_places.RingPlaces.{RingPlaces}
 use Rattle.command_engine.specs.Sizes.{largest_size}
@@ -82,7 +82,7 @@ asks_some : (command : Option Command) → IsSome command → phase_at (is_some 
 asks_some None some = cc
 asks_some (Some command) some = refl
 
-pub begins_phase : (walk : Option Walk) (under_way : Walk) (verbs : List Command) (answered : ℕ) (addresses : List ℕ) (place : ℕ) → walk ≡ Some under_way → ForSome walk (λ walk. IsUnderWay addresses place walk)
+pub begins_phase : (walk : Option Walk) (under_way : Walk) (verbs : List Command) (answered : ℕ) (addresses : List ℕ) (place : ℕ) → walk ≡ Some under_way → ForSome walk (λ walk. WalkGoesOn addresses place walk)
     → phases.Walking ≡ phase_at (is_some (next_of walk verbs answered)) (is_some walk)
 begins_phase None under_way verbs answered addresses place is keeps = cc
 begins_phase (Some walk) under_way verbs answered addresses place is keeps = sym (asks_some (question (remaining walk)) (keeps walk refl).asks)

@@ -12,7 +12,7 @@ use Rattle.command_engine.specs.declared.ring_places.RingPlaces.{RingPlaces}
 use Rattle.command_engine.specs.declared.answers.Outstanding.{Outstanding}
 use Rattle.command_engine.specs.declared.answers.Poll.{Poll}
 use Rattle.command_engine.specs.declared.answers.Event as told
-use Rattle.command_engine.specs.Entries.{responses_in, events_of, answer_among}
+use Rattle.command_engine.specs.Entries.{responses_in, unasked_events_of, answer_among}
 use Rattle.driver_bring_up.specs.declared.jacks.Jacks.{Jacks}
 use Rattle.driver_bring_up.specs.Counted.{IsCount}
 use Rattle.command_engine.specs.declared.answers.Poll.TheVariants as polls
@@ -55,7 +55,7 @@ answer_in rings events = answer_among (asked_of rings.outstanding) (responses_in
 -- what was told unasked until now, and with them
 abbrev pub with_told : List told.Event → (entries : List (List ℕ)) → List told.Event
 with_told events [] = events
-with_told events (entry ∷ entries) = events ++ events_of (responses_in (entry ∷ entries))
+with_told events (entry ∷ entries) = events ++ unasked_events_of (responses_in (entry ∷ entries))
 
 -- ---- the look for an answer
 
@@ -100,7 +100,7 @@ pub record Looks (means : Means) (corb rirb : ℕ) (rings : RingPlaces) (phase :
   pub new_ones : AreNew rings reads
   pub made : Between (Makes (ask_accesses rirb answer.clock rings reads)) before after
   -- where it is told and the engine stood to the world: the answer belongs to the outstanding command
-  pub tells : Between (PollTellsOf answer.clock corb rirb rings (poll_by rings reads answer.clock) rings' (events_of (responses_in reads.entries))) before after
+  pub tells : Between (PollTellsOf answer.clock corb rirb rings (poll_by rings reads answer.clock) rings' (unasked_events_of (responses_in reads.entries))) before after
   pub rings_are : rings' ≡ rings_polled rings reads
   pub led : LedTo (poll_by rings reads answer.clock) rings.outstanding phase old answer.phase new
   -- of all that was told unasked until now

@@ -7,7 +7,7 @@ use Rattle.hda_world.specs.Events as happens
 use Rattle.hda_world.specs.Tellings.{Telling, Between, Makes}
 use Rattle.command_engine.specs.declared.ring_places.RingPlaces.{RingPlaces}
 use Rattle.command_engine.specs.declared.answers.Event.{Event}
-use Rattle.command_engine.specs.Entries.{responses_in, events_of}
+use Rattle.command_engine.specs.Entries.{responses_in, unasked_events_of}
 use Rattle.command_engine.specs.Polling.{PollReads, AreNew, poll_accesses, poll_of, found_by, rings_polled}
 use Rattle.driver_progress.specs.declared.commands.Asked.{Asked}
 
@@ -20,4 +20,4 @@ pub record Asks (rirb : ℕ) (rings : RingPlaces) (asked : Asked) (rings' : Ring
   pub made : Between (Makes (ask_accesses rirb asked.clock rings reads)) old new
   pub answer_is : asked.poll ≡ poll_of rings.outstanding (found_by rings reads) asked.clock
   pub rings_are : rings' ≡ rings_polled rings reads
-  pub events_are : events ≡ events_of (responses_in reads.entries)
+  pub events_are : events ≡ unasked_events_of (responses_in reads.entries)

@@ -3,7 +3,7 @@ use Rattle.std.specs.Prelude.{◌≡◌, ◌<◌, ◌⊎◌, ℕ, Bool, nat_lt, 
 use Rattle.world_steps.specs.declared.Step.{Step}
 use Rattle.hda_registers.specs.declared.shapes.Width.{Width}
 use Rattle.hda_registers.specs.Access.{value_at}
-use Rattle.hda_registers.specs.Status.{line_of}
+use Rattle.hda_registers.specs.Status.{interrupt_line_of}
 use Rattle.hda_controller.specs.Controllers.{has_codec}
 use Rattle.hda_controller.specs.Hearing.{most_items}
 use Rattle.hda_model.specs.declared.faults.OpenFault.{OpenFault}
@@ -58,7 +58,7 @@ IsWrittenBy at (Some width) value before after = IsWritten at width value before
 -- 1 where the interrupt line is high
 abbrev pub line_in : Option ModelState → ℕ
 line_in None = 0
-line_in (Some model) = if line_of model.controller.device.registers then 1 else 0
+line_in (Some model) = if interrupt_line_of model.controller.device.registers then 1 else 0
 
 -- ---- steps
 

@@ -18,7 +18,7 @@ use Rattle.codec_sound.specs.declared.signals.Signal.{Signal}
 use Rattle.codec_sound.specs.HeardLists.{signal_with}
 use Rattle.hda_world.specs.Worlds.{World, CarriedFrame, output_of, codec_at}
 use Rattle.hda_world.specs.Steps as steps
-use Rattle.hda_world.specs.Steps.{frame_carried, frame_step, output_framed, passed, times, items_of, is_busy, address_of}
+use Rattle.hda_world.specs.Steps.{frame_carried, frame_step, output_framed, passed, times, waiting_of, is_busy, address_of}
 use Rattle.device_core.specs.Devices.{DeviceState, KeepsSound}
 use Rattle.heard_lists.specs.Listings.{Listing, grown, with_blocks}
 use Rattle.heard_lists.proofs.Callers.{grown-append, grown-none, blocks-grow}
@@ -167,8 +167,8 @@ answer_first : (world : World) (address : ℕ) (waiting : List Waiting) → (ste
 answer_first world address [] = refl
 answer_first world address (item ∷ rest) = refl
 
-answer_when : (world : World) (address : ℕ) (can : Bool) → (if can then steps.sent_first address (items_of (codec_at address world.codecs)) world else world).carried ≡ world.carried
-answer_when world address true = answer_first world address (items_of (codec_at address world.codecs))
+answer_when : (world : World) (address : ℕ) (can : Bool) → (if can then steps.sent_first address (waiting_of (codec_at address world.codecs)) world else world).carried ≡ world.carried
+answer_when world address true = answer_first world address (waiting_of (codec_at address world.codecs))
 answer_when world address false = refl
 
 pub answer_carries : (address : ℕ) (world : World) → (steps.answer_step address world).carried ≡ world.carried

@@ -1,7 +1,7 @@
 //! The controller.
 ghost use Rattle.std.specs.Prelude.{◌≡◌, ◌+◌, ℕ, List, All, IfOk, Contains, Some, true, map};
 ghost use Rattle.hda_registers.specs.Access.{value_at};
-ghost use Rattle.hda_registers.specs.Status.{line_of};
+ghost use Rattle.hda_registers.specs.Status.{interrupt_line_of};
 ghost use Rattle.hda_world.specs.Worlds.{World, output_of};
 ghost use Rattle.std.specs.Option.{option_map};
 ghost use Rattle.stream_format.specs.Layouts.{layout, layout_of};
@@ -94,7 +94,7 @@ impl Controller {
 
     /// Whether its interrupt line is high (HDA 1.0a, 3.3.14 and 3.3.15).
     pub fn line(&self) -> bool
-        ensures { result ≡ line_of self.now.device.registers }
+        ensures { result ≡ interrupt_line_of self.now.device.registers }
     {
         self.device.registers().line()
     }

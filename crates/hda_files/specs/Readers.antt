@@ -12,9 +12,9 @@ abbrev pub IsMeant : {A : Type 0} → Result A FileFault → Result A FileFault 
 IsMeant result meant = OrMemory result (result ≡ meant)
 
 -- the items of a vector that may have failed
-abbrev pub items_of : {A : Type 0} → Result (Vec A Global) FileFault → Result (List A) FileFault
-items_of (Ok vector) = Ok vector.items
-items_of (Err fault) = Err fault
+abbrev pub read_items : {A : Type 0} → Result (Vec A Global) FileFault → Result (List A) FileFault
+read_items (Ok vector) = Ok vector.items
+read_items (Err fault) = Err fault
 
 -- a table's node identifier is small, and its connection list is readable where it has no fault
 pub record IsReadNode (node : NodeTable) : Type 0 where

@@ -4,7 +4,7 @@ ghost use Rattle.std.specs.Prelude.{vec_len};
 ghost use Rattle.std.specs.List.{find, range_with_len};
 ghost use Rattle.toml.specs.View.{table_view};
 ghost use Rattle.hda_files.specs.Codecs as codecs;
-ghost use Rattle.hda_files.specs.Readers.{IsMeant, items_of, IsReadNode, IsReadCodec};
+ghost use Rattle.hda_files.specs.Readers.{IsMeant, read_items, IsReadNode, IsReadCodec};
 ghost use Rattle.hda_files.specs.Arrays.{tables_in};
 
 use crate::fault::{FileFault, Key, Place};
@@ -226,7 +226,7 @@ fn read_codec(alloc: Global, table: &Table, earlier: &[CodecTable]) -> Result<Co
 /// Reads the codecs of an array of tables in order, each after the earlier ones.
 pub(crate) fn read_codecs(alloc: Global, array: &Array) -> Result<Vec<CodecTable>, FileFault>
     requires { vec_len array.now ≤ 4 }
-    ensures value { IsMeant (items_of result) (codecs.codecs_after [] (tables_in array.now)) }
+    ensures value { IsMeant (read_items result) (codecs.codecs_after [] (tables_in array.now)) }
     ensures read { IfOk result (λ codecs. All IsReadCodec codecs.items) }
 {
     let mut codecs = Vec::new(alloc);

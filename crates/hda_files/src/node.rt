@@ -6,7 +6,7 @@ ghost use Rattle.verb_codes.specs.Lists as lists;
 ghost use Rattle.codec_graph.specs.Listed.{most_entries};
 ghost use Rattle.hda_files.specs.Nodes as nodes;
 ghost use Rattle.hda_files.specs.Values as values;
-ghost use Rattle.hda_files.specs.Readers.{IsMeant, items_of, IsReadNode};
+ghost use Rattle.hda_files.specs.Readers.{IsMeant, read_items, IsReadNode};
 ghost use Rattle.hda_files.specs.Arrays.{tables_in};
 
 use crate::fault::{FileFault, Key, Place};
@@ -144,7 +144,7 @@ pub(crate) fn read_nodes(
     codec: u8,
 ) -> Result<Vec<NodeTable>, FileFault>
     requires { vec_len array.now ≤ 126 }
-    ensures value { IsMeant (items_of result) (nodes.nodes_after codec [] (tables_in array.now)) }
+    ensures value { IsMeant (read_items result) (nodes.nodes_after codec [] (tables_in array.now)) }
     ensures read { IfOk result (λ nodes. All IsReadNode nodes.items) }
 {
     let mut nodes = Vec::new(alloc);

@@ -2,7 +2,7 @@
 ghost use Rattle.std.specs.Prelude.{◌≡◌, ◌<◌, ℕ, List, IfOk, IfErr, OnOk, OnErr, IfSome, Err};
 ghost use Rattle.std.specs.Prelude.{is_some, nat_lt, length, map, drop, get_or};
 ghost use Rattle.hda_registers.specs.Access.{value_at};
-ghost use Rattle.hda_registers.specs.Status.{line_of};
+ghost use Rattle.hda_registers.specs.Status.{interrupt_line_of};
 ghost use Rattle.hda_world.specs.Worlds.{World};
 ghost use Rattle.hda_files.specs.Machines.{IsSound};
 ghost use Rattle.heard_lists.specs.declared.pin_list.PinHeard.{PinHeard};
@@ -91,7 +91,7 @@ impl DeviceModel {
 
     /// Whether the interrupt line is high (HDA 1.0a, 3.3.14 and 3.3.15).
     pub fn line(&self) -> bool
-        ensures { result ≡ line_of self.now.controller.device.registers }
+        ensures { result ≡ interrupt_line_of self.now.controller.device.registers }
     {
         self.controller.line()
     }

@@ -332,7 +332,7 @@ module _ (Cause : Status → Type 0) (Run : Played → List ℕ → Type 0) (bef
 
   pub promise_kept : Ends → IfSome play (KeepsPromise Run before after sink_failed status)
   promise_kept ended = given (KeepsPromise Run before after sink_failed status) ended (λ meant played text run e written.
-      record { told_by = text; run = run; text = subst (λ (m : Meant). HasWritten before after sink_failed m status) e written })
+      record { run_text = text; run = run; text = subst (λ (m : Meant). HasWritten before after sink_failed m status) e written })
 
   none_given : (o : Option Played) → IfSome o (λ played. ⊥) → IsNone o
   none_given None holds = refl

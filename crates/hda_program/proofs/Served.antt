@@ -30,7 +30,7 @@ use Rattle.sound_report.specs.Statuses.{number_of}
 use Rattle.program_runs.specs.Shapes.{HasShape}
 use Rattle.program_runs.specs.Walks.{walk_format, IsWalked}
 use Rattle.program_runs.specs.Plays.{IsCutUnder, IsPlayed, IsReadUpTo, sound_with}
-use Rattle.program_runs.specs.Histories.{commands_for, journal_of, told_by}
+use Rattle.program_runs.specs.Histories.{commands_for, journal_of, telling_of_run}
 use Rattle.laws_serving.specs.ServingSchedules.{ServesSound}
 use Rattle.program_runs.specs.Served.{all_rounds, line_count, ServesBringUp, ServesPlay, ServedWalkEnds, ServedPlayEnds, IsFedWhole, PlaysAll}
 use Rattle.hda_program.specs.Answers.{HasEnded, HasEndedPlay, HasWritten}
@@ -108,7 +108,7 @@ abbrev pub WholeLaw : Type 0
 WholeLaw =
     (machine : Machine) (plans : List Plan) (wav : Wav) (geometry : Geometry) (schedule : Schedule) (played : Played) (frames : ℕ) → IsSound machine → IsRead machine → HavePlans wav.format machine.codecs plans → IsLimited schedule
     → ServesPlay wav.format machine plans geometry schedule → IsPlayed machine plans wav geometry schedule played → length wav.pcm ≡ frames * block_bytes geometry.format
-    → IsFedWhole (commands_for wav.format machine plans) (measures geometry).ring (length wav.pcm) (all_rounds schedule) (told_by machine played).start (journal_of played) → PlaysAll (length wav.pcm) played.silences played.fault
+    → IsFedWhole (commands_for wav.format machine plans) (measures geometry).ring (length wav.pcm) (all_rounds schedule) (telling_of_run machine played).start (journal_of played) → PlaysAll (length wav.pcm) played.silences played.fault
 
 -- ---- the run that is given
 
@@ -146,7 +146,7 @@ module _ (told : Option Files) (failed : List ℕ → Type 0) where
   SoundsSo geometry played machine plans format frames schedule =
       ServesPlay format machine plans geometry schedule
       → ServedPlayEnds (commands_for format machine plans) (line_count schedule) (block_bytes format) frames played.runs played.silences played.fault
-      × (IsFedWhole (commands_for format machine plans) (measures geometry).ring (frames * block_bytes format) (all_rounds schedule) (told_by machine played).start (journal_of played)
+      × (IsFedWhole (commands_for format machine plans) (measures geometry).ring (frames * block_bytes format) (all_rounds schedule) (telling_of_run machine played).start (journal_of played)
       → PlaysAll (frames * block_bytes format) played.silences played.fault)
 
   sounds_so : (law : PlayLaw) (whole_law : WholeLaw) (files : Files) (emptied : List ℕ → Type 0) (gave : ℕ → Type 0) (codec wav name : List ℕ) (periods period : ℕ) (played : Played) (geometry : Geometry)
@@ -171,8 +171,8 @@ module _ (told : Option Files) (failed : List ℕ → Type 0) where
             (law run.machine run.plans wav' run.geometry run.schedule played sounded.input.sound read run.planned limits serves' sounded),
         λ fed. subst (λ (bytes : ℕ). PlaysAll bytes played.silences played.fault) bytes
             (whole_law run.machine run.plans wav' run.geometry run.schedule played run.head.frames sounded.input.sound read run.planned limits serves' sounded long
-            (subst (λ (bytes : ℕ). IsFedWhole commands (measures run.geometry).ring bytes (all_rounds run.schedule) (told_by run.machine played).start (journal_of played)) (sym bytes)
-            (subst (λ (m : Measures). IsFedWhole commands m.ring (run.head.frames * block_bytes run.head.format) (all_rounds run.schedule) (told_by run.machine played).start (journal_of played)) same fed))),
+            (subst (λ (bytes : ℕ). IsFedWhole commands (measures run.geometry).ring bytes (all_rounds run.schedule) (telling_of_run run.machine played).start (journal_of played)) (sym bytes)
+            (subst (λ (m : Measures). IsFedWhole commands m.ring (run.head.frames * block_bytes run.head.format) (all_rounds run.schedule) (telling_of_run run.machine played).start (journal_of played)) same fed))),
       )
 
   record SoundedSo (codec wav name : List ℕ) (periods period : ℕ) (can : CanPlay told failed codec wav name periods period) (geometry : Geometry) (played : Played) : Type 0 where
@@ -218,7 +218,7 @@ module _ (before after : Option (List ℕ)) (sink_failed : Type 0) (status : ℕ
 
   ends_so : (given : Option Played) → IfSome given (KeepsPromise Run before after sink_failed status) → (IsNone given → status ≡ number_of OutOfMemory) → EndsSo Ends given status
   ends_so None promise none = record { run = tt; status_is = inr (none refl) }
-  ends_so (Some played) promise none = let done = each played promise.told_by promise.run in record { run = done.0; status_is = written_so played promise.told_by done.1 promise.text }
+  ends_so (Some played) promise none = let done = each played promise.run_text promise.run in record { run = done.0; status_is = written_so played promise.run_text done.1 promise.text }
 
 none_given : (given : Option Played) (status : ℕ) (IsOf : ℕ → Type 0) → IsOf status ⊎ (status ≡ number_of OutOfMemory) → (IsOf status → IsSome given) → IsNone given → status ≡ number_of OutOfMemory
 none_given None status IsOf (inl is) some none = let given : IsSome {T = Played} None = some is in cc

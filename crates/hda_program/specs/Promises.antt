@@ -98,6 +98,6 @@ HasRun told failed emptied gave words played text =
 -- its end, or its front at the status of a fault of the sink or of want of memory
 pub record KeepsPromise (IsRun : Played → (text : List ℕ) → Type 0) (before after : Option (List ℕ))
     (sink_failed : Type 0) (status : ℕ) (played : Played) : Type 0 where
-  pub told_by : List ℕ
-  pub run : IsRun played told_by
-  pub text : HasWritten before after sink_failed (run_meant played told_by) status
+  pub run_text : List ℕ
+  pub run : IsRun played run_text
+  pub text : HasWritten before after sink_failed (run_meant played run_text) status

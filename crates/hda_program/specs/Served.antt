@@ -11,7 +11,7 @@ use Rattle.sound_report.specs.declared.played.Played.{Played}
 use Rattle.sound_report.specs.declared.status.Status.TheVariants.{OutOfMemory}
 use Rattle.sound_report.specs.Statuses.{number_of}
 use Rattle.program_runs.specs.Walks.{walk_format}
-use Rattle.program_runs.specs.Histories.{commands_for, journal_of, told_by}
+use Rattle.program_runs.specs.Histories.{commands_for, journal_of, telling_of_run}
 use Rattle.program_runs.specs.Served.{all_rounds, line_count, ServedWalkEnds, ServedPlayEnds, IsFedWhole, PlaysAll}
 use Rattle.hda_program.specs.Meanings.{fault_status}
 
@@ -41,5 +41,5 @@ abbrev pub PlaysWhole : Machine → List Plan → WavHead → Geometry → Sched
 PlaysWhole machine plans head geometry schedule played =
     IsFedWhole (commands_for head.format machine plans) (measures geometry).ring (sound_size head)
     (all_rounds schedule)
-    (told_by machine played).start (journal_of played)
+    (telling_of_run machine played).start (journal_of played)
     → PlaysAll (sound_size head) played.silences played.fault

@@ -6,7 +6,7 @@ use Rattle.hda_registers.specs.declared.shapes.Raise.TheVariants.{Codec, Respons
 use Rattle.hda_registers.specs.declared.shapes.Shape.{Shape}
 use Rattle.hda_registers.specs.Fields.{Fields, opening}
 use Rattle.hda_registers.specs.Access.{value_at, shown_at, placed, written, global_shown, stream_shown, global_groups_in, stream_groups_in, global_written, stream_written}
-use Rattle.hda_registers.specs.Status.{line_of}
+use Rattle.hda_registers.specs.Status.{interrupt_line_of}
 use Rattle.hda_registers.specs.Moves.{raised}
 
 abbrev shape : Shape
@@ -37,7 +37,7 @@ asks : value_at answered 0x24 Four ≡ 0xC0000000
 unfolding written placed value_at shown_at global_shown stream_shown global_groups_in stream_groups_in global_written stream_written
 asks = refl
 
-high : line_of answered ≡ true
+high : interrupt_line_of answered ≡ true
 unfolding written placed value_at shown_at global_shown stream_shown global_groups_in stream_groups_in global_written stream_written
 high = refl
 
@@ -45,7 +45,7 @@ stays : written answered 0x5D One 0 ≡ answered
 unfolding written placed value_at shown_at global_shown stream_shown global_groups_in stream_groups_in global_written stream_written
 stays = refl
 
-low : line_of (written answered 0x5D One 1) ≡ false
+low : interrupt_line_of (written answered 0x5D One 1) ≡ false
 unfolding written placed value_at shown_at global_shown stream_shown global_groups_in stream_groups_in global_written stream_written
 low = refl
 

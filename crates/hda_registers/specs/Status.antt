@@ -31,5 +31,5 @@ interrupt_status fields =
     + worth (any_asks fields) 31
 
 -- whether the interrupt line is high
-abbrev pub line_of : Fields → Bool
-line_of fields = any_asks fields && (fields.global.global_interrupt == 1)
+abbrev pub interrupt_line_of : Fields → Bool
+interrupt_line_of fields = any_asks fields && (fields.global.global_interrupt == 1)

@@ -4,7 +4,7 @@ ghost use Rattle.hda_registers.specs.Access.{effects_of, is_taken, placed, shown
 ghost use Rattle.hda_registers.specs.Fields.{corb_address, is_out_of_reset, is_running, list_address, opening};
 ghost use Rattle.hda_registers.specs.Fields.{reset_fields, responses_of, rirb_address, stream_of};
 ghost use Rattle.hda_registers.specs.Moves.{framed, raised, moved, IsEvent, IsMove};
-ghost use Rattle.hda_registers.specs.Status.{any_asks, interrupt_status, line_of, worth};
+ghost use Rattle.hda_registers.specs.Status.{any_asks, interrupt_status, interrupt_line_of, worth};
 
 use crate::accesses::Access;
 use crate::conditions::{any, both, fell, rose};
@@ -189,7 +189,7 @@ impl Registers {
 
     /// Whether the interrupt line is high (HDA 1.0a, 3.3.14 and 3.3.15).
     pub fn line(&self) -> bool
-        ensures { result ≡ line_of self.now }
+        ensures { result ≡ interrupt_line_of self.now }
     {
         both(self.any_asks(), self.global.enables_all())
     }

@@ -10,7 +10,7 @@ use Rattle.world_steps.specs.declared.Step.TheVariants as step
 use Rattle.codec_graph.proofs.Callers.{graph-plugged}
 use Rattle.world_streams.specs.Output.{frame_of}
 use Rattle.hda_world.specs.Worlds.{World, codec_at, output_of}
-use Rattle.hda_world.specs.Steps.{address_of, handed, handed_next, is_busy, sent_first, items_of, lost, passed, output_framed, output_fetched, frame_step, times, after_step, after_steps}
+use Rattle.hda_world.specs.Steps.{address_of, handed, handed_next, is_busy, sent_first, waiting_of, lost, passed, output_framed, output_fetched, frame_step, times, after_step, after_steps}
 use Rattle.hda_world.specs.Leaving.{AddressesOther, NamesOthers, NameOthers}
 use Rattle.hda_world.proofs.Leaving.{found_apart}
 
@@ -46,7 +46,7 @@ pub step_leaves_others : (step : Step) (world : World) (address : ℕ) → Names
     → codec_at address (after_step step world).codecs ≡ codec_at address world.codecs
 step_leaves_others step.Corb world address others = corb_leaves address (next_word world.registers world.memory) world others
 step_leaves_others (step.Answer codec) world address others =
-    either address (is_out_of_reset world.registers.global && nat_lt (length world.waiting) MOST_WAITING) _ world (sent_leaves address (items_of (codec_at codec world.codecs)) codec world others)
+    either address (is_out_of_reset world.registers.global && nat_lt (length world.waiting) MOST_WAITING) _ world (sent_leaves address (waiting_of (codec_at codec world.codecs)) codec world others)
 step_leaves_others (step.Lose codec) world address others =
     either address (is_out_of_reset world.registers.global) (lost codec world) world (found_apart codec address without_answer (λ codec. refl) others world.codecs)
 step_leaves_others step.Rirb world address others = refl

@@ -16,7 +16,7 @@ use Rattle.world_steps.specs.declared.Step.TheVariants as step
 use Rattle.world_rings.proofs.Callers.{batch_none}
 use Rattle.hda_world.specs.declared.step.TheConstants.{FRAMES_TO_DISCOVERY}
 use Rattle.hda_world.specs.Worlds.{World, CarriedFrame, codec_at, output_of, with_output}
-use Rattle.hda_world.specs.Steps.{address_of, is_busy, handed_next, items_of, sent_first, responded, discovered, passed, output_framed, frame_step, fetch_step, times, answer_step, lose_step, rirb_step, after_step, after_steps}
+use Rattle.hda_world.specs.Steps.{address_of, is_busy, handed_next, waiting_of, sent_first, responded, discovered, passed, output_framed, frame_step, fetch_step, times, answer_step, lose_step, rirb_step, after_step, after_steps}
 use Rattle.hda_world.specs.Kept.{Kept, KeptByFrames, unmoved, CanStream, MustBreak, next_is_good, next_completes}
 
 pub after_steps-append : (first second : List Step) (world : World) → after_steps (first ++ second) world ≡ after_steps second (after_steps first world)
@@ -85,7 +85,7 @@ module _ (Holds : World → Type 0) (kept : Kept Holds) where
       branch_not (is_busy (codec_at (address_of (next_command world.registers world.memory)) world.codecs)) _ world (λ free. kept.codecs.hands world holds is free) holds
   corb_by false world is holds = holds
 
-  kept_sent : (items : List Waiting) (address : ℕ) (world : World) → items_of (codec_at address world.codecs) ≡ items → is_out_of_reset world.registers.global ≡ true → length world.waiting < MOST_WAITING → Holds world → Holds (sent_first address items world)
+  kept_sent : (items : List Waiting) (address : ℕ) (world : World) → waiting_of (codec_at address world.codecs) ≡ items → is_out_of_reset world.registers.global ≡ true → length world.waiting < MOST_WAITING → Holds world → Holds (sent_first address items world)
   kept_sent [] address world are out room holds = holds
   kept_sent (item ∷ rest) address world are out room holds = kept.codecs.sends world address item rest holds out room are
 

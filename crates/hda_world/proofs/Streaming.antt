@@ -17,7 +17,7 @@ use Rattle.codec_graph.specs.declared.waiting.Waiting.{Waiting}
 use Rattle.world_steps.specs.declared.Step.{Step}
 use Rattle.world_steps.specs.declared.Step.TheVariants as step
 use Rattle.hda_world.specs.Worlds.{World, CarriedFrame, codec_at}
-use Rattle.hda_world.specs.Steps.{address_of, is_busy, handed_next, items_of, sent_first, responded, after_step, after_steps}
+use Rattle.hda_world.specs.Steps.{address_of, is_busy, handed_next, waiting_of, sent_first, responded, after_step, after_steps}
 use Rattle.hda_world.specs.Kept.{Kept, KeptByBytes, KeptByFrames, unmoved}
 use Rattle.hda_world.specs.Leaving.{StreamsStay, NamesNoStream}
 use Rattle.hda_world.specs.Streaming.{IsWithinFifo, HoldsFifo, HasPosition, ShowsReady, bytes_of, carried_bytes, AreSent, HasSent, StaysStopped}
@@ -241,7 +241,7 @@ pub step_leaves_streams : (step : Step) (world : World) â†’ NamesNoStream step â
 step_leaves_streams step.Corb world none = handed_streams (next_word world.registers world.memory) world
 step_leaves_streams (step.Answer codec) world none =
     streams_if (is_out_of_reset world.registers.global && nat_lt (length world.waiting) MOST_WAITING) world _ world
-    (sent_streams (items_of (codec_at codec world.codecs)) codec world) (streams_same world)
+    (sent_streams (waiting_of (codec_at codec world.codecs)) codec world) (streams_same world)
 step_leaves_streams (step.Lose codec) world none =
     streams_if (is_out_of_reset world.registers.global) world _ world (record { input_registers = refl; output_registers = refl; input = refl; output = refl; carried = refl }) (streams_same world)
 step_leaves_streams step.Rirb world none = responded_streams (batch world.registers world.waiting) world

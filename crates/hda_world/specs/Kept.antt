@@ -15,7 +15,7 @@ use Rattle.world_streams.specs.Streams.{held, due, is_usable, broke}
 use Rattle.world_streams.specs.Output.{next_of, completes, byte_came, Gap, Blocks, Hole}
 use Rattle.hda_world.specs.declared.step.TheConstants.{FRAMES_TO_DISCOVERY}
 use Rattle.hda_world.specs.Worlds.{World, codec_at, output_of, with_output}
-use Rattle.hda_world.specs.Steps.{address_of, is_busy, handed, items_of, sent, lost, responded, discovered, passed, output_framed, plugged_at}
+use Rattle.hda_world.specs.Steps.{address_of, is_busy, handed, waiting_of, sent, lost, responded, discovered, passed, output_framed, plugged_at}
 
 -- the moves of the codecs are kept
 pub record KeptByCodecs (Holds : World → Type 0) : Type 0 where
@@ -26,7 +26,7 @@ pub record KeptByCodecs (Holds : World → Type 0) : Type 0 where
   -- a codec sends its first waiting item
   pub sends : (world : World) (address : ℕ) (item : Waiting) (rest : List Waiting) → Holds world
       → is_out_of_reset world.registers.global ≡ true → length world.waiting < MOST_WAITING
-      → items_of (codec_at address world.codecs) ≡ item ∷ rest → Holds (sent address item world)
+      → waiting_of (codec_at address world.codecs) ≡ item ∷ rest → Holds (sent address item world)
   -- a codec loses its first waiting answer to a command
   pub loses : (world : World) (address : ℕ) → Holds world → is_out_of_reset world.registers.global ≡ true → Holds (lost address world)
   -- something is plugged in or out

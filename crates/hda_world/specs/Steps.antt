@@ -69,15 +69,15 @@ abbrev pub sent_first : ℕ → List Waiting → World → World
 sent_first address [] world = world
 sent_first address (item ∷ rest) world = sent address item world
 
-abbrev pub items_of : Option CodecState → List Waiting
-items_of None = []
-items_of (Some codec) = codec.waiting
+abbrev pub waiting_of : Option CodecState → List Waiting
+waiting_of None = []
+waiting_of (Some codec) = codec.waiting
 
 -- a codec sends nothing while as many responses wait in the controller as may wait
 abbrev pub answer_step : ℕ → World → World
 answer_step address world =
     if is_out_of_reset world.registers.global && nat_lt (length world.waiting) MOST_WAITING
-    then sent_first address (items_of (codec_at address world.codecs)) world else world
+    then sent_first address (waiting_of (codec_at address world.codecs)) world else world
 
 -- the codec lost its first waiting answer to a command
 abbrev pub lost : ℕ → World → World

@@ -15,7 +15,7 @@ use Rattle.hda_world.specs.Worlds.{CarriedFrame}
 use Rattle.codec_sound.specs.declared.signals.Signal.{Signal}
 use Rattle.codec_sound.specs.declared.heard.Heard.{Heard}
 use Rattle.codec_sound.specs.declared.heard.Heard.TheVariants.{Hole}
-use Rattle.codec_sound.specs.HeardLists.{signal_in, items_of, frame_items, block_at, block_size, item_of, heard}
+use Rattle.codec_sound.specs.HeardLists.{signal_in, heard_in, frame_items, block_at, block_size, item_of, heard}
 use Rattle.codec_sound.proofs.Callers.{heard-append, items-missed, items-empty}
 use Rattle.route_planner.specs.Order.{IsOrder}
 use Rattle.heard_lists.specs.Listings.{HasRoom, with_blocks, Listing, AreListsOf, AreEmpty, places_of, places_in, is_of}
@@ -219,10 +219,10 @@ pub blocks-grow : (frame : CarriedFrame) (layout : Layout) (bytes : List ℕ) (l
     → layout_of frame.format ≡ Some layout → frame.carriage ≡ Sent bytes
     → map (with_blocks (λ codec pin. signal_in codec pin frame) layout bytes) lists ≡ grown (frame ∷ []) lists
 blocks-grow frame layout bytes lists reading carried =
-    grown-by (λ listing. items_of (Some layout) (signal_in listing.codec listing.pin frame) (Sent bytes)) frame lists
-    (λ listing. ap (λ (found : Option Layout). items_of found (signal_in listing.codec listing.pin frame)
+    grown-by (λ listing. heard_in (Some layout) (signal_in listing.codec listing.pin frame) (Sent bytes)) frame lists
+    (λ listing. ap (λ (found : Option Layout). heard_in found (signal_in listing.codec listing.pin frame)
     frame.carriage) reading
-    ∙ ap (items_of (Some layout) (signal_in listing.codec listing.pin frame)) carried)
+    ∙ ap (heard_in (Some layout) (signal_in listing.codec listing.pin frame)) carried)
 
 pub hole-grows : (frame : CarriedFrame) (lists : List Listing) → frame.carriage ≡ Missed
     → map (with_items (Hole ∷ [])) lists ≡ grown (frame ∷ []) lists

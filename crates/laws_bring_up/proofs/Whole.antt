@@ -34,7 +34,7 @@ use Rattle.driver_progress.specs.Progress.{Trail, trail_of}
 use Rattle.driver_bring_up.specs.declared.bringing.BringUp.{BringUp}
 use Rattle.driver_progress.specs.Tasks.{Task, DriverLine}
 use Rattle.laws_bring_up.specs.Standing.{IsTaskOfCodecs, IsBroughtUp}
-use Rattle.laws_bring_up.specs.Keeping.{IsUnderWay, IsCalled, HasMade, HasShut, IsOver, KeepsToProgress}
+use Rattle.laws_bring_up.specs.Keeping.{BringUpGoesOn, IsCalled, HasMade, HasShut, IsOver, KeepsToProgress}
 use Rattle.laws_bring_up.proofs.Grows.{world_after}
 use Rattle.laws_bring_up.proofs.Rows.{trail_access, rests, rest_stays, opens, closes, rest_progress}
 use Rattle.laws_bring_up.proofs.Noting.{Laws}
@@ -78,22 +78,22 @@ module _ (means : Means) (verbs : RawCodec → List Command) (graphs : List RawC
   rest_set_up written bring_up world trail stands outside state_is answered =
       (ready_for_good means verbs graphs task laws of setter written bring_up world (sym (ap (λ (state : State). state.phase) state_is) ∙ rest_phase trail (early_as trail.state (state_of bring_up) state_is bring_up.early) outside answered) stands).set_up
 
-  under_way_stays : (lines left : List DriverLine) (bring_up : BringUp) (telling : Telling) → IsUnderWay means verbs graphs task lines left bring_up telling → (done : List Step)
+  under_way_stays : (lines left : List DriverLine) (bring_up : BringUp) (telling : Telling) → BringUpGoesOn means verbs graphs task lines left bring_up telling → (done : List Step)
       → SetUpAt means graphs task (after_steps done (world_of telling)) (trail_of task lines telling)
   under_way_stays lines left bring_up telling way done =
       let trail = trail_of task lines telling in
       rest_set_up trail.written bring_up (after_steps done (world_of telling)) trail (stays trail.written bring_up done (world_of telling) way.stands) way.rest.within way.rest.state_is
 
   begins_told : (lines : List DriverLine) (bring_up : BringUp) (telling : Telling) → telling.journal ≡ [] → state_of bring_up ≡ state_opened → IsBroughtUp means verbs graphs task 0 bring_up (world_of telling)
-      → IsUnderWay means verbs graphs task lines lines bring_up telling
+      → BringUpGoesOn means verbs graphs task lines lines bring_up telling
   begins_told lines bring_up telling none opened stands = record {
     rest = subst (λ (state : State). IsAtRest task lines lines state telling) (sym opened) (rests task lines [] telling none);
     stands = subst (λ (trail : Trail). IsBroughtUp means verbs graphs task trail.written bring_up (world_of telling)) (sym (ap (λ (journal : List Event). trail_after task journal telling.start (trail_opened lines)) none)) stands;
     set_up = subst (λ (journal : List Event). Always (SetUpAt means graphs task) task journal telling.start (trail_opened lines)) (sym none) (λ answered. absurd (not_true answered));
   }
 
-  steps_told : (lines left : List DriverLine) (bring_up : BringUp) (steps : List Step) (old new : Telling) → Went old new (map Stepped steps) → IsUnderWay means verbs graphs task lines left bring_up old
-      → IsUnderWay means verbs graphs task lines left bring_up new
+  steps_told : (lines left : List DriverLine) (bring_up : BringUp) (steps : List Step) (old new : Telling) → Went old new (map Stepped steps) → BringUpGoesOn means verbs graphs task lines left bring_up old
+      → BringUpGoesOn means verbs graphs task lines left bring_up new
   steps_told lines left bring_up steps old new went way =
       let world = world_of-went old new (map Stepped steps) went ∙ steps_after steps (world_of old) in
       let trail = trail_went task lines old new (map Stepped steps) went ∙ steps_leave_trail task steps (world_of old) (trail_of task lines old) in record {
@@ -102,7 +102,7 @@ module _ (means : Means) (verbs : RawCodec → List Command) (graphs : List RawC
         set_up = steps_always (SetUpAt means graphs task) task lines steps old new went (under_way_stays lines left bring_up old way) way.set_up;
       }
 
-  opens_told : (lines left : List DriverLine) (bring_up : BringUp) (old new : Telling) → Accessed old new Begin → IsUnderWay means verbs graphs task lines left bring_up old
+  opens_told : (lines left : List DriverLine) (bring_up : BringUp) (old new : Telling) → Accessed old new Begin → BringUpGoesOn means verbs graphs task lines left bring_up old
       → IsCalled means verbs graphs task lines (drop 1 left) (slice_get left 0) bring_up new
   opens_told lines left bring_up old new accessed way =
       let there = after_steps accessed.steps (world_of old) in
@@ -137,7 +137,7 @@ module _ (means : Means) (verbs : RawCodec → List Command) (graphs : List RawC
       access_always (SetUpAt means graphs task) task lines End old new accessed (done_stays lines bring_up old remains) (ends_set_up lines left bring_up old new accessed done remains) set_up
 
   closes_told : (lines left : List DriverLine) (bring_up : BringUp) (old new : Telling) → Accessed old new End → HasMade means verbs graphs task lines left bring_up old
-      → IsUnderWay means verbs graphs task lines left bring_up new
+      → BringUpGoesOn means verbs graphs task lines left bring_up new
   closes_told lines left bring_up old new accessed made = record {
     rest = closes task lines left (state_of bring_up) old new accessed made.done;
     stands = marked means verbs graphs task lines bring_up old new accessed.steps (λ written steps world is. stays written bring_up steps world is) (world_after End old new accessed)

@@ -32,8 +32,8 @@ use Rattle.laws_stream.specs.Resting.{Rests}
 use Rattle.laws_stream.specs.Lives.{IsStopped, Along}
 use Rattle.laws_stream.specs.Ending.{HearTheLine}
 use Rattle.laws_stream.proofs.Callers.{went_same, Along-end, Along-front}
-use Rattle.laws_driver.specs.Sounding.{Parts, state_in, ring_in, tally_in, Sounds}
-use Rattle.laws_driver.specs.Keeping.{IsSilent, IsHeard, Closes, WasNeverHeard, WasHeard, HasGone}
+use Rattle.laws_driver.specs.Sounding.{Parts, state_in, ring_in, tally_in, IsSounding}
+use Rattle.laws_driver.specs.Keeping.{IsSilent, IsHeard, Closes, WasNeverHeard, WasHeard, DriverHasGone}
 use Rattle.laws_driver.proofs.Given.{Given}
 use Rattle.laws_driver.proofs.States.{not_true, silent_with, silent_state, plays_then, end_silent}
 use Rattle.laws_driver.proofs.Rest.{along_weaker, rests_stopped, begin_rest, end_rest, row_rest}
@@ -57,7 +57,7 @@ module _ (means : Means) (verbs : RawCodec → List Command) (graphs : List RawC
     (laws : Given means verbs graphs task) (lines : List DriverLine) (old : Parts) (ended : BringUp) (tally : Tally) (last : List Event) (before begun made after : Telling) (begins : Accessed before begun Begin)
     (closing : Closes means task.plays old ended tally (Some begun) (Some made)) (ends : Accessed made after End) where
   abbrev pub Gone : Type 0
-  Gone = HasGone means graphs task lines ended tally last after
+  Gone = DriverHasGone means graphs task lines ended tally last after
 
   -- ---- where its calls do not play
 
@@ -147,7 +147,7 @@ module _ (means : Means) (verbs : RawCodec → List Command) (graphs : List RawC
 
     -- or it was
     module _ (went : Went before after last) (small : Along HasNotWrapped last (world_of before)) (is : IsHeard means graphs task lines [] old before) where
-      was : Sounds means graphs task old before
+      was : IsSounding means graphs task old before
       was = is.sounds
 
       ended_played : Played means graphs task lines [] None state_then made

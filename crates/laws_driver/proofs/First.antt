@@ -32,7 +32,7 @@ use Rattle.laws_stream.specs.Resting.{Rests, LeavesRest, AreApartFrom}
 use Rattle.laws_stream.specs.Lives.{HasNotBegun, Along}
 use Rattle.laws_stream.proofs.Callers.{Along-end}
 use Rattle.laws_driver.specs.Sounding.{Parts, state_in, ring_in, tally_in}
-use Rattle.laws_driver.specs.Keeping.{IsSilent, IsHeard, IsUnderWay, Calls}
+use Rattle.laws_driver.specs.Keeping.{IsSilent, IsHeard, DriverGoesOn, Calls}
 use Rattle.laws_driver.proofs.Given.{Given}
 use Rattle.laws_driver.proofs.States.{not_true, silent_state, plays_then, task_on}
 use Rattle.laws_driver.proofs.Rest.{along_weaker, rests_unbegun, begin_rest, end_rest, row_rest}
@@ -57,7 +57,7 @@ module _ (means : Means) (verbs : RawCodec → List Command) (graphs : List RawC
   ready : IsReady means verbs graphs task laws.agenda laws.of laws.setter old.bring_up (world_of begun)
   ready = ready_stands means verbs graphs task laws.agenda laws.of laws.setter (trail_of task lines begun).written old.bring_up (world_of begun) was_ready called.stands
 
-  call : sounding.Sounds line.irq line.budget old.bring_up new.bring_up old.writer new.writer old.supply new.supply (Some begun) (Some made)
+  call : sounding.PlaysSound line.irq line.budget old.bring_up new.bring_up old.writer new.writer old.supply new.supply (Some begun) (Some made)
   call = calls.sounds now
 
   stretch : IsStretch task (state_in old) (Some line) call.made (is_some (answer_in old.bring_up.engine.rings call.made)) (state_in new)
@@ -141,10 +141,10 @@ module _ (means : Means) (verbs : RawCodec → List Command) (graphs : List RawC
         };
       }
 
-  by_tells : sounding.SoundTells line.irq line.budget old.bring_up new.bring_up old.writer new.writer old.supply call.made begun made → IsUnderWay means verbs graphs task lines left new after
+  by_tells : sounding.SoundTells line.irq line.budget old.bring_up new.bring_up old.writer new.writer old.supply call.made begun made → DriverGoesOn means verbs graphs task lines left new after
   by_tells (inl still) = inl (still_silent still)
   by_tells (inr (inl first)) = inr (begun_heard first)
   by_tells (inr (inr goes)) = absurd (not_true (sym (ap (λ (course : Course). course.started) course_is) ∙ goes.started))
 
-  pub first_call : IsUnderWay means verbs graphs task lines left new after
+  pub first_call : DriverGoesOn means verbs graphs task lines left new after
   first_call = by_tells call.tells.is

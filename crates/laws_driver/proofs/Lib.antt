@@ -1,5 +1,5 @@
 pub mod Calm
-pub mod Trail
+pub mod Trails
 pub mod Good
 pub mod Rest
 pub mod States

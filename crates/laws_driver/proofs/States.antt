@@ -17,7 +17,7 @@ use Rattle.driver_progress.proofs.Callers.{ready_is}
 use Rattle.driver_bring_up.specs.declared.bringing.BringUp.{BringUp}
 use Rattle.driver_bring_up.specs.Calls as bringing
 use Rattle.audio_driver.specs.States.{played_as, phase_if, phase_with, state_with, state_of, plays_now, IsTaskOf}
-use Rattle.audio_driver.specs.Sounding.{Sounds}
+use Rattle.audio_driver.specs.Sounding.{PlaysSound}
 use Rattle.laws_stream.specs.Silent.{plays_in}
 
 pub not_true : false ≡ true → ⊥
@@ -78,7 +78,7 @@ end_silent task bring_up = plays_none task None bring_up.phase bring_up.early (�
 -- ---- over a call that plays
 
 -- the task stays the driver's
-pub task_on : (task : Task) (irq : Bool) (budget : ℕ) (old new : BringUp) (writer writer' : WriterState) (supply supply' : List ℕ) (before after : Option Telling) → Sounds irq budget old new writer writer' supply supply' before after
+pub task_on : (task : Task) (irq : Bool) (budget : ℕ) (old new : BringUp) (writer writer' : WriterState) (supply supply' : List ℕ) (before after : Option Telling) → PlaysSound irq budget old new writer writer' supply supply' before after
     → IsTaskOf old writer supply task → IsTaskOf new writer' supply' task
 task_on task irq budget old new writer writer' supply supply' before after sounds is =
     let stays = sounds.stays in record {

@@ -20,7 +20,7 @@ use Rattle.audio_driver.specs.States.{plays_now, IsTaskOf}
 use Rattle.laws_stream.specs.Resting.{Rests, AreApartFrom}
 use Rattle.laws_stream.specs.Lives.{Along}
 use Rattle.laws_driver.specs.Sounding.{Parts, ring_in, tally_in}
-use Rattle.laws_driver.specs.Keeping.{IsUnderWay, Calls, Closes, HasGone, KeepsPlaying}
+use Rattle.laws_driver.specs.Keeping.{DriverGoesOn, Calls, Closes, DriverHasGone, KeepsPlaying}
 use Rattle.laws_driver.proofs.Given.{Given}
 use Rattle.laws_driver.proofs.States.{plays_so, plays_then}
 use Rattle.laws_driver.proofs.Silent.{silent_steps, silent_call}
@@ -31,7 +31,7 @@ use Rattle.laws_driver.proofs.Ends.{silent_end, ready_end, heard_end}
 module _ (means : Means) (verbs : RawCodec → List Command) (graphs : List RawCodec) (task : Task)
     (laws : Given means verbs graphs task) where
   abbrev UnderWay : (lines left : List DriverLine) → Parts → Telling → Type 0
-  UnderWay lines left parts telling = IsUnderWay means verbs graphs task lines left parts telling
+  UnderWay lines left parts telling = DriverGoesOn means verbs graphs task lines left parts telling
 
   begins_told : (lines : List DriverLine) (parts : Parts) (telling : Telling) → telling.journal ≡ [] → bringing.state_of parts.bring_up ≡ state_opened → IsBroughtUp means verbs graphs task 0 parts.bring_up (world_of telling) → tally_in parts ≡ tally_opened
       → (task.plays ≡ true → IsTaskOf parts.bring_up parts.writer parts.supply task) → AreApartFrom (ring_in parts) parts.bring_up.engine.rirb.address → Rests parts.writer.geometry.fifo (world_of telling) → UnderWay lines lines parts telling
@@ -63,10 +63,10 @@ module _ (means : Means) (verbs : RawCodec → List Command) (graphs : List RawC
   runs_told lines left line old new before begun made after begins calls ends small (inr heard) = inr (heard_call means verbs graphs task laws lines left line old new before begun made after begins calls ends small heard)
 
   ends_told : (lines : List DriverLine) (old : Parts) (ended : BringUp) (tally : Tally) (last : List Event) (before begun made after : Telling) → Accessed before begun Begin → Closes means task.plays old ended tally (Some begun) (Some made)
-      → Accessed made after End → Went before after last → Along HasNotWrapped last (world_of before) → UnderWay lines [] old before → HasGone means graphs task lines ended tally last after
+      → Accessed made after End → Went before after last → Along HasNotWrapped last (world_of before) → UnderWay lines [] old before → DriverHasGone means graphs task lines ended tally last after
   ends_told lines old ended tally last before begun made after begins closing ends went small (inl silent) = by (plays_now task.plays old.bring_up) refl
     where
-      by : (now : Bool) → plays_now task.plays old.bring_up ≡ now → HasGone means graphs task lines ended tally last after
+      by : (now : Bool) → plays_now task.plays old.bring_up ≡ now → DriverHasGone means graphs task lines ended tally last after
       by false none = silent_end means verbs graphs task laws lines old ended tally last before begun made after begins closing ends none silent
       by true now = ready_end means verbs graphs task laws lines old ended tally last before begun made after begins closing ends (silent.silent.task_is (plays_then task.plays old.bring_up now).0) now silent
   ends_told lines old ended tally last before begun made after begins closing ends went small (inr heard) =

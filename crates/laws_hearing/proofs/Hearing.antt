@@ -14,7 +14,7 @@ use Rattle.hda_world.specs.Streaming.{bytes_of, carried_bytes}
 use Rattle.codec_sound.specs.declared.signals.Signal.{Signal}
 use Rattle.codec_sound.specs.declared.signals.Signal.TheVariants.{Pair}
 use Rattle.codec_sound.specs.declared.heard.Heard.{Heard}
-use Rattle.codec_sound.specs.HeardLists.{block_at, block_size, blocks, item_of, items_of, signal_with, signal_in, frame_items, heard}
+use Rattle.codec_sound.specs.HeardLists.{block_at, block_size, blocks, item_of, heard_in, signal_with, signal_in, frame_items, heard}
 use Rattle.laws_hearing.specs.Plays.{is_hole, without_holes}
 use Rattle.laws_hearing.specs.Steady.{settings_of, IsSteadyFrame}
 use Rattle.laws_hearing.proofs.Blocks.{blocks_append}
@@ -57,7 +57,7 @@ no_holes : (layout : Layout) (pair : ℕ) (bs : List (List ℕ)) → without_hol
 no_holes layout pair [] = refl
 no_holes layout pair (b ∷ bs) = ap (λ (l : List Heard). item_of layout (Pair pair) b ∷ l) (no_holes layout pair bs)
 
-carriage_items : (layout : Layout) (pair : ℕ) (carriage : Carriage) → without_holes (items_of (Some layout) (Pair pair) carriage) ≡ map (item_of layout (Pair pair)) (blocks (block_size layout) (bytes_of carriage))
+carriage_items : (layout : Layout) (pair : ℕ) (carriage : Carriage) → without_holes (heard_in (Some layout) (Pair pair) carriage) ≡ map (item_of layout (Pair pair)) (blocks (block_size layout) (bytes_of carriage))
 carriage_items layout pair Missed = sym (none (block_size layout)) where
   none : (size : ℕ) → map (item_of layout (Pair pair)) (blocks size []) ≡ []
   none size = ap (λ n. map (item_of layout (Pair pair)) (map (block_at size []) (range_with_len 0 n))) (zero_over size) where
@@ -67,7 +67,7 @@ carriage_items layout pair (Sent bytes) = no_holes layout pair (blocks (block_si
 
 module _ (codecs : List CodecState) (tag word : ℕ) (layout : Layout) (known : layout_of word ≡ Some layout) where
   pub frame_is : (address pin : ℕ) (signal : Signal) (frame : CarriedFrame) → IsSteadyFrame codecs tag word (block_size layout) frame → signal_with (codec_at address codecs) tag word (Some layout) pin ≡ signal
-      → frame_items address pin frame ≡ items_of (Some layout) signal frame.carriage
+      → frame_items address pin frame ≡ heard_in (Some layout) signal frame.carriage
   frame_is address pin signal frame steady is =
       let format : layout_of frame.format ≡ Some layout = ap layout_of steady.word_is ∙ known in
       let there : signal_in address pin frame ≡ signal =
@@ -76,7 +76,7 @@ module _ (codecs : List CodecState) (tag word : ℕ) (layout : Layout) (known : 
       ∙ ap (λ (w : ℕ). signal_with (codec_at address frame.codecs) tag w (Some layout) pin) steady.word_is
       ∙ signal_same frame.codecs codecs address tag word pin layout steady.settings
       ∙ is in
-      ap (λ (l : Option Layout). items_of l (signal_in address pin frame) frame.carriage) format ∙ ap (λ (s : Signal). items_of (Some layout) s frame.carriage) there
+      ap (λ (l : Option Layout). heard_in l (signal_in address pin frame) frame.carriage) format ∙ ap (λ (s : Signal). heard_in (Some layout) s frame.carriage) there
 
   -- ---- all of them
 

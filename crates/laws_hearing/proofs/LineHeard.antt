@@ -15,7 +15,7 @@ use Rattle.codec_sound.specs.declared.signals.Signal.{Signal}
 use Rattle.codec_sound.specs.declared.signals.Signal.TheVariants.{Pair}
 use Rattle.codec_sound.specs.declared.heard.Heard.{Heard}
 use Rattle.codec_sound.specs.declared.heard.Heard.TheVariants.{Hole}
-use Rattle.codec_sound.specs.HeardLists.{block_size, blocks, item_of, items_of, signal_with, frame_items, heard}
+use Rattle.codec_sound.specs.HeardLists.{block_size, blocks, item_of, heard_in, signal_with, frame_items, heard}
 use Rattle.period_writer.specs.Runs.{Tally}
 use Rattle.period_writer.specs.Lines.{line_of}
 use Rattle.period_writer.specs.Standing.{Ring, limit_in}
@@ -106,7 +106,7 @@ module _ (codecs : List CodecState) (tag word : ℕ) (layout : Layout) (known : 
   each_item [] = All-nil Holds
   each_item (b ∷ bs) = All-cons Holds (item_of layout signal b) (map (item_of layout signal) bs) (blocks_hold b) (each_item bs)
 
-  each_carried : (carriage : Carriage) → All Holds (items_of (Some layout) signal carriage)
+  each_carried : (carriage : Carriage) → All Holds (heard_in (Some layout) signal carriage)
   each_carried Missed = All-cons Holds Hole [] hole (All-nil Holds)
   each_carried (Sent bytes) = each_item (blocks (block_size layout) bytes)
 

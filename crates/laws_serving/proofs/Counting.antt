@@ -12,7 +12,7 @@ use Rattle.world_streams.specs.Output.{frame_of}
 use Rattle.schedule_reader.specs.declared.schedule.Group.{Group}
 use Rattle.schedule_reader.specs.Counts.{step_frames, group_frames}
 use Rattle.hda_world.specs.Worlds.{World, codec_at, output_of}
-use Rattle.hda_world.specs.Steps.{address_of, is_busy, handed, handed_next, sent_first, items_of as waiting_of, lost, passed, output_framed, frame_step, times, output_fetched, after_step, after_steps}
+use Rattle.hda_world.specs.Steps.{address_of, is_busy, handed, handed_next, sent_first, waiting_of as waiting_of, lost, passed, output_framed, frame_step, times, output_fetched, after_step, after_steps}
 use Rattle.hda_world.specs.Events.{Event, Stepped, Begin, End, Read, Write, DmaRead, DmaWrite, happens, after}
 use Rattle.hda_world.specs.Leaving.{StepsLeave, graphs_of}
 use Rattle.hda_world.proofs.Callers.{kept_steps, steps_leave, access_leaves}

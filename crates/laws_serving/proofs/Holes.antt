@@ -6,7 +6,7 @@ use Rattle.stream_format.specs.Layouts.{Layout, layout_of}
 use Rattle.world_streams.specs.Output.{Carriage, Sent, Missed}
 use Rattle.codec_sound.specs.declared.signals.Signal.{Signal}
 use Rattle.codec_sound.specs.declared.signals.Signal.TheVariants as variant
-use Rattle.codec_sound.specs.HeardLists.{block_size, blocks, item_of, items_sent, items_of, signal_in, frame_items, heard}
+use Rattle.codec_sound.specs.HeardLists.{block_size, blocks, item_of, items_sent, heard_in, signal_in, frame_items, heard}
 use Rattle.hda_world.specs.Worlds.{CarriedFrame}
 use Rattle.laws_serving.specs.Turns.{HasSentBytes, CarriedBytes, IsNoHole}
 
@@ -23,7 +23,7 @@ sent_no_hole : (layout : Option Layout) (signal : Signal) (bytes : List ℕ) →
 sent_no_hole None signal bytes = All-nil IsNoHole
 sent_no_hole (Some layout) signal bytes = blocks_no_hole layout signal (blocks (block_size layout) bytes)
 
-carriage_no_hole : (bytes : ℕ) (layout : Option Layout) (signal : Signal) (carriage : Carriage) → HasSentBytes bytes carriage → All IsNoHole (items_of layout signal carriage)
+carriage_no_hole : (bytes : ℕ) (layout : Option Layout) (signal : Signal) (carriage : Carriage) → HasSentBytes bytes carriage → All IsNoHole (heard_in layout signal carriage)
 carriage_no_hole bytes layout signal (Sent sent) has = sent_no_hole layout signal sent
 carriage_no_hole bytes layout signal Missed has = absurd has
 

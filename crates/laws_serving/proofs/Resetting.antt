@@ -20,7 +20,7 @@ use Rattle.schedule_reader.specs.Counts.{step_frames}
 use Rattle.world_steps.specs.declared.Step.{Step}
 use Rattle.world_steps.specs.declared.Step.TheVariants as step
 use Rattle.hda_world.specs.Worlds.{World, codec_at}
-use Rattle.hda_world.specs.Steps.{after_step, after_steps, frame_step, times, handed_next, items_of, sent_first, responded}
+use Rattle.hda_world.specs.Steps.{after_step, after_steps, frame_step, times, handed_next, waiting_of, sent_first, responded}
 use Rattle.hda_world.specs.Events.{Event, Read, Write, happens, after_write, registers_written, reset_if, counted_anew_if}
 use Rattle.hda_world.specs.Leaving.{StepsLeave}
 use Rattle.hda_world.proofs.Callers.{steps_leave, reset_write, found_all}
@@ -290,10 +290,10 @@ no_answer world stopped = by (is_out_of_reset world.registers.global)
     by true = ap (λ (run : ℕ). run == 1 && not (world.registers.global.response_flag == 1)) stopped
     by false = refl
 
-found_idle : (address : ℕ) (codecs : List CodecState) → All IsIdle codecs → items_of (codec_at address codecs) ≡ []
+found_idle : (address : ℕ) (codecs : List CodecState) → All IsIdle codecs → waiting_of (codec_at address codecs) ≡ []
 found_idle address codecs idle = by (codec_at address codecs) refl
   where
-    by : (found : Option CodecState) → codec_at address codecs ≡ found → items_of found ≡ []
+    by : (found : Option CodecState) → codec_at address codecs ≡ found → waiting_of found ≡ []
     by None there = refl
     by (Some codec) there = found_all IsIdle address codecs codec there idle
 

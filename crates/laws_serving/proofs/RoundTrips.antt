@@ -24,7 +24,7 @@ use Rattle.world_steps.specs.declared.Step.{Step}
 use Rattle.world_steps.specs.declared.Step.TheVariants as step
 use Rattle.world_rings.proofs.Callers.{batch_first}
 use Rattle.hda_world.specs.Worlds.{World, TakenCommand, codec_at, with_codec}
-use Rattle.hda_world.specs.Steps.{address_of, is_busy, handed, handed_next, items_of, sent_first, corb_step, answer_step, rirb_step, after_step, after_steps}
+use Rattle.hda_world.specs.Steps.{address_of, is_busy, handed, handed_next, waiting_of, sent_first, corb_step, answer_step, rirb_step, after_step, after_steps}
 use Rattle.hda_world.proofs.Callers.{found_all}
 use Rattle.command_engine.specs.declared.ring_places.RingPlaces.{RingPlaces}
 use Rattle.command_engine.specs.declared.answers.Outstanding.{Outstanding}
@@ -232,7 +232,7 @@ module _ (from read corb rirb : ℕ) (rings : RingPlaces) (command : Outstanding
       none_left (address_of command.word) world.codecs
       (all_wait command (drop from world.commands) world.codecs (gained_are world served) served.serves.asked served.stands.on_its_way.at_codecs (each_most 1 world.codecs (omega (arith, most, all))))
 
-  sent_by : (world : World) (found : Option CodecState) (items : List Waiting) → codec_at (address_of command.word) world.codecs ≡ found → items_of found ≡ items → is_some found ≡ true → StandsServed from read corb rirb rings world
+  sent_by : (world : World) (found : Option CodecState) (items : List Waiting) → codec_at (address_of command.word) world.codecs ≡ found → waiting_of found ≡ items → is_some found ≡ true → StandsServed from read corb rirb rings world
       → waiting_answers (sent_first (address_of command.word) items world).codecs ≡ 0
   sent_by world None items there are some served = cc
   sent_by world (Some codec) [] there are some served =
@@ -244,8 +244,8 @@ module _ (from read corb rirb : ℕ) (rings : RingPlaces) (command : Outstanding
 
   pub answer_sends : (world : World) → StandsServed from read corb rirb rings world → HasItsCodec rings.outstanding world.codecs → waiting_answers (answer_step (address_of command.word) world).codecs ≡ 0
   answer_sends world served has =
-      ap (λ (can : Bool). waiting_answers (if can then sent_first (address_of command.word) (items_of (codec_at (address_of command.word) world.codecs)) world else world).codecs) (has_room world served)
-      ∙ sent_by world (codec_at (address_of command.word) world.codecs) (items_of (codec_at (address_of command.word) world.codecs)) refl refl (subst (λ (outstanding : Option Outstanding). HasItsCodec outstanding world.codecs) outstanding has) served
+      ap (λ (can : Bool). waiting_answers (if can then sent_first (address_of command.word) (waiting_of (codec_at (address_of command.word) world.codecs)) world else world).codecs) (has_room world served)
+      ∙ sent_by world (codec_at (address_of command.word) world.codecs) (waiting_of (codec_at (address_of command.word) world.codecs)) refl refl (subst (λ (outstanding : Option Outstanding). HasItsCodec outstanding world.codecs) outstanding has) served
 
 -- ---- RIRB's engine writes it
 

@@ -129,14 +129,14 @@ module _ (task : Task) (graphs : List RawCodec) (closing : List Event) (commands
   -- ---- while it plays
 
   -- it plays still at the end, or has drained
-  abbrev pub Sounds : State → Type 0
-  Sounds state = ((state.phase ≡ Playing) ⊎ (state.phase ≡ Drained)) × (state.sent ≡ commands)
+  abbrev pub SoundState : State → Type 0
+  SoundState state = ((state.phase ≡ Playing) ⊎ (state.phase ≡ Drained)) × (state.sent ≡ commands)
 
-  pub plays_over : (ran : List RanRound) (world : World) (trail : Trail) → ArePrompt m.limit m.slack ran → IsLeft task graphs ran closing world trail → PlaysOn task commands ran trail world → Sounds (state_over task ran closing world trail)
+  pub plays_over : (ran : List RanRound) (world : World) (trail : Trail) → ArePrompt m.limit m.slack ran → IsLeft task graphs ran closing world trail → PlaysOn task commands ran trail world → SoundState (state_over task ran closing world trail)
   plays_over [] world trail prompt left on =
       let last = last_round task graphs closing world trail left in
       let run = last_run task on.since trail last.trail' closing world (later_in_time world.frames [] trail world on (omega arith)) on.timed last.few left.closing_is last.honest last.is_called.noted last.turn in
-      subst Sounds (sym last.over) (
+      subst SoundState (sym last.over) (
         ends_played task last.trail'.state.phase last.trail'.state.tally.course.ran (has_drained m trail.state.tally.course (facts_of 0 (length task.pcm - trail.state.tally.course.used) run.shape.from run.shape.lpib run.shape.to)) run.phase_is
             (ap (λ (tally : Tally). tally.course.ran) run.tally_is),
         run.sent_is ∙ on.sent_is,
@@ -150,7 +150,7 @@ module _ (task : Task) (graphs : List RawCodec) (closing : List Event) (commands
       next.are next.is_called.row next.is_called.noted next.turn next.calm.line.no_interrupt next.few in
       let run = done.0 in
       let drained = has_drained m trail.state.tally.course (facts_of one.round.line.budget (length task.pcm - trail.state.tally.course.used) run.shape.from run.shape.lpib run.shape.to) in
-      subst Sounds (sym next.over)
+      subst SoundState (sym next.over)
       (by next.new next.trail' run.shape.from (state_over task ran closing (after_steps one.round.steps next.new) next.trail') drained (ap (λ (tally : Tally). tally.course.ran) run.tally_is) run.phase_is (run.sent_is ∙ on.sent_is) (ap (λ (tally : Tally). tally.course.from) run.tally_is) run.clock
       (played_on one ran next.trail' world next.new run.shape.from here) done.1 counted (plays_over ran (after_steps one.round.steps next.new) next.trail' (prompt_later m.limit m.slack one ran prompt) next.later)
       (stays_over ran (after_steps one.round.steps next.new) next.trail' next.later))
@@ -159,8 +159,8 @@ module _ (task : Task) (graphs : List RawCodec) (closing : List Event) (commands
           → trail'.state.tally.course.from ≡ from → 500 * world.frames ≤ from
           → (trail'.state.phase ≡ Playing → trail'.state.tally.course.ran ≡ ended.Playing → trail'.state.sent ≡ commands → trail'.state.tally.course.from ≡ from → 500 * world.frames ≤ from → IsTimed world.frames new
           → new.frames ≤ world.frames + frames_of_line one.round.line → PlaysOn task commands ran trail' (after_steps one.round.steps new))
-          → IsTimed world.frames new → new.frames ≤ world.frames + frames_of_line one.round.line → (PlaysOn task commands ran trail' (after_steps one.round.steps new) → Sounds state)
-          → (IsOver commands trail' → (state.phase ≡ Drained) × (state.sent ≡ commands)) → Sounds state
+          → IsTimed world.frames new → new.frames ≤ world.frames + frames_of_line one.round.line → (PlaysOn task commands ran trail' (after_steps one.round.steps new) → SoundState state)
+          → (IsOver commands trail' → (state.phase ≡ Drained) × (state.sent ≡ commands)) → SoundState state
       by new trail' from state true how phase sent from_is first on timed counted plays over =
           let done = over (record { phase = phase ∙ ap (phase_played task) how; sent_is = sent }) in (inr done.0, done.1)
       by new trail' from state false how phase sent from_is first on timed counted plays over = plays (on (phase ∙ ap (phase_played task) how) how sent from_is first timed counted)
@@ -179,7 +179,7 @@ module _ (task : Task) (graphs : List RawCodec) (closing : List Event) (commands
     sounds = λ late plays. absurd (omega (arith, counted, late));
   }
 
-  sound_ends : (total : ℕ) (state : State) → 4 + commands ≤ total → task.plays ≡ true → Sounds state → HasComeTo commands total task.plays state
+  sound_ends : (total : ℕ) (state : State) → 4 + commands ≤ total → task.plays ≡ true → SoundState state → HasComeTo commands total task.plays state
   sound_ends total state enough loud sounds = record {
     sent = sounds.1 ∙ all_sent total (omega (arith, enough));
     left = λ early. absurd (omega (arith, enough, early));

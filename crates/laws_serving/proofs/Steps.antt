@@ -16,7 +16,7 @@ use Rattle.world_streams.specs.Output.{frame_of}
 use Rattle.world_steps.specs.declared.Step.{Step}
 use Rattle.world_steps.specs.declared.Step.TheVariants as step
 use Rattle.hda_world.specs.Worlds.{World, TakenCommand, codec_at, with_codec, output_of}
-use Rattle.hda_world.specs.Steps.{address_of, taking, is_busy, handed, handed_next, items_of, responses_of, sent_first, sent, responded, passed, output_framed, frame_step, output_fetched, times, corb_step, rirb_step, after_step}
+use Rattle.hda_world.specs.Steps.{address_of, taking, is_busy, handed, handed_next, waiting_of, responses_of, sent_first, sent, responded, passed, output_framed, frame_step, output_fetched, times, corb_step, rirb_step, after_step}
 use Rattle.hda_world.proofs.Callers.{absent, found_all, kept_step, passed_global, responded_none}
 use Rattle.command_engine.specs.declared.ring_places.RingPlaces.{RingPlaces}
 use Rattle.std.specs.Option.{is_some}
@@ -255,13 +255,13 @@ sent_serves from read world address item rest codec there are ascend serves =
       },
     )
 
-sent_by : (from read : ℕ) (found : Option CodecState) (items : List Waiting) (world : World) (address : ℕ) → codec_at address world.codecs ≡ found → items_of found ≡ items → AscendByAddress world.codecs → Serves from read world → Kept from read world (sent_first address items world)
+sent_by : (from read : ℕ) (found : Option CodecState) (items : List Waiting) (world : World) (address : ℕ) → codec_at address world.codecs ≡ found → waiting_of found ≡ items → AscendByAddress world.codecs → Serves from read world → Kept from read world (sent_first address items world)
 sent_by from read found [] world address there are ascend serves = stays from read world serves
 sent_by from read None (item ∷ rest) world address there are ascend serves = cc
 sent_by from read (Some codec) (item ∷ rest) world address there are ascend serves = sent_serves from read world address item rest codec there are ascend serves
 
-answer_if : (from read : ℕ) (can : Bool) (world : World) (address : ℕ) → AscendByAddress world.codecs → Serves from read world → Kept from read world (if can then sent_first address (items_of (codec_at address world.codecs)) world else world)
-answer_if from read true world address ascend serves = sent_by from read (codec_at address world.codecs) (items_of (codec_at address world.codecs)) world address refl refl ascend serves
+answer_if : (from read : ℕ) (can : Bool) (world : World) (address : ℕ) → AscendByAddress world.codecs → Serves from read world → Kept from read world (if can then sent_first address (waiting_of (codec_at address world.codecs)) world else world)
+answer_if from read true world address ascend serves = sent_by from read (codec_at address world.codecs) (waiting_of (codec_at address world.codecs)) world address refl refl ascend serves
 answer_if from read false world address ascend serves = stays from read world serves
 
 -- ---- RIRB's engine writes a batch

@@ -13,7 +13,7 @@ use Rattle.period_writer.specs.Rings.{period_bytes, list_bytes}
 use Rattle.period_writer.specs.Writers.{WriterState, periods_of, ring_of}
 use Rattle.period_writer.proofs.Callers.{adds_keeps, adds_has}
 use Rattle.driver_bring_up.specs.declared.bringing.BringUp.{BringUp}
-use Rattle.audio_driver.specs.Opening.{Opens}
+use Rattle.audio_driver.specs.Opening.{OpensDriver}
 use Rattle.laws_stream.specs.Resting.{IsApartFrom, AreApartFrom}
 
 -- a block whose run is apart from RIRB's has none of its bytes
@@ -31,7 +31,7 @@ periods_apart granules bytes rirb taken (period ∷ periods) taken' aligned has 
     periods_apart granules bytes rirb middle periods taken' aligned (adds_keeps taken (run_at period.address bytes) middle first.adds (run_at rirb rirb_bytes) has) rest index (omega (arith, within))
 
 -- of blocks that were taken in this order
-taken_apart : (geometry : Geometry) (pool pool' : PoolState) (corb rirb list : ℕ) (periods : List Lent) → rirb % 128 ≡ 0 → list % 128 ≡ 0 → Opens geometry pool corb rirb list (addresses_of periods) pool'
+taken_apart : (geometry : Geometry) (pool pool' : PoolState) (corb rirb list : ℕ) (periods : List Lent) → rirb % 128 ≡ 0 → list % 128 ≡ 0 → OpensDriver geometry pool corb rirb list (addresses_of periods) pool'
     → AreApartFrom (record { geometry = geometry; list = list; periods = addresses_of periods }) rirb
 taken_apart geometry pool pool' corb rirb list periods aligned aligned' opens = record {
   list = runs_apart rirb list (list_bytes geometry.periods) aligned aligned'
@@ -47,7 +47,7 @@ taken_apart geometry pool pool' corb rirb list periods aligned aligned' opens = 
   later = adds_keeps opens.middle.taken (run_at list (list_bytes geometry.periods)) opens.writer.middle opens.writer.list_taken.adds (run_at rirb rirb_bytes) first
 
 pub opened_apart : (geometry : Geometry) (pool pool' : PoolState) (bring_up : BringUp) (writer : WriterState) → writer.geometry ≡ geometry
-    → Opens geometry pool bring_up.engine.corb.address bring_up.engine.rirb.address writer.list.address (periods_of writer) pool' → AreApartFrom (ring_of writer) bring_up.engine.rirb.address
+    → OpensDriver geometry pool bring_up.engine.corb.address bring_up.engine.rirb.address writer.list.address (periods_of writer) pool' → AreApartFrom (ring_of writer) bring_up.engine.rirb.address
 opened_apart geometry pool pool' bring_up writer same opens =
     subst (λ (g : Geometry). AreApartFrom (record { geometry = g; list = writer.list.address; periods = periods_of writer }) bring_up.engine.rirb.address) (sym same)
     (taken_apart geometry pool pool' bring_up.engine.corb.address bring_up.engine.rirb.address writer.list.address writer.periods bring_up.engine.rirb.aligned writer.list.aligned opens)

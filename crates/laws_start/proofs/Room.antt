@@ -82,7 +82,7 @@ engine_has_runs pool whole below (inr second) =
     let first = taken_below pool.granules second.corb corb_bytes pool.taken second.middle 0 below (omega (arith, whole)) corb.fits corb.adds in
     has_run pool.granules second.middle (0 + granules_for corb_bytes) (granules_for rirb_bytes) first (omega (arith, whole)) second.none
 
-engine_below : (pool : PoolState) (corb rirb : ℕ) (pool' : PoolState) → pool.granules ≡ 32768 → AreBelow 0 pool.taken → of_engine.Opens pool corb rirb pool' → AreBelow 24 pool'.taken
+engine_below : (pool : PoolState) (corb rirb : ℕ) (pool' : PoolState) → pool.granules ≡ 32768 → AreBelow 0 pool.taken → of_engine.OpensEngine pool corb rirb pool' → AreBelow 24 pool'.taken
 engine_below pool corb rirb pool' whole below opens =
     let one = opens.corb_taken in
     let other = opens.rirb_taken in

@@ -19,7 +19,7 @@ ghost use Rattle.hda_files.specs.Machines.{IsSound};
 ghost use Rattle.period_writer.specs.declared.geometry.Geometry.{Geometry};
 ghost use Rattle.driver_progress.specs.Tasks.{Blocks, Task};
 ghost use Rattle.driver_bring_up.specs.declared.bringing.BringUp.{BringUp};
-ghost use Rattle.audio_driver.specs.Opening.{Opens, IsOpened, HasNoRuns};
+ghost use Rattle.audio_driver.specs.Opening.{OpensDriver, IsOpened, HasNoRuns};
 ghost use Rattle.period_writer.specs.Writers.{WriterState, periods_of, ring_of};
 ghost use Rattle.rig.specs.Replays.{start_of};
 ghost use Rattle.laws_stream.specs.Resting.{Rests, AreApartFrom};
@@ -87,7 +87,7 @@ pub fn machines_rest()
 pub fn opened_blocks_lie_apart()
     ensures { (geometry : Geometry) (pool pool' : PoolState) (bring_up : BringUp) (writer : WriterState)
         → writer.geometry ≡ geometry
-        → Opens geometry pool bring_up.engine.corb.address bring_up.engine.rirb.address writer.list.address
+        → OpensDriver geometry pool bring_up.engine.corb.address bring_up.engine.rirb.address writer.list.address
         (periods_of writer) pool'
         → AreApartFrom (ring_of writer) bring_up.engine.rirb.address }
 {}

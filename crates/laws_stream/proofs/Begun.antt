@@ -33,7 +33,7 @@ use Rattle.audio_driver.specs.States.{is_open}
 use Rattle.audio_driver.specs.Sounding.{Begins, StaysSet}
 use Rattle.laws_stream.specs.Resting.{Rests, LeavesRest, AreApartFrom}
 use Rattle.laws_stream.specs.Lives.{Runs, HasNotBegun, Along, sets_going, IsGoing, Lives}
-use Rattle.laws_stream.specs.Sounding.{StreamIs, IsHeardBy, Sounds}
+use Rattle.laws_stream.specs.Sounding.{StreamIs, IsHeardBy, StreamSounds}
 use Rattle.laws_stream.proofs.Rows.{woven_all, woven_before}
 use Rattle.laws_stream.proofs.Beside.{Laws, heard_row}
 use Rattle.laws_stream.proofs.Runs.{runs_each}
@@ -163,7 +163,7 @@ module _ (laws : FirstLaws) (on : Laws) (codecs : List CodecState) (ring : Ring)
             (subst Runs (world_of-went tells.risen new tells.events tells.went) (record { running = tells.plays.stands.set.runs; no_error = tells.plays.stands.set.no_error })));
       }
 
-  pub begun_sounds : Sounds codecs ring pcm tally' new
+  pub begun_sounds : StreamSounds codecs ring pcm tally' new
   begun_sounds = record {
     started = tells.plays.started;
     heard = heard_new;
@@ -176,14 +176,14 @@ module _ (laws : FirstLaws) (on : Laws) (codecs : List CodecState) (ring : Ring)
 pub first_sounds : (laws : FirstLaws) (on : Laws) (pcm : List ℕ) (irq : Bool) (budget : ℕ) (old new : BringUp) (writer writer' : WriterState) (supply : List ℕ) (made : List Event) (before after : Telling) (from read corb rirb : ℕ)
     → Begins irq budget old new writer writer' supply made before after → StaysSet old new writer writer' → supply ≡ pcm → Along HasNotBegun before.journal before.start → Rests writer.geometry.fifo (world_of before)
     → engine.Stands from read corb rirb old.engine.rings (world_of before) → (world_of before).registers.global.corb_read_pointer ≡ (world_of before).registers.global.corb_write_pointer → AreApartFrom (ring_of writer) rirb
-    → HasNotWrapped (world_of after) → Sounds (world_of before).codecs (ring_of writer') pcm (tally_of writer') after
+    → HasNotWrapped (world_of after) → StreamSounds (world_of before).codecs (ring_of writer') pcm (tally_of writer') after
 first_sounds laws on pcm irq budget old new writer writer' supply made before after from read corb rirb begins stays is_all silent rests stands idle apart small =
     let codecs = (world_of before).codecs in
     let resting = laws.rests writer.geometry.fifo begins.first before begins.begins begins.first_made (before_rests irq begins.first begins.is_before) rests in
     let standing = stands_row from read corb rirb old.engine.rings begins.first before begins.begins begins.first_made (before_apart corb rirb irq begins.first begins.is_before) stands in
     let idling = idle_row laws (world_of before).codecs begins.first before begins.begins begins.first_made (before_idle irq begins.first begins.is_before) (record { settings = refl; idle = idle }) in
     let tells = begins.tells (laws.can_begin (ring_of writer) from read corb rirb old.engine.rings (world_of begins.begins) resting standing apart) small in
-    subst (λ (ring : Ring). Sounds (world_of before).codecs ring pcm (tally_of writer') after) (sym (ring_same old new writer writer' stays))
-    (subst (λ (pcm : List ℕ). Sounds (world_of before).codecs (ring_of writer) pcm (tally_of writer') after) is_all
+    subst (λ (ring : Ring). StreamSounds (world_of before).codecs ring pcm (tally_of writer') after) (sym (ring_same old new writer writer' stays))
+    (subst (λ (pcm : List ℕ). StreamSounds (world_of before).codecs (ring_of writer) pcm (tally_of writer') after) is_all
     (begun_sounds laws on (world_of before).codecs (ring_of writer) supply budget (tally_of writer) (tally_of writer') begins.begins after tells idling
     (silent_row irq begins.first before begins.begins begins.first_made begins.is_before silent)))

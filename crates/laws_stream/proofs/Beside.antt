@@ -31,7 +31,7 @@ use Rattle.period_writer.proofs.Callers.{drained_events, stopped_events}
 use Rattle.laws_hearing.specs.Steady.{Steady, LeavesSteady}
 use Rattle.audio_driver.specs.States.{is_open}
 use Rattle.laws_stream.specs.Lives.{Runs, IsStopped, Along, Lives}
-use Rattle.laws_stream.specs.Sounding.{StreamIs, IsHeardBy, Sounds}
+use Rattle.laws_stream.specs.Sounding.{StreamIs, IsHeardBy, StreamSounds}
 use Rattle.laws_stream.proofs.Rows.{woven_all}
 use Rattle.laws_stream.proofs.Lives.{goes_more, stays_stopped}
 
@@ -178,7 +178,7 @@ module _ (laws : Laws) (codecs : List CodecState) (ring : Ring) where
       subst (IsHeardBy codecs ring) (sym (world_of-went old new weaving.events weaving.went))
       (heard_on weaving.events (world_of old) (woven_all LeavesSteady (λ step. tt {0}) made weaving.events weaving.woven all) heard)
 
-  pub sounds_on : (pcm : List ℕ) (tally : Tally) (old new : Telling) (events : List Event) → Went old new events → All IsBeside events → Sounds codecs ring pcm tally old → Sounds codecs ring pcm tally new
+  pub sounds_on : (pcm : List ℕ) (tally : Tally) (old new : Telling) (events : List Event) → Went old new events → All IsBeside events → StreamSounds codecs ring pcm tally old → StreamSounds codecs ring pcm tally new
   sounds_on pcm tally old new events went all sounds =
       let there = world_of-went old new events went in record {
         started = sounds.started;

@@ -38,7 +38,7 @@ use Rattle.audio_driver.specs.States.{state_of, is_open, was_late, phase_if, pla
 use Rattle.audio_driver.specs.Sounding.{IsStill, GoesOn, SoundTells, StaysSet}
 use Rattle.audio_driver.proofs.Callers.{open_playing}
 use Rattle.laws_stream.specs.Lives.{Lives}
-use Rattle.laws_stream.specs.Sounding.{StreamIs, Sounds}
+use Rattle.laws_stream.specs.Sounding.{StreamIs, StreamSounds}
 use Rattle.laws_stream.proofs.Rows.{woven_all}
 use Rattle.laws_stream.proofs.Beside.{Laws, IsBeside, sounds_on}
 use Rattle.laws_stream.proofs.Runs.{run_sounds}
@@ -49,7 +49,7 @@ not_true is = cc
 -- ---- rows beside the sound
 
 pub row_sounds : (laws : Laws) (codecs : List CodecState) (ring : Ring) (pcm : List ℕ) (tally : Tally) (made : List Event) (old new : Telling) → Makes made old new → All IsBeside made
-    → Sounds codecs ring pcm tally old → Sounds codecs ring pcm tally new
+    → StreamSounds codecs ring pcm tally old → StreamSounds codecs ring pcm tally new
 row_sounds laws codecs ring pcm tally made old new makes all sounds =
     let weaving = woven makes in
     sounds_on laws codecs ring pcm tally old new weaving.events weaving.went (woven_all IsBeside (λ step. tt {0}) made weaving.events weaving.woven all) sounds
@@ -154,13 +154,13 @@ ring_same old new writer writer' stays = same_rings _ _ _ _ _ _ stays.geometry (
 module _ (laws : Laws) (codecs : List CodecState) (pcm : List ℕ) (irq : Bool) (budget : ℕ) (old new : BringUp) (writer writer' : WriterState) (supply : List ℕ) (made : List Event) (before after : Telling) where
   still_sounds : (task : Task) (found : Bool) → IsStill irq old new writer writer' made → Makes made before after
       → IsStretch task (state_of old writer) (Some (record { irq = irq; budget = budget })) made found (state_of new writer')
-      → Sounds codecs (ring_of writer) pcm (tally_of writer) before → Sounds codecs (ring_of writer') pcm (tally_of writer') after
+      → StreamSounds codecs (ring_of writer) pcm (tally_of writer) before → StreamSounds codecs (ring_of writer') pcm (tally_of writer') after
   still_sounds task found still makes stretch sounds =
-      subst (λ (writer : WriterState). Sounds codecs (ring_of writer) pcm (tally_of writer) after) (sym still.writer_is)
+      subst (λ (writer : WriterState). StreamSounds codecs (ring_of writer) pcm (tally_of writer) after) (sym still.writer_is)
       (row_sounds laws codecs (ring_of writer) pcm (tally_of writer) made before after makes (still_beside irq budget old new writer writer' made task found still stretch sounds.started) sounds)
 
   goes_sounds : GoesOn irq budget old new writer writer' supply made before after → StaysSet old new writer writer' → IsLeft pcm writer.course supply → HasNotWrapped (world_of after)
-      → Sounds codecs (ring_of writer) pcm (tally_of writer) before → Sounds codecs (ring_of writer') pcm (tally_of writer') after
+      → StreamSounds codecs (ring_of writer) pcm (tally_of writer) before → StreamSounds codecs (ring_of writer') pcm (tally_of writer') after
   goes_sounds goes stays left small sounds =
       let poll = poll_accesses old.engine.rirb.address old.engine.rings goes.reads in
       let plays : writer.course.ran ≡ ran.Playing = open_playing writer.course.ran goes.more in
@@ -169,14 +169,14 @@ module _ (laws : Laws) (codecs : List CodecState) (pcm : List ℕ) (irq : Bool) 
       let playing = subst (λ (was : Ran). StreamIs was (ring_of writer) pcm (tally_of writer) (world_of goes.begins)) plays here.stream in
       let going = subst (λ (was : Ran). Lives (is_open was) goes.begins) plays here.lives in
       let run = goes.tells pcm (left (ap was_late plays)) playing small in
-      subst (λ (ring : Ring). Sounds codecs ring pcm (tally_of writer') after) (sym (ring_same old new writer writer' stays))
+      subst (λ (ring : Ring). StreamSounds codecs ring pcm (tally_of writer') after) (sym (ring_same old new writer writer' stays))
       (run_sounds laws codecs (ring_of writer) pcm budget (tally_of writer) (tally_of writer') goes.begins after here.started here.heard going writer'.course.ran refl run)
 
   -- any call
   pub call_sounds : (task : Task) (found : Bool) → SoundTells irq budget old new writer writer' supply made before after → Makes made before after
       → IsStretch task (state_of old writer) (Some (record { irq = irq; budget = budget })) made found (state_of new writer')
       → StaysSet old new writer writer' → IsLeft pcm writer.course supply → HasNotWrapped (world_of after)
-      → Sounds codecs (ring_of writer) pcm (tally_of writer) before → Sounds codecs (ring_of writer') pcm (tally_of writer') after
+      → StreamSounds codecs (ring_of writer) pcm (tally_of writer) before → StreamSounds codecs (ring_of writer') pcm (tally_of writer') after
   call_sounds task found (inl still) makes stretch stays left small sounds = still_sounds task found still makes stretch sounds
   call_sounds task found (inr (inl begins)) makes stretch stays left small sounds = absurd (not_true (sym begins.fresh ∙ sounds.started))
   call_sounds task found (inr (inr goes)) makes stretch stays left small sounds = goes_sounds goes stays left small sounds

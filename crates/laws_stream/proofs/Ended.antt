@@ -49,7 +49,7 @@ use Rattle.audio_driver.specs.States.{is_open, was_late, IsLeft}
 use Rattle.audio_driver.specs.Sounding.{ShutsAlone, StopsSound, EndTells}
 use Rattle.audio_driver.proofs.Callers.{open_playing}
 use Rattle.laws_stream.specs.Lives.{Along, IsStopped, IsGoing, HasStopped, Lives}
-use Rattle.laws_stream.specs.Sounding.{StreamIs, IsHeardBy, Sounds}
+use Rattle.laws_stream.specs.Sounding.{StreamIs, IsHeardBy, StreamSounds}
 use Rattle.laws_stream.specs.Ending.{HeardAs, HearTheLine}
 use Rattle.laws_stream.proofs.Rows.{woven_all, woven_alone, carried_alone, went_same}
 use Rattle.laws_stream.proofs.Lives.{Along-end, Along-front, stays_stopped}
@@ -236,7 +236,7 @@ module _ (laws : HearLaws) (codecs : List CodecState) (ring : Ring) (pcm : List 
 -- ---- the last call
 
 module _ (on : Laws) (laws : HearLaws) (codecs : List CodecState) (pcm : List ℕ) (old ended : BringUp) (writer : WriterState) (tally' : Tally) (supply : List ℕ) (made last : List Event) (before after : Telling)
-    (went : Went before after last) (small : Along HasNotWrapped last (world_of before)) (left : IsLeft pcm writer.course supply) (sounds : Sounds codecs (ring_of writer) pcm (tally_of writer) before) where
+    (went : Went before after last) (small : Along HasNotWrapped last (world_of before)) (left : IsLeft pcm writer.course supply) (sounds : StreamSounds codecs (ring_of writer) pcm (tally_of writer) before) where
   abbrev ring : Ring
   ring = ring_of writer
 
@@ -299,7 +299,7 @@ module _ (on : Laws) (laws : HearLaws) (codecs : List CodecState) (pcm : List �
         subst HasNotWrapped (sym (world_of-went before begins polled.events polled.went))
         (Along-end HasNotWrapped polled.events (world_of before) (Along-front HasNotWrapped polled.events ran_on.events (world_of before) small_along))
 
-    here : Sounds codecs ring pcm tally begins
+    here : StreamSounds codecs ring pcm tally begins
     here = row_sounds on codecs ring pcm tally poll before begins stops_sound.listened (poll_beside old.engine.rirb.address old.engine.rings stops_sound.reads) sounds
 
     open_is : is_open writer.course.ran ≡ true

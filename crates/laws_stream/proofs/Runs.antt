@@ -26,7 +26,7 @@ use Rattle.period_writer.proofs.Callers.{still_on}
 use Rattle.laws_hearing.specs.Steady.{LeavesSteady}
 use Rattle.audio_driver.specs.States.{is_open}
 use Rattle.laws_stream.specs.Lives.{Runs, IsStopped, Along, stops, IsGoing, HasStopped, Lives}
-use Rattle.laws_stream.specs.Sounding.{StreamIs, IsHeardBy, Sounds}
+use Rattle.laws_stream.specs.Sounding.{StreamIs, IsHeardBy, StreamSounds}
 use Rattle.laws_stream.proofs.Rows.{all_map, woven_last, went_same}
 use Rattle.laws_stream.proofs.Lives.{goes_more, stops_now}
 use Rattle.laws_stream.proofs.Beside.{Laws, heard_row}
@@ -142,7 +142,7 @@ module _ (laws : Laws) (codecs : List CodecState) (ring : Ring) (pcm : List ℕ)
       let was = run.ends in
       (was, stopped_after (ran.Late from to limit) run (finish_is ring tally run.facts (drop tally.course.used pcm)) (record { stopped = was.stopped; no_error = was.no_error }))
 
-  pub run_sounds : (answer : Ran) → answer ≡ tally'.course.ran → RunTells ring pcm budget tally answer tally' old new → Sounds codecs ring pcm tally' new
+  pub run_sounds : (answer : Ran) → answer ≡ tally'.course.ran → RunTells ring pcm budget tally answer tally' old new → StreamSounds codecs ring pcm tally' new
   run_sounds answer is run =
       let led = stream_after answer is run in record {
         started = still_on (measures ring.geometry) tally tally' run.facts run.recorded started;

@@ -29,7 +29,7 @@ pub record IsHeardBy (codecs : List CodecState) (ring : Ring) (world : World) : 
   pub sent : HasSent 0 world
 
 -- a stream that plays or has played, as these codecs hear it: it is as the last run left it, and was set going where it had not begun
-pub record Sounds (codecs : List CodecState) (ring : Ring) (pcm : List ℕ) (tally : Tally) (telling : Telling) : Type 0 where
+pub record StreamSounds (codecs : List CodecState) (ring : Ring) (pcm : List ℕ) (tally : Tally) (telling : Telling) : Type 0 where
   pub started : tally.course.started ≡ true
   pub heard : IsHeardBy codecs ring (world_of telling)
   pub stream : StreamIs tally.course.ran ring pcm tally (world_of telling)

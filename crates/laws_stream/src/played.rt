@@ -17,7 +17,7 @@ ghost use Rattle.audio_driver.specs.States.{IsLeft, state_of};
 ghost use Rattle.audio_driver.specs.Sounding.{Begins, SoundTells, EndTells, StaysSet};
 ghost use Rattle.laws_stream.specs.Resting.{Rests, AreApartFrom};
 ghost use Rattle.laws_stream.specs.Lives.{Along, HasNotBegun, HasStopped};
-ghost use Rattle.laws_stream.specs.Sounding.{Sounds};
+ghost use Rattle.laws_stream.specs.Sounding.{StreamSounds};
 ghost use Rattle.laws_stream.specs.Ending.{HearTheLine};
 
 use crate::rest::{a_first_run_can_begin, streams_rest_before_sound};
@@ -35,11 +35,11 @@ use period_writer::{
 pub fn the_stream_goes_on()
     ensures steps { (codecs : List CodecState) (ring : Ring) (pcm : List ℕ) (tally : Tally) (steps : List Step)
         (old new : Telling) → Went old new (map Stepped steps)
-        → Sounds codecs ring pcm tally old → Sounds codecs ring pcm tally new }
+        → StreamSounds codecs ring pcm tally old → StreamSounds codecs ring pcm tally new }
     ensures begin { (codecs : List CodecState) (ring : Ring) (pcm : List ℕ) (tally : Tally) (old new : Telling)
-        → Accessed old new Begin → Sounds codecs ring pcm tally old → Sounds codecs ring pcm tally new }
+        → Accessed old new Begin → StreamSounds codecs ring pcm tally old → StreamSounds codecs ring pcm tally new }
     ensures end { (codecs : List CodecState) (ring : Ring) (pcm : List ℕ) (tally : Tally) (old new : Telling)
-        → Accessed old new End → Sounds codecs ring pcm tally old → Sounds codecs ring pcm tally new }
+        → Accessed old new End → StreamSounds codecs ring pcm tally old → StreamSounds codecs ring pcm tally new }
     ensures calls { (codecs : List CodecState) (pcm : List ℕ) (irq : Bool) (budget : ℕ) (old new : BringUp)
         (writer writer' : WriterState) (supply : List ℕ) (made : List Event) (before after : Telling)
         (task : Task) (found : Bool)
@@ -47,8 +47,8 @@ pub fn the_stream_goes_on()
         → IsStretch task (state_of old writer) (Some (record { irq = irq; budget = budget })) made found
         (state_of new writer')
         → StaysSet old new writer writer' → IsLeft pcm writer.course supply → HasNotWrapped (world_of after)
-        → Sounds codecs (ring_of writer) pcm (tally_of writer) before
-        → Sounds codecs (ring_of writer') pcm (tally_of writer') after }
+        → StreamSounds codecs (ring_of writer) pcm (tally_of writer) before
+        → StreamSounds codecs (ring_of writer') pcm (tally_of writer') after }
 {
     steps_keep_the_ring();
     events_between_runs_keep_the_ring();
@@ -68,7 +68,7 @@ pub fn a_first_run_is_heard()
         → (world_of before).registers.global.corb_read_pointer
         ≡ (world_of before).registers.global.corb_write_pointer → AreApartFrom (ring_of writer) rirb
         → HasNotWrapped (world_of after)
-        → Sounds (world_of before).codecs (ring_of writer') pcm (tally_of writer') after }
+        → StreamSounds (world_of before).codecs (ring_of writer') pcm (tally_of writer') after }
 {
     streams_rest_before_sound();
     a_first_run_can_begin();
@@ -87,7 +87,7 @@ pub fn the_last_run_is_heard()
         (supply : List ℕ) (made last : List Event) (before after : Telling)
         → EndTells old ended writer tally supply made before after → Makes made before after
         → Went before after last → Along HasNotWrapped last (world_of before) → IsLeft pcm writer.course supply
-        → Sounds codecs (ring_of writer) pcm (tally_of writer) before
+        → StreamSounds codecs (ring_of writer) pcm (tally_of writer) before
         → (tally.course.started ≡ true) × HasStopped after
         × (All IsNoStep last → HearTheLine codecs writer.geometry.format pcm tally (world_of after).carried) }
 {

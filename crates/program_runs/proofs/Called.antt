@@ -22,7 +22,7 @@ pub called : {X E : Type 0} (means : Means) (play irq : Bool) (budget ring : ℕ
     → (plays_now play old.bring_up ≡ false → OnOk result (Leads means irq old.bring_up new.bring_up before after)) → IsKept old.bring_up new.bring_up
     → (plays_now play old.bring_up ≡ false → new.writer ≡ old.writer) → (plays_now play old.bring_up ≡ false → new.supply ≡ old.supply)
     → (plays_now play old.bring_up ≡ true → (later : List ℕ) → MayGive new.supply later → EndsWhilePlaying old.writer.course old.supply (sound_before old.supply new.supply later)
-    → sounding.Sounds irq budget old.bring_up new.bring_up old.writer new.writer (sound_before old.supply new.supply later) later before after)
+    → sounding.PlaysSound irq budget old.bring_up new.bring_up old.writer new.writer (sound_before old.supply new.supply later) later before after)
     → OnOk result ((later : List ℕ) → MayGive new.supply later → Calls means play irq budget (sounded old (sound_before old.supply new.supply later)) (sounded new later) before after)
 called {X} {E} means play irq budget ring old new before after (Ok x) some rule up taken leads kept writer supply sounds = λ later may. record {
   leads = leads;

@@ -7,7 +7,7 @@ use Rattle.stream_format.specs.declared.format.Format.{Format}
 use Rattle.hda_world.specs.Events.{Event, Stepped, Begin, End, Read, Write, DmaRead, DmaWrite, IsNoStep}
 use Rattle.hda_world.specs.Tellings.{Telling, Went, Accessed, MakesBy}
 use Rattle.command_engine.specs.declared.answers.Event as told
-use Rattle.command_engine.specs.Entries.{responses_in, events_of}
+use Rattle.command_engine.specs.Entries.{responses_in, unasked_events_of}
 use Rattle.driver_bring_up.specs.declared.answers.TheConstants.{TAG}
 use Rattle.driver_bring_up.specs.Commanding.{entries_in, with_told}
 use Rattle.schedule_reader.specs.declared.schedule.Schedule.{Schedule}
@@ -50,7 +50,7 @@ TakesAccesses = (events : List Event) → AreAccesses (accesses_of events)
 
 -- what codecs tell is of pins
 abbrev pub AreOfPins : Type 0
-AreOfPins = (entries : List (List ℕ)) → All IsOfPin (events_of (responses_in entries))
+AreOfPins = (entries : List (List ℕ)) → All IsOfPin (unasked_events_of (responses_in entries))
 
 -- ---- in a run without steps the device makes none
 

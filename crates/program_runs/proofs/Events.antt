@@ -9,7 +9,7 @@ use Rattle.hda_world.specs.Events.{Event, Stepped, Begin, End}
 use Rattle.hda_world.specs.Tellings.{Telling, Went, Accessed, MakesBy}
 use Rattle.hda_world.proofs.Callers.{went_none, went_both}
 use Rattle.command_engine.specs.declared.answers.Event as told
-use Rattle.command_engine.specs.Entries.{responses_in, response_in, events_of, event_of}
+use Rattle.command_engine.specs.Entries.{responses_in, response_in, unasked_events_of, event_of}
 use Rattle.driver_bring_up.specs.Commanding.{entry_in, entries_in, with_told}
 use Rattle.driver_bring_up.specs.declared.jacks.Jacks.{Jacks}
 use Rattle.driver_bring_up.specs.Counted.{IsCount}
@@ -30,20 +30,20 @@ entries_after_steps (step ∷ steps) events = entries_after_steps steps events
 
 -- what one entry after another tells
 told_of_entries : List (List ℕ) → List told.Event
-told_of_entries entries = events_of (responses_in entries)
+told_of_entries entries = unasked_events_of (responses_in entries)
 
-events_both : (first second : List (List ℕ)) → events_of (responses_in (first ++ second)) ≡ events_of (responses_in first) ++ events_of (responses_in second)
+events_both : (first second : List (List ℕ)) → unasked_events_of (responses_in (first ++ second)) ≡ unasked_events_of (responses_in first) ++ unasked_events_of (responses_in second)
 events_both first second =
     let unsolicited = λ (response : Response). response.unsolicited in
-    ap events_of (map-append response_in first second)
+    ap unasked_events_of (map-append response_in first second)
     ∙ ap (map event_of) (filter-append unsolicited (responses_in first) (responses_in second))
     ∙ map-append event_of _ _
 
 pub told_both : (first second : List Event) → told_in (first ++ second) ≡ told_in first ++ told_in second
-told_both first second = ap (λ (entries : List (List ℕ)). events_of (responses_in entries)) (entries_both first second) ∙ events_both (entries_in first) (entries_in second)
+told_both first second = ap (λ (entries : List (List ℕ)). unasked_events_of (responses_in entries)) (entries_both first second) ∙ events_both (entries_in first) (entries_in second)
 
 -- what was told until now, and with some entries more
-pub with_told_is : (first : List told.Event) (entries : List (List ℕ)) → with_told first entries ≡ first ++ events_of (responses_in entries)
+pub with_told_is : (first : List told.Event) (entries : List (List ℕ)) → with_told first entries ≡ first ++ unasked_events_of (responses_in entries)
 with_told_is first [] = sym (append-nil first)
 with_told_is first (entry ∷ entries) = refl
 
@@ -92,5 +92,5 @@ pub counted_on : (old new : Jacks) (made events : List Event) → entries_in eve
     → ((told : List told.Event) → IsCount told old → IsCount (with_told told (entries_in made)) new) → IsCount (told_in first) old → IsCount (told_in (first ++ events)) new
 counted_on old new made events same first counted count =
     subst (λ (told : List told.Event). IsCount told new)
-    (with_told_is (told_in first) (entries_in made) ∙ ap (λ (entries : List (List ℕ)). told_in first ++ events_of (responses_in entries)) (sym same) ∙ sym (told_both first events))
+    (with_told_is (told_in first) (entries_in made) ∙ ap (λ (entries : List (List ℕ)). told_in first ++ unasked_events_of (responses_in entries)) (sym same) ∙ sym (told_both first events))
     (counted (told_in first) count)

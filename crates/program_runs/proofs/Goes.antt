@@ -26,14 +26,14 @@ use Rattle.rig.specs.Stretches.{IsStretchFrom}
 use Rattle.laws_bring_up.specs.Standing.{IsTaskOfCodecs}
 use Rattle.laws_driver.specs.Sounding.{Parts}
 use Rattle.laws_driver.specs.Keeping.{Calls, KeepsPlaying}
-use Rattle.program_runs.specs.Lines.{line_of, lines_in}
+use Rattle.program_runs.specs.Lines.{driver_line_of, lines_in}
 use Rattle.program_runs.specs.Events.{told_in}
 use Rattle.program_runs.specs.Going.{UnderWay, Goes}
 use Rattle.program_runs.proofs.Events.{told_both, Run, run_of, counted_on}
 use Rattle.program_runs.proofs.LinkFrames.{short_before, not_wrapped}
 
 pub lines_both : (first second : List Item) → lines_in (first ++ second) ≡ lines_in first ++ lines_in second
-lines_both first second = ap (map line_of) (filter_map-append driver_line first second) ∙ map-append line_of _ _
+lines_both first second = ap (map driver_line_of) (filter_map-append driver_line first second) ∙ map-append driver_line_of _ _
 
 -- progress is kept for each task
 abbrev pub Keeps : Meaning → Format → Type 0
@@ -115,7 +115,7 @@ module _ (means : Meaning) (format : Format) (play : Bool) where
     went = went;
     follow = follows line before.journal events (subst (λ (journal : List Event). IsStretchFrom (length before.journal) line.groups journal) went.journal stretched);
     leads = λ verbs graphs task all left is short under_way.
-        ((keeps verbs graphs task is.of_codecs).runs all left (line_of line) old new before begun made after opened
+        ((keeps verbs graphs task is.of_codecs).runs all left (driver_line_of line) old new before begun made after opened
         (subst (λ (plays : Bool). Calls (means format TAG) plays line.irq line.budget old new (Some begun) (Some made)) (sym is.plays_is) calls) ended
         (not_wrapped made (short_before made after _ ended.went short)) under_way);
     counted = λ first count. counts first count;

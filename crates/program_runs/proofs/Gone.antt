@@ -36,7 +36,7 @@ use Rattle.laws_stream.specs.Resting.{Rests, AreApartFrom}
 use Rattle.audio_driver.specs.States.{phase_if, played_as, IsTaskOf, state_with}
 use Rattle.audio_driver.specs.declared.driver.closing.Closed.{Closed}
 use Rattle.laws_driver.specs.Sounding.{Parts, ring_in, tally_in}
-use Rattle.laws_driver.specs.Keeping.{HasGone}
+use Rattle.laws_driver.specs.Keeping.{DriverHasGone}
 use Rattle.rig.specs.Follows.{Follows}
 use Rattle.rig.specs.Replays.{start_of, telling_from}
 use Rattle.heard_lists.specs.Listings.{graphs_in}
@@ -74,7 +74,7 @@ pub record Gone (machine : Machine) (format : Format) (play : Bool) (task : Task
   pub tally : Tally
   pub last : List Event
   pub no_steps : All IsNoStep last
-  pub has : HasGone (analog format TAG) (graphs_in machine.codecs) task (lines_of schedule) ended tally last (telling_from REGION_BYTES machine journal)
+  pub has : DriverHasGone (analog format TAG) (graphs_in machine.codecs) task (lines_of schedule) ended tally last (telling_from REGION_BYTES machine journal)
   pub leaves : Leaves play old ended tally closed
   -- the journal replays from the machine's start, and follows the schedule
   pub replays : AreHonest journal (start_of REGION_BYTES machine)
@@ -152,8 +152,8 @@ module _ (keeps : (format : Format) → Keeps analog format) (machine : Machine)
   under_way : UnderWay analog format (verbs_in format machine.codecs plans) (graphs_in machine.codecs) task (lines_of schedule) (lines_of schedule) old before
   under_way = subst (λ (telling : Telling). UnderWay analog format (verbs_in format machine.codecs plans) (graphs_in machine.codecs) task (lines_of schedule) (lines_of schedule) old telling) (sym start) first
 
-  has_gone : HasGone (analog format TAG) (graphs_in machine.codecs) task (lines_of schedule) driven.ended driven.tally driven.last (telling_from REGION_BYTES machine journal)
-  has_gone = subst (λ (telling : Telling). HasGone (analog format TAG) (graphs_in machine.codecs) task (lines_of schedule) driven.ended driven.tally driven.last telling) end_is
+  has_gone : DriverHasGone (analog format TAG) (graphs_in machine.codecs) task (lines_of schedule) driven.ended driven.tally driven.last (telling_from REGION_BYTES machine journal)
+  has_gone = subst (λ (telling : Telling). DriverHasGone (analog format TAG) (graphs_in machine.codecs) task (lines_of schedule) driven.ended driven.tally driven.last telling) end_is
       (driven.over (verbs_in format machine.codecs plans) (graphs_in machine.codecs) task (lines_of schedule) can.is
       (subst IsShort (sym end_is) (short_from machine schedule journal follows limited)) under_way)
 

@@ -40,7 +40,7 @@ use Rattle.heard_lists.specs.Listings.{graphs_in}
 use Rattle.laws_start.specs.Tasks.{HavePlans}
 use Rattle.program_runs.specs.Lines.{lines_of}
 use Rattle.program_runs.specs.Ends.{play_can_end}
-use Rattle.program_runs.specs.Histories.{MakesProgress, StaysOpen, journal_of, told_by}
+use Rattle.program_runs.specs.Histories.{MakesProgress, StaysOpen, journal_of, telling_of_run}
 use Rattle.program_runs.specs.FrameCounts.{written_by}
 use Rattle.program_runs.specs.Hearing.{HasPlayedAll, HearTheirs, lists_heard}
 use Rattle.program_runs.specs.Stretches.{stretches_of}
@@ -154,7 +154,7 @@ module _ (machine : Machine) (plans : List Plan) (wav : Wav) (geometry : Geometr
   pub driven : RunLaws → (played : Played) → journal_of played ≡ journal → geometry ≡ old.writer.geometry → geometry.format ≡ wav.format → HavePlans wav.format machine.codecs plans → played.graphs ≡ closed.graphs.items
       → played.runs ≡ closed.runs.items → played.silences ≡ closed.silences.items → played.heard ≡ lists_heard carried machine.codecs plans
       → played.fault ≡ play_fault closed.phase closed.sent played.commands (block_bytes wav.format) played.total closed.runs.items closed.silences.items
-      → IsDriven machine plans wav schedule task (state_with gone.ended gone.tally) (told_by machine played) played
+      → IsDriven machine plans wav schedule task (state_with gone.ended gone.tally) (telling_of_run machine played) played
   driven laws played told ring format planned graphs runs silences heard fault =
       subst (λ (events : List Event). IsDriven machine plans wav schedule task (state_with gone.ended gone.tally) (telling_from REGION_BYTES machine events) played) (sym told) (record {
         progress = record {

@@ -26,7 +26,7 @@ use Rattle.driver_progress.specs.Tasks.{Task, DriverLine, order_of}
 use Rattle.driver_progress.specs.Progress.{state_of}
 use Rattle.laws_start.specs.Tasks.{HavePlans, commands_of}
 use Rattle.sound_report.specs.declared.played.Played.{Played}
-use Rattle.program_runs.specs.Histories.{commands_for, journal_of, told_by}
+use Rattle.program_runs.specs.Histories.{commands_for, journal_of, telling_of_run}
 use Rattle.program_runs.specs.Plays.{Lived, IsPlayed, end_in_phase, play_fault, played_task}
 use Rattle.laws_serving.specs.Rounds.{rounds_of}
 use Rattle.laws_serving.specs.ServingSchedules.{IsCalmRound, ServesCommands, ServesSound, MayFillTheRing}
@@ -74,7 +74,7 @@ module _ (machine : Machine) (plans : List Plan) (wav : Wav) (geometry : Geometr
   items = items_of schedule
 
   abbrev pub telling : Telling
-  telling = told_by machine played
+  telling = telling_of_run machine played
 
   pub counted : length task.orders ≡ commands
   counted = length-map (commands_of wav.format machine.codecs plans) order_of

@@ -26,7 +26,7 @@ use Rattle.command_engine.specs.Fetchings.{HasBlocks, AscendFrom}
 use Rattle.driver_progress.specs.Tasks.{Task, DriverLine}
 use Rattle.driver_progress.specs.Progress.{IsProgress}
 use Rattle.laws_bring_up.specs.Stretches.{HasFound}
-use Rattle.program_runs.specs.Lines.{line_of, lines_in, lines_of}
+use Rattle.program_runs.specs.Lines.{driver_line_of, lines_in, lines_of}
 use Rattle.program_runs.specs.Histories.{IsHistory}
 use Rattle.laws_serving.specs.Runs.{calls_of, IsStartFor, IsRunOf}
 use Rattle.laws_start.proofs.Callers.{graphs_there}
@@ -92,7 +92,7 @@ starts machine task sound well = record {
 pub calls_are : (items : List Item) → calls_of items ≡ lines_in items
 calls_are [] = refl
 calls_are (Device step ∷ items) = calls_are items
-calls_are (Drive line ∷ items) = ap (λ (lines : List DriverLine). line_of line ∷ lines) (calls_are items)
+calls_are (Drive line ∷ items) = ap (λ (lines : List DriverLine). driver_line_of line ∷ lines) (calls_are items)
 
 short : (schedule : Schedule) (machine : Machine) → IsLimited schedule → (start_of REGION_BYTES machine).frames + sum_by item_frames (items_of schedule) ≤ 2000000
 unfolding frames_of

@@ -20,7 +20,7 @@ use Rattle.rig.specs.Replays.{telling_from}
 use Rattle.heard_lists.specs.Listings.{graphs_in}
 use Rattle.program_runs.specs.Ends.{walk_can_end}
 use Rattle.program_runs.specs.Walks.{walk_fault, walk_format}
-use Rattle.program_runs.specs.Histories.{MakesProgress, StaysOpen, journal_of, told_by}
+use Rattle.program_runs.specs.Histories.{MakesProgress, StaysOpen, journal_of, telling_of_run}
 use Rattle.program_runs.proofs.OpenRoutes.{stays_open}
 use Rattle.program_runs.proofs.WalkedIn.{walked_in}
 use Rattle.program_runs.proofs.Gone.{Gone, unplayed_phase, unplayed_ends, graphs_walked, graphs_by_phase}
@@ -55,7 +55,7 @@ module _ (machine : Machine) (play : Bool) (task : Task) (schedule : Schedule) (
 
   -- what is told of it is that of the run that is kept
   pub driven : (played : Played) → journal_of played ≡ journal → played.graphs ≡ closed.graphs.items → played.fault ≡ walk_fault closed.phase closed.sent played.commands
-      → IsDriven machine schedule task (state_with gone.ended gone.tally) (told_by machine played) played
+      → IsDriven machine schedule task (state_with gone.ended gone.tally) (telling_of_run machine played) played
   driven played told graphs fault =
       subst (λ (events : List Event). IsDriven machine schedule task (state_with gone.ended gone.tally) (telling_from REGION_BYTES machine events) played) (sym told) (record {
         progress = record {

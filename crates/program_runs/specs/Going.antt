@@ -27,7 +27,7 @@ use Rattle.period_writer.specs.Writers.{measures_of}
 use Rattle.audio_driver.specs.States.{phase_with}
 use Rattle.audio_driver.specs.declared.driver.closing.Closed.{Closed}
 use Rattle.laws_driver.specs.Sounding.{Parts, tally_in}
-use Rattle.laws_driver.specs.Keeping.{IsUnderWay, HasGone}
+use Rattle.laws_driver.specs.Keeping.{DriverGoesOn, DriverHasGone}
 use Rattle.schedule_reader.specs.declared.schedule.Schedule.{Schedule}
 use Rattle.rig.specs.Follows.{FollowItems, AreAccesses, Follows}
 use Rattle.rig.specs.Rigs.{telling_of, setting_of}
@@ -85,7 +85,7 @@ pub record IsTask (means : Meaning) (format : Format) (play : Bool) (verbs : Raw
 abbrev pub UnderWay : Meaning → Format → (RawCodec → List Command) → List RawCodec → Task → (all left : List DriverLine)
     → Parts → Telling → Type 0
 UnderWay means format verbs graphs task all left parts telling =
-    IsUnderWay (means format TAG) verbs graphs task all left parts telling
+    DriverGoesOn (means format TAG) verbs graphs task all left parts telling
 
 -- for each task, a driver with these lines and others left leads on to where the others are left, while the journal is
 -- short
@@ -158,7 +158,7 @@ pub record IsClosed (means : Meaning) (format : Format) (play : Bool) (old : Par
   pub over : (verbs : RawCodec → List Command) (graphs : List RawCodec) (task : Task) (all : List DriverLine)
       → IsTask means format play verbs graphs task → IsShort after
       → UnderWay means format verbs graphs task all [] old before
-      → HasGone (means format TAG) graphs task all ended tally (stretch [] accesses) after
+      → DriverHasGone (means format TAG) graphs task all ended tally (stretch [] accesses) after
   pub counted : (first : List Event) → IsCount (told_in first) old.bring_up.jacks
       → Counts (told_in (first ++ stretch [] accesses)) closed.jacks.items
   -- no less was used than before
@@ -178,7 +178,7 @@ pub record IsDriven (means : Meaning) (format : Format) (play : Bool) (schedule 
   pub over : (verbs : RawCodec → List Command) (graphs : List RawCodec) (task : Task) (all : List DriverLine)
       → IsTask means format play verbs graphs task → IsShort after
       → UnderWay means format verbs graphs task all (lines_of schedule) old before
-      → HasGone (means format TAG) graphs task all ended tally last after
+      → DriverHasGone (means format TAG) graphs task all ended tally last after
   pub counted : (first : List Event) → IsCount (told_in first) old.bring_up.jacks
       → Counts (told_in (first ++ events)) closed.jacks.items
   pub leaves : Leaves play old ended tally closed

@@ -34,8 +34,8 @@ use Rattle.program_runs.specs.Lines.{lines_of}
 abbrev pub journal_of : Played → List Event
 journal_of played = events_of played.journal
 
-abbrev pub told_by : Machine → Played → Telling
-told_by machine played = telling_from REGION_BYTES machine (journal_of played)
+abbrev pub telling_of_run : Machine → Played → Telling
+telling_of_run machine played = telling_from REGION_BYTES machine (journal_of played)
 
 -- what went into the run is kept with it: the machine, which is sound, with the plans of its codecs, and the format and
 -- the frames of its sound

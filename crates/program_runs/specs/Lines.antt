@@ -8,12 +8,12 @@ use Rattle.schedule_reader.specs.declared.schedule.Schedule.{Schedule}
 use Rattle.schedule_reader.specs.Counts.{items_of, driver_line}
 use Rattle.driver_progress.specs.Tasks.{DriverLine}
 
-abbrev pub line_of : scheduled.DriverLine → DriverLine
-line_of line = record { irq = line.irq; budget = line.budget }
+abbrev pub driver_line_of : scheduled.DriverLine → DriverLine
+driver_line_of line = record { irq = line.irq; budget = line.budget }
 
 -- those among some items
 abbrev pub lines_in : List Item → List DriverLine
-lines_in items = map line_of (filter_map driver_line items)
+lines_in items = map driver_line_of (filter_map driver_line items)
 
 -- those of a schedule, with repeats written out
 abbrev pub lines_of : Schedule → List DriverLine

@@ -44,7 +44,7 @@ use Rattle.program_runs.specs.FirstFits.{AreFirstFits}
 use Rattle.program_runs.specs.Ends.{play_can_end}
 use Rattle.program_runs.specs.Lines.{lines_of}
 use Rattle.program_runs.specs.Events.{told_in}
-use Rattle.program_runs.specs.Histories.{HasInput, IsHistory, MakesProgress, StaysOpen, commands_for, told_by}
+use Rattle.program_runs.specs.Histories.{HasInput, IsHistory, MakesProgress, StaysOpen, commands_for, telling_of_run}
 use Rattle.program_runs.specs.Stretches.{stretches_of}
 use Rattle.program_runs.specs.FrameCounts.{frames_written, frames_below, last_at, written_by}
 use Rattle.program_runs.specs.Hearing.{HasPlayedAll, HearTheirs, WasSilent, lists_heard}
@@ -130,7 +130,7 @@ pub record IsPlayed (machine : Machine) (plans : List Plan) (wav : Wav) (geometr
   pub blocks : Blocks
   pub first_fits : AreFirstFits geometry blocks
   pub run : PlaysTask machine plans wav schedule (played_task machine plans wav geometry blocks)
-      (told_by machine played) played
+      (telling_of_run machine played) played
 
 -- ---- the sound
 

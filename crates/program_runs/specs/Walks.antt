@@ -21,7 +21,7 @@ use Rattle.laws_start.specs.Tasks.{task_of}
 use Rattle.program_runs.specs.FirstFits.{AreFirstFits}
 use Rattle.program_runs.specs.Ends.{walk_can_end}
 use Rattle.program_runs.specs.Shapes.{HasShape}
-use Rattle.program_runs.specs.Histories.{HasInput, IsHistory, MakesProgress, StaysOpen, commands_for, told_by}
+use Rattle.program_runs.specs.Histories.{HasInput, IsHistory, MakesProgress, StaysOpen, commands_for, telling_of_run}
 use Rattle.program_runs.specs.Events.{told_in}
 
 -- 48 kHz, 16 bits, 2 channels
@@ -75,5 +75,5 @@ pub record IsWalked (machine : Machine) (plans : List Plan) (schedule : Schedule
   pub ring : IsWalkRing machine.fifo geometry
   pub blocks : Blocks
   pub first_fits : AreFirstFits geometry blocks
-  pub run : WalksTask machine plans schedule (walked_task machine plans geometry blocks) (told_by machine played)
+  pub run : WalksTask machine plans schedule (walked_task machine plans geometry blocks) (telling_of_run machine played)
       played

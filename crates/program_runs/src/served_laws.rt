@@ -14,7 +14,7 @@ ghost use Rattle.period_writer.specs.Runs.{measures};
 ghost use Rattle.laws_start.specs.Reading.{IsWhole};
 ghost use Rattle.laws_start.specs.Tasks.{HavePlans};
 ghost use Rattle.sound_report.specs.declared.played.Played.{Played};
-ghost use Rattle.program_runs.specs.Histories.{commands_for, journal_of, told_by};
+ghost use Rattle.program_runs.specs.Histories.{commands_for, journal_of, telling_of_run};
 ghost use Rattle.program_runs.specs.Walks.{walk_format, IsWalked};
 ghost use Rattle.program_runs.specs.Plays.{IsPlayed};
 ghost use Rattle.program_runs.specs.Served.{all_rounds, line_count, ServesBringUp, ServesPlay};
@@ -63,7 +63,7 @@ pub fn plays_all_so()
         → ServesPlay wav.format machine plans geometry schedule → IsPlayed machine plans wav geometry schedule played
         → length wav.pcm ≡ frames * block_bytes geometry.format
         → IsFedWhole (commands_for wav.format machine plans) (measures geometry).ring (length wav.pcm)
-        (all_rounds schedule) (told_by machine played).start (journal_of played)
+        (all_rounds schedule) (telling_of_run machine played).start (journal_of played)
         → PlaysAll (length wav.pcm) played.silences played.fault }
 {
     served_drivers_play();

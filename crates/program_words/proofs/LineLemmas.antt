@@ -12,7 +12,7 @@ use Rattle.program_words.specs.Words as words
 use Rattle.program_words.specs.Asked.{grammar_named}
 use Rattle.program_words.specs.declared.table.CommandName.{CommandName}
 use Rattle.program_words.specs.declared.table.CommandName.TheVariants.{Route, Walk, Play, Make}
-use Rattle.program_words.specs.Lines.{AllTaken, CommandLine, IsLineOf, line_of, line_of_parts, line_with, number_of, number_once, numbers_of, with_number}
+use Rattle.program_words.specs.Lines.{AllTaken, CommandLine, IsLineOf, command_line_of, line_of_parts, line_with, number_of, number_once, numbers_of, with_number}
 use Rattle.program_words.specs.ClapCommand.{FindsParts, HoldsParts, numbers_found, operands_id, values_found}
 
 -- ---- a single hyphen is refused
@@ -39,7 +39,7 @@ single_refused : (names ws : List (List ℕ)) → has_single ws ≡ true → (wa
 single_refused names [] e waiting = absurd (true≢false (sym e))
 single_refused names (word ∷ rest) e waiting = single_met names waiting (word_of word) word rest (parts_from names rest) e (λ single w. single_refused names rest single w)
 
-pub single_no_line : (grammar : CommandGrammar) (ws : List (List ℕ)) → has_single ws ≡ true → line_of grammar ws ≡ None
+pub single_no_line : (grammar : CommandGrammar) (ws : List (List ℕ)) → has_single ws ≡ true → command_line_of grammar ws ≡ None
 single_no_line grammar ws e = ap (λ (o : Option (List Part)). option_and_then (line_of_parts grammar) o) (single_refused (option_names grammar) ws e None)
 
 -- ---- the numbers
@@ -78,14 +78,14 @@ line_found grammar (Some parts) m found =
     ap₂ (line_with grammar) (sym found.operands) (sym (numbers_held (option_names grammar) grammar.options parts m (all_among grammar.options) found))
 
 pub no_numbers : (grammar : CommandGrammar) (ws : List (List ℕ)) (m : ArgMatches) → FindsParts (option_names grammar) (parts_of (option_names grammar) ws) m
-    → numbers_found grammar.options m ≡ None → line_of grammar ws ≡ None
+    → numbers_found grammar.options m ≡ None → command_line_of grammar ws ≡ None
 no_numbers grammar ws m found none =
     line_found grammar (parts_of (option_names grammar) ws) m found
     ∙ (ap (line_with grammar (values_found m operands_id)) none ∙ neither (length (values_found m operands_id) == grammar.operands))
 
 pub line_is : (grammar : CommandGrammar) (ws : List (List ℕ)) (m : ArgMatches) (numbers : List ℕ) → FindsParts (option_names grammar) (parts_of (option_names grammar) ws) m
     → (length (values_found m operands_id) == grammar.operands) ≡ true → numbers_found grammar.options m ≡ Some numbers
-    → line_of grammar ws ≡ Some (record { operands = values_found m operands_id; numbers = numbers })
+    → command_line_of grammar ws ≡ Some (record { operands = values_found m operands_id; numbers = numbers })
 line_is grammar ws m numbers found equal is =
     line_found grammar (parts_of (option_names grammar) ws) m found
     ∙ (λ i. if equal i then option_map (λ ns. let l : CommandLine = record { operands = values_found m operands_id; numbers = ns } in l) (is i) else None)
@@ -142,16 +142,16 @@ fits_of grammar (Some parts) line defaults is =
     fits_with grammar (operands_of parts) (numbers_of grammar.options parts) line (length (operands_of parts) == grammar.operands) refl
     (λ ns e. taken_all grammar.options parts ns defaults e) is
 
-pub route_line : (ws : List (List ℕ)) (line : CommandLine) → line_of route_grammar ws ≡ Some line → IsLineOf route_grammar line
+pub route_line : (ws : List (List ℕ)) (line : CommandLine) → command_line_of route_grammar ws ≡ Some line → IsLineOf route_grammar line
 route_line ws line is = fits_of route_grammar (parts_of (option_names route_grammar) ws) line (refl, (refl, tt)) is
 
-pub walk_line : (ws : List (List ℕ)) (line : CommandLine) → line_of walk_grammar ws ≡ Some line → IsLineOf walk_grammar line
+pub walk_line : (ws : List (List ℕ)) (line : CommandLine) → command_line_of walk_grammar ws ≡ Some line → IsLineOf walk_grammar line
 walk_line ws line is = fits_of walk_grammar (parts_of (option_names walk_grammar) ws) line tt is
 
-pub play_line : (ws : List (List ℕ)) (line : CommandLine) → line_of play_grammar ws ≡ Some line → IsLineOf play_grammar line
+pub play_line : (ws : List (List ℕ)) (line : CommandLine) → command_line_of play_grammar ws ≡ Some line → IsLineOf play_grammar line
 play_line ws line is = fits_of play_grammar (parts_of (option_names play_grammar) ws) line (refl, (refl, tt)) is
 
-pub make_line : (ws : List (List ℕ)) (line : CommandLine) → line_of make_grammar ws ≡ Some line → IsLineOf make_grammar line
+pub make_line : (ws : List (List ℕ)) (line : CommandLine) → command_line_of make_grammar ws ≡ Some line → IsLineOf make_grammar line
 make_line ws line is = fits_of make_grammar (parts_of (option_names make_grammar) ws) line tt is
 
 -- the words after the first

@@ -7,7 +7,7 @@ use Rattle.stream_format.specs.declared.format.Bits.{Bits}
 use Rattle.stream_format.specs.declared.format.Bits.TheVariants.{B16, B24, B32}
 use Rattle.program_words.specs.Numbers.{number_in}
 use Rattle.program_words.specs.Commands.{CommandGrammar, commands, made_numbers}
-use Rattle.program_words.specs.Lines.{CommandLine, line_of}
+use Rattle.program_words.specs.Lines.{CommandLine, command_line_of}
 use Rattle.program_words.specs.declared.table.CommandName.{CommandName}
 use Rattle.program_words.specs.declared.table.CommandName.TheVariants.{Route, Walk, Play, Make}
 use Rattle.program_words.specs.declared.request.Request.{Request}
@@ -76,7 +76,7 @@ abbrev pub grammar_named : List ℕ → Option CommandGrammar
 grammar_named name = find (λ grammar. bytes_eq grammar.name name) commands
 
 abbrev pub asked_with : List (List ℕ) → CommandGrammar → Option Asked
-asked_with rest grammar = option_and_then (asked_of grammar.command) (line_of grammar rest)
+asked_with rest grammar = option_and_then (asked_of grammar.command) (command_line_of grammar rest)
 
 -- what the words after the program's name ask: the first is the name of a command, and those after it are a line of that command
 abbrev pub request_of : List (List ℕ) → Option Asked

@@ -34,8 +34,8 @@ abbrev pub line_of_parts : CommandGrammar → List Part → Option CommandLine
 line_of_parts grammar parts = line_with grammar (operands_of parts) (numbers_of grammar.options parts)
 
 -- the words after the command's name as a line
-abbrev pub line_of : CommandGrammar → List (List ℕ) → Option CommandLine
-line_of grammar words = option_and_then (line_of_parts grammar) (parts_of (option_names grammar) words)
+abbrev pub command_line_of : CommandGrammar → List (List ℕ) → Option CommandLine
+command_line_of grammar words = option_and_then (line_of_parts grammar) (parts_of (option_names grammar) words)
 
 -- each option has a number that it takes
 abbrev pub AllTaken : List OptionGrammar → List ℕ → Type 0

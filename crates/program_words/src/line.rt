@@ -2,7 +2,7 @@
 ghost use Rattle.std.specs.Prelude.{◌≡◌, ◌≢◌, ◌<◌, IfOk, Err, Some, None, drop, length, map, string_bytes, false};
 ghost use Rattle.program_words.specs.ClapCommand.{numbers_found, operands_id, values_found};
 ghost use Rattle.program_words.specs.Commands.{option_names};
-ghost use Rattle.program_words.specs.Lines.{line_of, number_once};
+ghost use Rattle.program_words.specs.Lines.{command_line_of, number_once};
 ghost use Rattle.program_words.specs.Seen.{line_seen};
 ghost use Rattle.program_words.specs.Tables.{grammar_of, option_of};
 ghost use Rattle.program_words.specs.Words.{has_single, is_among, is_single, word_of};
@@ -101,10 +101,10 @@ pub fn read_line<'a>(
 ) -> Result<Line<'a>, WordsFault>
     requires apart { is_among (option_names (grammar_of row.now)) operands_id ≡ false }
     requires named { 0 < length words.now }
-    ensures ok { IfOk result (λ line. line_of (grammar_of row.now) (drop 1 (map string_bytes words.now)) ≡ Some
+    ensures ok { IfOk result (λ line. command_line_of (grammar_of row.now) (drop 1 (map string_bytes words.now)) ≡ Some
         (line_seen line)) }
     ensures err { result ≡ Err WordsFault.NoCommand
-        → line_of (grammar_of row.now) (drop 1 (map string_bytes words.now)) ≡ None }
+        → command_line_of (grammar_of row.now) (drop 1 (map string_bytes words.now)) ≡ None }
 {
     if has_single_hyphen(&words[1..]) {
         return Err(WordsFault::NoCommand);

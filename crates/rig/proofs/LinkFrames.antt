@@ -9,7 +9,7 @@ use Rattle.schedule_reader.specs.Counts.{step_frames}
 use Rattle.world_rings.specs.Engines.{next_word}
 use Rattle.world_streams.specs.Output.{frame_of}
 use Rattle.hda_world.specs.Worlds.{World, codec_at, output_of}
-use Rattle.hda_world.specs.Steps.{address_of, is_busy, handed, handed_next, sent_first, items_of as waiting_of, lost, passed, output_framed, frame_step, times, output_fetched, after_step}
+use Rattle.hda_world.specs.Steps.{address_of, is_busy, handed, handed_next, sent_first, waiting_of as waiting_of, lost, passed, output_framed, frame_step, times, output_fetched, after_step}
 use Rattle.hda_world.specs.Events.{Event, Stepped, Begin, End, Read, Write, DmaRead, DmaWrite, happens, reset_if, counted_anew_if, registers_written}
 use Rattle.rig.specs.Stretches.{is_access}
 

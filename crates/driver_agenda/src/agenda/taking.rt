@@ -9,7 +9,7 @@ ghost use Rattle.codec_walk.specs.Dialogues.{question, answered, Told};
 ghost use Rattle.codec_walk.specs.Remaining.{remaining};
 ghost use Rattle.codec_walk.specs.Outcomes.{IsFaultOf};
 ghost use Rattle.codec_walk.specs.declared.fault.WalkFault.{WalkFault};
-ghost use Rattle.driver_agenda.specs.Sound.{IsUnderWay, TellsOf};
+ghost use Rattle.driver_agenda.specs.Sound.{WalkGoesOn, TellsOf};
 ghost use Rattle.driver_agenda.specs.Agendas as spec;
 ghost use Rattle.driver_agenda.specs.Agendas.{GivesGraph};
 
@@ -153,7 +153,7 @@ impl Agenda {
         answer: u32,
     ) -> Result<(), AgendaFault>
         requires none { self.old.walk ≡ None }
-        requires under_way { IsUnderWay self.old.addresses.items (length self.old.graphs.items) walk }
+        requires under_way { WalkGoesOn self.old.addresses.items (length self.old.graphs.items) walk }
         requires fresh { self.old.answered ≡ 0 }
         ensures leads { OnOk result (spec.LedByDialogue (T.means setter.now self.old.format TAG)
             (answered (remaining walk) answer)

@@ -81,7 +81,7 @@ impl Writer {
         runs: u32,
     ) -> Result<Writer, OpenFault>
         ensures opens { IfOk result (λ writer.
-            spec.Opens geometry pool.old writer.list.address (periods_of writer) pool.new) }
+            spec.OpensWriter geometry pool.old writer.list.address (periods_of writer) pool.new) }
         ensures owns { IfOk result (λ writer. OwnsBlocks pool.new.taken writer) }
         ensures geometry { IfOk result (λ writer. writer.geometry ≡ geometry) }
         ensures records { IfOk result (λ writer. writer.records ≡ max runs 1) }
@@ -122,7 +122,7 @@ impl Writer {
         runs: u32,
     ) -> Result<Writer, OpenFault>
         ensures opens { IfOk result (λ writer.
-            spec.Opens geometry pool.old writer.list.address (periods_of writer) pool.new) }
+            spec.OpensWriter geometry pool.old writer.list.address (periods_of writer) pool.new) }
         ensures owns { IfOk result (λ writer. OwnsBlocks pool.new.taken writer) }
         ensures geometry { IfOk result (λ writer. writer.geometry ≡ geometry) }
         ensures records { IfOk result (λ writer. writer.records ≡ max runs 1) }

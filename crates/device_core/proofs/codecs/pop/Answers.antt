@@ -4,13 +4,13 @@ use Rattle.std.specs.Option.{option_map}
 use Rattle.std.proofs.lemmas.List.{set-get_or}
 use Rattle.codec_graph.specs.CodecStates.{CodecState, without_first}
 use Rattle.codec_nodes.specs.Queues.{marked}
-use Rattle.hda_world.specs.Steps.{items_of}
+use Rattle.hda_world.specs.Steps.{waiting_of}
 use Rattle.device_core.proofs.Places.{changed_none, changed_here, none_there, codec_is, few_there, some_few, nothing_taken}
 use Rattle.device_core.proofs.codecs.pop.Goals as goal
 
 pub returns-in_default-clause-item : goal.returns-in_default-clause-item
 returns-in_default-clause-item c =
-    ap (λ (codec : Option CodecState). option_map marked (slice_get (items_of codec) 0)) (sym (none_there c.args.wanted c.args.codecs.now (sym c.find.ensures ∙ c.in_default.is)))
+    ap (λ (codec : Option CodecState). option_map marked (slice_get (waiting_of codec) 0)) (sym (none_there c.args.wanted c.args.codecs.now (sym c.find.ensures ∙ c.in_default.is)))
 
 pub returns-in_default-clause-codecs : goal.returns-in_default-clause-codecs
 returns-in_default-clause-codecs c = sym (changed_none c.args.wanted without_first c.args.codecs.now (sym c.find.ensures ∙ c.in_default.is))
@@ -18,7 +18,7 @@ returns-in_default-clause-codecs c = sym (changed_none c.args.wanted without_fir
 pub returns-clause-item : goal.returns-clause-item
 returns-clause-item c =
     c.next_answer.ensures.value
-    ∙ ap (λ (codec : Option CodecState). option_map marked (slice_get (items_of codec) 0)) (sym (codec_is c.args.wanted c.args.codecs.now c.in-Some.place c.index-codecs-place.result (sym c.find.ensures ∙ c.in-Some.is)))
+    ∙ ap (λ (codec : Option CodecState). option_map marked (slice_get (waiting_of codec) 0)) (sym (codec_is c.args.wanted c.args.codecs.now c.in-Some.place c.index-codecs-place.result (sym c.find.ensures ∙ c.in-Some.is)))
 
 pub returns-clause-codecs : goal.returns-clause-codecs
 returns-clause-codecs c =

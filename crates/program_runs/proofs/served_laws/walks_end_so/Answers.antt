@@ -4,7 +4,7 @@ use Rattle.schedule_reader.specs.Counts.{items_of}
 use Rattle.driver_progress.specs.Tasks.{Task, DriverLine, order_of}
 use Rattle.driver_progress.specs.Progress.{state_of}
 use Rattle.laws_start.specs.Tasks.{commands_of}
-use Rattle.program_runs.specs.Histories.{commands_for, journal_of, told_by}
+use Rattle.program_runs.specs.Histories.{commands_for, journal_of, telling_of_run}
 use Rattle.program_runs.specs.Walks.{walk_format, walked_task}
 use Rattle.laws_serving.specs.ServingSchedules.{ServesCommands}
 use Rattle.laws_serving.specs.Coming.{HasComeTo}
@@ -21,7 +21,7 @@ returns c = λ machine plans schedule played sound whole have limited serves wal
     let task : Task = walked_task machine plans walked.geometry walked.blocks in
     let codecs = machine_addresses machine in
     let items = items_of schedule in
-    let telling = told_by machine played in
+    let telling = telling_of_run machine played in
     let well = lie_well walked.geometry walked.blocks walked.first_fits in
     let to : IsTaskTo codecs task = record { orders = orders_go walk_format machine.codecs plans have whole.well_formed sound.each; corb_block = well.corb; rirb_block = well.rirb } in
     let count : length task.orders ≡ commands_for walk_format machine plans = length-map (commands_of walk_format machine.codecs plans) order_of in

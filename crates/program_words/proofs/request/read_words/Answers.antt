@@ -1,7 +1,7 @@
 use Rattle.std.proofs.Common.{◌≡◌, map, drop, rules, subst, string_bytes, Some}
 use Rattle.program_words.specs.Asked.{grammar_named}
 use Rattle.program_words.specs.Commands.{CommandGrammar, make_grammar, play_grammar, route_grammar, walk_grammar}
-use Rattle.program_words.specs.Lines.{line_of}
+use Rattle.program_words.specs.Lines.{command_line_of}
 use Rattle.program_words.specs.Seen.{line_seen}
 use Rattle.program_words.specs.Tables.{grammar_of}
 use Rattle.program_words.proofs.LineLemmas.{command_apart, command_make, command_play, command_route, command_walk, named_command, make_line, play_line, route_line, walk_line}
@@ -18,8 +18,8 @@ route_of-requires c =
     let named : grammar_named c.as_str.result.now ≡ Some (grammar_of c.in_ok-row.row) = first_of (cc, search rules) in
     let is : grammar_of c.in_ok-row.row ≡ route_grammar =
     command_route (grammar_of c.in_ok-row.row) c.in-Route.is (named_command c.as_str.result.now (grammar_of c.in_ok-row.row) named) in
-    let line : line_of route_grammar (drop 1 (map string_bytes c.args.words.now)) ≡ Some (line_seen c.in_ok-line.line) =
-    subst (λ (g : CommandGrammar). line_of g (drop 1 (map string_bytes c.args.words.now)) ≡ Some (line_seen c.in_ok-line.line)) is c.in_ok-line.ensures.ok in
+    let line : command_line_of route_grammar (drop 1 (map string_bytes c.args.words.now)) ≡ Some (line_seen c.in_ok-line.line) =
+    subst (λ (g : CommandGrammar). command_line_of g (drop 1 (map string_bytes c.args.words.now)) ≡ Some (line_seen c.in_ok-line.line)) is c.in_ok-line.ensures.ok in
     route_line (drop 1 (map string_bytes c.args.words.now)) (line_seen c.in_ok-line.line) line
 
 -- the line is one of `walk`
@@ -28,8 +28,8 @@ walk_of-requires c =
     let named : grammar_named c.as_str.result.now ≡ Some (grammar_of c.in_ok-row.row) = first_of (cc, search rules) in
     let is : grammar_of c.in_ok-row.row ≡ walk_grammar =
     command_walk (grammar_of c.in_ok-row.row) c.in-Walk.is (named_command c.as_str.result.now (grammar_of c.in_ok-row.row) named) in
-    let line : line_of walk_grammar (drop 1 (map string_bytes c.args.words.now)) ≡ Some (line_seen c.in_ok-line.line) =
-    subst (λ (g : CommandGrammar). line_of g (drop 1 (map string_bytes c.args.words.now)) ≡ Some (line_seen c.in_ok-line.line)) is c.in_ok-line.ensures.ok in
+    let line : command_line_of walk_grammar (drop 1 (map string_bytes c.args.words.now)) ≡ Some (line_seen c.in_ok-line.line) =
+    subst (λ (g : CommandGrammar). command_line_of g (drop 1 (map string_bytes c.args.words.now)) ≡ Some (line_seen c.in_ok-line.line)) is c.in_ok-line.ensures.ok in
     walk_line (drop 1 (map string_bytes c.args.words.now)) (line_seen c.in_ok-line.line) line
 
 -- the line is one of `play`
@@ -38,8 +38,8 @@ play_of-requires c =
     let named : grammar_named c.as_str.result.now ≡ Some (grammar_of c.in_ok-row.row) = first_of (cc, search rules) in
     let is : grammar_of c.in_ok-row.row ≡ play_grammar =
     command_play (grammar_of c.in_ok-row.row) c.in-Play.is (named_command c.as_str.result.now (grammar_of c.in_ok-row.row) named) in
-    let line : line_of play_grammar (drop 1 (map string_bytes c.args.words.now)) ≡ Some (line_seen c.in_ok-line.line) =
-    subst (λ (g : CommandGrammar). line_of g (drop 1 (map string_bytes c.args.words.now)) ≡ Some (line_seen c.in_ok-line.line)) is c.in_ok-line.ensures.ok in
+    let line : command_line_of play_grammar (drop 1 (map string_bytes c.args.words.now)) ≡ Some (line_seen c.in_ok-line.line) =
+    subst (λ (g : CommandGrammar). command_line_of g (drop 1 (map string_bytes c.args.words.now)) ≡ Some (line_seen c.in_ok-line.line)) is c.in_ok-line.ensures.ok in
     play_line (drop 1 (map string_bytes c.args.words.now)) (line_seen c.in_ok-line.line) line
 
 -- the line is one of `make`
@@ -48,6 +48,6 @@ make_of-requires c =
     let named : grammar_named c.as_str.result.now ≡ Some (grammar_of c.in_ok-row.row) = first_of (cc, search rules) in
     let is : grammar_of c.in_ok-row.row ≡ make_grammar =
     command_make (grammar_of c.in_ok-row.row) c.in-Make.is (named_command c.as_str.result.now (grammar_of c.in_ok-row.row) named) in
-    let line : line_of make_grammar (drop 1 (map string_bytes c.args.words.now)) ≡ Some (line_seen c.in_ok-line.line) =
-    subst (λ (g : CommandGrammar). line_of g (drop 1 (map string_bytes c.args.words.now)) ≡ Some (line_seen c.in_ok-line.line)) is c.in_ok-line.ensures.ok in
+    let line : command_line_of make_grammar (drop 1 (map string_bytes c.args.words.now)) ≡ Some (line_seen c.in_ok-line.line) =
+    subst (λ (g : CommandGrammar). command_line_of g (drop 1 (map string_bytes c.args.words.now)) ≡ Some (line_seen c.in_ok-line.line)) is c.in_ok-line.ensures.ok in
     make_line (drop 1 (map string_bytes c.args.words.now)) (line_seen c.in_ok-line.line) line

@@ -36,7 +36,7 @@ give-requires-3 c =
 
 -- both blocks of the engine were taken
 both : (pool one other : PoolState) (corb rirb : ℕ) → IsFirstFit pool.granules pool.taken (corb / 128) (granules_for corb_bytes) → AddsRun pool.taken (run_at corb corb_bytes) one.taken → one.granules ≡ pool.granules
-    → IsFirstFit one.granules one.taken (rirb / 128) (granules_for rirb_bytes) → AddsRun one.taken (run_at rirb rirb_bytes) other.taken → other.granules ≡ one.granules → of_engine.Opens pool corb rirb other
+    → IsFirstFit one.granules one.taken (rirb / 128) (granules_for rirb_bytes) → AddsRun one.taken (run_at rirb rirb_bytes) other.taken → other.granules ≡ one.granules → of_engine.OpensEngine pool corb rirb other
 both pool one other corb rirb fits adds kept fits' adds' kept' = record {
   middle = one.taken;
   corb_taken = record { fits = fits; adds = adds };

@@ -3,7 +3,7 @@ use Rattle.wav_reader.specs.Supplies.{sound_before}
 use Rattle.wav_reader.proofs.Callers.{same_before, none_now}
 use Rattle.period_writer.specs.Writers.{measures_of}
 use Rattle.period_writer.proofs.Callers.{accounts_none}
-use Rattle.audio_driver.specs.Sounding.{Sounds}
+use Rattle.audio_driver.specs.Sounding.{PlaysSound}
 use Rattle.audio_driver.proofs.Kept.{over_started}
 use Rattle.audio_driver.proofs.Sounded.{over_sounds_irq, quiet_sounds, irq_sounds}
 use Rattle.audio_driver.proofs.driver.sounding.play_if_interrupted.Goals as goal
@@ -24,7 +24,7 @@ returns-else-has_interrupt-clause-sounds g c later may ends =
     let writer = c.args.writer.now in
     let supply = c.args.supply.now in
     let looks = c.has_interrupt.ensures.looks in
-    subst (λ (sound : List ℕ). Sounds true c.args.budget bring_up bring_up writer writer sound later (g.P.Platform.told c.args.platform.now) (g.P.Platform.told c.has_interrupt.new.platform)) (sym (same_before supply supply later refl))
+    subst (λ (sound : List ℕ). PlaysSound true c.args.budget bring_up bring_up writer writer sound later (g.P.Platform.told c.args.platform.now) (g.P.Platform.told c.has_interrupt.new.platform)) (sym (same_before supply supply later refl))
     (quiet_sounds bring_up writer later c.args.budget looks.interrupts looks.stream (g.P.Platform.told c.args.platform.now) (g.P.Platform.told c.has_interrupt.new.platform)
     (ready_is bring_up.phase c.requires.ready) (sym c.is_open.ensures ∙ c.if-not-is_open.false) (sym looks.answer_is ∙ c.if-has_interrupt.false) looks.made)
 
@@ -40,7 +40,7 @@ returns-then-not-is_open-clause-sounds g c later may ends =
     let writer = c.args.writer.now in
     let supply = c.args.supply.now in
     let over = sym c.is_open.ensures ∙ c.if-not-is_open.true in
-    subst (λ (sound : List ℕ). Sounds true c.args.budget bring_up bring_up writer writer sound later (g.P.Platform.told c.args.platform.now) (g.P.Platform.told c.args.platform.now)) (sym (same_before supply supply later refl))
+    subst (λ (sound : List ℕ). PlaysSound true c.args.budget bring_up bring_up writer writer sound later (g.P.Platform.told c.args.platform.now) (g.P.Platform.told c.args.platform.now)) (sym (same_before supply supply later refl))
     (over_sounds_irq bring_up writer later c.args.budget (g.P.Platform.told c.args.platform.now) (over_started writer c.requires.fresh over) over)
 
 pub returns-else-has_interrupt-clause-accounts : goal.returns-else-has_interrupt-clause-accounts

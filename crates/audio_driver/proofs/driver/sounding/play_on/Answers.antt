@@ -3,7 +3,7 @@ use Rattle.wav_reader.specs.Supplies.{sound_before}
 use Rattle.wav_reader.proofs.Callers.{same_before, none_now}
 use Rattle.period_writer.specs.Accounts.{Accounts}
 use Rattle.period_writer.proofs.Callers.{accounts_none}
-use Rattle.audio_driver.specs.Sounding.{Sounds}
+use Rattle.audio_driver.specs.Sounding.{PlaysSound}
 use Rattle.period_writer.specs.declared.course.Course.{Course}
 use Rattle.period_writer.specs.Runs.{Tally}
 use Rattle.period_writer.specs.Writers.{measures_of}
@@ -40,7 +40,7 @@ returns-else-is_open-clause-sounds g c later may ends =
     let writer = c.args.writer.now in
     let supply = c.args.supply.now in
     let started : writer.course.started ≡ true = sym (ap (λ (course : Course). course.started) c.course.ensures.value) ∙ was_so c.course.result.started c.if-not-course.false in
-    subst (λ (sound : List ℕ). Sounds false c.args.budget bring_up bring_up writer writer sound later (g.P.Platform.told c.args.platform.now) (g.P.Platform.told c.args.platform.now)) (sym (same_before supply supply later refl))
+    subst (λ (sound : List ℕ). PlaysSound false c.args.budget bring_up bring_up writer writer sound later (g.P.Platform.told c.args.platform.now) (g.P.Platform.told c.args.platform.now)) (sym (same_before supply supply later refl))
     (over_sounds bring_up writer later c.args.budget (g.P.Platform.told c.args.platform.now) started (sym c.is_open.ensures ∙ c.if-is_open.false))
 
 pub returns-else-is_open-clause-taken : goal.returns-else-is_open-clause-taken

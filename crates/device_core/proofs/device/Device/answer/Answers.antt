@@ -5,7 +5,7 @@ use Rattle.std.specs.Option.{option_map}
 use Rattle.codec_graph.specs.CodecStates.{CodecState, without_first}
 use Rattle.codec_nodes.specs.Queues.{marked}
 use Rattle.hda_world.specs.Worlds.{codec_at, with_codec}
-use Rattle.hda_world.specs.Steps.{items_of, answer_step}
+use Rattle.hda_world.specs.Steps.{waiting_of, answer_step}
 use Rattle.device_core.specs.Codecs.{KeepCodecs, addresses_of}
 use Rattle.device_core.specs.Devices.{DeviceState, IsWorld}
 use Rattle.device_core.proofs.Moves.{keeps_queues, answer_none, answer_sent}
@@ -23,7 +23,7 @@ returns-in-Some-clause-stands c memory world is =
     let before : DeviceState = record { registers = c.self.inside.registers; codecs = c.self.inside.codecs.items; waiting = c.self.inside.rings; frames = c.self.inside.frames; input = c.self.inside.input; output = c.self.inside.output } in
     let here : IsWorld memory before world = subst (λ (device : DeviceState). IsWorld memory device world) (sym c.self.view_is) is in
     let back = put_back c.args.codec without_first c.self.inside.codecs c.pop.new.codecs (c.pop.ensures.codecs ∙ ap (with_codec c.args.codec without_first) c.as_mut_slice.ensures.value) in
-    let first = ap (λ (codecs : List CodecState). option_map marked (slice_get (items_of (codec_at c.args.codec codecs)) 0)) (sym c.as_mut_slice.ensures.value) in
+    let first = ap (λ (codecs : List CodecState). option_map marked (slice_get (waiting_of (codec_at c.args.codec codecs)) 0)) (sym c.as_mut_slice.ensures.value) in
     answer_sent memory before world here c.args.codec _ c.receive.new.rings c.in-Some.answer c.in-Some.unsolicited back c.receive.ensures (sym c.can_receive.ensures ∙ c.if-not-can_receive.false)
     (first ∙ (sym c.pop.ensures.item ∙ c.in-Some.is))
 
@@ -38,6 +38,6 @@ returns-in_default-clause-stands c memory world is =
     let before : DeviceState = record { registers = c.self.inside.registers; codecs = c.self.inside.codecs.items; waiting = c.self.inside.rings; frames = c.self.inside.frames; input = c.self.inside.input; output = c.self.inside.output } in
     let here : IsWorld memory before world = subst (λ (device : DeviceState). IsWorld memory device world) (sym c.self.view_is) is in
     let same = put_same c.self.inside.codecs c.pop.new.codecs (c.pop.ensures.unchanged c.in_default.is ∙ c.as_mut_slice.ensures.value) in
-    let first = ap (λ (codecs : List CodecState). option_map marked (slice_get (items_of (codec_at c.args.codec codecs)) 0)) (sym c.as_mut_slice.ensures.value) in
+    let first = ap (λ (codecs : List CodecState). option_map marked (slice_get (waiting_of (codec_at c.args.codec codecs)) 0)) (sym c.as_mut_slice.ensures.value) in
     subst (λ (codecs : List CodecState). IsWorld memory (record before { codecs = codecs }) (answer_step c.args.codec world)) (sym same)
     (answer_none memory before world here c.args.codec (sym c.can_receive.ensures ∙ c.if-not-can_receive.false) (first ∙ (sym c.pop.ensures.item ∙ c.in_default.is)))

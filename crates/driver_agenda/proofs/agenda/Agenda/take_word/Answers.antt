@@ -4,7 +4,7 @@ use Rattle.std.specs.Option.{is_some}
 use Rattle.verb_codes.specs.declared.verbs.Command.{Command}
 use Rattle.codec_walk.specs.Dialogues.{Dialogue, question, answered}
 use Rattle.codec_walk.specs.Remaining.{remaining}
-use Rattle.driver_agenda.specs.Sound.{IsUnderWay, TellsOf}
+use Rattle.driver_agenda.specs.Sound.{WalkGoesOn, TellsOf}
 use Rattle.driver_agenda.proofs.Telling.{of_some, tells_on}
 use Rattle.driver_agenda.proofs.Leading.{walks_on}
 use Rattle.driver_agenda.proofs.agenda.Agenda.take_word.Goals as goal
@@ -13,7 +13,7 @@ pub invariant_of-self-clause-under_way : goal.invariant_of-self-clause-under_way
 invariant_of-self-clause-under_way g c =
     let some : is_some c.next.result ≡ true = sym c.is_some.ensures ∙ c.if-is_some.true in
     let place = length c.args.self.now.graphs.items in
-    of_some (IsUnderWay c.args.self.now.addresses.items place) c.take.new.self (record {
+    of_some (WalkGoesOn c.args.self.now.addresses.items place) c.take.new.self (record {
       there = c.requires.under_way.there;
       asks = subst (λ (asked : Option Command). IsSome asked) c.next.ensures.value some;
       tells = subst (λ (dialogue : Dialogue). TellsOf (slice_index c.args.self.now.addresses.items place) dialogue) (sym c.in_ok-take.ensures.ok)
