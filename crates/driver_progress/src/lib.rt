@@ -19,8 +19,8 @@ pub use commands::{Asked, ask};
 pub use interrupts::has_interrupt;
 pub use jack::Jack;
 pub use laws::{
-    closings_are_worked, commands_are_worked, trails_go_on, interrupts_are_worked,
-    resets_are_worked, rows_are_made, runs_are_worked, steps_leave_a_trail,
+    closings_are_worked, commands_are_worked, interrupts_are_worked, resets_are_worked,
+    rows_are_made, runs_are_worked, steps_leave_a_trail, trails_go_on,
 };
 pub use phase::Phase;
 pub use registers::STREAM_STATUS;

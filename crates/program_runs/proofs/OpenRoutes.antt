@@ -18,11 +18,11 @@ use Rattle.program_runs.specs.Lines.{lines_of}
 use Rattle.program_runs.specs.Histories.{IsOpenFor, StaysOpen}
 
 -- what holds always holds at each moment
-at_moment : (Holds : World → Trail → Type 0) (task : Task) (before later : List Event) (world : World) (course : Trail) → Always Holds task (before ++ later) world course
-    → Holds (after before world) (trail_after task before world course)
-at_moment Holds task [] [] world course always = always
-at_moment Holds task [] (event ∷ later) world course always = always.0
-at_moment Holds task (event ∷ before) later world course always = at_moment Holds task before later (happens world event) (noted task course world event) always.1
+at_moment : (Holds : World → Trail → Type 0) (task : Task) (before later : List Event) (world : World) (trail : Trail) → Always Holds task (before ++ later) world trail
+    → Holds (after before world) (trail_after task before world trail)
+at_moment Holds task [] [] world trail always = always
+at_moment Holds task [] (event ∷ later) world trail always = always.0
+at_moment Holds task (event ∷ before) later world trail always = at_moment Holds task before later (happens world event) (noted task trail world event) always.1
 
 -- a codec that is set up for analog outputs
 open_there : (format : Format) (world : World) (graph : RawCodec) → IsThere (analog format stream_tag) graph world.codecs → IsOpenFor format world graph
