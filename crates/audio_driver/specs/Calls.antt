@@ -21,7 +21,8 @@ abbrev pub SufficesIfOpen : (budget : ℕ) → WriterState → Supplied → Type
 SufficesIfOpen budget writer supply = is_open writer.course.ran ≡ true → Suffices (ring_size writer) budget supply
 
 -- a call that plays
-abbrev pub SoundsAny : (irq : Bool) → (budget : ℕ) → (old new : BringUp) → (writer writer' : WriterState) → (supply supply' : Supplied) → (before after : Option Telling) → Type 0
+abbrev pub SoundsAny : (irq : Bool) → (budget : ℕ) → (old new : BringUp) → (writer writer' : WriterState)
+    → (supply supply' : Supplied) → (before after : Option Telling) → Type 0
 SoundsAny irq budget old new writer writer' supply supply' before after =
     (later : List ℕ) → MayGive supply' later → EndsWhilePlaying writer.course supply (sound_before supply supply' later)
     → PlaysSound irq budget old new writer writer' (sound_before supply supply' later) later before after
@@ -29,7 +30,8 @@ SoundsAny irq budget old new writer writer' supply supply' before after =
 -- the last call of a driver whose calls play
 abbrev pub EndsAny : (old ended : BringUp) → WriterState → Tally → Supplied → (before after : Option Telling) → Type 0
 EndsAny old ended writer tally' supply before after =
-    (sound : List ℕ) → MayGive supply sound → EndsWith supply sound → EndsSound old ended writer tally' sound before after
+    (sound : List ℕ) → MayGive supply sound → EndsWith supply sound
+    → EndsSound old ended writer tally' sound before after
 
 -- ---- the codecs, which a setter sets up by what it means
 
@@ -47,5 +49,6 @@ module _ {T : Type 0} (means : T → Meaning) where
   -- what is left after the last call of a driver, with this sound to come
   abbrev pub ClosesBy : DriverState T → (sound : List ℕ) → Closed → (before after : Option Telling) → Type 0
   ClosesBy driver sound closed before after =
-      Closes (means driver.setter driver.bring_up.agenda.format TAG) driver.play driver.bring_up driver.writer sound closed
+      Closes (means driver.setter driver.bring_up.agenda.format TAG) driver.play driver.bring_up driver.writer sound
+      closed
       before after

@@ -21,14 +21,16 @@ use Rattle.audio_driver.specs.Sounding.{EndsSound}
 use Rattle.audio_driver.specs.declared.driver.closing.Closed.{Closed}
 
 -- CORB and RIRB were given back, and then the periods and the list of buffers
-pub record GivesBack (geometry : Geometry) (pool : PoolState) (corb rirb list : ℕ) (periods : List ℕ) (pool' : PoolState) : Type 0 where
+pub record GivesBack (geometry : Geometry) (pool : PoolState) (corb rirb list : ℕ) (periods : List ℕ)
+    (pool' : PoolState) : Type 0 where
   pub middle : PoolState
   pub engine : of_engine.GivesBack pool corb rirb middle
   pub writer : of_writer.GivesBack geometry middle list periods pool'
 
--- what is left: the bring-up as the last call leaves it, and what the writer recorded. Where calls play that is one for the sound, else it
--- is the last call of the bring-up, and nothing more is recorded
-pub record Closes (means : Means) (play : Bool) (bring_up : BringUp) (writer : WriterState) (supply : List ℕ) (closed : Closed) (before after : Option Telling) : Type 0 where
+-- what is left: the bring-up as the last call leaves it, and what the writer recorded. Where calls play that is one for
+-- the sound, else it is the last call of the bring-up, and nothing more is recorded
+pub record Closes (means : Means) (play : Bool) (bring_up : BringUp) (writer : WriterState) (supply : List ℕ)
+    (closed : Closed) (before after : Option Telling) : Type 0 where
   pub ended : BringUp
   pub tally : Tally
   pub ends : plays_now play bring_up ≡ false → Ends means bring_up ended before after
@@ -39,6 +41,7 @@ pub record Closes (means : Means) (play : Bool) (bring_up : BringUp) (writer : W
   pub sent : closed.sent ≡ ended.sent
   pub graphs : closed.graphs ≡ ended.agenda.graphs
   pub plans : closed.plans ≡ ended.agenda.plans
-  pub jacks : (events : List told.Event) → IsCount events ended.jacks → All IsOfPin events → Counts events closed.jacks.items
+  pub jacks : (events : List told.Event) → IsCount events ended.jacks → All IsOfPin events
+      → Counts events closed.jacks.items
   pub runs : closed.runs.items ≡ tally.runs
   pub silences : closed.silences.items ≡ tally.silences

@@ -12,8 +12,8 @@ use Rattle.audio_driver.specs.States.{plays_now}
 use Rattle.audio_driver.specs.Opening as opening
 use Rattle.audio_driver.specs.Closing as closing
 
--- a driver: the bring-up of its codecs, its writer, the sound that is still to come, the pool that its blocks were taken from, how codecs are
--- set up, whether sound is played then, how many calls there may be, and how many there were
+-- a driver: the bring-up of its codecs, its writer, the sound that is still to come, the pool that its blocks were
+-- taken from, how codecs are set up, whether sound is played then, how many calls there may be, and how many there were
 pub record DriverState (T : Type 0) : Type 0 where
   pub bring_up : BringUp
   pub writer : WriterState
@@ -26,9 +26,10 @@ pub record DriverState (T : Type 0) : Type 0 where
 
 -- ---- what is true of every driver
 
--- its blocks are taken, both play the same format, there is room to record a run of each call and one more, and nothing is recorded before the
--- codecs are set up
-pub record IsDriver (bring_up : BringUp) (writer : WriterState) (pool : PoolState) (play : Bool) (runs calls : ℕ) : Type 0 where
+-- its blocks are taken, both play the same format, there is room to record a run of each call and one more, and nothing
+-- is recorded before the codecs are set up
+pub record IsDriver (bring_up : BringUp) (writer : WriterState) (pool : PoolState) (play : Bool) (runs calls : ℕ) : Type
+    0 where
   pub owns_corb : Contains pool.taken (run_at bring_up.engine.corb.address corb_bytes)
   pub owns_rirb : Contains pool.taken (run_at bring_up.engine.rirb.address rirb_bytes)
   pub owns_ring : OwnsBlocks pool.taken writer
@@ -67,11 +68,13 @@ module _ {T : Type 0} where
   -- a driver for a ring of this geometry took them from a pool
   abbrev pub TakesBlocks : Geometry → PoolState → DriverState T → Type 0
   TakesBlocks geometry pool driver =
-      opening.OpensDriver geometry pool driver.bring_up.engine.corb.address driver.bring_up.engine.rirb.address driver.writer.list.address
+      opening.OpensDriver geometry pool driver.bring_up.engine.corb.address driver.bring_up.engine.rirb.address
+      driver.writer.list.address
       (periods_of driver.writer) driver.pool
 
   -- all of them were given back to its pool
   abbrev pub GivesBlocks : DriverState T → PoolState → Type 0
   GivesBlocks driver pool =
-      closing.GivesBack driver.writer.geometry driver.pool driver.bring_up.engine.corb.address driver.bring_up.engine.rirb.address
+      closing.GivesBack driver.writer.geometry driver.pool driver.bring_up.engine.corb.address
+      driver.bring_up.engine.rirb.address
       driver.writer.list.address (periods_of driver.writer) pool

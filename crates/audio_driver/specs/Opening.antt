@@ -11,7 +11,8 @@ use Rattle.driver_bring_up.specs.Counted.{IsCount}
 use Rattle.driver_bring_up.specs.declared.bringing.BringUp.{BringUp}
 
 -- CORB and RIRB were taken, and then the list of buffers and the periods
-pub record OpensDriver (geometry : Geometry) (pool : PoolState) (corb rirb list : ℕ) (periods : List ℕ) (pool' : PoolState) : Type 0 where
+pub record OpensDriver (geometry : Geometry) (pool : PoolState) (corb rirb list : ℕ) (periods : List ℕ)
+    (pool' : PoolState) : Type 0 where
   pub middle : PoolState
   pub engine : of_engine.OpensEngine pool corb rirb middle
   pub writer : of_writer.OpensWriter geometry middle list periods pool'
@@ -31,7 +32,8 @@ HasNoRuns geometry pool = of_engine.HasNoRuns pool ⊎ HasNoRing geometry pool
 -- all of them meet one
 abbrev pub HasRuns : Geometry → PoolState → Type 0
 HasRuns geometry pool =
-    (corb : ℕ) × (rirb : ℕ) × (list : ℕ) × (periods : List ℕ) × (pool' : PoolState) × OpensDriver geometry pool corb rirb list periods pool'
+    (corb : ℕ) × (rirb : ℕ) × (list : ℕ) × (periods : List ℕ) × (pool' : PoolState)
+    × OpensDriver geometry pool corb rirb list periods pool'
 
 -- where a driver begins: nothing was done yet, and nothing was played
 pub record IsOpened (geometry : Geometry) (most : ℕ) (bring_up : BringUp) (writer : WriterState) : Type 0 where

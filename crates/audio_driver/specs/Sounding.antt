@@ -36,7 +36,8 @@ pub record IsStill (irq : Bool) (old new : BringUp) (writer writer' : WriterStat
   pub writer_is : writer' ≡ writer
 
 -- the first run, after the look for interrupts where the call is for one
-pub record Begins (irq : Bool) (budget : ℕ) (old new : BringUp) (writer writer' : WriterState) (supply : List ℕ) (made : List Event) (before after : Telling) : Type 0 where
+pub record Begins (irq : Bool) (budget : ℕ) (old new : BringUp) (writer writer' : WriterState) (supply : List ℕ)
+    (made : List Event) (before after : Telling) : Type 0 where
   pub fresh : writer.course.started ≡ false
   pub first : List Event
   pub is_before : IsBefore irq first
@@ -49,7 +50,8 @@ pub record Begins (irq : Bool) (budget : ℕ) (old new : BringUp) (writer writer
   pub bring_up : new ≡ old
 
 -- a later run, after the look for interrupts and one for what codecs told unasked
-pub record GoesOn (irq : Bool) (budget : ℕ) (old new : BringUp) (writer writer' : WriterState) (supply : List ℕ) (made : List Event) (before after : Telling) : Type 0 where
+pub record GoesOn (irq : Bool) (budget : ℕ) (old new : BringUp) (writer writer' : WriterState) (supply : List ℕ)
+    (made : List Event) (before after : Telling) : Type 0 where
   pub started : writer.course.started ≡ true
   pub more : is_open writer.course.ran ≡ true
   pub first : List Event
@@ -60,12 +62,15 @@ pub record GoesOn (irq : Bool) (budget : ℕ) (old new : BringUp) (writer writer
   pub begins : Telling
   pub first_made : Makes (first ++ poll_accesses old.engine.rirb.address old.engine.rings reads) before begins
   pub run_made : Makes run begins after
-  pub tells : (pcm : List ℕ) → supply ≡ drop writer.course.used pcm → RunTellsOf (ring_of writer) pcm budget (tally_of writer) writer'.course.ran (tally_of writer') begins after
+  pub tells : (pcm : List ℕ) → supply ≡ drop writer.course.used pcm
+      → RunTellsOf (ring_of writer) pcm budget (tally_of writer) writer'.course.ran (tally_of writer') begins after
   pub rings : new.engine.rings ≡ rings_polled old.engine.rings reads
 
-abbrev pub SoundTells : (irq : Bool) (budget : ℕ) (old new : BringUp) (writer writer' : WriterState) (supply : List ℕ) (made : List Event) → Telling → Telling → Type 0
+abbrev pub SoundTells : (irq : Bool) (budget : ℕ) (old new : BringUp) (writer writer' : WriterState) (supply : List ℕ)
+    (made : List Event) → Telling → Telling → Type 0
 SoundTells irq budget old new writer writer' supply made before after =
-    IsStill irq old new writer writer' made ⊎ (Begins irq budget old new writer writer' supply made before after ⊎ GoesOn irq budget old new writer writer' supply made before after)
+    IsStill irq old new writer writer' made ⊎ (Begins irq budget old new writer writer' supply made before after
+    ⊎ GoesOn irq budget old new writer writer' supply made before after)
 
 -- ---- a call, on every platform
 
@@ -82,16 +87,19 @@ pub record StaysSet (old new : BringUp) (writer writer' : WriterState) : Type 0 
   pub periods : writer'.periods ≡ writer.periods
   pub records : writer'.records ≡ writer.records
 
--- a call, for an interrupt or not, with this budget: it makes just the accesses that are to be made, and leads where it is to lead, for
--- every task of the driver. Of the sound what it did not write is left
-pub record PlaysSound (irq : Bool) (budget : ℕ) (old new : BringUp) (writer writer' : WriterState) (supply supply' : List ℕ) (before after : Option Telling) : Type 0 where
+-- a call, for an interrupt or not, with this budget: it makes just the accesses that are to be made, and leads where it
+-- is to lead, for every task of the driver. Of the sound what it did not write is left
+pub record PlaysSound (irq : Bool) (budget : ℕ) (old new : BringUp) (writer writer' : WriterState)
+    (supply supply' : List ℕ) (before after : Option Telling) : Type 0 where
   pub made : List Event
   pub are : AreAccesses made
   pub by : Between (Makes made) before after
   pub is : (task : Task) → IsTaskOf old writer supply task
-      → IsStretch task (state_of old writer) (Some (record { irq = irq; budget = budget })) made (is_some (answer_in old.engine.rings made)) (state_of new writer')
+      → IsStretch task (state_of old writer) (Some (record { irq = irq; budget = budget })) made
+      (is_some (answer_in old.engine.rings made)) (state_of new writer')
   pub sound : (pcm : List ℕ) → IsLeft pcm writer.course supply → IsLeft pcm writer'.course supply'
-  pub counted : (events : List told.Event) → IsCount events old.jacks → IsCount (with_told events (entries_in made)) new.jacks
+  pub counted : (events : List told.Event) → IsCount events old.jacks
+      → IsCount (with_told events (entries_in made)) new.jacks
   pub stays : StaysSet old new writer writer'
   pub tells : Between (SoundTells irq budget old new writer writer' supply made) before after
 
@@ -105,7 +113,8 @@ pub record ShutsAlone (old ended : BringUp) (writer : WriterState) (tally' : Tal
   pub tally_is : tally' ≡ tally_of writer
 
 -- it plays: one more look for what codecs told unasked, the last run, and the end
-pub record StopsSound (old ended : BringUp) (writer : WriterState) (tally' : Tally) (supply : List ℕ) (made : List Event) (before after : Telling) : Type 0 where
+pub record StopsSound (old ended : BringUp) (writer : WriterState) (tally' : Tally) (supply : List ℕ)
+    (made : List Event) (before after : Telling) : Type 0 where
   pub plays : is_playing writer.course ≡ true
   pub course_is : IsCourse (ring_size writer) (length writer.runs) writer.course
   pub reads : PollReads
@@ -115,22 +124,28 @@ pub record StopsSound (old ended : BringUp) (writer : WriterState) (tally' : Tal
   pub ends : Telling
   pub listened : Makes (poll_accesses old.engine.rirb.address old.engine.rings reads) before begins
   pub run_made : Makes run begins ends
-  pub tells : (pcm : List ℕ) → supply ≡ drop writer.course.used pcm → FinishTellsOf (ring_of writer) pcm (tally_of writer) tally'.course.ran tally' begins ends
+  pub tells : (pcm : List ℕ) → supply ≡ drop writer.course.used pcm
+      → FinishTellsOf (ring_of writer) pcm (tally_of writer) tally'.course.ran tally' begins ends
   pub shut : Makes shut_accesses ends after
   pub rings : ended.engine.rings ≡ rings_polled old.engine.rings reads
 
-abbrev pub EndTells : (old ended : BringUp) (writer : WriterState) (tally' : Tally) (supply : List ℕ) (made : List Event) → Telling → Telling → Type 0
+abbrev pub EndTells : (old ended : BringUp) (writer : WriterState) (tally' : Tally) (supply : List ℕ)
+    (made : List Event) → Telling → Telling → Type 0
 EndTells old ended writer tally' supply made before after =
     ShutsAlone old ended writer tally' made ⊎ StopsSound old ended writer tally' supply made before after
 
--- the last call makes just the accesses that are to be made, and leads where it is to lead, for every task of the driver
-pub record EndsSound (old ended : BringUp) (writer : WriterState) (tally' : Tally) (supply : List ℕ) (before after : Option Telling) : Type 0 where
+-- the last call makes just the accesses that are to be made, and leads where it is to lead, for every task of the
+-- driver
+pub record EndsSound (old ended : BringUp) (writer : WriterState) (tally' : Tally) (supply : List ℕ)
+    (before after : Option Telling) : Type 0 where
   pub made : List Event
   pub are : AreAccesses made
   pub by : Between (Makes made) before after
   pub is : (task : Task) → IsTaskOf old writer supply task
-      → IsStretch task (state_of old writer) None made (is_some (answer_in old.engine.rings made)) (state_with ended tally')
-  pub counted : (events : List told.Event) → IsCount events old.jacks → IsCount (with_told events (entries_in made)) ended.jacks
+      → IsStretch task (state_of old writer) None made (is_some (answer_in old.engine.rings made))
+      (state_with ended tally')
+  pub counted : (events : List told.Event) → IsCount events old.jacks
+      → IsCount (with_told events (entries_in made)) ended.jacks
   pub phase : ended.phase ≡ old.phase
   pub sent : ended.sent ≡ old.sent
   pub agenda : ended.agenda ≡ old.agenda

@@ -58,11 +58,13 @@ was_late ran.Playing = false
 was_late ran.Drained = false
 was_late (ran.Late from to limit) = true
 
--- of this sound what was not written yet is left. After a late run, which is not recorded and after which none comes, nothing is said of it
+-- of this sound what was not written yet is left. After a late run, which is not recorded and after which none comes,
+-- nothing is said of it
 abbrev pub IsLeft : (pcm : List ℕ) → Course → (supply : List ℕ) → Type 0
 IsLeft pcm course supply = was_late course.ran ≡ false → supply ≡ drop course.used pcm
 
--- a task of a driver with these blocks and this sound: its ring and its blocks, and of the sound what it did not write yet is left
+-- a task of a driver with these blocks and this sound: its ring and its blocks, and of the sound what it did not write
+-- yet is left
 pub record IsTaskOf (bring_up : BringUp) (writer : WriterState) (supply : List ℕ) (task : Task) : Type 0 where
   pub rings : bringing.IsTaskOf bring_up task
   pub geometry : task.geometry ≡ writer.geometry

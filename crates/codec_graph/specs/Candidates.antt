@@ -1,5 +1,5 @@
--- The pins that can get a route. Pin capabilities: High Definition Audio 1.0a, 7.3.4.9. Configuration default: 7.3.3.31.
--- That these pins are the candidates, and their order, is this project's own.
+-- The pins that can get a route. Pin capabilities: High Definition Audio 1.0a, 7.3.4.9. Configuration default:
+-- 7.3.3.31. That these pins are the candidates, and their order, is this project's own.
 use Rattle.std.specs.Prelude.{ℕ, Bool, false, ◌==◌, ◌&&◌, not, Option, Some, None, nat_le}
 use Rattle.codec_graph.specs.declared.raw.RawNode.{RawNode}
 use Rattle.codec_graph.specs.declared.raw.RawCodec.{RawCodec}
@@ -18,8 +18,8 @@ association node = bits_of node.default 4 4
 abbrev pub sequence : RawNode → ℕ
 sequence node = bits_of node.default 0 4
 
--- a stereo analog pin that can drive an output, is connected to something, is a line out, speaker or headphone (devices 0 to 2)
--- and belongs to an association
+-- a stereo analog pin that can drive an output, is connected to something, is a line out, speaker or headphone (devices
+-- 0 to 2) and belongs to an association
 abbrev pub is_candidate_node : RawNode → Bool
 is_candidate_node node =
     is_pin node && is_stereo node && not (is_digital node) && has_bit node.pin_caps 4

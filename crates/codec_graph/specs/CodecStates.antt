@@ -1,7 +1,8 @@
--- A codec, as commands and its pins change it: its graph, its settings, what is plugged in, and what waits to be sent to the
--- controller in order of arrival. Unsolicited responses: High Definition Audio 1.0a, 7.3.3.14. The queue, its limits and
--- what is lost are this project's own.
-use Rattle.std.specs.Prelude.{◌≡◌, ◌≤◌, ◌*◌, ◌%◌, ◌^◌, ℕ, Bool, true, false, ◌==◌, ◌&&◌, not, List, [], ◌∷◌, ◌++◌, length, drop, count_by, slice_set, nat_lt, if◌then◌else◌, Option, Some, None}
+-- A codec, as commands and its pins change it: its graph, its settings, what is plugged in, and what waits to be sent
+-- to the controller in order of arrival. Unsolicited responses: High Definition Audio 1.0a, 7.3.3.14. The queue, its
+-- limits and what is lost are this project's own.
+use Rattle.std.specs.Prelude.{◌≡◌, ◌≤◌, ◌*◌, ◌%◌, ◌^◌, ℕ, Bool, true, false, ◌==◌, ◌&&◌, not, List, [], ◌∷◌, ◌++◌}
+use Rattle.std.specs.Prelude.{length, drop, count_by, slice_set, nat_lt, if◌then◌else◌, Option, Some, None}
 use Rattle.codec_graph.specs.declared.raw.RawNode.{RawNode}
 use Rattle.codec_graph.specs.declared.raw.RawCodec.{RawCodec}
 use Rattle.codec_graph.specs.declared.controls.Control.TheVariants.{Unsol}
@@ -76,8 +77,8 @@ is_enabled control = has_bit control 7
 abbrev pub response_of : ℕ → Waiting
 response_of control = Unsolicited (control % 2 ^ 6 * 2 ^ 26)
 
--- whether the pin's new presence is told: it can detect presence, its presence changed, it can send unsolicited responses,
--- they are enabled, and there is room for another
+-- whether the pin's new presence is told: it can detect presence, its presence changed, it can send unsolicited
+-- responses, they are enabled, and there is room for another
 abbrev pub is_told : CodecState → ℕ → Bool → RawNode → Bool
 is_told codec nid present node =
     detects_presence node && changes (is_present codec.present nid) present && sends_unsolicited node
@@ -87,7 +88,8 @@ is_told codec nid present node =
 abbrev pub pin_plugged : CodecState → ℕ → Bool → RawNode → CodecState
 pin_plugged codec nid present node = record codec {
   present = slice_set codec.present nid present;
-  waiting = if is_told codec nid present node then codec.waiting ++ response_of (setting_of codec.settings nid Unsol) ∷ [] else codec.waiting;
+  waiting = if is_told codec nid present node then codec.waiting ++ response_of (setting_of codec.settings nid Unsol) ∷
+      [] else codec.waiting;
 }
 
 abbrev pub node_plugged : CodecState → ℕ → Bool → Option RawNode → CodecState

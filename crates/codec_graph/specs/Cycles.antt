@@ -1,4 +1,5 @@
--- Cycles of mixers and selectors, and well-formed graphs. This project's own, over the standard's connection lists (7.1.2).
+-- Cycles of mixers and selectors, and well-formed graphs. This project's own, over the standard's connection lists
+-- (7.1.2).
 use Rattle.std.specs.Prelude.{◌≡◌, ◌≤◌, ℕ, List, [], ◌∷◌, Option, Some, None, if◌then◌else◌, All, Contains}
 use Rattle.codec_graph.specs.declared.raw.RawNode.{RawNode}
 use Rattle.codec_graph.specs.declared.raw.RawCodec.{RawCodec}

@@ -1,5 +1,5 @@
--- Connection lists of a codec: their entries, and the nodes for which these stand. High Definition Audio 1.0a, 7.1.2, 7.3.3.3 and
--- 7.3.4.11. That a list with a faulty entry is taken as empty is this project's own.
+-- Connection lists of a codec: their entries, and the nodes for which these stand. High Definition Audio 1.0a, 7.1.2,
+-- 7.3.3.3 and 7.3.4.11. That a list with a faulty entry is taken as empty is this project's own.
 use Rattle.std.specs.Prelude.{◌≡◌, ◌≤◌, ◌<◌, ◌^◌, ℕ, [], length, map, Option, Some, None, Ok, All}
 use Rattle.std.specs.Option.{option_and_then}
 use Rattle.std.specs.Result.{result_err, result_unwrap_or}

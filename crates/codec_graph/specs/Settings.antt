@@ -1,6 +1,9 @@
--- The settings of a codec: which controls its nodes have, and what each is set to. Controls and where they stand: High Definition
--- Audio 1.0a, 7.3.3. That a gain is kept beside its mute, and what a control is set to at the opening, is this project's own.
-use Rattle.std.specs.Prelude.{◌≡◌, ◌<◌, ◌^◌, ℕ, Bool, true, false, ◌==◌, ◌&&◌, not, List, [], ◌∷◌, ◌++◌, length, map, filter, fold, min, max, nat_lt, nat_le, if◌then◌else◌, Option, Some, None, unwrap_or, All, zero, suc}
+-- The settings of a codec: which controls its nodes have, and what each is set to. Controls and where they stand: High
+-- Definition Audio 1.0a, 7.3.3. That a gain is kept beside its mute, and what a control is set to at the opening, is
+-- this project's own.
+use Rattle.std.specs.Prelude.{◌≡◌, ◌<◌, ◌^◌, ℕ, Bool, true, false, ◌==◌, ◌&&◌, not, List, [], ◌∷◌, ◌++◌, length, map}
+use Rattle.std.specs.Prelude.{filter, fold, min, max, nat_lt, nat_le, if◌then◌else◌, Option, Some, None, unwrap_or, All}
+use Rattle.std.specs.Prelude.{zero, suc}
 use Rattle.std.specs.Map.{keys_of, lookup, set_value}
 use Rattle.std.specs.List.{range_with_len}
 use Rattle.std.specs.BTreeMap.{is_at}
@@ -8,11 +11,14 @@ use Rattle.std.specs.declared.cmp.Ordering.{Ordering}
 use Rattle.codec_graph.specs.declared.raw.RawNode.{RawNode}
 use Rattle.codec_graph.specs.declared.raw.RawCodec.{RawCodec}
 use Rattle.codec_graph.specs.declared.controls.Control.{Control}
-use Rattle.codec_graph.specs.declared.controls.Control.TheVariants.{Select, Power, Stream, Pin, Unsol, Eapd, Digital, Default, Format, OutLeft, OutRight, InLeft, InRight}
+use Rattle.codec_graph.specs.declared.controls.Control.TheVariants.{Select, Power, Stream, Pin, Unsol, Eapd, Digital}
+use Rattle.codec_graph.specs.declared.controls.Control.TheVariants.{Default, Format, OutLeft, OutRight, InLeft, InRight}
 use Rattle.codec_graph.specs.declared.controls.ControlKey.{ControlKey}
 use Rattle.codec_graph.specs.contracts.controls.ControlKeyOrd.TheImpl as key_order
 use Rattle.verb_codes.specs.Words.{has_bit}
-use Rattle.codec_graph.specs.Widget.{node_identifiers, most_amplified, node_at, is_mixer, is_pin, is_converter, is_digital, has_power_control, has_input_amplifier, has_output_amplifier, input_amplifier_word, output_amplifier_word, amplifier_offset, can_mute}
+use Rattle.codec_graph.specs.Widget.{node_identifiers, most_amplified, node_at, is_mixer, is_pin, is_converter}
+use Rattle.codec_graph.specs.Widget.{is_digital, has_power_control, has_input_amplifier, has_output_amplifier}
+use Rattle.codec_graph.specs.Widget.{input_amplifier_word, output_amplifier_word, amplifier_offset, can_mute}
 
 -- a finite map from controls of nodes to numbers, as its entries in the order of the keys
 abbrev pub Entries : Type 0
@@ -123,17 +129,20 @@ abbrev pub node_opening : RawCodec → Option RawNode → Control → ℕ
 node_opening codec None control = 0
 node_opening codec (Some node) control = widget_opening codec node control
 
--- what a control is set to at the opening: an amplifier as above, a pin's configuration default as its word, all else to 0
+-- what a control is set to at the opening: an amplifier as above, a pin's configuration default as its word, all else
+-- to 0
 abbrev pub opening_value : RawCodec → ℕ → Control → ℕ
 opening_value codec nid control = node_opening codec (node_at codec nid) control
 
--- the controls that some node can have, in their order: the plain ones, then the left sides of the inputs' amplifiers and then the right
+-- the controls that some node can have, in their order: the plain ones, then the left sides of the inputs' amplifiers
+-- and then the right
 unfoldable pub plain_controls : List Control
 plain_controls =
     Select ∷ Power ∷ Stream ∷ Pin ∷ Unsol ∷ Eapd ∷ Digital ∷ Default ∷ Format ∷ OutLeft ∷ OutRight ∷ []
 
 unfoldable pub controls : List Control
-controls = plain_controls ++ (map InLeft (range_with_len 0 most_amplified) ++ map InRight (range_with_len 0 most_amplified))
+controls = plain_controls ++ (map InLeft (range_with_len 0 most_amplified) ++ map InRight
+    (range_with_len 0 most_amplified))
 
 -- the keys that the nodes below this one can have, in their order: by node and then by control
 abbrev pub keys_below : ℕ → List ControlKey

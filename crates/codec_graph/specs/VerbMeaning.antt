@@ -1,18 +1,29 @@
 -- What a codec does with a command: one row for each verb. Verbs: High Definition Audio 1.0a, 7.3.3; parameters: 7.3.4.
--- The answer to a verb that a node doesn't have, the power state kept modulo 4 and the answer 11h times it, the gain kept at most
--- at the steps, the select that stays at a place past the list, and the place of GetList rounded down are this project's own.
-use Rattle.std.specs.Prelude.{◌+◌, ◌-◌, ◌*◌, ◌/◌, ◌%◌, ◌^◌, ℕ, Bool, true, false, ◌==◌, ◌&&◌, List, [], ◌∷◌, ◌++◌, length, min, nat_lt, if◌then◌else◌, Option, Some, None, bit_and, slice_index, slice_index_or}
+-- The answer to a verb that a node doesn't have, the power state kept modulo 4 and the answer 11h times it, the gain
+-- kept at most at the steps, the select that stays at a place past the list, and the place of GetList rounded down are
+-- this project's own.
+use Rattle.std.specs.Prelude.{◌+◌, ◌-◌, ◌*◌, ◌/◌, ◌%◌, ◌^◌, ℕ, Bool, true, false, ◌==◌, ◌&&◌, List, [], ◌∷◌, ◌++◌}
+use Rattle.std.specs.Prelude.{length, min, nat_lt, if◌then◌else◌, Option, Some, None, bit_and, slice_index}
+use Rattle.std.specs.Prelude.{slice_index_or}
 use Rattle.codec_graph.specs.declared.raw.RawNode.{RawNode}
 use Rattle.codec_graph.specs.declared.raw.RawCodec.{RawCodec}
 use Rattle.codec_graph.specs.declared.controls.Control.{Control}
-use Rattle.codec_graph.specs.declared.controls.Control.TheVariants.{Select, Power, Stream, Pin, Unsol, Eapd, Digital, Default, Format, OutLeft, OutRight, InLeft, InRight}
+use Rattle.codec_graph.specs.declared.controls.Control.TheVariants.{Select, Power, Stream, Pin, Unsol, Eapd, Digital}
+use Rattle.codec_graph.specs.declared.controls.Control.TheVariants.{Default, Format, OutLeft, OutRight, InLeft, InRight}
 use Rattle.codec_graph.specs.Widget.{node_at, input_amplifier_word, output_amplifier_word, amplifier_steps, can_mute}
 use Rattle.codec_graph.specs.Settings.{Entries, key, mute, setting_of, put_all, has_control, detects_presence}
 use Rattle.verb_codes.specs.declared.verbs.Command.{Command}
 use Rattle.verb_codes.specs.declared.verbs.Verb.{Verb}
-use Rattle.verb_codes.specs.declared.verbs.Verb.TheVariants.{GetParam, GetSelect, SetSelect, GetList, GetPower, SetPower, GetStream, SetStream, GetPin, SetPin, GetUnsol, SetUnsol, GetSense, GetEapd, SetEapd, GetDigital, SetDigital, GetDefault, SetDefault, GetFormat, SetFormat, GetAmp, SetAmp}
+use Rattle.verb_codes.specs.declared.verbs.Verb.TheVariants.{GetParam, GetSelect, SetSelect, GetList, GetPower}
+use Rattle.verb_codes.specs.declared.verbs.Verb.TheVariants.{SetPower, GetStream, SetStream, GetPin, SetPin, GetUnsol}
+use Rattle.verb_codes.specs.declared.verbs.Verb.TheVariants.{SetUnsol, GetSense, GetEapd, SetEapd, GetDigital}
+use Rattle.verb_codes.specs.declared.verbs.Verb.TheVariants.{SetDigital, GetDefault, SetDefault, GetFormat, SetFormat}
+use Rattle.verb_codes.specs.declared.verbs.Verb.TheVariants.{GetAmp, SetAmp}
 use Rattle.verb_codes.specs.declared.parameters.Parameter.{Parameter}
-use Rattle.verb_codes.specs.declared.parameters.Parameter.TheVariants.{Vendor, Revision, Nodes, GroupType, WidgetCapabilities, PcmSizesAndRates, StreamFormats, PinCapabilities, InputAmplifier, ListLength, PowerStates, OutputAmplifier}
+use Rattle.verb_codes.specs.declared.parameters.Parameter.TheVariants.{Vendor, Revision, Nodes, GroupType}
+use Rattle.verb_codes.specs.declared.parameters.Parameter.TheVariants.{WidgetCapabilities, PcmSizesAndRates}
+use Rattle.verb_codes.specs.declared.parameters.Parameter.TheVariants.{StreamFormats, PinCapabilities, InputAmplifier}
+use Rattle.verb_codes.specs.declared.parameters.Parameter.TheVariants.{ListLength, PowerStates, OutputAmplifier}
 use Rattle.verb_codes.specs.declared.amplifiers.AmpSetting.{AmpSetting}
 use Rattle.verb_codes.specs.declared.amplifiers.AmpSide.{AmpSide}
 use Rattle.verb_codes.specs.Lists.{entries_per_word}
@@ -122,7 +133,8 @@ numbered_parameter codec nid (Some parameter) = known_parameter codec nid parame
 abbrev pub parameter_at : RawCodec → ℕ → ℕ → ℕ
 parameter_at codec nid number = numbered_parameter codec nid (parameter_of number)
 
--- a word of a connection list: the entries from this place on, two of 16 bits or four of 8, lowest bits first, zeros past the end
+-- a word of a connection list: the entries from this place on, two of 16 bits or four of 8, lowest bits first, zeros
+-- past the end
 abbrev pub list_word : Bool → List ℕ → ℕ → ℕ
 list_word true entries place = slice_index entries place + slice_index entries (place + 1) * 2 ^ 16
 list_word false entries place =
@@ -223,17 +235,21 @@ written_side codec nid named control value = if named then written codec nid con
 -- what SetAmp sets: each named side of the output amplifier and of the input amplifier at the place
 abbrev pub amplifier_writes : RawCodec → ℕ → AmpSetting → Entries
 amplifier_writes codec nid setting =
-    written_side codec nid (setting.output && setting.left) OutLeft (kept_amplifier (node_output_word codec (node_at codec nid)) setting)
-    ++ (written_side codec nid (setting.output && setting.right) OutRight (kept_amplifier (node_output_word codec (node_at codec nid)) setting)
-    ++ (written_side codec nid (setting.input && setting.left) (InLeft setting.place) (kept_amplifier (node_input_word codec (node_at codec nid)) setting)
-    ++ written_side codec nid (setting.input && setting.right) (InRight setting.place) (kept_amplifier (node_input_word codec (node_at codec nid)) setting)))
+    written_side codec nid (setting.output && setting.left) OutLeft
+    (kept_amplifier (node_output_word codec (node_at codec nid)) setting)
+    ++ (written_side codec nid (setting.output && setting.right) OutRight
+    (kept_amplifier (node_output_word codec (node_at codec nid)) setting)
+    ++ (written_side codec nid (setting.input && setting.left) (InLeft setting.place)
+    (kept_amplifier (node_input_word codec (node_at codec nid)) setting)
+    ++ written_side codec nid (setting.input && setting.right) (InRight setting.place)
+    (kept_amplifier (node_input_word codec (node_at codec nid)) setting)))
 
 -- a word with another byte at this place, from the lowest
 abbrev pub with_byte : ℕ → ℕ → ℕ → ℕ
 with_byte word place byte = (word / 2 ^ (8 * place) / 2 ^ 8 * 2 ^ 8 + byte) * 2 ^ (8 * place) + word % 2 ^ (8 * place)
 
--- the bits that are kept of the pin control, 7 headphone, 6 out and 5 in, of the control of unsolicited responses, 7 enable and
--- 5:0 tag, and of the external amplifier's, 1
+-- the bits that are kept of the pin control, 7 headphone, 6 out and 5 in, of the control of unsolicited responses, 7
+-- enable and 5:0 tag, and of the external amplifier's, 1
 abbrev pub pin_bits : ℕ
 pin_bits = 0xE0
 

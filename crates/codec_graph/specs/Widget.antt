@@ -1,5 +1,6 @@
 -- What the words of one widget say. Bits of the audio widget capabilities: High Definition Audio 1.0a, 7.3.4.6.
-use Rattle.std.specs.Prelude.{ℕ, Bool, false, ◌==◌, ◌&&◌, ◌||◌, [], map, Option, None, if◌then◌else◌, nat_lt, nat_le, ◌-◌, ◌+◌, slice_get}
+use Rattle.std.specs.Prelude.{ℕ, Bool, false, ◌==◌, ◌&&◌, ◌||◌, [], map, Option, None, if◌then◌else◌, nat_lt, nat_le}
+use Rattle.std.specs.Prelude.{◌-◌, ◌+◌, slice_get}
 use Rattle.codec_graph.specs.declared.raw.RawNode.{RawNode}
 use Rattle.codec_graph.specs.declared.raw.RawCodec.{RawCodec}
 use Rattle.verb_codes.specs.Words.{has_bit, bits_of}

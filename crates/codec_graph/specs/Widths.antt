@@ -1,5 +1,5 @@
--- How wide the words of a codec are: a response has 32 bits (High Definition Audio 1.0a, 7.3), an address and a node identifier
--- stand in a byte.
+-- How wide the words of a codec are: a response has 32 bits (High Definition Audio 1.0a, 7.3), an address and a node
+-- identifier stand in a byte.
 use Rattle.std.specs.Prelude.{◌<◌, ◌^◌, All}
 use Rattle.codec_graph.specs.declared.raw.GroupWords.{GroupWords}
 use Rattle.codec_graph.specs.declared.raw.RawNode.{RawNode}

@@ -1,11 +1,12 @@
--- What a signal is after an amplifier. Amplifiers and the words that set them: High Definition Audio 1.0a, 7.3.3.7 and 7.3.4.10. That
--- a gain other than 0 dB is not followed but marked is this project's own.
+-- What a signal is after an amplifier. Amplifiers and the words that set them: High Definition Audio 1.0a, 7.3.3.7 and
+-- 7.3.4.10. That a gain other than 0 dB is not followed but marked is this project's own.
 use Rattle.std.specs.Prelude.{ℕ, Bool, ◌==◌, ◌&&◌, not, nat_lt, if◌then◌else◌}
 use Rattle.codec_graph.specs.declared.raw.RawNode.{RawNode}
 use Rattle.codec_graph.specs.declared.raw.RawCodec.{RawCodec}
 use Rattle.codec_graph.specs.declared.controls.Control.TheVariants.{OutLeft, OutRight, InLeft, InRight}
 use Rattle.verb_codes.specs.Words.{has_bit, bits_of}
-use Rattle.codec_graph.specs.Widget.{most_amplified, has_input_amplifier, has_output_amplifier, input_amplifier_word, output_amplifier_word, amplifier_offset}
+use Rattle.codec_graph.specs.Widget.{most_amplified, has_input_amplifier, has_output_amplifier, input_amplifier_word}
+use Rattle.codec_graph.specs.Widget.{output_amplifier_word, amplifier_offset}
 use Rattle.codec_graph.specs.Settings.{Entries, setting_of}
 use Rattle.codec_sound.specs.declared.signals.Signal.{Signal}
 use Rattle.codec_sound.specs.declared.signals.Signal.TheVariants.{Silence, Pair, Altered}
@@ -27,8 +28,8 @@ is_muted setting = has_bit setting 7
 abbrev pub is_neutral : (offset setting : ℕ) → Bool
 is_neutral offset setting = not (is_muted setting) && (bits_of setting 0 7 == offset)
 
--- a signal after an amplifier with this 0 dB step, whose sides are set so: nothing passes two muted sides, and two sides at 0 dB
--- change nothing
+-- a signal after an amplifier with this 0 dB step, whose sides are set so: nothing passes two muted sides, and two
+-- sides at 0 dB change nothing
 abbrev pub amplified : (offset left right : ℕ) → Signal → Signal
 amplified offset left right signal =
     if is_muted left && is_muted right
@@ -39,14 +40,16 @@ amplified offset left right signal =
 abbrev pub after_output : RawCodec → Entries → ℕ → RawNode → Signal → Signal
 after_output codec settings nid node signal =
     if has_output_amplifier node
-    then amplified (amplifier_offset (output_amplifier_word codec node)) (setting_of settings nid OutLeft) (setting_of settings nid OutRight) signal
+    then amplified (amplifier_offset (output_amplifier_word codec node)) (setting_of settings nid OutLeft)
+    (setting_of settings nid OutRight) signal
     else signal
 
 -- a signal after the amplifier of one input: the sixteen first ones have one each
 abbrev pub after_amplified_input : RawCodec → Entries → ℕ → RawNode → ℕ → Signal → Signal
 after_amplified_input codec settings nid node place signal =
     if nat_lt place most_amplified
-    then amplified (amplifier_offset (input_amplifier_word codec node)) (setting_of settings nid (InLeft place)) (setting_of settings nid (InRight place)) signal
+    then amplified (amplifier_offset (input_amplifier_word codec node)) (setting_of settings nid (InLeft place))
+    (setting_of settings nid (InRight place)) signal
     else changed signal
 
 -- a signal after the widget's input amplifier at this place of the connection list, if the widget has input amplifiers

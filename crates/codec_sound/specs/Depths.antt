@@ -26,4 +26,5 @@ IsReady codec known nid = (to : ℕ) → Contains (inner_list codec nid) to → 
 
 -- the table has what each marked node gives
 abbrev pub AreRight : RawCodec → Entries → LinkStream → List Signal → List Bool → Type 0
-AreRight codec settings stream table known = (nid : ℕ) → IsMarked known nid → in_table table nid ≡ out codec settings stream nid
+AreRight codec settings stream table known = (nid : ℕ) → IsMarked known nid
+    → in_table table nid ≡ out codec settings stream nid

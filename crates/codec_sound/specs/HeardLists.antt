@@ -1,5 +1,5 @@
--- What a pin heard, as a list of items: one for each block of the stream that a link frame carried, and one for each frame that missed
--- its blocks. This project's own, over the blocks and samples of High Definition Audio 1.0a, 4.5.1.
+-- What a pin heard, as a list of items: one for each block of the stream that a link frame carried, and one for each
+-- frame that missed its blocks. This project's own, over the blocks and samples of High Definition Audio 1.0a, 4.5.1.
 use Rattle.std.specs.Prelude.{ℕ, ℤ, ◌+◌, ◌*◌, ◌/◌, List, [], ◌∷◌, length, map, drop, take, Option, Some, None}
 use Rattle.std.specs.List.{flat_map, range_with_len}
 use Rattle.codec_graph.specs.CodecStates.{CodecState}
@@ -36,7 +36,8 @@ sample_in layout block channel = container_number layout.bits (drop (channel * c
 -- what is heard of a block, by the pin's signal
 abbrev pub item_of : Layout → Signal → List ℕ → Heard
 item_of layout variant.Silence block = Quiet
-item_of layout (variant.Pair pair) block = Sound (sample_in layout block (2 * pair)) (sample_in layout block (2 * pair + 1))
+item_of layout (variant.Pair pair) block = Sound (sample_in layout block (2 * pair))
+    (sample_in layout block (2 * pair + 1))
 item_of layout variant.Altered block = Altered
 
 -- what is heard of the bytes of a frame: a word without a meaning has no blocks
@@ -51,8 +52,8 @@ heard_in layout signal (Sent bytes) = items_sent layout signal bytes
 
 -- ---- the list of a pin
 
--- the signal of a codec's pin while the stream with this tag and format word plays: silence where the codec is not there or the word
--- has no meaning
+-- the signal of a codec's pin while the stream with this tag and format word plays: silence where the codec is not
+-- there or the word has no meaning
 abbrev pub signal_with : Option CodecState → ℕ → ℕ → Option Layout → ℕ → Signal
 signal_with None tag word layout pin = variant.Silence
 signal_with (Some codec) tag word None pin = variant.Silence
@@ -61,7 +62,8 @@ signal_with (Some codec) tag word (Some layout) pin =
 
 -- the signal of the pin of the codec with this address in a link frame
 abbrev pub signal_in : ℕ → ℕ → CarriedFrame → Signal
-signal_in address pin frame = signal_with (codec_at address frame.codecs) frame.tag frame.format (layout_of frame.format) pin
+signal_in address pin frame = signal_with (codec_at address frame.codecs) frame.tag frame.format
+    (layout_of frame.format) pin
 
 -- what a link frame adds to its list
 abbrev pub frame_items : ℕ → ℕ → CarriedFrame → List Heard

@@ -1,12 +1,14 @@
--- The signal that each widget gives and each pin hears while a stream plays: nothing, one pair of the stream's channels, or something
--- that is not followed. Connections: High Definition Audio 1.0a, 7.1.2; widgets: 7.2.3. That two signals together, a mono widget and
--- a digital one make a signal that is not followed is this project's own.
-use Rattle.std.specs.Prelude.{ℕ, zero, suc, Bool, ◌==◌, ◌&&◌, ◌||◌, not, ◌+◌, ◌*◌, ◌/◌, ◌%◌, ◌<◌, List, [], ◌∷◌, length, Option, Some, None, nat_lt, slice_get, if◌then◌else◌}
+-- The signal that each widget gives and each pin hears while a stream plays: nothing, one pair of the stream's
+-- channels, or something that is not followed. Connections: High Definition Audio 1.0a, 7.1.2; widgets: 7.2.3. That two
+-- signals together, a mono widget and a digital one make a signal that is not followed is this project's own.
+use Rattle.std.specs.Prelude.{ℕ, zero, suc, Bool, ◌==◌, ◌&&◌, ◌||◌, not, ◌+◌, ◌*◌, ◌/◌, ◌%◌, ◌<◌, List, [], ◌∷◌, length}
+use Rattle.std.specs.Prelude.{Option, Some, None, nat_lt, slice_get, if◌then◌else◌}
 use Rattle.codec_graph.specs.declared.raw.RawNode.{RawNode}
 use Rattle.codec_graph.specs.declared.raw.RawCodec.{RawCodec}
 use Rattle.codec_graph.specs.declared.controls.Control.TheVariants as control
 use Rattle.verb_codes.specs.Words.{has_bit, bits_of}
-use Rattle.codec_graph.specs.Widget.{node_at, is_output_converter, is_mixer, is_selector, is_pin, is_stereo, is_digital, has_power_control}
+use Rattle.codec_graph.specs.Widget.{node_at, is_output_converter, is_mixer, is_selector, is_pin, is_stereo, is_digital}
+use Rattle.codec_graph.specs.Widget.{has_power_control}
 use Rattle.codec_graph.specs.Settings.{Entries, setting_of, has_eapd}
 use Rattle.stream_format.specs.declared.format.Format.{Format}
 use Rattle.stream_format.specs.Words.{format_word}
@@ -33,7 +35,8 @@ is_off codec settings nid node =
     not (setting_of settings codec.group control.Power == 0)
     || (has_power_control node && not (setting_of settings nid control.Power == 0))
 
--- an output converter's control (7.3.3.11): the stream's tag in bits 7:4, of which 0 is none, and the lowest channel in 3:0
+-- an output converter's control (7.3.3.11): the stream's tag in bits 7:4, of which 0 is none, and the lowest channel in
+-- 3:0
 abbrev pub tag_at : Entries → ℕ → ℕ
 tag_at settings nid = bits_of (setting_of settings nid control.Stream) 4 4
 
@@ -86,21 +89,24 @@ selected settings nid node = slice_get node.list (selected_place settings nid no
 -- what a selector makes of what the selected node gives
 abbrev pub passed_on : RawCodec → Entries → (ℕ → Signal) → ℕ → RawNode → Option ℕ → Signal
 passed_on codec settings out nid node None = Silence
-passed_on codec settings out nid node (Some from) = after_input codec settings nid node (selected_place settings nid node) (out from)
+passed_on codec settings out nid node (Some from) = after_input codec settings nid node
+    (selected_place settings nid node) (out from)
 
--- what a widget makes of the stream and of what the nodes give that it lists: converters, mixers and selectors make a signal, and
--- mono mixers and selectors change it
+-- what a widget makes of the stream and of what the nodes give that it lists: converters, mixers and selectors make a
+-- signal, and mono mixers and selectors change it
 abbrev pub made : RawCodec → Entries → LinkStream → (ℕ → Signal) → ℕ → RawNode → Signal
 made codec settings stream out nid node =
     if is_output_converter node then converted settings stream nid node
     else (if is_mixer node then changed_if (not (is_stereo node)) (mixed codec settings out nid node 0 node.list)
-    else (if is_selector node then changed_if (not (is_stereo node)) (passed_on codec settings out nid node (selected settings nid node))
+    else (if is_selector node then changed_if (not (is_stereo node))
+    (passed_on codec settings out nid node (selected settings nid node))
     else Silence))
 
 -- what it gives: nothing while it is off, else what it makes, through its output amplifier
 abbrev pub given : RawCodec → Entries → LinkStream → (ℕ → Signal) → ℕ → RawNode → Signal
 given codec settings stream out nid node =
-    if is_off codec settings nid node then Silence else after_output codec settings nid node (made codec settings stream out nid node)
+    if is_off codec settings nid node then Silence else after_output codec settings nid node
+    (made codec settings stream out nid node)
 
 abbrev pub given_at : RawCodec → Entries → LinkStream → (ℕ → Signal) → ℕ → Option RawNode → Signal
 given_at codec settings stream out nid None = Silence
@@ -115,20 +121,22 @@ gives codec settings stream out nid = given_at codec settings stream out nid (no
 -- what each node gives of what comes over less than so many connections
 abbrev pub within : RawCodec → Entries → LinkStream → ℕ → ℕ → Signal
 within codec settings stream zero nid = Silence
-within codec settings stream (suc connections) nid = gives codec settings stream (within codec settings stream connections) nid
+within codec settings stream (suc connections) nid = gives codec settings stream
+    (within codec settings stream connections) nid
 
--- what each node gives: no way through the mixers and selectors of a well-formed graph is as long. It is the one that fits the step
--- at every node, as the laws say.
+-- what each node gives: no way through the mixers and selectors of a well-formed graph is as long. It is the one that
+-- fits the step at every node, as the laws say.
 unfoldable pub out : RawCodec → Entries → LinkStream → ℕ → Signal
 out codec settings stream nid = within codec settings stream 256 nid
 
 -- ---- pins
 
--- a pin is silent while it is off, where its output is not enabled (control bit 6, 7.3.3.13), where it can't drive one (capability
--- bit 4, 7.3.4.9), and where it has an external amplifier that is not powered (bit 1, 7.3.3.16)
+-- a pin is silent while it is off, where its output is not enabled (control bit 6, 7.3.3.13), where it can't drive one
+-- (capability bit 4, 7.3.4.9), and where it has an external amplifier that is not powered (bit 1, 7.3.3.16)
 abbrev pub is_silent_pin : RawCodec → Entries → ℕ → RawNode → Bool
 is_silent_pin codec settings nid node =
-    is_off codec settings nid node || not (has_bit (setting_of settings nid control.Pin) 6) || not (has_bit node.pin_caps 4)
+    is_off codec settings nid node || not (has_bit (setting_of settings nid control.Pin) 6) || not
+    (has_bit node.pin_caps 4)
     || (has_eapd node && not (has_bit (setting_of settings nid control.Eapd) 1))
 
 -- what the selected node gives: nothing where none is selected
@@ -141,7 +149,8 @@ abbrev pub pin_hears : RawCodec → Entries → (ℕ → Signal) → ℕ → Raw
 pin_hears codec settings out nid node =
     if is_silent_pin codec settings nid node
     then Silence
-    else changed_if (not (is_stereo node) || is_digital node) (after_output codec settings nid node (comes_from out (selected settings nid node)))
+    else changed_if (not (is_stereo node) || is_digital node)
+    (after_output codec settings nid node (comes_from out (selected settings nid node)))
 
 -- what a node hears: a node that is no pin hears nothing
 abbrev pub hears : RawCodec → Entries → (ℕ → Signal) → ℕ → Option RawNode → Signal

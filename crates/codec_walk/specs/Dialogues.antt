@@ -1,5 +1,5 @@
--- Dialogues: somebody asks a codec commands, each of which may hang on the answers before it, and at last can tell the codec's
--- words. This project's own.
+-- Dialogues: somebody asks a codec commands, each of which may hang on the answers before it, and at last can tell the
+-- codec's words. This project's own.
 use Rattle.std.specs.Prelude.{ℕ, List, [], ◌∷◌, Option, Some, None}
 use Rattle.codec_graph.specs.declared.raw.RawCodec.{RawCodec}
 use Rattle.verb_codes.specs.declared.verbs.Command.{Command}

@@ -1,5 +1,5 @@
--- What comes of a walk: the graph of the words that were told, or what they have wrong. That the faults of connection lists come
--- before those of the graph, the one of the least node identifier first, is this project's own.
+-- What comes of a walk: the graph of the words that were told, or what they have wrong. That the faults of connection
+-- lists come before those of the graph, the one of the least node identifier first, is this project's own.
 use Rattle.std.specs.Prelude.{◌≡◌, ℕ, None, Result, Ok, Err, ⊤}
 use Rattle.codec_graph.specs.declared.raw.RawCodec.{RawCodec}
 use Rattle.codec_graph.specs.Widget.{normal}

@@ -11,9 +11,11 @@ use Rattle.verb_codes.specs.declared.verbs.Command.{Command}
 -- the configuration default of each pin is set to the pin's word
 abbrev pub HasDefaults : RawCodec → Entries → Type 0
 HasDefaults codec settings =
-    (nid : ℕ) (node : RawNode) → node_at codec nid ≡ Some node → is_pin node ≡ true → setting_of settings nid control.Default ≡ node.default
+    (nid : ℕ) (node : RawNode) → node_at codec nid ≡ Some node → is_pin node ≡ true
+    → setting_of settings nid control.Default ≡ node.default
 
--- with some settings that keep the pins' defaults, and something or nothing plugged in, the codec answers the command with the word
+-- with some settings that keep the pins' defaults, and something or nothing plugged in, the codec answers the command
+-- with the word
 pub record CanAnswer (codec : RawCodec) (command : Command) (answer : ℕ) : Type 0 where
   pub settings : Entries
   pub present : List Bool
@@ -25,4 +27,5 @@ pub record CanAnswer (codec : RawCodec) (command : Command) (answer : ℕ) : Typ
 abbrev pub AreReplies : (Command → ℕ → Type 0) → List Command → List ℕ → Type 0
 AreReplies Answers commands [] = ⊤
 AreReplies Answers [] (answer ∷ answers) = ⊥
-AreReplies Answers (command ∷ commands) (answer ∷ answers) = Answers command answer × AreReplies Answers commands answers
+AreReplies Answers (command ∷ commands) (answer ∷ answers) = Answers command answer
+    × AreReplies Answers commands answers

@@ -1,5 +1,6 @@
 -- The steps of a walk, as dialogues.
-use Rattle.std.specs.Prelude.{◌≡◌, ◌≤◌, ◌<◌, ◌^◌, ℕ, Bool, true, false, ◌+◌, ◌-◌, ◌==◌, List, [], ◌++◌, length, take, find, All, Option, Some, None, if◌then◌else◌}
+use Rattle.std.specs.Prelude.{◌≡◌, ◌≤◌, ◌<◌, ◌^◌, ℕ, Bool, true, false, ◌+◌, ◌-◌, ◌==◌, List, [], ◌++◌, length, take}
+use Rattle.std.specs.Prelude.{find, All, Option, Some, None, if◌then◌else◌}
 use Rattle.codec_graph.specs.declared.raw.RawNode.{RawNode}
 use Rattle.codec_graph.specs.declared.raw.RawCodec.{RawCodec}
 use Rattle.codec_graph.specs.Widget.{node_identifiers, plain_node, has_list, has_power_control}
@@ -12,8 +13,10 @@ use Rattle.codec_walk.specs.declared.step.NodeStep.TheVariants.{Word, Length, En
 use Rattle.codec_walk.specs.declared.step.Step.{Step}
 use Rattle.codec_walk.specs.declared.step.Step.TheVariants.{Codec, Capabilities, Widget, Done}
 use Rattle.codec_walk.specs.Dialogues.{Dialogue, Ask, Told}
-use Rattle.codec_walk.specs.Words.{parameter_command, list_command, later_codec, codec_command, with_codec_word, applies, later, word_command, with_word, entries_told, is_long, words_for}
-use Rattle.codec_walk.specs.Walks.{from_codec, from_words, from_entries, from_length, from_power, from_node, with_node, from_widgets, from_count}
+use Rattle.codec_walk.specs.Words.{parameter_command, list_command, later_codec, codec_command, with_codec_word}
+use Rattle.codec_walk.specs.Words.{applies, later, word_command, with_word, entries_told, is_long, words_for}
+use Rattle.codec_walk.specs.Walks.{from_codec, from_words, from_entries, from_length, from_power, from_node, with_node}
+use Rattle.codec_walk.specs.Walks.{from_widgets, from_count}
 
 -- ---- inside a widget
 
@@ -93,7 +96,8 @@ from_next_widget left nid codec node = from_widgets left (nid + 1) (with_node co
 
 abbrev pub from_walk : Step → RawCodec → RawNode → ℕ → ℕ → Dialogue
 from_walk (Codec word) codec node nid left =
-    Ask (codec_command codec word) (λ answer. from_codec (later_codec word) (with_codec_word codec word answer) from_count)
+    Ask (codec_command codec word) (λ answer. from_codec (later_codec word) (with_codec_word codec word answer)
+    from_count)
 from_walk Capabilities codec node nid left =
     Ask (parameter_command codec.address nid parameter.WidgetCapabilities) (λ answer.
     from_node codec.address nid (plain_node answer) (from_next_widget left nid codec))
@@ -132,7 +136,8 @@ pub record AreWidgetsIn (codec : RawCodec) (nodes : List RawNode) (nid left : �
   pub left_in : nid + left < node_identifiers
 
 -- what holds of a walk at all times
-pub record IsSound (step : Step) (codec : RawCodec) (nodes : List RawNode) (capacity : ℕ) (node : RawNode) (nid left : ℕ) : Type 0 where
+pub record IsSound (step : Step) (codec : RawCodec) (nodes : List RawNode) (capacity : ℕ) (node : RawNode)
+    (nid left : ℕ) : Type 0 where
   pub address : codec.address ≤ 14
   pub group : codec.group < node_identifiers
   pub room : node_identifiers ≤ capacity

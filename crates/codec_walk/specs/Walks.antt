@@ -1,6 +1,7 @@
--- The walk over a codec: the dialogue in which its words are asked for, each as soon as the answers before it say that it is there.
--- This project's own, over the nodes of High Definition Audio 1.0a, 7.1.2.
-use Rattle.std.specs.Prelude.{ℕ, zero, suc, Bool, ◌+◌, ◌-◌, ◌&&◌, nat_lt, nat_le, List, [], ◌∷◌, ◌++◌, take, if◌then◌else◌}
+-- The walk over a codec: the dialogue in which its words are asked for, each as soon as the answers before it say that
+-- it is there. This project's own, over the nodes of High Definition Audio 1.0a, 7.1.2.
+use Rattle.std.specs.Prelude.{ℕ, zero, suc, Bool, ◌+◌, ◌-◌, ◌&&◌, nat_lt, nat_le, List, [], ◌∷◌, ◌++◌, take}
+use Rattle.std.specs.Prelude.{if◌then◌else◌}
 use Rattle.codec_graph.specs.declared.raw.RawNode.{RawNode}
 use Rattle.codec_graph.specs.declared.raw.RawCodec.{RawCodec}
 use Rattle.codec_graph.specs.Widget.{node_identifiers, plain_node, has_list, has_power_control}
@@ -9,7 +10,8 @@ use Rattle.verb_codes.specs.declared.parameters.Parameter.TheVariants as paramet
 use Rattle.codec_walk.specs.declared.words.CodecWord.{CodecWord}
 use Rattle.codec_walk.specs.declared.words.NodeWord.{NodeWord}
 use Rattle.codec_walk.specs.Dialogues.{Dialogue, Ask, Told}
-use Rattle.codec_walk.specs.Words.{parameter_command, list_command, codec_words, codec_command, with_codec_word, node_words, applies, word_command, with_word, entries_told, is_long, words_for}
+use Rattle.codec_walk.specs.Words.{parameter_command, list_command, codec_words, codec_command, with_codec_word}
+use Rattle.codec_walk.specs.Words.{node_words, applies, word_command, with_word, entries_told, is_long, words_for}
 
 -- a codec of which only the address is known
 abbrev pub unknown : ℕ → RawCodec
@@ -66,7 +68,8 @@ from_power address nid node rest =
 -- all of a widget after its capabilities
 abbrev pub from_node : ℕ → ℕ → RawNode → (RawNode → Dialogue) → Dialogue
 from_node address nid node rest =
-    from_words node_words address nid node (λ node. from_length address nid node (λ node. from_power address nid node rest))
+    from_words node_words address nid node
+    (λ node. from_length address nid node (λ node. from_power address nid node rest))
 
 abbrev pub with_node : RawCodec → RawNode → RawCodec
 with_node codec node = record codec { nodes = codec.nodes ++ node ∷ [] }

@@ -1,5 +1,6 @@
--- The words of a codec that a walk asks for. Parameters: High Definition Audio 1.0a, 7.3.4; the configuration default: 7.3.3.31;
--- entries of connection lists: 7.3.3.3. The order, and that only words that apply are asked for, is this project's own.
+-- The words of a codec that a walk asks for. Parameters: High Definition Audio 1.0a, 7.3.4; the configuration default:
+-- 7.3.3.31; entries of connection lists: 7.3.3.3. The order, and that only words that apply are asked for, is this
+-- project's own.
 use Rattle.std.specs.Prelude.{ℕ, Bool, ◌+◌, ◌-◌, ◌/◌, ◌&&◌, List, [], ◌∷◌}
 use Rattle.codec_graph.specs.declared.raw.RawNode.{RawNode}
 use Rattle.codec_graph.specs.declared.raw.RawCodec.{RawCodec}
@@ -11,9 +12,12 @@ use Rattle.verb_codes.specs.declared.parameters.Parameter.TheVariants as paramet
 use Rattle.verb_codes.specs.Parameters.{number_of}
 use Rattle.verb_codes.specs.Words.{bits_of, has_bit}
 use Rattle.verb_codes.specs.Lists.{entries_per_word}
-use Rattle.codec_graph.specs.Widget.{is_converter, is_pin, overrides_formats, overrides_amplifiers, has_input_amplifier, has_output_amplifier}
+use Rattle.codec_graph.specs.Widget.{is_converter, is_pin, overrides_formats, overrides_amplifiers, has_input_amplifier}
+use Rattle.codec_graph.specs.Widget.{has_output_amplifier}
 use Rattle.codec_walk.specs.declared.words.CodecWord.{CodecWord}
-use Rattle.codec_walk.specs.declared.words.CodecWord.TheVariants.{Vendor, Revision, Groups, GroupType, Widgets, GroupPcm, GroupFormats, GroupAmpIn, GroupAmpOut, GroupPower}
+use Rattle.codec_walk.specs.declared.words.CodecWord.TheVariants.{Vendor, Revision, Groups, GroupType, Widgets}
+use Rattle.codec_walk.specs.declared.words.CodecWord.TheVariants.{GroupPcm, GroupFormats, GroupAmpIn, GroupAmpOut}
+use Rattle.codec_walk.specs.declared.words.CodecWord.TheVariants.{GroupPower}
 use Rattle.codec_walk.specs.declared.words.NodeWord.{NodeWord}
 use Rattle.codec_walk.specs.declared.words.NodeWord.TheVariants.{Pcm, Formats, PinCaps, Default, AmpIn, AmpOut}
 
@@ -32,8 +36,10 @@ list_command address nid place = command_to address nid (GetList place)
 
 -- the words of the root and then those of the function group, in order: those that come after one of them
 abbrev pub later_codec : CodecWord → List CodecWord
-later_codec Vendor = Revision ∷ Groups ∷ GroupType ∷ Widgets ∷ GroupPcm ∷ GroupFormats ∷ GroupAmpIn ∷ GroupAmpOut ∷ GroupPower ∷ []
-later_codec Revision = Groups ∷ GroupType ∷ Widgets ∷ GroupPcm ∷ GroupFormats ∷ GroupAmpIn ∷ GroupAmpOut ∷ GroupPower ∷ []
+later_codec Vendor = Revision ∷ Groups ∷ GroupType ∷ Widgets ∷ GroupPcm ∷ GroupFormats ∷ GroupAmpIn ∷ GroupAmpOut ∷
+    GroupPower ∷ []
+later_codec Revision = Groups ∷ GroupType ∷ Widgets ∷ GroupPcm ∷ GroupFormats ∷ GroupAmpIn ∷ GroupAmpOut ∷ GroupPower ∷
+    []
 later_codec Groups = GroupType ∷ Widgets ∷ GroupPcm ∷ GroupFormats ∷ GroupAmpIn ∷ GroupAmpOut ∷ GroupPower ∷ []
 later_codec GroupType = Widgets ∷ GroupPcm ∷ GroupFormats ∷ GroupAmpIn ∷ GroupAmpOut ∷ GroupPower ∷ []
 later_codec Widgets = GroupPcm ∷ GroupFormats ∷ GroupAmpIn ∷ GroupAmpOut ∷ GroupPower ∷ []
@@ -74,8 +80,8 @@ codec_parameter GroupPower = parameter.PowerStates
 abbrev pub codec_command : RawCodec → CodecWord → Command
 codec_command codec word = parameter_command codec.address (codec_node codec word) (codec_parameter word)
 
--- a Subordinate Node Count (7.3.4.3) has the first node below in bits 23:16 and how many in 7:0; of the function groups only the
--- first counts, by the seven bits of a node identifier
+-- a Subordinate Node Count (7.3.4.3) has the first node below in bits 23:16 and how many in 7:0; of the function groups
+-- only the first counts, by the seven bits of a node identifier
 abbrev pub with_codec_word : RawCodec → CodecWord → ℕ → RawCodec
 with_codec_word codec Vendor answer = record codec { vendor = answer }
 with_codec_word codec Revision answer = record codec { revision = answer }

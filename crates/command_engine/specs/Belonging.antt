@@ -15,9 +15,11 @@ use Rattle.command_engine.specs.Fetchings.{graph_at, graphs_in, Stands}
 abbrev pub as_held : Response → Response
 as_held response = record response { answer = response.answer % 2 ^ 32 }
 
--- since the first `from` commands codecs took one more, the outstanding one. The codec that it asks took it, of these on the link,
--- and the value is its answer by that codec with the settings and the presence that it had when it took it, as an entry holds it
-pub record IsAnswered (from : ℕ) (command : Outstanding) (codecs : List CodecState) (commands : List TakenCommand) (value : ℕ) : Type 0 where
+-- since the first `from` commands codecs took one more, the outstanding one. The codec that it asks took it, of these
+-- on the link, and the value is its answer by that codec with the settings and the presence that it had when it took
+-- it, as an entry holds it
+pub record IsAnswered (from : ℕ) (command : Outstanding) (codecs : List CodecState) (commands : List TakenCommand)
+    (value : ℕ) : Type 0 where
   pub taken : TakenCommand
   pub only : drop from commands ≡ taken ∷ []
   pub word : taken.word ≡ command.word
@@ -35,12 +37,13 @@ abbrev pub from_after : Option ℕ → ℕ → List TakenCommand → ℕ
 from_after None from commands = from
 from_after (Some value) from commands = length commands
 
--- a poll read just the responses that were written since the last one, the answer that it found belongs to the outstanding command,
--- and all that was written is read
+-- a poll read just the responses that were written since the last one, the answer that it found belongs to the
+-- outstanding command, and all that was written is read
 pub record PollLeaves (from read corb rirb : ℕ) (rings : RingPlaces) (reads : PollReads) (world : World) : Type 0 where
   pub responses : responses_in reads.entries ≡ map as_held (drop read world.written)
   pub belongs : Belongs from rings.outstanding world.codecs world.commands (found_by rings reads)
-  pub stands : Stands (from_after (found_by rings reads) from world.commands) (length world.written) corb rirb (rings_polled rings reads) world
+  pub stands : Stands (from_after (found_by rings reads) from world.commands) (length world.written) corb rirb
+      (rings_polled rings reads) world
 
 -- a codec's graph is well-formed, and its settings are of that graph
 pub record IsSettled (codec : CodecState) : Type 0 where

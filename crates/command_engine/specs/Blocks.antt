@@ -1,4 +1,5 @@
--- The blocks of both rings. High Definition Audio 1.0a, 4.4.1 and 4.4.2: room for 256 commands of 4 bytes and 256 responses of 8.
+-- The blocks of both rings. High Definition Audio 1.0a, 4.4.1 and 4.4.2: room for 256 commands of 4 bytes and 256
+-- responses of 8.
 use Rattle.std.specs.Prelude.{ℕ, Bool, ◌+◌, ◌||◌, nat_le}
 
 abbrev pub corb_bytes : ℕ

@@ -7,7 +7,8 @@ use Rattle.world_rings.specs.Memory.{word_at}
 use Rattle.world_rings.specs.declared.response.Response.{Response}
 use Rattle.command_engine.specs.declared.answers.Event.{Event}
 
--- the response that an entry of 8 bytes holds: the answer, and then the codec in bits 3:0 and the mark of an unsolicited one in bit 4
+-- the response that an entry of 8 bytes holds: the answer, and then the codec in bits 3:0 and the mark of an
+-- unsolicited one in bit 4
 abbrev pub response_in : List ℕ → Response
 response_in entry = record {
   codec = bits_of (word_at entry 4) 0 4;

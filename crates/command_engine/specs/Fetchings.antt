@@ -1,6 +1,8 @@
--- That what is on its way to the engine belongs to its outstanding command: at most one answer comes, and it is the answer of that
--- command by the codec as it was when it took it. This project's own, over the rings of High Definition Audio 1.0a, 4.4.
-use Rattle.std.specs.Prelude.{◌≡◌, ◌≤◌, ◌<◌, ◌⊎◌, ℕ, ◌+◌, ◌-◌, ◌*◌, ◌%◌, ◌==◌, true, false, not, List, [], ◌∷◌, length, map, drop, All, count_by, sum_by, slice_get, slice_index, Option, None, Some}
+-- That what is on its way to the engine belongs to its outstanding command: at most one answer comes, and it is the
+-- answer of that command by the codec as it was when it took it. This project's own, over the rings of High Definition
+-- Audio 1.0a, 4.4.
+use Rattle.std.specs.Prelude.{◌≡◌, ◌≤◌, ◌<◌, ◌⊎◌, ℕ, ◌+◌, ◌-◌, ◌*◌, ◌%◌, ◌==◌, true, false, not, List, [], ◌∷◌, length}
+use Rattle.std.specs.Prelude.{map, drop, All, count_by, sum_by, slice_get, slice_index, Option, None, Some}
 use Rattle.std.specs.List.{find}
 use Rattle.codec_graph.specs.declared.raw.RawCodec.{RawCodec}
 use Rattle.codec_graph.specs.declared.waiting.Waiting.{Waiting}
@@ -50,7 +52,8 @@ part_of fields = record {
   response_flag = fields.global.response_flag;
 }
 
--- the controller is out of reset, both rings lie in these blocks, and CORB's write pointer and RINTCNT are as the engine set them
+-- the controller is out of reset, both rings lie in these blocks, and CORB's write pointer and RINTCNT are as the
+-- engine set them
 pub record HasRings (corb rirb : ℕ) (rings : RingPlaces) (part : RingPart) : Type 0 where
   pub out : (part.controller_reset == 1) ≡ true
   pub corb_size : part.corb_size ≡ rings.corb
@@ -108,7 +111,8 @@ pub record AllFetched (outstanding : Option Outstanding) (part : RingPart) (gain
   pub taken : AreOf outstanding gained
 
 -- or the outstanding one is the next that it fetches, and no codec took a command since it was submitted
-pub record IsNext (outstanding : Option Outstanding) (part : RingPart) (word : ℕ) (gained : List TakenCommand) : Type 0 where
+pub record IsNext (outstanding : Option Outstanding) (part : RingPart) (word : ℕ) (gained : List TakenCommand) : Type 0
+    where
   pub pointers : next_place part.corb_read_pointer (entries_of part.corb_size) ≡ part.corb_write_pointer
   pub is : IsWordOf outstanding word
   pub none : gained ≡ []
@@ -146,8 +150,10 @@ solicited responses = count_by (λ (response : Response). not response.unsolicit
 abbrev pub waiting_answers : List CodecState → ℕ
 waiting_answers codecs = sum_by (λ (codec : CodecState). answers codec.waiting) codecs
 
--- what is on its way from codecs to the engine: what waits at codecs, what waits in the controller, and what stands unread in RIRB
-pub record IsOnItsWay (gained : List TakenCommand) (unread waiting : List Response) (codecs : List CodecState) : Type 0 where
+-- what is on its way from codecs to the engine: what waits at codecs, what waits in the controller, and what stands
+-- unread in RIRB
+pub record IsOnItsWay (gained : List TakenCommand) (unread waiting : List Response) (codecs : List CodecState) : Type 0
+    where
   pub in_ring : All (ResponseCanCome gained) unread
   pub in_controller : All (ResponseCanCome gained) waiting
   pub at_codecs : All (CodecCanSend gained) codecs
@@ -158,11 +164,14 @@ pub record IsOnItsWay (gained : List TakenCommand) (unread waiting : List Respon
 abbrev pub AreStanding : (rirb size place : ℕ) → List ℕ → List Response → Type 0
 AreStanding rirb size place memory unread =
     (index : ℕ) (response : Response) (byte : ℕ) → slice_get unread index ≡ Some response → byte < RESPONSE_BYTES
-    → slice_index memory (rirb + RESPONSE_BYTES * ((place + (index + 1)) % size) + byte) ≡ slice_index (response_bytes response) byte
+    → slice_index memory (rirb + RESPONSE_BYTES * ((place + (index + 1)) % size) + byte) ≡ slice_index
+    (response_bytes response) byte
 
--- how the engine stands to the world: its blocks lie at these addresses, codecs had taken `from` commands before the outstanding one
--- was submitted, and it read the first `read` of all responses that were written
-pub record StandsBy (from read corb rirb : ℕ) (rings : RingPlaces) (part : RingPart) (memory : List ℕ) (codecs : List CodecState) (waiting : List Response) (commands : List TakenCommand) (written : List Response) : Type 0 where
+-- how the engine stands to the world: its blocks lie at these addresses, codecs had taken `from` commands before the
+-- outstanding one was submitted, and it read the first `read` of all responses that were written
+pub record StandsBy (from read corb rirb : ℕ) (rings : RingPlaces) (part : RingPart) (memory : List ℕ)
+    (codecs : List CodecState) (waiting : List Response) (commands : List TakenCommand) (written : List Response) : Type
+    0 where
   pub has_rings : HasRings corb rirb rings part
   pub blocks : HasBlocks corb rirb (length memory)
   pub ascend : AscendByAddress codecs
@@ -172,13 +181,15 @@ pub record StandsBy (from read corb rirb : ℕ) (rings : RingPlaces) (part : Rin
   pub pointer : part.rirb_write_pointer ≡ (rings.read + (length written - read)) % entries_of rings.rirb
   pub standing : AreStanding rirb (entries_of rings.rirb) rings.read memory (drop read written)
   pub from_within : from ≤ length commands
-  pub fetching : Fetching rings.outstanding part (word_at memory (corb + COMMAND_BYTES * rings.submitted)) (drop from commands)
+  pub fetching : Fetching rings.outstanding part (word_at memory (corb + COMMAND_BYTES * rings.submitted))
+      (drop from commands)
   pub taken_by : AreOfCodecs codecs (drop from commands)
   pub on_its_way : IsOnItsWay (drop from commands) (drop read written) waiting codecs
 
 abbrev pub Stands : (from read corb rirb : ℕ) → RingPlaces → World → Type 0
 Stands from read corb rirb rings world =
-    StandsBy from read corb rirb rings (part_of world.registers) world.memory world.codecs world.waiting world.commands world.written
+    StandsBy from read corb rirb rings (part_of world.registers) world.memory world.codecs world.waiting world.commands
+    world.written
 
 -- ---- what else happens between the engine's calls
 
@@ -186,8 +197,8 @@ Stands from read corb rirb rings world =
 abbrev pub IsBesideBlock : (block size at bytes : ℕ) → Type 0
 IsBesideBlock block size at bytes = (at + bytes ≤ block) ⊎ (block + size ≤ at)
 
--- an event that is none of the engine's: a step of the device, a mark, a read, a write of a register that is neither GCTL nor one of
--- CORB or RIRB, or a write of memory beside both blocks
+-- an event that is none of the engine's: a step of the device, a mark, a read, a write of a register that is neither
+-- GCTL nor one of CORB or RIRB, or a write of memory beside both blocks
 abbrev pub IsBeside : ℕ → ℕ → Event → Type 0
 IsBeside corb rirb (Stepped step) = Unit {0}
 IsBeside corb rirb Begin = Unit {0}
@@ -195,7 +206,8 @@ IsBeside corb rirb End = Unit {0}
 IsBeside corb rirb (Read at width value) = Unit {0}
 IsBeside corb rirb (Write at width value) = IsBesideRings at
 IsBeside corb rirb (DmaRead at bytes) = Unit {0}
-IsBeside corb rirb (DmaWrite at bytes) = IsBesideBlock corb corb_bytes at (length bytes) × IsBesideBlock rirb rirb_bytes at (length bytes)
+IsBeside corb rirb (DmaWrite at bytes) = IsBesideBlock corb corb_bytes at (length bytes)
+    × IsBesideBlock rirb rirb_bytes at (length bytes)
 
 abbrev pub AreBeside : ℕ → ℕ → List Event → Type 0
 AreBeside corb rirb [] = Unit {0}

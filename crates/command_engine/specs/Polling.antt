@@ -1,5 +1,7 @@
--- How the driver looks for an answer. High Definition Audio 1.0a, 4.4.2; how long it waits for one is this project's own.
-use Rattle.std.specs.Prelude.{◌≡◌, ℕ, ◌+◌, ◌*◌, ◌%◌, nat_le, List, [], ◌∷◌, ◌++◌, length, All, Option, Some, None, if◌then◌else◌}
+-- How the driver looks for an answer. High Definition Audio 1.0a, 4.4.2; how long it waits for one is this project's
+-- own.
+use Rattle.std.specs.Prelude.{◌≡◌, ℕ, ◌+◌, ◌*◌, ◌%◌, nat_le, List, [], ◌∷◌, ◌++◌, length, All, Option, Some, None}
+use Rattle.std.specs.Prelude.{if◌then◌else◌}
 use Rattle.verb_codes.specs.Words.{has_bit}
 use Rattle.hda_registers.specs.declared.shapes.Width.TheVariants.{One, Two}
 use Rattle.hda_registers.specs.declared.places.TheConstants.{RIRBWP, RIRBSTS}
@@ -85,9 +87,10 @@ pub record AreNew (rings : RingPlaces) (reads : PollReads) : Type 0 where
   pub number : length reads.entries ≡ (if has_bit reads.flag 0 then new_entries rings reads.pointer else 0)
   pub whole : All (λ (entry : List ℕ). length entry ≡ RESPONSE_BYTES) reads.entries
 
--- a poll at this clock, where RIRB's block lies at this address: what it answers, how the engine stands after it with its events,
--- and what is told
-pub record Polls (rirb clock : ℕ) (rings : RingPlaces) (answer : Poll) (rings' : RingPlaces) (events : List Event) (old new : Option Telling) : Type 0 where
+-- a poll at this clock, where RIRB's block lies at this address: what it answers, how the engine stands after it with
+-- its events, and what is told
+pub record Polls (rirb clock : ℕ) (rings : RingPlaces) (answer : Poll) (rings' : RingPlaces) (events : List Event)
+    (old new : Option Telling) : Type 0 where
   pub reads : PollReads
   pub new_ones : AreNew rings reads
   pub made : Between (Makes (poll_accesses rirb rings reads)) old new

@@ -1,5 +1,5 @@
--- What a start asks of the world, and what leads there: a reset, and nothing that sets a ring going. This project's own, over High
--- Definition Audio 1.0a, 4.3 and 4.4.
+-- What a start asks of the world, and what leads there: a reset, and nothing that sets a ring going. This project's
+-- own, over High Definition Audio 1.0a, 4.3 and 4.4.
 use Rattle.std.specs.Prelude.{◌≡◌, ◌≤◌, ◌<◌, ℕ, ◌%◌, ◌^◌, true, List, [], ◌∷◌, length}
 use Rattle.hda_registers.specs.Fields.{is_out_of_reset}
 use Rattle.hda_registers.specs.Laws.{IsBesideRings}
@@ -7,8 +7,8 @@ use Rattle.hda_world.specs.Worlds.{World}
 use Rattle.hda_world.specs.Events.{Event, Stepped, Begin, End, Read, Write, DmaRead, DmaWrite}
 use Rattle.command_engine.specs.Fetchings.{HasBlocks, AscendByAddress, IsOnItsWay}
 
--- neither ring runs, no answer to a command waits at a codec or in the controller, and both blocks lie in the region. RINTFL is a bit,
--- codecs stand by address, and what waits in the controller names codecs up to 14
+-- neither ring runs, no answer to a command waits at a codec or in the controller, and both blocks lie in the region.
+-- RINTFL is a bit, codecs stand by address, and what waits in the controller names codecs up to 14
 pub record IsQuiet (corb rirb : ℕ) (world : World) : Type 0 where
   pub corb_stopped : world.registers.global.corb_run ≡ 0
   pub rirb_stopped : world.registers.global.rirb_run ≡ 0

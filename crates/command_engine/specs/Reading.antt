@@ -20,7 +20,8 @@ abbrev pub event_in : Response → List Event
 event_in response = if response.unsolicited then event_of response ∷ [] else []
 
 -- these entries were read from a place of the ring on, as it is told
-pub record ReadsEntries (rirb size place count : ℕ) (asked : Option ℕ) (before after : List Event) (found : Option ℕ) (old new : Option Telling) : Type 0 where
+pub record ReadsEntries (rirb size place count : ℕ) (asked : Option ℕ) (before after : List Event) (found : Option ℕ)
+    (old new : Option Telling) : Type 0 where
   pub entries : List (List ℕ)
   pub number : length entries ≡ count
   pub whole : All (λ (entry : List ℕ). length entry ≡ RESPONSE_BYTES) entries
@@ -29,18 +30,21 @@ pub record ReadsEntries (rirb size place count : ℕ) (asked : Option ℕ) (befo
   pub answer : found ≡ answer_among asked (responses_in entries)
 
 -- the new entries up to RIRB's write pointer were read, where the flag says that responses were written
-pub record ReadsNew (rirb : ℕ) (rings : RingPlaces) (flag : ℕ) (found : Option ℕ) (rings' : RingPlaces) (events : List Event) (old new : Option Telling) : Type 0 where
+pub record ReadsNew (rirb : ℕ) (rings : RingPlaces) (flag : ℕ) (found : Option ℕ) (rings' : RingPlaces)
+    (events : List Event) (old new : Option Telling) : Type 0 where
   pub pointer : ℕ
   pub entries : List (List ℕ)
   pub number : length entries ≡ (if has_bit flag 0 then new_entries rings pointer else 0)
   pub whole : All (λ (entry : List ℕ). length entry ≡ RESPONSE_BYTES) entries
   pub made : Between (Makes (if has_bit flag 0 then batch_accesses rirb rings pointer entries else [])) old new
-  pub rings_are : rings' ≡ record rings { read = if has_bit flag 0 then pointer % entries_of rings.rirb else rings.read }
+  pub rings_are : rings' ≡ record rings { read = if has_bit flag 0 then pointer % entries_of rings.rirb else
+      rings.read }
   pub events_are : events ≡ unasked_events_of (responses_in entries)
   pub found_is : found ≡ answer_among (asked_of rings.outstanding) (responses_in entries)
 
 -- the new entries up to RIRB's write pointer were read
-pub record ReadsBatch (rirb : ℕ) (rings : RingPlaces) (found : Option ℕ) (rings' : RingPlaces) (events : List Event) (old new : Option Telling) : Type 0 where
+pub record ReadsBatch (rirb : ℕ) (rings : RingPlaces) (found : Option ℕ) (rings' : RingPlaces) (events : List Event)
+    (old new : Option Telling) : Type 0 where
   pub pointer : ℕ
   pub entries : List (List ℕ)
   pub number : length entries ≡ new_entries rings pointer

@@ -1,15 +1,17 @@
--- How the driver sets both rings going. High Definition Audio 1.0a, 4.3 and 4.4.1 to 4.4.3; the order of the accesses is this
--- project's own.
+-- How the driver sets both rings going. High Definition Audio 1.0a, 4.3 and 4.4.1 to 4.4.3; the order of the accesses
+-- is this project's own.
 use Rattle.std.specs.Prelude.{◌≡◌, ℕ, true, ◌==◌, ◌%◌, ◌^◌, List, [], ◌∷◌, ◌++◌, Option, Some, None, if◌then◌else◌}
 use Rattle.hda_registers.specs.declared.shapes.RingSize.{RingSize}
 use Rattle.hda_registers.specs.declared.shapes.Width.TheVariants.{One, Two, Four}
-use Rattle.hda_registers.specs.declared.places.TheConstants.{STATESTS, INTCTL, CORBLBASE, CORBWP, CORBRP, CORBCTL, CORBSIZE, RIRBLBASE, RIRBWP, RINTCNT, RIRBCTL, RIRBSIZE}
+use Rattle.hda_registers.specs.declared.places.TheConstants.{STATESTS, INTCTL, CORBLBASE, CORBWP, CORBRP, CORBCTL}
+use Rattle.hda_registers.specs.declared.places.TheConstants.{CORBSIZE, RIRBLBASE, RIRBWP, RINTCNT, RIRBCTL, RIRBSIZE}
 use Rattle.hda_world.specs.Events.{Event, Read, Write}
 use Rattle.hda_world.specs.Tellings.{Telling, Between, Makes}
 use Rattle.command_engine.specs.declared.ring_places.RingPlaces.{RingPlaces}
 use Rattle.command_engine.specs.Sizes.{largest_size, half_of}
 
--- what the registers read: the state change status, both sizes, and CORB's read pointer while its reset is asked for and after
+-- what the registers read: the state change status, both sizes, and CORB's read pointer while its reset is asked for
+-- and after
 pub record StartReads : Type 0 where
   pub status : ℕ
   pub corb_size : ℕ
@@ -47,7 +49,8 @@ rings_if (Some begun) rings = begun
 
 -- the reads that it begins with
 abbrev pub first_reads : ℕ → ℕ → ℕ → List Event
-first_reads status corb_size rirb_size = Read STATESTS Two status ∷ Read CORBSIZE One corb_size ∷ Read RIRBSIZE One rirb_size ∷ []
+first_reads status corb_size rirb_size = Read STATESTS Two status ∷ Read CORBSIZE One corb_size ∷ Read RIRBSIZE One
+    rirb_size ∷ []
 
 -- CORB: the state change status is cleared, then its base, both pointers, and its engine runs
 abbrev pub corb_accesses : ℕ → ℕ → ℕ → ℕ → List Event
@@ -71,8 +74,10 @@ abbrev pub start_accesses : ℕ → ℕ → StartReads → List Event
 start_accesses corb rirb reads =
     first_reads reads.status reads.corb_size reads.rirb_size ++ settings_if (rings_read reads) corb rirb reads
 
--- a start, where the rings' blocks lie at these addresses: what it answers, how the engine stands after it, and what is told
-pub record Starts (corb rirb : ℕ) (rings : RingPlaces) (answer : ℕ) (rings' : RingPlaces) (old new : Option Telling) : Type 0 where
+-- a start, where the rings' blocks lie at these addresses: what it answers, how the engine stands after it, and what is
+-- told
+pub record Starts (corb rirb : ℕ) (rings : RingPlaces) (answer : ℕ) (rings' : RingPlaces) (old new : Option Telling)
+    : Type 0 where
   pub reads : StartReads
   pub made : Between (Makes (start_accesses corb rirb reads)) old new
   pub answer_is : answer ≡ codecs_if (rings_read reads) reads.status

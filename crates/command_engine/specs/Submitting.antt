@@ -17,7 +17,8 @@ command_place rings = next_place rings.submitted (entries_of rings.corb)
 -- the word goes to that entry, and CORB's write pointer moves there
 abbrev pub submit_accesses : ℕ → RingPlaces → ℕ → List Event
 submit_accesses corb rings word =
-    DmaWrite (corb + COMMAND_BYTES * command_place rings) (little_bytes 4 word) ∷ Write CORBWP Two (command_place rings) ∷ []
+    DmaWrite (corb + COMMAND_BYTES * command_place rings) (little_bytes 4 word) ∷ Write CORBWP Two (command_place rings)
+    ∷ []
 
 -- the command is outstanding, and that entry has the last command
 abbrev pub rings_submitted : RingPlaces → Outstanding → RingPlaces

@@ -26,14 +26,19 @@ LeadsOn corb rirb rings rings' old new =
 abbrev pub found_since : ℕ → RingPlaces → World → Option ℕ
 found_since read rings world = answer_among (asked_of rings.outstanding) (map as_held (drop read world.written))
 
--- a poll answers by the responses that were written since the one before, and its events are those of these that came unasked, in
--- order. An answer belongs to the outstanding command. Then all is read, and the engine stands as it does after the poll
-pub record PollTells (clock from read corb rirb : ℕ) (rings : RingPlaces) (answer : Poll) (rings' : RingPlaces) (events : List Event) (world : World) : Type 0 where
+-- a poll answers by the responses that were written since the one before, and its events are those of these that came
+-- unasked, in order. An answer belongs to the outstanding command. Then all is read, and the engine stands as it does
+-- after the poll
+pub record PollTells (clock from read corb rirb : ℕ) (rings : RingPlaces) (answer : Poll) (rings' : RingPlaces)
+    (events : List Event) (world : World) : Type 0 where
   pub answer_is : answer ≡ poll_of rings.outstanding (found_since read rings world) clock
   pub events_are : events ≡ unasked_events_of (map as_held (drop read world.written))
   pub belongs : Belongs from rings.outstanding world.codecs world.commands (found_since read rings world)
-  pub stands : Stands (from_after (found_since read rings world) from world.commands) (length world.written) corb rirb rings' world
+  pub stands : Stands (from_after (found_since read rings world) from world.commands) (length world.written) corb rirb
+      rings' world
 
-abbrev pub PollTellsOf : (clock corb rirb : ℕ) (rings : RingPlaces) (answer : Poll) (rings' : RingPlaces) (events : List Event) → Telling → Telling → Type 0
+abbrev pub PollTellsOf : (clock corb rirb : ℕ) (rings : RingPlaces) (answer : Poll) (rings' : RingPlaces)
+    (events : List Event) → Telling → Telling → Type 0
 PollTellsOf clock corb rirb rings answer rings' events old new =
-    (from read : ℕ) → Stands from read corb rirb rings (world_of old) → PollTells clock from read corb rirb rings answer rings' events (world_of new)
+    (from read : ℕ) → Stands from read corb rirb rings (world_of old)
+    → PollTells clock from read corb rirb rings answer rings' events (world_of new)

@@ -1,6 +1,7 @@
--- The codecs of a device: their addresses, and which one takes the next command. High Definition Audio 1.0a, 4.4.1 and 7.3; the queue
--- of a codec that may be full is this project's own.
-use Rattle.std.specs.Prelude.{◌≡◌, ◌≤◌, ◌^◌, ◌==◌, ℕ, bit_or, List, [], All, map, fold, Option, Some, None, slice_get, if◌then◌else◌}
+-- The codecs of a device: their addresses, and which one takes the next command. High Definition Audio 1.0a, 4.4.1 and
+-- 7.3; the queue of a codec that may be full is this project's own.
+use Rattle.std.specs.Prelude.{◌≡◌, ◌≤◌, ◌^◌, ◌==◌, ℕ, bit_or, List, [], All, map, fold, Option, Some, None, slice_get}
+use Rattle.std.specs.Prelude.{if◌then◌else◌}
 use Rattle.std.specs.List.{position}
 use Rattle.std.specs.List.Sorted.{IsStrictlyIncreasing}
 use Rattle.codec_graph.specs.declared.raw.RawCodec.{RawCodec}

@@ -70,4 +70,5 @@ counted_on fields frames = if is_counted fields frames then frames + 1 else fram
 
 -- the registers after one more, in which the codecs may be discovered
 abbrev pub discovered_next : ℕ → List CodecState → Fields → Fields
-discovered_next frames codecs fields = if is_counted fields frames then discovered_at (frames + 1) codecs fields else fields
+discovered_next frames codecs fields = if is_counted fields frames then discovered_at (frames + 1) codecs fields else
+    fields

@@ -7,7 +7,8 @@ use Rattle.stream_descriptor.specs.Running.{Playing, StandsFor}
 use Rattle.device_core.specs.Codecs.{AreAddresses, addresses_of}
 use Rattle.device_core.specs.Devices.{DeviceState}
 
--- a state that a stream can stand for whose descriptor has this position: so many bytes were sent, and its FIFO has the others
+-- a state that a stream can stand for whose descriptor has this position: so many bytes were sent, and its FIFO has the
+-- others
 abbrev pub shown_state : Playing → ℕ → StreamState
 shown_state playing position = record {
   frame = playing.frame;
@@ -18,7 +19,8 @@ shown_state playing position = record {
 
 -- a stream stands for some state
 abbrev pub IsStanding : Playing → Fields → Type 0
-IsStanding playing fields = StandsFor playing fields (shown_state playing (stream_of fields playing.index).link_position)
+IsStanding playing fields = StandsFor playing fields
+    (shown_state playing (stream_of fields playing.index).link_position)
 
 pub record IsDevice (device : DeviceState) : Type 0 where
   pub held : IsHeldInReset device.registers

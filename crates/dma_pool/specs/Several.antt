@@ -14,7 +14,8 @@ pub record TakesFirst (granules bytes : ℕ) (taken : List Run) (address : ℕ) 
 abbrev pub TakesAll : (granules bytes : ℕ) → List Run → List ℕ → List Run → Type 0
 TakesAll granules bytes taken [] taken' = taken' ≡ taken
 TakesAll granules bytes taken (address ∷ addresses) taken' =
-    (middle : List Run) × TakesFirst granules bytes taken address middle × TakesAll granules bytes middle addresses taken'
+    (middle : List Run) × TakesFirst granules bytes taken address middle
+    × TakesAll granules bytes middle addresses taken'
 
 -- of so many takes in a row one meets no run
 pub record MeetsNoRun (granules bytes count : ℕ) (taken : List Run) : Type 0 where

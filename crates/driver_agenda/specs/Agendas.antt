@@ -1,5 +1,6 @@
 -- Where an agenda stands, and where an answer leads it. This project's own.
-use Rattle.std.specs.Prelude.{◌≡◌, ◌<◌, ◌≤◌, ℕ, ◌+◌, true, false, List, [], ◌∷◌, ◌++◌, length, slice_get, slice_index, Option, Some, None}
+use Rattle.std.specs.Prelude.{◌≡◌, ◌<◌, ◌≤◌, ℕ, ◌+◌, true, false, List, [], ◌∷◌, ◌++◌, length, slice_get, slice_index}
+use Rattle.std.specs.Prelude.{Option, Some, None}
 use Rattle.verb_codes.specs.declared.verbs.Command.{Command}
 use Rattle.codec_graph.specs.declared.raw.RawCodec.{RawCodec}
 use Rattle.route_planner.specs.declared.routes.Plan.{Plan}
@@ -43,7 +44,8 @@ pub record RoutesNothing (means : Means) (graphs : List RawCodec) (agenda : Agen
 -- what comes once these codecs were walked: the walk over the next codec, or where none is left the verbs
 abbrev pub GoesOn : Means → (addresses : List ℕ) → List RawCodec → Agenda → Type 0
 GoesOn means addresses graphs agenda =
-    (length graphs < length addresses → BeginsWalk addresses graphs agenda) × (length addresses ≤ length graphs → BeginsVerbs means graphs agenda)
+    (length graphs < length addresses → BeginsWalk addresses graphs agenda)
+    × (length addresses ≤ length graphs → BeginsVerbs means graphs agenda)
 
 -- a walk goes on after an answer
 pub record WalksOn (dialogue : Dialogue) (graphs : List RawCodec) (new : Agenda) : Type 0 where
@@ -53,7 +55,8 @@ pub record WalksOn (dialogue : Dialogue) (graphs : List RawCodec) (new : Agenda)
   pub graphs_are : new.graphs.items ≡ graphs
 
 -- it told these words, which are those of a well-formed graph, and what comes after it goes on
-pub record WalkEnds (means : Means) (codec : RawCodec) (addresses : List ℕ) (graphs : List RawCodec) (new : Agenda) : Type 0 where
+pub record WalkEnds (means : Means) (codec : RawCodec) (addresses : List ℕ) (graphs : List RawCodec) (new : Agenda)
+    : Type 0 where
   pub graph : RawCodec
   pub good : IsGood codec graph
   pub goes_on : GoesOn means addresses (graphs ++ graph ∷ []) new
@@ -92,14 +95,16 @@ abbrev pub GivesGraph : Dialogue → RawCodec → Type 0
 GivesGraph dialogue graph = (codec : RawCodec) × (dialogue ≡ Told codec) × IsGood codec graph
 
 -- a dialogue told the last codec's words, and no plan has a route
-pub record EndsLast (means : Means) (dialogue : Dialogue) (addresses : List ℕ) (graphs : List RawCodec) (new : Agenda) : Type 0 where
+pub record EndsLast (means : Means) (dialogue : Dialogue) (addresses : List ℕ) (graphs : List RawCodec) (new : Agenda)
+    : Type 0 where
   pub graph : RawCodec
   pub gives : GivesGraph dialogue graph
   pub last : length addresses ≤ length (graphs ++ graph ∷ [])
   pub nothing : RoutesNothing means (graphs ++ graph ∷ []) new
 
 -- the walk that is under way did, by this answer
-abbrev pub TellsNoRoute : Means → Option Walk → (answer : ℕ) → (addresses : List ℕ) → (graphs : List RawCodec) → (new : Agenda) → Type 0
+abbrev pub TellsNoRoute : Means → Option Walk → (answer : ℕ) → (addresses : List ℕ) → (graphs : List RawCodec)
+    → (new : Agenda) → Type 0
 TellsNoRoute means None answer addresses graphs new = ⊥
 TellsNoRoute means (Some under_way) answer addresses graphs new =
     EndsLast means (answered (remaining under_way) answer) addresses graphs new

@@ -1,5 +1,5 @@
--- How an agenda follows the commands of some codecs: their walks, one after the other, and then the verbs that set each of them up.
--- This project's own.
+-- How an agenda follows the commands of some codecs: their walks, one after the other, and then the verbs that set each
+-- of them up. This project's own.
 use Rattle.std.specs.Prelude.{◌≡◌, ◌<◌, ℕ, ◌+◌, true, List, ◌∷◌, ◌++◌, length, map, All, Contains, Option, Some, None}
 use Rattle.std.specs.List.{flat_map}
 use Rattle.verb_codes.specs.declared.verbs.Command.{Command}
@@ -23,7 +23,8 @@ commands_of verbs graphs = flat_map walk_commands graphs ++ flat_map verbs graph
 -- the graphs are well-formed, each has these verbs by its plan, and some pin of some plan has a route
 pub record AreRight (means : Means) (verbs : RawCodec → List Command) (graphs : List RawCodec) : Type 0 where
   pub well_formed : All IsWellFormed graphs
-  pub verbs_are : All (λ (graph : RawCodec). (plan : Plan) → means.IsPlanBy graph plan → verbs graph ≡ means.verbs_by graph plan) graphs
+  pub verbs_are : All (λ (graph : RawCodec). (plan : Plan) → means.IsPlanBy graph plan
+      → verbs graph ≡ means.verbs_by graph plan) graphs
   pub routed : (plans : List Plan) → ArePlansBy means.IsPlanBy graphs plans → have_route plans ≡ true
 
 -- so many commands were answered, the last of them in the walk over a codec, which is not at its end
@@ -41,7 +42,8 @@ pub record FollowsWalk (graphs : List RawCodec) (count : ℕ) (agenda : Agenda) 
   pub count_is : count ≡ length (flat_map walk_commands done) + length words
 
 -- or all walks and some verbs
-pub record FollowsVerbs (means : Means) (verbs : RawCodec → List Command) (graphs : List RawCodec) (count : ℕ) (agenda : Agenda) : Type 0 where
+pub record FollowsVerbs (means : Means) (verbs : RawCodec → List Command) (graphs : List RawCodec) (count : ℕ)
+    (agenda : Agenda) : Type 0 where
   pub graphs_are : agenda.graphs.items ≡ graphs
   pub plans : ArePlansBy means.IsPlanBy graphs agenda.plans.items
   pub verbs_are : agenda.verbs.items ≡ flat_map verbs graphs
@@ -52,10 +54,12 @@ FollowsBy means verbs graphs count agenda (Some under_way) = FollowsWalk graphs 
 FollowsBy means verbs graphs count agenda None = FollowsVerbs means verbs graphs count agenda
 
 -- an agenda for codecs with these graphs, of whose commands so many were answered
-pub record Follows (means : Means) (verbs : RawCodec → List Command) (graphs : List RawCodec) (count : ℕ) (agenda : Agenda) : Type 0 where
+pub record Follows (means : Means) (verbs : RawCodec → List Command) (graphs : List RawCodec) (count : ℕ)
+    (agenda : Agenda) : Type 0 where
   pub addresses : agenda.addresses.items ≡ map (λ (graph : RawCodec). graph.address) graphs
   pub stands : FollowsBy means verbs graphs count agenda agenda.walk
 
 -- the codec that is asked can give this answer
 abbrev pub CanReply : List RawCodec → Command → ℕ → Type 0
-CanReply graphs command answer = (graph : RawCodec) → Contains graphs graph → graph.address ≡ command.codec → CanAnswer graph command answer
+CanReply graphs command answer = (graph : RawCodec) → Contains graphs graph → graph.address ≡ command.codec
+    → CanAnswer graph command answer

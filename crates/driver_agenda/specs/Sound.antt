@@ -7,7 +7,8 @@ use Rattle.codec_walk.specs.Remaining.{remaining}
 
 -- whatever is answered, what a dialogue tells is a codec with this address
 abbrev pub TellsOf : ℕ → Dialogue → Type 0
-TellsOf address dialogue = (answers : List ℕ) (codec : RawCodec) → told (after dialogue answers) ≡ Some codec → codec.address ≡ address
+TellsOf address dialogue = (answers : List ℕ) (codec : RawCodec) → told (after dialogue answers) ≡ Some codec
+    → codec.address ≡ address
 
 -- a walk is over the codec of this place, and not at its end
 pub record WalkGoesOn (addresses : List ℕ) (place : ℕ) (walk : Walk) : Type 0 where

@@ -1,5 +1,6 @@
 -- What a call of a bring-up does, against what is to be done. This project's own.
-use Rattle.std.specs.Prelude.{◌≡◌, ◌≤◌, ℕ, ◌+◌, Bool, true, false, ◌&&◌, ◌||◌, not, List, Option, Some, None, slice_index, []}
+use Rattle.std.specs.Prelude.{◌≡◌, ◌≤◌, ℕ, ◌+◌, Bool, true, false, ◌&&◌, ◌||◌, not, List, Option, Some, None}
+use Rattle.std.specs.Prelude.{slice_index, []}
 use Rattle.std.specs.Option.{is_some}
 use Rattle.verb_codes.specs.declared.verbs.Command.{Command}
 use Rattle.codec_graph.specs.declared.raw.RawCodec.{RawCodec}
@@ -37,20 +38,23 @@ sent_if false sent = sent
 
 -- how far it has come
 abbrev pub state_of : BringUp → State
-state_of bring_up = record { phase = bring_up.phase; kept = bring_up.kept; sent = bring_up.sent; rings = bring_up.engine.rings; tally = tally_opened }
+state_of bring_up = record { phase = bring_up.phase; kept = bring_up.kept; sent = bring_up.sent; rings
+    = bring_up.engine.rings; tally = tally_opened }
 
 -- a task with its blocks
 pub record IsTaskOf (bring_up : BringUp) (task : Task) : Type 0 where
   pub corb : task.blocks.corb ≡ bring_up.engine.corb.address
   pub rirb : task.blocks.rirb ≡ bring_up.engine.rirb.address
 
--- whether an answer ended what is to be done: the words that were answered describe no well-formed graph, or no pin has a route
+-- whether an answer ended what is to be done: the words that were answered describe no well-formed graph, or no pin has
+-- a route
 abbrev pub is_ended : (old : Phase) → (found : Bool) → (new : Phase) → Bool
 is_ended old found new = is_asking old && (found && (can_follow new && not (goes_on new)))
 
 -- after a call while commands are sent: where one may come next, the agenda's next command and its phase are the task's
 abbrev pub AgreesAfter : (old new : BringUp) → Task → Type 0
-AgreesAfter old new task = is_asking old.phase ≡ true → goes_on new.phase ≡ true → Agrees task (answers_of new.sent new.engine.rings.outstanding) new.agenda
+AgreesAfter old new task = is_asking old.phase ≡ true → goes_on new.phase ≡ true
+    → Agrees task (answers_of new.sent new.engine.rings.outstanding) new.agenda
 
 -- whether a call may want memory in a phase: where codecs have announced themselves, or an answer has come
 abbrev pub takes_memory : Phase → Bool
@@ -67,16 +71,19 @@ pub record ReadsOn (means : Means) (made : List Event) (old new : BringUp) : Typ
   pub taken : (word : ℕ) → answer_in old.engine.rings made ≡ Some word
       → LeadsOn means word old.agenda new.agenda new.phase × EndsBy means word old.agenda new.agenda new.phase
   -- and without one it stays, but where the first walk begins
-  pub left : (is_asking old.phase ≡ true → answer_in old.engine.rings made ≡ None) → (old.phase ≡ Settling → new.phase ≡ Walking → ⊥) → new.agenda ≡ old.agenda
+  pub left : (is_asking old.phase ≡ true → answer_in old.engine.rings made ≡ None)
+      → (old.phase ≡ Settling → new.phase ≡ Walking → ⊥) → new.agenda ≡ old.agenda
   pub addresses : (old.phase ≡ Settling → new.phase ≡ Walking → ⊥) → new.agenda.addresses ≡ old.agenda.addresses
   -- of all that was told unasked until now
-  pub counted : (events : List told.Event) → IsCount events old.jacks → IsCount (with_told events (entries_in made)) new.jacks
+  pub counted : (events : List told.Event) → IsCount events old.jacks
+      → IsCount (with_told events (entries_in made)) new.jacks
 
 -- a call before the first command is sent, not for an interrupt: it looks for no answer
 pub record LeadsUnread (old new : BringUp) (before after : Option Telling) : Type 0 where
   pub made : List Event
   pub by : Between (Makes made) before after
-  pub is : (task : Task) (budget : ℕ) → IsTaskOf old task → IsStretch task (state_of old) (Some (record { irq = false; budget = budget })) made false (state_of new)
+  pub is : (task : Task) (budget : ℕ) → IsTaskOf old task
+      → IsStretch task (state_of old) (Some (record { irq = false; budget = budget })) made false (state_of new)
   pub still : goes_on old.phase ≡ false
   pub unread : AreUnread made
   pub jacks : new.jacks ≡ old.jacks
@@ -86,16 +93,19 @@ pub record LeadsUnread (old new : BringUp) (before after : Option Telling) : Typ
   pub untaken : old.phase ≡ Reset → Between LeavesUntaken before after
   pub settles : old.phase ≡ Settling → Between (SettlesTo false old new made) before after
 
--- a call, for an interrupt or not: it makes just the accesses that are to be made, and leads where it is to lead, for every task with its
--- blocks that plays nothing once all is set up, and agrees with the agenda after the call where commands are sent
+-- a call, for an interrupt or not: it makes just the accesses that are to be made, and leads where it is to lead, for
+-- every task with its blocks that plays nothing once all is set up, and agrees with the agenda after the call where
+-- commands are sent
 pub record Leads (means : Means) (irq : Bool) (old new : BringUp) (before after : Option Telling) : Type 0 where
   pub made : List Event
   pub by : Between (Makes made) before after
   pub is : (task : Task) (budget : ℕ) → IsTaskOf old task → (old.phase ≡ Ready → task.plays ≡ false)
       → is_ended old.phase (is_some (answer_in old.engine.rings made)) new.phase ≡ false → AgreesAfter old new task
-      → IsStretch task (state_of old) (Some (record { irq = irq; budget = budget })) made (is_some (answer_in old.engine.rings made)) (state_of new)
+      → IsStretch task (state_of old) (Some (record { irq = irq; budget = budget })) made
+      (is_some (answer_in old.engine.rings made)) (state_of new)
   -- where an answer ends it, nothing comes after the look for it
-  pub ended : (task : Task) → IsTaskOf old task → is_ended old.phase (is_some (answer_in old.engine.rings made)) new.phase ≡ true
+  pub ended : (task : Task) → IsTaskOf old task → is_ended old.phase (is_some (answer_in old.engine.rings made))
+      new.phase ≡ true
       → IsLastLook task (state_of old) irq [] made (state_of new)
   -- before commands are sent, and after them, no answer is looked for
   pub unread : is_asking old.phase ≡ false → AreUnread made
@@ -118,9 +128,11 @@ pub record IsKept (old new : BringUp) : Type 0 where
 pub record Ends (means : Means) (old new : BringUp) (before after : Option Telling) : Type 0 where
   pub made : List Event
   pub by : Between (Makes made) before after
-  pub is : (task : Task) → IsTaskOf old task → is_ended old.phase (is_some (answer_in old.engine.rings made)) new.phase ≡ false → AgreesAfter old new task
+  pub is : (task : Task) → IsTaskOf old task → is_ended old.phase (is_some (answer_in old.engine.rings made))
+      new.phase ≡ false → AgreesAfter old new task
       → IsStretch task (state_of old) None made (is_some (answer_in old.engine.rings made)) (state_of new)
-  pub ended : (task : Task) → IsTaskOf old task → is_ended old.phase (is_some (answer_in old.engine.rings made)) new.phase ≡ true
+  pub ended : (task : Task) → IsTaskOf old task → is_ended old.phase (is_some (answer_in old.engine.rings made))
+      new.phase ≡ true
       → IsLastLook task (state_of old) false shuts made (state_of new)
   pub unread : is_asking old.phase ≡ false → AreUnread made
   pub reads : ReadsOn means made old new
@@ -133,7 +145,8 @@ pub record Listens (old new : BringUp) (before after : Option Telling) : Type 0 
   pub made : Between (Makes (poll_accesses old.engine.rirb.address old.engine.rings reads)) before after
   pub rings : new.engine.rings ≡ rings_polled old.engine.rings reads
   -- of all that was told unasked until now
-  pub counted : (events : List told.Event) → IsCount events old.jacks → IsCount (with_told events reads.entries) new.jacks
+  pub counted : (events : List told.Event) → IsCount events old.jacks
+      → IsCount (with_told events reads.entries) new.jacks
   pub phase : new.phase ≡ old.phase
   pub kept : new.kept ≡ old.kept
   pub sent : new.sent ≡ old.sent

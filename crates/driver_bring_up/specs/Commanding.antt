@@ -65,11 +65,14 @@ unanswered_if None issued noticed phase = phase
 unanswered_if (Some command) issued noticed phase = Unanswered command.codec command.word issued noticed
 
 -- where a look led by what it found: from this phase and this agenda
-abbrev pub LedTo : Poll → Option Outstanding → (phase : Phase) → (old : Agenda) → (phase' : Phase) → (new : Agenda) → Type 0
+abbrev pub LedTo : Poll → Option Outstanding → (phase : Phase) → (old : Agenda) → (phase' : Phase) → (new : Agenda)
+    → Type 0
 LedTo polls.Idle outstanding phase old phase' new = (phase' ≡ phase) × (new ≡ old)
-LedTo (polls.Answered word) outstanding phase old phase' new = (can_follow phase' ≡ true) × (goes_on phase' ≡ true → phase' ≡ phase_of new)
+LedTo (polls.Answered word) outstanding phase old phase' new = (can_follow phase' ≡ true)
+    × (goes_on phase' ≡ true → phase' ≡ phase_of new)
 LedTo polls.Waiting outstanding phase old phase' new = (phase' ≡ phase) × (new ≡ old)
-LedTo (polls.Unanswered issued noticed) outstanding phase old phase' new = (phase' ≡ unanswered_if outstanding issued noticed phase) × (new ≡ old)
+LedTo (polls.Unanswered issued noticed) outstanding phase old phase' new
+    = (phase' ≡ unanswered_if outstanding issued noticed phase) × (new ≡ old)
 
 -- whether the next command may be submitted then
 abbrev pub leaves_free : Poll → (phase' : Phase) → Bool
@@ -95,12 +98,15 @@ Taken means (polls.Unanswered issued noticed) old phase' new = Unit {0}
 abbrev pub poll_by : RingPlaces → PollReads → (clock : ℕ) → Poll
 poll_by rings reads clock = poll_of rings.outstanding (found_by rings reads) clock
 
-pub record Looks (means : Means) (corb rirb : ℕ) (rings : RingPlaces) (phase : Phase) (old : Agenda) (jacks : Jacks) (answer : Answer) (rings' : RingPlaces) (new : Agenda) (jacks' : Jacks) (before after : Option Telling) : Type 0 where
+pub record Looks (means : Means) (corb rirb : ℕ) (rings : RingPlaces) (phase : Phase) (old : Agenda) (jacks : Jacks)
+    (answer : Answer) (rings' : RingPlaces) (new : Agenda) (jacks' : Jacks) (before after : Option Telling) : Type 0
+    where
   pub reads : PollReads
   pub new_ones : AreNew rings reads
   pub made : Between (Makes (ask_accesses rirb answer.clock rings reads)) before after
   -- where it is told and the engine stood to the world: the answer belongs to the outstanding command
-  pub tells : Between (PollTellsOf answer.clock corb rirb rings (poll_by rings reads answer.clock) rings' (unasked_events_of (responses_in reads.entries))) before after
+  pub tells : Between (PollTellsOf answer.clock corb rirb rings (poll_by rings reads answer.clock) rings'
+      (unasked_events_of (responses_in reads.entries))) before after
   pub rings_are : rings' ≡ rings_polled rings reads
   pub led : LedTo (poll_by rings reads answer.clock) rings.outstanding phase old answer.phase new
   -- of all that was told unasked until now
@@ -108,8 +114,10 @@ pub record Looks (means : Means) (corb rirb : ℕ) (rings : RingPlaces) (phase :
   pub taken : Taken means (poll_by rings reads answer.clock) old answer.phase new
   pub free : answer.is_free ≡ leaves_free (poll_by rings reads answer.clock) answer.phase
 
--- a look that found an answer which memory was wanting to take: RIRB was read and what was told unasked counted, and nothing else was done
-pub record FindsAnswer (rirb : ℕ) (rings : RingPlaces) (jacks : Jacks) (rings' : RingPlaces) (jacks' : Jacks) (made : List Event) : Type 0 where
+-- a look that found an answer which memory was wanting to take: RIRB was read and what was told unasked counted, and
+-- nothing else was done
+pub record FindsAnswer (rirb : ℕ) (rings : RingPlaces) (jacks : Jacks) (rings' : RingPlaces) (jacks' : Jacks)
+    (made : List Event) : Type 0 where
   pub clock : ℕ
   pub reads : PollReads
   pub made_is : made ≡ ask_accesses rirb clock rings reads
@@ -118,7 +126,8 @@ pub record FindsAnswer (rirb : ℕ) (rings : RingPlaces) (jacks : Jacks) (rings'
   pub rings_are : rings' ≡ rings_polled rings reads
   pub counted : (events : List told.Event) → IsCount events jacks → IsCount (with_told events reads.entries) jacks'
 
-pub record FindsAlone (rirb : ℕ) (rings : RingPlaces) (jacks : Jacks) (rings' : RingPlaces) (jacks' : Jacks) (before after : Option Telling) : Type 0 where
+pub record FindsAlone (rirb : ℕ) (rings : RingPlaces) (jacks : Jacks) (rings' : RingPlaces) (jacks' : Jacks)
+    (before after : Option Telling) : Type 0 where
   pub made : List Event
   pub by : Between (Makes made) before after
   pub is : FindsAnswer rirb rings jacks rings' jacks' made
@@ -135,18 +144,22 @@ submit_made corb rings (Some order) = submit_accesses corb rings order.word
 
 abbrev pub rings_with : Option Order → (clock : ℕ) → RingPlaces → RingPlaces
 rings_with None clock rings = rings
-rings_with (Some order) clock rings = rings_submitted rings (record { codec = order.codec; word = order.word; issued = clock })
+rings_with (Some order) clock rings = rings_submitted rings
+    (record { codec = order.codec; word = order.word; issued = clock })
 
 -- ---- a stretch, against what is to be done
 
-pub record IsStretch (task : Task) (state : State) (turn : Option DriverLine) (made : List Event) (found : Bool) (state' : State) : Type 0 where
+pub record IsStretch (task : Task) (state : State) (turn : Option DriverLine) (made : List Event) (found : Bool)
+    (state' : State) : Type 0 where
   pub fits : requests_of made ≡ expected task state turn (seen_by (values_of made) found)
   pub leads : state' ≡ next task state turn (seen_by (values_of made) found)
 
--- one in which an answer ends what is to be done: the look, with one for interrupts before it where the call is for them, and then just
--- these accesses. RIRB is read, nothing is outstanding, and all else stays
-pub record IsLastLook (task : Task) (state : State) (irq : Bool) (later : List Request) (made : List Event) (state' : State) : Type 0 where
-  pub fits : requests_of made ≡ interrupted_if irq (seen_by (values_of made) true) (asks task state (seen_by (values_of made) true) later)
+-- one in which an answer ends what is to be done: the look, with one for interrupts before it where the call is for
+-- them, and then just these accesses. RIRB is read, nothing is outstanding, and all else stays
+pub record IsLastLook (task : Task) (state : State) (irq : Bool) (later : List Request) (made : List Event)
+    (state' : State) : Type 0 where
+  pub fits : requests_of made ≡ interrupted_if irq (seen_by (values_of made) true)
+      (asks task state (seen_by (values_of made) true) later)
   pub leads : state' ≡ record state { phase = state'.phase; rings = polled state.rings (seen_by (values_of made) true) }
 
 -- a call that is not for an interrupt

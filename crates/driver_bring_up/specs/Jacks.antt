@@ -1,6 +1,7 @@
--- How often pins told of something unasked, by codec and tag. High Definition Audio 1.0a, 4.4.2 and 7.3.3.14; the list is this project's
--- own.
-use Rattle.std.specs.Prelude.{◌≡◌, ◌≤◌, ◌<◌, ◌⊎◌, ℕ, Bool, ◌==◌, ◌&&◌, List, [], All, AllPairs, Any, slice_index, slice_index_or, count_by}
+-- How often pins told of something unasked, by codec and tag. High Definition Audio 1.0a, 4.4.2 and 7.3.3.14; the list
+-- is this project's own.
+use Rattle.std.specs.Prelude.{◌≡◌, ◌≤◌, ◌<◌, ◌⊎◌, ℕ, Bool, ◌==◌, ◌&&◌, List, [], All, AllPairs, Any, slice_index}
+use Rattle.std.specs.Prelude.{slice_index_or, count_by}
 use Rattle.command_engine.specs.declared.answers.Event.{Event}
 use Rattle.driver_progress.specs.declared.jack.Jack.{Jack}
 

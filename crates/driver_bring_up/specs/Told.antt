@@ -1,5 +1,6 @@
 -- What is told of the calls of a bring-up. This project's own, over High Definition Audio 1.0a, 3.3.15, 4.3 and 4.4.
-use Rattle.std.specs.Prelude.{◌≡◌, ◌≢◌, ◌⊎◌, ℕ, Bool, true, false, ◌&&◌, not, List, [], ◌++◌, length, slice_index, Option, None, Some}
+use Rattle.std.specs.Prelude.{◌≡◌, ◌≢◌, ◌⊎◌, ℕ, Bool, true, false, ◌&&◌, not, List, [], ◌++◌, length, slice_index}
+use Rattle.std.specs.Prelude.{Option, None, Some}
 use Rattle.verb_codes.specs.Words.{has_bit}
 use Rattle.hda_registers.specs.declared.places.TheConstants.{STATESTS, INTSTS, WALCLK}
 use Rattle.hda_world.specs.Worlds.{World, TakenCommand}
@@ -34,33 +35,39 @@ use Rattle.driver_bring_up.specs.declared.bringing.BringUp.{BringUp}
 abbrev pub found_none : (irq : Bool) → (made : List Event) → Bool
 found_none irq made = irq && not (has_bit (slice_index (values_of made INTSTS) 0) interrupts_at)
 
--- from a world that can be reset, the reset leads to one where the codecs announce themselves; a call for an interrupt that found none
--- leaves it so
+-- from a world that can be reset, the reset leads to one where the codecs announce themselves; a call for an interrupt
+-- that found none leaves it so
 abbrev pub ResetsTo : (irq : Bool) → (made : List Event) → (new : BringUp) → Telling → Telling → Type 0
 ResetsTo irq made new before after =
     (corb rirb : ℕ) → CanReset corb rirb (world_of before)
-    → (IsSettling corb rirb (world_of after) × (new.phase ≡ Settling)) ⊎ ((found_none irq made ≡ true) × CanReset corb rirb (world_of after) × (new.phase ≡ Reset))
+    → (IsSettling corb rirb (world_of after) × (new.phase ≡ Settling))
+    ⊎ ((found_none irq made ≡ true) × CanReset corb rirb (world_of after) × (new.phase ≡ Reset))
 
--- a look whether the codecs had their time, none where a call for an interrupt found none: too early nothing has changed; once they had it,
--- by the clock that was read, just the codecs on the link are found, which have these addresses, and the engine stands to the world as a
--- start leaves it. No codec takes a command meanwhile
-pub record Settles (none : Bool) (clock status : ℕ) (addresses : List ℕ) (before : List TakenCommand) (old new : BringUp) (world : World) : Type 0 where
+-- a look whether the codecs had their time, none where a call for an interrupt found none: too early nothing has
+-- changed; once they had it, by the clock that was read, just the codecs on the link are found, which have these
+-- addresses, and the engine stands to the world as a start leaves it. No codec takes a command meanwhile
+pub record Settles (none : Bool) (clock status : ℕ) (addresses : List ℕ) (before : List TakenCommand)
+    (old new : BringUp) (world : World) : Type 0 where
   pub stays : none ≡ true → new.phase ≡ Settling
   pub late : none ≡ false → has_settled old.kept clock ≡ true → new.phase ≡ Walking
   pub early : new.phase ≡ Settling → IsSettling old.engine.corb.address old.engine.rirb.address world
   pub untaken : new.phase ≡ Settling → world.commands ≡ before
   pub codecs : new.phase ≡ Walking → AreCodecs (codecs_in status) addresses
-  pub started : new.phase ≡ Walking → IsStarted old.engine.corb.address old.engine.rirb.address new.engine.rings before world
+  pub started : new.phase ≡ Walking → IsStarted old.engine.corb.address old.engine.rirb.address new.engine.rings before
+      world
 
 abbrev pub SettlesTo : (irq : Bool) → (old new : BringUp) → (made : List Event) → Telling → Telling → Type 0
 SettlesTo irq old new made before after =
-    IsSettling old.engine.corb.address old.engine.rirb.address (world_of before) → addresses_of (world_of before).codecs ≢ []
-    → Settles (found_none irq made) (slice_index (values_of made WALCLK) 0) (slice_index (values_of made STATESTS) 0) (addresses_of (world_of before).codecs) (world_of before).commands old new (world_of after)
+    IsSettling old.engine.corb.address old.engine.rirb.address (world_of before)
+    → addresses_of (world_of before).codecs ≢ []
+    → Settles (found_none irq made) (slice_index (values_of made WALCLK) 0) (slice_index (values_of made STATESTS) 0)
+    (addresses_of (world_of before).codecs) (world_of before).commands old new (world_of after)
 
 -- ---- while commands are sent, and after them
 
 -- a look for the answer to the outstanding command, with some accesses before it and after it
-pub record Looked (old : BringUp) (made first : List Event) (clock : ℕ) (reads : PollReads) (rest : List Event) (from read : ℕ) (before after : Telling) : Type 0 where
+pub record Looked (old : BringUp) (made first : List Event) (clock : ℕ) (reads : PollReads) (rest : List Event)
+    (from read : ℕ) (before after : Telling) : Type 0 where
   pub made_is : made ≡ first ++ (ask_accesses old.engine.rirb.address clock old.engine.rings reads ++ rest)
   pub new_ones : AreNew old.engine.rings reads
   pub plain : ArePlain first
@@ -74,9 +81,11 @@ pub record Looked (old : BringUp) (made first : List Event) (clock : ℕ) (reads
   pub found_is : found_by old.engine.rings reads ≡ answer_in old.engine.rings made
   -- the answer is the one that was written to RIRB since all was read that was, and belongs to the command
   pub found : answer_in old.engine.rings made ≡ found_since read old.engine.rings (world_of ends)
-  pub belongs : Belongs from old.engine.rings.outstanding (world_of ends).codecs (world_of ends).commands (answer_in old.engine.rings made)
+  pub belongs : Belongs from old.engine.rings.outstanding (world_of ends).codecs (world_of ends).commands
+      (answer_in old.engine.rings made)
   -- all is read then
-  pub stands : Stands (from_after (answer_in old.engine.rings made) from (world_of ends).commands) (length (world_of ends).written) old.engine.corb.address old.engine.rirb.address
+  pub stands : Stands (from_after (answer_in old.engine.rings made) from (world_of ends).commands)
+      (length (world_of ends).written) old.engine.corb.address old.engine.rirb.address
       (rings_polled old.engine.rings reads) (world_of ends)
 
 -- before it, interrupts were looked for where the call is for one, and there was one
@@ -96,8 +105,10 @@ pub record IsGivenUp (outstanding : Option Outstanding) (clock : ℕ) (phase : P
   pub was : outstanding ≡ Some command
   pub is : phase ≡ Unanswered command.codec command.word command.issued clock
 
--- after it comes the next command of the agenda, where one may be submitted and is left, and the engine stands to the world as before
-pub record LooksOn (irq : Bool) (old new : BringUp) (made : List Event) (from read : ℕ) (before after : Telling) : Type 0 where
+-- after it comes the next command of the agenda, where one may be submitted and is left, and the engine stands to the
+-- world as before
+pub record LooksOn (irq : Bool) (old new : BringUp) (made : List Event) (from read : ℕ) (before after : Telling) : Type
+    0 where
   pub first : List Event
   pub clock : ℕ
   pub reads : PollReads
@@ -105,16 +116,20 @@ pub record LooksOn (irq : Bool) (old new : BringUp) (made : List Event) (from re
   pub order : Option Order
   pub is_before : IsBefore irq first
   -- without an answer the phase stays, or the command is given up
-  pub waits : answer_in old.engine.rings made ≡ None → (new.phase ≡ old.phase) ⊎ IsGivenUp old.engine.rings.outstanding clock new.phase
+  pub waits : answer_in old.engine.rings made ≡ None → (new.phase ≡ old.phase)
+      ⊎ IsGivenUp old.engine.rings.outstanding clock new.phase
   pub idle : free ≡ true → (rings_polled old.engine.rings reads).outstanding ≡ None
   pub order_is : order ≡ order_if free (next_on new.agenda)
-  pub looked : Looked old made first clock reads (submit_made old.engine.corb.address (rings_polled old.engine.rings reads) order) from read before after
+  pub looked : Looked old made first clock reads
+      (submit_made old.engine.corb.address (rings_polled old.engine.rings reads) order) from read before after
   pub rings : new.engine.rings ≡ rings_with order clock (rings_polled old.engine.rings reads)
   pub sent : new.sent ≡ sent_with order old.sent
-  pub stands : Stands (from_after (answer_in old.engine.rings made) from (world_of looked.ends).commands) (length (world_of looked.ends).written) old.engine.corb.address old.engine.rirb.address
+  pub stands : Stands (from_after (answer_in old.engine.rings made) from (world_of looked.ends).commands)
+      (length (world_of looked.ends).written) old.engine.corb.address old.engine.rirb.address
       new.engine.rings (world_of after)
 
--- or it looks for no answer, since there is no interrupt or no command is left: nothing changes, and the engine stands to the world as it did
+-- or it looks for no answer, since there is no interrupt or no command is left: nothing changes, and the engine stands
+-- to the world as it did
 pub record IsStill (old new : BringUp) (made : List Event) (from read : ℕ) (after : Telling) : Type 0 where
   pub same : new ≡ old
   pub unread : AreUnread made
@@ -124,7 +139,8 @@ pub record IsStill (old new : BringUp) (made : List Event) (from read : ℕ) (af
 -- a call leads from where the engine stands to the world to where it stands after it
 abbrev pub Stays : (irq : Bool) → (old new : BringUp) → (made : List Event) → Telling → Telling → Type 0
 Stays irq old new made before after =
-    (from read : ℕ) → Stands from read old.engine.corb.address old.engine.rirb.address old.engine.rings (world_of before)
+    (from read : ℕ) → Stands from read old.engine.corb.address old.engine.rirb.address old.engine.rings
+    (world_of before)
     → LooksOn irq old new made from read before after ⊎ IsStill old new made from read after
 
 -- the last call looks once more, and then all is shut
@@ -137,7 +153,8 @@ pub record LooksLast (old new : BringUp) (made : List Event) (from read : ℕ) (
 
 abbrev pub EndLooks : (old new : BringUp) (made : List Event) → Telling → Telling → Type 0
 EndLooks old new made before after =
-    (from read : ℕ) → Stands from read old.engine.corb.address old.engine.rirb.address old.engine.rings (world_of before) → LooksLast old new made from read before after
+    (from read : ℕ) → Stands from read old.engine.corb.address old.engine.rirb.address old.engine.rings
+    (world_of before) → LooksLast old new made from read before after
 
 -- the last accesses that are told are those of the end
 pub record IsShut (after : Option Telling) : Type 0 where

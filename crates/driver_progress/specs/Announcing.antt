@@ -24,14 +24,18 @@ pub record IsStarted (corb rirb : ℕ) (rings : RingPlaces) (before : List Taken
 -- where a start that found codecs leads
 abbrev pub StartLeads : (corb rirb : ℕ) (rings : RingPlaces) → Settled → Telling → Telling → Type 0
 StartLeads corb rirb rings answer old new =
-    (bits : ℕ) → answer ≡ Codecs bits → CanStart corb rirb (world_of old) → IsStarted corb rirb rings (world_of old).commands (world_of new)
+    (bits : ℕ) → answer ≡ Codecs bits → CanStart corb rirb (world_of old)
+    → IsStarted corb rirb rings (world_of old).commands (world_of new)
 
 -- where the look leads by its answer: too early nothing has changed, and there is no codec where none is on the link
-abbrev pub LedBy : (corb rirb : ℕ) (rings : RingPlaces) (addresses : List ℕ) (before : List TakenCommand) → Settled → World → Type 0
+abbrev pub LedBy : (corb rirb : ℕ) (rings : RingPlaces) (addresses : List ℕ) (before : List TakenCommand) → Settled
+    → World → Type 0
 LedBy corb rirb rings addresses before TooEarly world = IsSettling corb rirb world × (world.commands ≡ before)
 LedBy corb rirb rings addresses before NoCodec world = addresses ≡ []
-LedBy corb rirb rings addresses before (Codecs bits) world = AreCodecs bits addresses × IsStarted corb rirb rings before world
+LedBy corb rirb rings addresses before (Codecs bits) world = AreCodecs bits addresses
+    × IsStarted corb rirb rings before world
 
 abbrev pub LeadsToRings : (corb rirb : ℕ) (rings : RingPlaces) → Settled → Telling → Telling → Type 0
 LeadsToRings corb rirb rings answer old new =
-    IsSettling corb rirb (world_of old) → LedBy corb rirb rings (addresses_of (world_of old).codecs) (world_of old).commands answer (world_of new)
+    IsSettling corb rirb (world_of old) → LedBy corb rirb rings (addresses_of (world_of old).codecs)
+    (world_of old).commands answer (world_of new)

@@ -1,5 +1,5 @@
--- Whether the outstanding command was answered, by the responses that were written since it was submitted and by those that were not read.
--- This project's own.
+-- Whether the outstanding command was answered, by the responses that were written since it was submitted and by those
+-- that were not read. This project's own.
 use Rattle.std.specs.Prelude.{◌≡◌, ◌≤◌, ℕ, Bool, List, length, drop, Option}
 use Rattle.std.specs.List.{list_any}
 use Rattle.world_rings.specs.declared.response.Response.{Response}

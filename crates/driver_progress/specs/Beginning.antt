@@ -1,5 +1,5 @@
--- What a driver asks of the world before its first access, and what its reset leads to. This project's own, over High Definition Audio
--- 1.0a, 4.3.
+-- What a driver asks of the world before its first access, and what its reset leads to. This project's own, over High
+-- Definition Audio 1.0a, 4.3.
 use Rattle.std.specs.Prelude.{◌≡◌, ℕ, ◌*◌, ◌%◌, ◌^◌, true, List, length, Contains, Option}
 use Rattle.std.specs.Option.{is_some}
 use Rattle.std.specs.Int.{bit_at}
@@ -28,9 +28,11 @@ pub record IsUntaken (commands : List TakenCommand) (world : World) : Type 0 whe
 
 -- where it does not run before, it does not after, and none was taken meanwhile
 abbrev pub LeavesUntaken : Telling → Telling → Type 0
-LeavesUntaken old new = (commands : List TakenCommand) → IsUntaken commands (world_of old) → IsUntaken commands (world_of new)
+LeavesUntaken old new = (commands : List TakenCommand) → IsUntaken commands (world_of old)
+    → IsUntaken commands (world_of new)
 
--- before the first access: both rings' blocks lie in the region, codecs stand by address, and none but these announced itself
+-- before the first access: both rings' blocks lie in the region, codecs stand by address, and none but these announced
+-- itself
 pub record CanReset (corb rirb : ℕ) (world : World) : Type 0 where
   pub blocks : HasBlocks corb rirb (length world.memory)
   pub ascend : AscendByAddress world.codecs

@@ -14,7 +14,8 @@ use Rattle.driver_progress.specs.declared.commands.Asked.{Asked}
 abbrev pub ask_accesses : (rirb clock : ℕ) → RingPlaces → PollReads → List happens.Event
 ask_accesses rirb clock rings reads = Read WALCLK Four clock ∷ poll_accesses rirb rings reads
 
-pub record Asks (rirb : ℕ) (rings : RingPlaces) (asked : Asked) (rings' : RingPlaces) (events : List Event) (old new : Option Telling) : Type 0 where
+pub record Asks (rirb : ℕ) (rings : RingPlaces) (asked : Asked) (rings' : RingPlaces) (events : List Event)
+    (old new : Option Telling) : Type 0 where
   pub reads : PollReads
   pub new_ones : AreNew rings reads
   pub made : Between (Makes (ask_accesses rirb asked.clock rings reads)) old new

@@ -1,10 +1,12 @@
--- The accesses that a driver is to make at a call: by its phase, how it is called, and what it reads meanwhile. The order of the
--- accesses is this project's own; what they do is High Definition Audio 1.0a, 3.3 and 4.3 to 4.5.
-use Rattle.std.specs.Prelude.{ℕ, zero, suc, ◌+◌, ◌*◌, ◌-◌, ◌%◌, Bool, true, false, ◌&&◌, nat_le, List, [], ◌∷◌, ◌++◌, length, drop, slice_get, slice_index, Option, None, Some, if◌then◌else◌}
+-- The accesses that a driver is to make at a call: by its phase, how it is called, and what it reads meanwhile. The
+-- order of the accesses is this project's own; what they do is High Definition Audio 1.0a, 3.3 and 4.3 to 4.5.
+use Rattle.std.specs.Prelude.{ℕ, zero, suc, ◌+◌, ◌*◌, ◌-◌, ◌%◌, Bool, true, false, ◌&&◌, nat_le, List, [], ◌∷◌, ◌++◌}
+use Rattle.std.specs.Prelude.{length, drop, slice_get, slice_index, Option, None, Some, if◌then◌else◌}
 use Rattle.byteorder.specs.Endian.{little_bytes}
 use Rattle.verb_codes.specs.Words.{has_bit, bits_of}
 use Rattle.hda_registers.specs.declared.shapes.Width.TheVariants.{One, Two, Four}
-use Rattle.hda_registers.specs.declared.places.TheConstants.{GCTL, STATESTS, INTSTS, WALCLK, CORBLBASE, CORBWP, CORBRP, CORBCTL, CORBSIZE, RIRBWP, RIRBCTL, RIRBSTS, RIRBSIZE}
+use Rattle.hda_registers.specs.declared.places.TheConstants.{GCTL, STATESTS, INTSTS, WALCLK, CORBLBASE, CORBWP, CORBRP}
+use Rattle.hda_registers.specs.declared.places.TheConstants.{CORBCTL, CORBSIZE, RIRBWP, RIRBCTL, RIRBSTS, RIRBSIZE}
 use Rattle.hda_registers.specs.Fields.{entries_of}
 use Rattle.world_rings.specs.declared.entries.TheConstants.{COMMAND_BYTES, RESPONSE_BYTES}
 use Rattle.command_engine.specs.declared.ring_places.RingPlaces.{RingPlaces}
@@ -23,7 +25,8 @@ use Rattle.driver_progress.specs.Requests.{Request, Gets, Puts, Fetches, Stores,
 use Rattle.driver_progress.specs.Tasks.{Order, Blocks, Task, DriverLine}
 use Rattle.driver_progress.specs.Seen.{Seen, clock_of, interrupts_at, stream_interrupts_at}
 use Rattle.driver_progress.specs.States.{State}
-use Rattle.driver_progress.specs.Phases.{PhaseGroup, BeforeWalk, Asking, BeforeSound, Sounding, Over, group_of, is_reset, is_active}
+use Rattle.driver_progress.specs.Phases.{PhaseGroup, BeforeWalk, Asking, BeforeSound, Sounding, Over, group_of}
+use Rattle.driver_progress.specs.Phases.{is_reset, is_active}
 
 -- ---- the reset
 
@@ -46,28 +49,32 @@ rings_seen seen = rings_found seen.changes seen.corb_size seen.rirb_size
 abbrev pub sets_rings : Blocks → Seen → Option RingPlaces → List Request
 sets_rings blocks seen None = []
 sets_rings blocks seen (Some rings) =
-    Puts STATESTS Two seen.changes ∷ Puts CORBLBASE Four blocks.corb ∷ Puts CORBWP Two 0 ∷ Puts CORBRP Two 0x8000 ∷ Gets CORBRP Two
+    Puts STATESTS Two seen.changes ∷ Puts CORBLBASE Four blocks.corb ∷ Puts CORBWP Two 0 ∷ Puts CORBRP Two 0x8000 ∷ Gets
+    CORBRP Two
     ∷ Puts CORBRP Two 0 ∷ Gets CORBRP Two ∷ Puts CORBCTL One 2 ∷ requests_of (rirb_accesses blocks.rirb rings.rirb)
 
 abbrev pub settles : Task → State → Seen → List Request
 settles task state seen =
     Gets WALCLK Four
     ∷ (if has_settled state.kept (clock_of seen)
-    then Gets STATESTS Two ∷ Gets CORBSIZE One ∷ Gets RIRBSIZE One ∷ sets_rings task.blocks seen (rings_seen seen) else [])
+    then Gets STATESTS Two ∷ Gets CORBSIZE One ∷ Gets RIRBSIZE One ∷ sets_rings task.blocks seen (rings_seen seen) else
+    [])
 
 -- ---- commands and their answers
 
 -- so many entries of RIRB, from this place of the ring on
 abbrev pub fetches : (rirb size count place : ℕ) → List Request
 fetches rirb size zero place = []
-fetches rirb size (suc count) place = Fetches (rirb + RESPONSE_BYTES * (place % size)) RESPONSE_BYTES ∷ fetches rirb size count (place + 1)
+fetches rirb size (suc count) place = Fetches (rirb + RESPONSE_BYTES * (place % size)) RESPONSE_BYTES ∷ fetches rirb
+    size count (place + 1)
 
 -- the new entries are read where RINTFL says that there are some, and then it is cleared (4.4.2)
 abbrev pub polls : (rirb : ℕ) → RingPlaces → Seen → List Request
 polls rirb rings seen =
     Gets RIRBSTS One
     ∷ (if has_bit seen.flag 0
-    then Gets RIRBWP Two ∷ (fetches rirb (entries_of rings.rirb) (new_entries rings seen.pointer) (rings.read + 1) ++ Puts RIRBSTS One 1 ∷ [])
+    then Gets RIRBWP Two ∷ (fetches rirb (entries_of rings.rirb) (new_entries rings seen.pointer)
+    (rings.read + 1) ++ Puts RIRBSTS One 1 ∷ [])
     else [])
 
 -- whether a command may be submitted: none is outstanding, or its answer came
@@ -77,13 +84,15 @@ is_free (Some command) answered = answered
 
 -- the next command, where one may be submitted and is left
 abbrev pub next_order : Task → State → Seen → Option Order
-next_order task state seen = if is_free state.rings.outstanding seen.answered then slice_get task.orders state.sent else None
+next_order task state seen = if is_free state.rings.outstanding seen.answered then slice_get task.orders state.sent else
+    None
 
 -- it goes to CORB's next entry, and the write pointer moves there (4.4.1)
 abbrev pub submits : Blocks → RingPlaces → Option Order → List Request
 submits blocks rings None = []
 submits blocks rings (Some order) =
-    Stores (blocks.corb + COMMAND_BYTES * command_place rings) (little_bytes 4 order.word) ∷ Puts CORBWP Two (command_place rings) ∷ []
+    Stores (blocks.corb + COMMAND_BYTES * command_place rings) (little_bytes 4 order.word) ∷ Puts CORBWP Two
+    (command_place rings) ∷ []
 
 -- the clock, the poll, and what comes after it
 abbrev pub asks : Task → State → Seen → (later : List Request) → List Request
@@ -94,14 +103,17 @@ asks task state seen later = Gets WALCLK Four ∷ (polls task.blocks.rirb state.
 -- what a run goes by that may write so many bytes of sound
 abbrev pub facts_seen : Task → State → (budget : ℕ) → Seen → RunFacts
 facts_seen task state budget seen =
-    facts_of budget (length task.pcm - state.tally.course.used) (slice_index seen.clocks 0) (slice_index seen.positions 0) (slice_index seen.clocks 1)
+    facts_of budget (length task.pcm - state.tally.course.used) (slice_index seen.clocks 0)
+    (slice_index seen.positions 0) (slice_index seen.clocks 1)
 
 -- what it writes: over silence that it takes back, and from the line's end on
 abbrev pub appends : Task → State → (budget : ℕ) → Seen → List Request
 appends task state budget seen =
-    requests_of (run_writes (period_bytes task.geometry.period) task.blocks.periods (measures task.geometry) state.tally.course (facts_seen task state budget seen) (drop state.tally.course.used task.pcm))
+    requests_of (run_writes (period_bytes task.geometry.period) task.blocks.periods (measures task.geometry)
+    state.tally.course (facts_seen task state budget seen) (drop state.tally.course.used task.pcm))
 
--- the first run: the stream is reset, the list and the first bytes of the line are written, and the stream is set going (4.5.3)
+-- the first run: the stream is reset, the list and the first bytes of the line are written, and the stream is set going
+-- (4.5.3)
 abbrev pub starts : Task → State → (budget : ℕ) → Seen → List Request
 starts task state budget seen =
     Gets WALCLK Four ∷ Puts CONTROL One 1 ∷ Gets CONTROL One ∷ Puts CONTROL One 0 ∷ Gets CONTROL One

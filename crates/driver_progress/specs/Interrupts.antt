@@ -11,7 +11,8 @@ use Rattle.driver_progress.specs.Seen.{interrupts_at, stream_interrupts_at}
 -- of an interrupt of the output stream the status bits that are set are cleared
 abbrev pub clear_accesses : (interrupts stream : ℕ) → List Event
 clear_accesses interrupts stream =
-    if has_bit interrupts stream_interrupts_at then Read STREAM_STATUS One stream ∷ Write STREAM_STATUS One (4 * bits_of stream 2 3) ∷ [] else []
+    if has_bit interrupts stream_interrupts_at then Read STREAM_STATUS One stream ∷ Write STREAM_STATUS One
+    (4 * bits_of stream 2 3) ∷ [] else []
 
 abbrev pub interrupt_accesses : (interrupts stream : ℕ) → List Event
 interrupt_accesses interrupts stream =

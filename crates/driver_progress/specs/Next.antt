@@ -1,5 +1,6 @@
 -- Where a stretch of its accesses leads a driver. This project's own.
-use Rattle.std.specs.Prelude.{ℕ, ◌+◌, ◌%◌, Bool, true, false, ◌&&◌, not, nat_le, List, length, Option, None, Some, if◌then◌else◌}
+use Rattle.std.specs.Prelude.{ℕ, ◌+◌, ◌%◌, Bool, true, false, ◌&&◌, not, nat_le, List, length, Option, None, Some}
+use Rattle.std.specs.Prelude.{if◌then◌else◌}
 use Rattle.verb_codes.specs.Words.{has_bit}
 use Rattle.hda_registers.specs.Fields.{entries_of}
 use Rattle.command_engine.specs.declared.ring_places.RingPlaces.{RingPlaces}
@@ -12,7 +13,8 @@ use Rattle.period_writer.specs.Runs.{Tally, measures, taken_up}
 use Rattle.driver_progress.specs.declared.phase.Phase.{Phase}
 use Rattle.driver_progress.specs.declared.phase.Phase.TheVariants.{Settling, Walking, SettingUp, Ready, Playing}
 use Rattle.driver_progress.specs.declared.phase.Phase.TheVariants.{Drained, Unanswered, Late}
-use Rattle.driver_progress.specs.Phases.{PhaseGroup, BeforeWalk, Asking, BeforeSound, Sounding, Over, group_of, is_reset}
+use Rattle.driver_progress.specs.Phases.{PhaseGroup, BeforeWalk, Asking, BeforeSound, Sounding, Over, group_of}
+use Rattle.driver_progress.specs.Phases.{is_reset}
 use Rattle.driver_progress.specs.Requests.{Request}
 use Rattle.driver_progress.specs.Tasks.{Order, Task, DriverLine}
 use Rattle.driver_progress.specs.Seen.{Seen, clock_of, interrupts_at}
@@ -56,7 +58,8 @@ phase_of_answers task answers =
 abbrev pub phase_polled : Task → State → (clock : ℕ) → Option Outstanding → Phase
 phase_polled task state clock None = phase_of_answers task state.sent
 phase_polled task state clock (Some command) =
-    if nat_le (command.issued + answer_limit) clock then Unanswered command.codec command.word command.issued clock else state.phase
+    if nat_le (command.issued + answer_limit) clock then Unanswered command.codec command.word command.issued clock else
+    state.phase
 
 abbrev pub after_poll : Task → State → Seen → State
 after_poll task state seen = record state {
@@ -84,7 +87,8 @@ phase_played task (ran.Late from to limit) = Late from to limit
 
 -- after a later run that left this tally
 abbrev pub after_run : Task → State → Seen → Tally → State
-after_run task state seen tally = record state { phase = phase_played task tally.course.ran; rings = polled state.rings seen }
+after_run task state seen tally = record state { phase = phase_played task tally.course.ran; rings = polled state.rings
+    seen }
 
 -- ---- a stretch
 

@@ -1,5 +1,7 @@
--- How far a driver came by a journal, and that it made the accesses that it was to make and no others. This project's own.
-use Rattle.std.specs.Prelude.{◌≡◌, ℕ, ◌==◌, Bool, true, false, List, [], ◌∷◌, ◌++◌, length, drop, slice_get, Option, None, if◌then◌else◌}
+-- How far a driver came by a journal, and that it made the accesses that it was to make and no others. This project's
+-- own.
+use Rattle.std.specs.Prelude.{◌≡◌, ℕ, ◌==◌, Bool, true, false, List, [], ◌∷◌, ◌++◌, length, drop, slice_get, Option}
+use Rattle.std.specs.Prelude.{None, if◌then◌else◌}
 use Rattle.std.specs.List.{list_any}
 use Rattle.hda_registers.specs.declared.places.TheConstants.{CORBWP, RIRBSTS}
 use Rattle.command_engine.specs.Entries.{answers_it}
@@ -32,10 +34,11 @@ abbrev pub trail_opened : List DriverLine → Trail
 trail_opened lines =
     record { state = state_opened; within = false; turn = None; left = lines; made = []; written = 0; answered = false }
 
--- whether since the last submission a response to the outstanding command was written: one of the codec that is asked that did not
--- come unasked
+-- whether since the last submission a response to the outstanding command was written: one of the codec that is asked
+-- that did not come unasked
 abbrev pub is_answered : Trail → World → Bool
-is_answered trail world = list_any (answers_it (asked_of trail.state.rings.outstanding)) (drop trail.written world.written)
+is_answered trail world = list_any (answers_it (asked_of trail.state.rings.outstanding))
+    (drop trail.written world.written)
 
 abbrev pub seen_in : Trail → Seen
 seen_in trail = seen_by (values_of trail.made) trail.answered
@@ -58,16 +61,19 @@ noted task trail world (Stepped step) = trail
 noted task trail world Begin = begun trail
 noted task trail world End = ended task trail
 noted task trail world (Read at width value) =
-    record (with_access trail (Read at width value)) { answered = if at == RIRBSTS then is_answered trail world else trail.answered }
+    record (with_access trail (Read at width value)) { answered = if at == RIRBSTS then is_answered trail world else
+    trail.answered }
 noted task trail world (Write at width value) =
-    record (with_access trail (Write at width value)) { written = if at == CORBWP then length world.written else trail.written }
+    record (with_access trail (Write at width value)) { written = if at == CORBWP then length world.written else
+    trail.written }
 noted task trail world (DmaRead at bytes) = with_access trail (DmaRead at bytes)
 noted task trail world (DmaWrite at bytes) = with_access trail (DmaWrite at bytes)
 
 -- and after some events in order
 abbrev pub trail_after : Task → List Event → World → Trail → Trail
 trail_after task [] world trail = trail
-trail_after task (event ∷ events) world trail = trail_after task events (happens world event) (noted task trail world event)
+trail_after task (event ∷ events) world trail = trail_after task events (happens world event)
+    (noted task trail world event)
 
 -- the accesses of a stretch are those that were to be made in it
 abbrev pub Fits : Task → Trail → Type 0
@@ -106,8 +112,8 @@ FitsIf false task trail = Unit {0}
 abbrev pub state_of : Task → List DriverLine → Telling → State
 state_of task lines telling = (ended_if (trail_of task lines telling).within task (trail_of task lines telling)).state
 
--- in each stretch just those accesses were made that were to be made; accesses outside of stretches are not looked at, and two closing
--- stretches are none of a driver's
+-- in each stretch just those accesses were made that were to be made; accesses outside of stretches are not looked at,
+-- and two closing stretches are none of a driver's
 pub record IsProgress (task : Task) (lines : List DriverLine) (telling : Telling) : Type 0 where
   pub conforms : Conforms task telling.journal telling.start (trail_opened lines)
   pub last : FitsIf (trail_of task lines telling).within task (trail_of task lines telling)

@@ -9,7 +9,8 @@ use Rattle.hda_world.specs.Tellings.{Telling, Between, Makes}
 -- CRST is written 0 and then 1, with UNSOL, and each time GCTL is read back; then the clock
 abbrev pub reset_accesses : (in_reset control clock : ℕ) → List Event
 reset_accesses in_reset control clock =
-    Write GCTL Four 0 ∷ Read GCTL Four in_reset ∷ Write GCTL Four 0x101 ∷ Read GCTL Four control ∷ Read WALCLK Four clock ∷ []
+    Write GCTL Four 0 ∷ Read GCTL Four in_reset ∷ Write GCTL Four 0x101 ∷ Read GCTL Four control ∷ Read WALCLK Four
+    clock ∷ []
 
 -- the clock, where the controller is out of reset
 abbrev pub clock_if : (control clock : ℕ) → Option ℕ

@@ -1,8 +1,9 @@
--- What a stretch of a driver's accesses saw: the values that it read, by register. This project's own, over the registers of High
--- Definition Audio 1.0a, 3.3.
+-- What a stretch of a driver's accesses saw: the values that it read, by register. This project's own, over the
+-- registers of High Definition Audio 1.0a, 3.3.
 use Rattle.std.specs.Prelude.{ℕ, ◌==◌, Bool, List, [], ◌∷◌, slice_index, if◌then◌else◌}
 use Rattle.std.specs.List.{flat_map}
-use Rattle.hda_registers.specs.declared.places.TheConstants.{GCTL, STATESTS, INTSTS, WALCLK, CORBSIZE, RIRBWP, RIRBSTS, RIRBSIZE}
+use Rattle.hda_registers.specs.declared.places.TheConstants.{GCTL, STATESTS, INTSTS, WALCLK, CORBSIZE, RIRBWP, RIRBSTS}
+use Rattle.hda_registers.specs.declared.places.TheConstants.{RIRBSIZE}
 use Rattle.hda_world.specs.Events.{Event, Stepped, Begin, End, Read, Write, DmaRead, DmaWrite}
 use Rattle.period_writer.specs.declared.registers.TheConstants.{POSITION}
 use Rattle.driver_progress.specs.declared.registers.TheConstants.{STREAM_STATUS}

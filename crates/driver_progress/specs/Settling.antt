@@ -31,13 +31,15 @@ rings_after true reads rings = rings_if (rings_read reads) rings
 rings_after false reads rings = rings
 
 -- the start, where they had their time
-pub record StartsIf (settled : Bool) (corb rirb : ℕ) (rings : RingPlaces) (answer : Settled) (rings' : RingPlaces) (old new : Option Telling) : Type 0 where
+pub record StartsIf (settled : Bool) (corb rirb : ℕ) (rings : RingPlaces) (answer : Settled) (rings' : RingPlaces)
+    (old new : Option Telling) : Type 0 where
   pub reads : StartReads
   pub made : Between (Makes (start_if settled corb rirb reads)) old new
   pub answer_is : answer ≡ found_if settled reads
   pub rings_are : rings' ≡ rings_after settled reads rings
 
-pub record Settles (kept corb rirb : ℕ) (rings : RingPlaces) (answer : Settled) (rings' : RingPlaces) (old new : Option Telling) : Type 0 where
+pub record Settles (kept corb rirb : ℕ) (rings : RingPlaces) (answer : Settled) (rings' : RingPlaces)
+    (old new : Option Telling) : Type 0 where
   pub clock : ℕ
   pub reads : StartReads
   pub made : Between (Makes (settle_accesses kept clock corb rirb reads)) old new

@@ -34,8 +34,8 @@ pub record Task : Type 0 where
   pub plays : Bool
   pub blocks : Blocks
 
--- a line by which a driver is called: whether it is called for an interrupt, and how many bytes of sound it may write. The call that
--- closes it is none
+-- a line by which a driver is called: whether it is called for an interrupt, and how many bytes of sound it may write.
+-- The call that closes it is none
 pub record DriverLine : Type 0 where
   pub irq : Bool
   pub budget : ℕ

@@ -1,5 +1,5 @@
--- What worked stretches are made of: three commands, a ring of two periods of 384 bytes, a FIFO of 192, and two frames of sound of
--- 48 kHz, 16 bits and two channels. This project's own.
+-- What worked stretches are made of: three commands, a ring of two periods of 384 bytes, a FIFO of 192, and two frames
+-- of sound of 48 kHz, 16 bits and two channels. This project's own.
 use Rattle.std.specs.Prelude.{◌≡◌, ℕ, Bool, true, false, List, [], ◌∷◌, ◌++◌, replicate, Option, None, Some, refl}
 use Rattle.std.proofs.Common.{lit≤}
 use Rattle.hda_registers.specs.declared.shapes.RingSize.TheVariants.{Full}
@@ -75,13 +75,15 @@ abbrev pub trail_in : State → List DriverLine → List Event → World → Tra
 trail_in state lines made world = trail_after task (Begin ∷ made) world (record (trail_opened lines) { state = state })
 
 -- the stretch leads to the other state, and its accesses are those that were to be made
-pub record LeadsTo (state : State) (lines : List DriverLine) (made : List Event) (world : World) (state' : State) : Type 0 where
+pub record LeadsTo (state : State) (lines : List DriverLine) (made : List Event) (world : World) (state' : State) : Type
+    0 where
   pub leads : (ended task (trail_in state lines made world)).state ≡ state'
   pub fits : Fits task (trail_in state lines made world)
 
 -- in every world in which just these responses were written to RIRB
 abbrev pub IsStretch : State → List DriverLine → List Event → List Response → State → Type 0
-IsStretch state lines made responses state' = (world : World) → LeadsTo state lines made (record world { written = responses }) state'
+IsStretch state lines made responses state' = (world : World)
+    → LeadsTo state lines made (record world { written = responses }) state'
 
 abbrev pub response : (codec : ℕ) → (unsolicited : Bool) → Response
 response codec unsolicited = record { codec = codec; answer = 0x04000000; unsolicited = unsolicited }
@@ -89,7 +91,8 @@ response codec unsolicited = record { codec = codec; answer = 0x04000000; unsoli
 -- ---- the accesses
 
 abbrev pub resetting : ℕ → List Event
-resetting clock = Write 0x08 Four 0 ∷ Read 0x08 Four 0 ∷ Write 0x08 Four 0x101 ∷ Read 0x08 Four 0x101 ∷ Read 0x30 Four clock ∷ []
+resetting clock = Write 0x08 Four 0 ∷ Read 0x08 Four 0 ∷ Write 0x08 Four 0x101 ∷ Read 0x08 Four 0x101 ∷ Read 0x30 Four
+    clock ∷ []
 
 abbrev pub settling : (kept : ℕ) → State
 settling kept = record state_opened { phase = Settling; kept = kept }
@@ -99,8 +102,10 @@ looking clock = Read 0x30 Four clock ∷ []
 
 abbrev pub setting_rings : ℕ → List Event
 setting_rings clock =
-    Read 0x30 Four clock ∷ Read 0x0E Two 1 ∷ Read 0x4E One 0x42 ∷ Read 0x5E One 0x42 ∷ Write 0x0E Two 1 ∷ Write 0x40 Four 0 ∷ Write 0x48 Two 0
-    ∷ Write 0x4A Two 0x8000 ∷ Read 0x4A Two 0x8000 ∷ Write 0x4A Two 0 ∷ Read 0x4A Two 0 ∷ Write 0x4C One 2 ∷ Write 0x50 Four 1024
+    Read 0x30 Four clock ∷ Read 0x0E Two 1 ∷ Read 0x4E One 0x42 ∷ Read 0x5E One 0x42 ∷ Write 0x0E Two 1 ∷ Write 0x40
+    Four 0 ∷ Write 0x48 Two 0
+    ∷ Write 0x4A Two 0x8000 ∷ Read 0x4A Two 0x8000 ∷ Write 0x4A Two 0 ∷ Read 0x4A Two 0 ∷ Write 0x4C One 2 ∷ Write 0x50
+    Four 1024
     ∷ Write 0x58 Two 0x8000 ∷ Write 0x5A Two 128 ∷ Write 0x5C One 3 ∷ Write 0x20 Four 0xC0000000 ∷ []
 
 -- a poll that finds RINTFL 0, and one that reads one entry
@@ -109,7 +114,8 @@ polling clock = Read 0x30 Four clock ∷ Read 0x5D One 0 ∷ []
 
 abbrev pub reading : ℕ → List Event
 reading clock =
-    Read 0x30 Four clock ∷ Read 0x5D One 1 ∷ Read 0x58 Two 1 ∷ DmaRead 1032 (0 ∷ 0 ∷ 0 ∷ 4 ∷ 0x10 ∷ 0 ∷ 0 ∷ 0 ∷ []) ∷ Write 0x5D One 1 ∷ []
+    Read 0x30 Four clock ∷ Read 0x5D One 1 ∷ Read 0x58 Two 1 ∷ DmaRead 1032 (0 ∷ 0 ∷ 0 ∷ 4 ∷ 0x10 ∷ 0 ∷ 0 ∷ 0 ∷ []) ∷
+    Write 0x5D One 1 ∷ []
 
 abbrev pub submitting : List Event
 submitting = DmaWrite 8 (2 ∷ 0 ∷ 15 ∷ 0 ∷ []) ∷ Write 0x48 Two 2 ∷ []
@@ -144,14 +150,16 @@ plays phase tally = record (at phase 3 (rings 3 1 None)) { tally = tally }
 -- a later run at this clock, which finds the link at byte 16, and what comes after it
 abbrev pub playing : (clock : ℕ) → List Event → List Event
 playing clock later =
-    Read 0x5D One 0 ∷ Read 0x30 Four clock ∷ Read 0xA4 Four 16 ∷ DmaWrite 3200 (replicate 16 0) ∷ Read 0x30 Four clock ∷ later
+    Read 0x5D One 0 ∷ Read 0x30 Four clock ∷ Read 0xA4 Four 16 ∷ DmaWrite 3200 (replicate 16 0) ∷ Read 0x30 Four clock ∷
+    later
 
 -- the link played all sound: the line goes on by silence
 abbrev pub second_tally : (clock : ℕ) → Tally
 second_tally clock = record {
   runs = run_at 0 12500 8 8 ∷ run_at 16 clock 0 0 ∷ [];
   silences = record { start = 8; end = 784 } ∷ [];
-  trail = record { started = true; at = 16; from = clock; reach = 784; sure = 784; used = 8; sound_end = 8; ran = ran.Drained };
+  trail = record { started = true; at = 16; from = clock; reach = 784; sure = 784; used = 8; sound_end = 8; ran
+      = ran.Drained };
 }
 
 -- after a first run that may write one frame the line has 4 bytes of sound, and then silence, of which so much is sure
@@ -162,11 +170,12 @@ short_tally how sure = record {
   trail = record { started = true; at = 0; from = 12500; reach = 768; sure = sure; used = 4; sound_end = 4; ran = how };
 }
 
--- a later run that writes the other frame at position 352, where silence stood, and silence past the line's end, between these clocks;
--- it finds the link at byte 16
+-- a later run that writes the other frame at position 352, where silence stood, and silence past the line's end,
+-- between these clocks; it finds the link at byte 16
 abbrev pub taking_back : (from to : ℕ) → List Event → List Event
 taking_back from to later =
-    Read 0x5D One 0 ∷ Read 0x30 Four from ∷ Read 0xA4 Four 16 ∷ DmaWrite 3552 (3 ∷ 0 ∷ 255 ∷ 255 ∷ []) ∷ DmaWrite 3200 (replicate 16 0)
+    Read 0x5D One 0 ∷ Read 0x30 Four from ∷ Read 0xA4 Four 16 ∷ DmaWrite 3552 (3 ∷ 0 ∷ 255 ∷ 255 ∷ []) ∷ DmaWrite 3200
+    (replicate 16 0)
     ∷ Read 0x30 Four to ∷ later
 
 -- silence up to 352, the frame, and silence up to the reach
@@ -174,7 +183,8 @@ abbrev pub back_tally : (from to : ℕ) → Tally
 back_tally from to = record {
   runs = run_at 0 12500 4 4 ∷ record { at = 16; from = from; to = to; budget = 4; written = 4 } ∷ [];
   silences = record { start = 4; end = 352 } ∷ record { start = 356; end = 784 } ∷ [];
-  trail = record { started = true; at = 16; from = from; reach = 784; sure = 784; used = 8; sound_end = 356; ran = ran.Playing };
+  trail = record { started = true; at = 16; from = from; reach = 784; sure = 784; used = 8; sound_end = 356; ran
+      = ran.Playing };
 }
 
 abbrev pub stopping : List Event

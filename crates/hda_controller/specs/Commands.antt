@@ -2,7 +2,11 @@
 use Rattle.std.specs.Prelude.{ℕ, Bool, true, false, Option, Some, None}
 use Rattle.verb_codes.specs.declared.verbs.Command.{Command}
 use Rattle.verb_codes.specs.declared.verbs.Verb.{Verb}
-use Rattle.verb_codes.specs.declared.verbs.Verb.TheVariants.{GetParam, GetSelect, SetSelect, GetList, GetPower, SetPower, GetStream, SetStream, GetPin, SetPin, GetUnsol, SetUnsol, GetSense, GetEapd, SetEapd, GetDigital, SetDigital, GetDefault, SetDefault, GetFormat, SetFormat, GetAmp, SetAmp}
+use Rattle.verb_codes.specs.declared.verbs.Verb.TheVariants.{GetParam, GetSelect, SetSelect, GetList, GetPower}
+use Rattle.verb_codes.specs.declared.verbs.Verb.TheVariants.{SetPower, GetStream, SetStream, GetPin, SetPin, GetUnsol}
+use Rattle.verb_codes.specs.declared.verbs.Verb.TheVariants.{SetUnsol, GetSense, GetEapd, SetEapd, GetDigital}
+use Rattle.verb_codes.specs.declared.verbs.Verb.TheVariants.{SetDigital, GetDefault, SetDefault, GetFormat, SetFormat}
+use Rattle.verb_codes.specs.declared.verbs.Verb.TheVariants.{GetAmp, SetAmp}
 use Rattle.verb_codes.specs.Verbs.{reading_of}
 
 -- a verb that sets a control

@@ -1,5 +1,6 @@
 -- A controller as contracts see it: a device, and the signals that are kept for its codecs. This project's own.
-use Rattle.std.specs.Prelude.{ℕ, ◌==◌, Bool, false, List, map, Option, Some, None, slice_get, slice_set, slice_index, if◌then◌else◌}
+use Rattle.std.specs.Prelude.{ℕ, ◌==◌, Bool, false, List, map, Option, Some, None, slice_get, slice_set, slice_index}
+use Rattle.std.specs.Prelude.{if◌then◌else◌}
 use Rattle.std.specs.List.{list_any}
 use Rattle.codec_graph.specs.Candidates.{is_candidate}
 use Rattle.codec_graph.specs.CodecStates.{CodecState}
@@ -26,7 +27,8 @@ StandsFor memory controller world = IsWorld memory controller.device world
 -- the kept signals are those of the moment
 abbrev pub IsController : ControllerState → Type 0
 IsController controller =
-    AreKeptFor controller.device.registers.output.tag controller.device.registers.output.format controller.device.codecs controller.kept
+    AreKeptFor controller.device.registers.output.tag controller.device.registers.output.format controller.device.codecs
+    controller.kept
 
 -- whether one of the codecs has this address
 abbrev pub has_codec : ℕ → List CodecState → Bool
@@ -50,7 +52,8 @@ renewals_written at width counts = if touches_sound at width then map counted_on
 abbrev pub renewals_handed : Option Handed → List ℕ → List ℕ
 renewals_handed None counts = counts
 renewals_handed (Some handed) counts =
-    if is_set_command handed.word then slice_set counts handed.place (counted_on (slice_index counts handed.place)) else counts
+    if is_set_command handed.word then slice_set counts handed.place (counted_on (slice_index counts handed.place)) else
+    counts
 
 -- ---- signals
 
@@ -65,4 +68,5 @@ is_candidate_of codecs address pin = is_candidate_in (codec_at address codecs) p
 -- the signal of the pin of the codec with this address, by the registers and the settings of a device
 abbrev pub signal_now : DeviceState → ℕ → ℕ → Signal
 signal_now device address pin =
-    signal_with (codec_at address device.codecs) device.registers.output.tag device.registers.output.format (layout_of device.registers.output.format) pin
+    signal_with (codec_at address device.codecs) device.registers.output.tag device.registers.output.format
+    (layout_of device.registers.output.format) pin

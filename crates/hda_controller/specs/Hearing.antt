@@ -10,7 +10,8 @@ use Rattle.hda_world.specs.Worlds.{World, CarriedFrame}
 use Rattle.heard_lists.specs.Listings.{Listing, grown}
 use Rattle.hda_controller.specs.Controllers.{ControllerState, is_candidate_of, renewals_of, renewals_handed}
 
--- for how many items in each list a step asks room: a link frame has at most four blocks, and one that misses them adds one hole
+-- for how many items in each list a step asks room: a link frame has at most four blocks, and one that misses them adds
+-- one hole
 abbrev pub most_items : Step → ℕ
 most_items step.Corb = 0
 most_items (step.Answer codec) = 0
@@ -43,7 +44,8 @@ renewals_stepped (step.Link frames) memory controller = renewals_of controller
 renewals_stepped (step.Plug codec pin) memory controller = renewals_of controller
 renewals_stepped (step.Unplug codec pin) memory controller = renewals_of controller
 
--- what private functions promise one another: so many blocks are due in some link frame of a stream with this format word
+-- what private functions promise one another: so many blocks are due in some link frame of a stream with this format
+-- word
 pub record AreDue (word blocks : ℕ) : Type 0 where
   pub layout : Layout
   pub frame : ℕ

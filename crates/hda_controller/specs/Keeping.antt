@@ -1,5 +1,5 @@
--- The signals that a controller keeps: those of each codec's candidate pins, by the settings of the codec and the tag and the format
--- word of the output stream. This project's own.
+-- The signals that a controller keeps: those of each codec's candidate pins, by the settings of the codec and the tag
+-- and the format word of the output stream. This project's own.
 use Rattle.std.specs.Prelude.{◌≡◌, ◌==◌, ℕ, List, length, Option, Some, None, slice_get}
 use Rattle.std.specs.List.{list_any}
 use Rattle.codec_graph.specs.declared.raw.RawCodec.{RawCodec}
@@ -12,8 +12,8 @@ use Rattle.codec_sound.specs.declared.signals.Signal.TheVariants.{Silence}
 use Rattle.codec_sound.specs.Signals.{signal_of}
 use Rattle.codec_sound.specs.Keeping.{KeptSignals, AreKept, kept_pins}
 
--- the signal of a pin of a codec with this graph and these settings, while the stream with this tag and format word plays: silence
--- where the word has no meaning
+-- the signal of a pin of a codec with this graph and these settings, while the stream with this tag and format word
+-- plays: silence where the word has no meaning
 abbrev pub signal_laid : RawCodec → Entries → ℕ → ℕ → Option Layout → ℕ → Signal
 signal_laid graph settings tag word None pin = Silence
 signal_laid graph settings tag word (Some layout) pin =
@@ -30,5 +30,6 @@ pub record IsKeptFor (tag word : ℕ) (graph : RawCodec) (settings : Entries) (k
 -- so it is for each codec, at the same place
 pub record AreKeptFor (tag word : ℕ) (codecs : List CodecState) (kept : List KeptSignals) : Type 0 where
   pub count : length kept ≡ length codecs
-  pub each : (place : ℕ) (codec : CodecState) (one : KeptSignals) → slice_get codecs place ≡ Some codec → slice_get kept place ≡ Some one
+  pub each : (place : ℕ) (codec : CodecState) (one : KeptSignals) → slice_get codecs place ≡ Some codec
+      → slice_get kept place ≡ Some one
       → IsKeptFor tag word codec.graph codec.settings one

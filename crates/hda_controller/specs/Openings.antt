@@ -1,5 +1,5 @@
--- The world of a machine at its start: its controller in reset, and its codecs with the settings and what is plugged in that its file
--- says. This project's own.
+-- The world of a machine at its start: its controller in reset, and its codecs with the settings and what is plugged in
+-- that its file says. This project's own.
 use Rattle.std.specs.Prelude.{◌≡◌, ℕ, List, [], map, All}
 use Rattle.codec_graph.specs.CodecStates.{CodecState}
 use Rattle.codec_sound.specs.Keeping.{KeptSignals}
@@ -38,7 +38,8 @@ shape_of machine = record {
 abbrev pub opening_world : List ℕ → Machine → World
 opening_world memory machine = new_world memory (shape_of machine) (codecs_in machine.codecs)
 
--- what private functions promise one another: the signals of codecs that were never renewed, while no stream has a tag or a format
+-- what private functions promise one another: the signals of codecs that were never renewed, while no stream has a tag
+-- or a format
 pub record IsFresh (codec : CodecState) (one : KeptSignals) : Type 0 where
   pub fits : IsKeptFor 0 0 codec.graph codec.settings one
   pub count : one.renewals ≡ 0

@@ -36,4 +36,5 @@ abbrev pub renewed_after : Option Handed → DeviceState → List KeptSignals �
 renewed_after None device kept = kept
 renewed_after (Some handed) device kept =
     if is_set_command handed.word
-    then one_renewed device.registers.output.tag device.registers.output.format device.codecs handed.place kept else kept
+    then one_renewed device.registers.output.tag device.registers.output.format device.codecs handed.place kept else
+    kept

@@ -1,5 +1,6 @@
 -- The tables of the codecs. This project's own; the words are those of High Definition Audio 1.0a, 7.3.4.
-use Rattle.std.specs.Prelude.{ℕ, Bool, not, ◌==◌, ◌&&◌, ◌+◌, ◌-◌, List, [], ◌++◌, length, map, filter, fold, min, max, nat_le, nat_lt, Option, Some, None, unwrap_or, Result, Ok, Err, is_some, if◌then◌else◌}
+use Rattle.std.specs.Prelude.{ℕ, Bool, not, ◌==◌, ◌&&◌, ◌+◌, ◌-◌, List, [], ◌++◌, length, map, filter, fold, min, max}
+use Rattle.std.specs.Prelude.{nat_le, nat_lt, Option, Some, None, unwrap_or, Result, Ok, Err, is_some, if◌then◌else◌}
 use Rattle.std.specs.List.{find, range_with_len}
 use Rattle.toml.specs.Data.{Members}
 use Rattle.codec_graph.specs.declared.raw.RawNode.{RawNode}
@@ -9,10 +10,12 @@ use Rattle.hda_files.specs.declared.node.NodeTable.{NodeTable}
 use Rattle.hda_files.specs.declared.codec.CodecTable.{CodecTable}
 use Rattle.hda_files.specs.declared.fault.Place.{Place}
 use Rattle.hda_files.specs.declared.fault.Place.TheVariants as place
-use Rattle.hda_files.specs.declared.fault.Key.TheVariants.{Address, Vendor, Revision, AmpIn, AmpOut, Power, Group, GroupType, Formats, Pcm, GroupPower, First, Count, Node}
+use Rattle.hda_files.specs.declared.fault.Key.TheVariants.{Address, Vendor, Revision, AmpIn, AmpOut, Power, Group}
+use Rattle.hda_files.specs.declared.fault.Key.TheVariants.{GroupType, Formats, Pcm, GroupPower, First, Count, Node}
 use Rattle.hda_files.specs.declared.fault.FileFault.{FileFault}
 use Rattle.hda_files.specs.declared.fault.FileFault.TheVariants.{Doubled}
-use Rattle.hda_files.specs.Values.{◌>>=◌, required_number, given_number, number_or, word_or_zero, most_word, tables_at, each_after}
+use Rattle.hda_files.specs.Values.{◌>>=◌, required_number, given_number, number_or, word_or_zero, most_word, tables_at}
+use Rattle.hda_files.specs.Values.{each_after}
 use Rattle.hda_files.specs.Nodes.{nodes_after}
 
 -- the table of the codec with this address, if there is one
@@ -38,7 +41,9 @@ codec_words_of table place earlier = do
   group_type ← number_or table place GroupType 0 most_word 1
   formats ← number_or table place Formats 0 most_word 1
   pcm ← number_or table place Pcm 0 most_word 0x00020040
-  Ok (record { address = address; vendor = vendor; revision = revision; group = group; group_type = group_type; group_words = record { pcm = pcm; formats = formats; amp_in = amp_in; amp_out = amp_out; power = power }; first = 0; count = 0; nodes = [] })
+  Ok (record { address = address; vendor = vendor; revision = revision; group = group; group_type = group_type;
+      group_words = record { pcm = pcm; formats = formats; amp_in = amp_in; amp_out = amp_out; power = power }; first
+      = 0; count = 0; nodes = [] })
 
 -- the least node identifier of the tables, and the greatest
 abbrev pub least_nid : List NodeTable → ℕ
@@ -67,10 +72,11 @@ widget_at nodes nid = widget_or_vendor (find (λ node. node.nid == nid) nodes)
 abbrev pub is_outside : ℕ → ℕ → NodeTable → Bool
 is_outside first count node = not (nat_le first node.nid && nat_lt node.nid (first + count))
 
--- the widgets from `first` on, and after them those of the tables outside, which make them more than `count`; each is that of
--- its node identifier
+-- the widgets from `first` on, and after them those of the tables outside, which make them more than `count`; each is
+-- that of its node identifier
 abbrev pub widgets_of : ℕ → ℕ → List NodeTable → List RawNode
-widgets_of first count nodes = map (widget_at nodes) (range_with_len first count) ++ map (λ node. widget_at nodes node.nid) (filter (is_outside first count) nodes)
+widgets_of first count nodes = map (widget_at nodes) (range_with_len first count) ++ map
+    (λ node. widget_at nodes node.nid) (filter (is_outside first count) nodes)
 
 -- the codec of these words and these tables of its widgets; where `first` or `count` is not given, the tables say it
 abbrev pub codec_with : RawCodec → ℕ → Option ℕ → Option ℕ → List NodeTable → CodecTable

@@ -1,7 +1,11 @@
 -- The keys of a codec file as they stand in it.
 use Rattle.std.specs.Prelude.{ℕ, List, codes}
 use Rattle.hda_files.specs.declared.fault.Key.{Key}
-use Rattle.hda_files.specs.declared.fault.Key.TheVariants.{Fifo, Corb, Rirb, Codec, Address, Vendor, Revision, AmpIn, AmpOut, Power, Group, GroupType, Formats, Pcm, GroupPower, First, Count, Node, Nid, Caps, PinCaps, Default, Long, List as ListKey, Select, PowerState, Stream, Control, Unsol, Eapd, Digital, GainOut, Format, GainIn, Present}
+use Rattle.hda_files.specs.declared.fault.Key.TheVariants.{Fifo, Corb, Rirb, Codec, Address, Vendor, Revision, AmpIn}
+use Rattle.hda_files.specs.declared.fault.Key.TheVariants.{AmpOut, Power, Group, GroupType, Formats, Pcm, GroupPower}
+use Rattle.hda_files.specs.declared.fault.Key.TheVariants.{First, Count, Node, Nid, Caps, PinCaps, Default, Long}
+use Rattle.hda_files.specs.declared.fault.Key.TheVariants.{List as ListKey, Select, PowerState, Stream, Control, Unsol}
+use Rattle.hda_files.specs.declared.fault.Key.TheVariants.{Eapd, Digital, GainOut, Format, GainIn, Present}
 
 abbrev pub key_name : Key → List ℕ
 key_name Fifo = codes "fifo"

@@ -1,5 +1,6 @@
 -- What a codec file means: a machine, or its first fault. This project's own format.
-use Rattle.std.specs.Prelude.{◌≡◌, ◌≤◌, ◌<◌, ◌⊎◌, ℕ, List, [], ◌∷◌, map, count_by, sum_by, All, Some, Result, Ok, Err, IsUtf8}
+use Rattle.std.specs.Prelude.{◌≡◌, ◌≤◌, ◌<◌, ◌⊎◌, ℕ, List, [], ◌∷◌, map, count_by, sum_by, All, Some, Result, Ok, Err}
+use Rattle.std.specs.Prelude.{IsUtf8}
 use Rattle.std.specs.List.{range_with_len, filter_map}
 use Rattle.std.specs.List.Sorted.{IsStrictlyIncreasing}
 use Rattle.toml.specs.Data.{Members}
@@ -58,19 +59,22 @@ pub record IsGoodCodec (codec : CodecTable) : Type 0 where
   pub lists : HasNoListFault (list_fault_at codec.nodes)
   pub graph : IsWellFormed (normal (laid_out codec))
 
--- what a codec's table means whose keys are good: the codec, or else, with the codec's address, the fault of the list of the
--- least node identifier that has one, or else the graph's first fault
+-- what a codec's table means whose keys are good: the codec, or else, with the codec's address, the fault of the list
+-- of the least node identifier that has one, or else the graph's first fault
 abbrev pub IsJudgedCodec : CodecTable → Result CodecFile FileFault → Type 0
 IsJudgedCodec codec (Ok file) = (file ≡ codec_file codec) × IsGoodCodec codec
-IsJudgedCodec codec (Err (ListFault address nid fault)) = (address ≡ codec.words.address) × IsFirstListFault (list_fault_at codec.nodes) nid fault
+IsJudgedCodec codec (Err (ListFault address nid fault)) = (address ≡ codec.words.address)
+    × IsFirstListFault (list_fault_at codec.nodes) nid fault
 IsJudgedCodec codec (Err (Graph address fault)) =
-    (address ≡ codec.words.address) × HasNoListFault (list_fault_at codec.nodes) × IsFirstFault (normal (laid_out codec)) fault
+    (address ≡ codec.words.address) × HasNoListFault (list_fault_at codec.nodes)
+    × IsFirstFault (normal (laid_out codec)) fault
 IsJudgedCodec codec (Err _) = ⊥
 
 -- the first of the codecs that is not good has this fault
 abbrev pub IsFirstCodecFault : List CodecTable → FileFault → Type 0
 IsFirstCodecFault [] fault = ⊥
-IsFirstCodecFault (codec ∷ codecs) fault = IsJudgedCodec codec (Err fault) ⊎ (IsGoodCodec codec × IsFirstCodecFault codecs fault)
+IsFirstCodecFault (codec ∷ codecs) fault = IsJudgedCodec codec (Err fault)
+    ⊎ (IsGoodCodec codec × IsFirstCodecFault codecs fault)
 
 -- what codecs in this order mean: each of them, or else the fault of the first that is not good
 abbrev pub AreJudgedCodecs : List CodecTable → Result (List CodecFile) FileFault → Type 0
@@ -85,11 +89,13 @@ codec_files codecs = map codec_file (by_address codecs)
 abbrev pub machine_of : MachineTable → Machine
 machine_of table = record { fifo = table.fifo; corb = table.corb; rirb = table.rirb; codecs = codec_files table.codecs }
 
--- what the file means whose keys are good: the machine, or else the first fault of its codecs ascending by address, or else
--- that these have too many candidate pins together
+-- what the file means whose keys are good: the machine, or else the first fault of its codecs ascending by address, or
+-- else that these have too many candidate pins together
 abbrev pub IsJudgedMachine : MachineTable → Result Machine FileFault → Type 0
-IsJudgedMachine table (Ok machine) = (machine ≡ machine_of table) × All IsGoodCodec (by_address table.codecs) × HasFewPins (codec_files table.codecs)
-IsJudgedMachine table (Err TooManyPins) = All IsGoodCodec (by_address table.codecs) × HasManyPins (codec_files table.codecs)
+IsJudgedMachine table (Ok machine) = (machine ≡ machine_of table) × All IsGoodCodec (by_address table.codecs)
+    × HasFewPins (codec_files table.codecs)
+IsJudgedMachine table (Err TooManyPins) = All IsGoodCodec (by_address table.codecs)
+    × HasManyPins (codec_files table.codecs)
 IsJudgedMachine table (Err fault) = IsFirstCodecFault (by_address table.codecs) fault
 
 -- what the file means whose keys give this: the first fault of the keys comes before all others

@@ -10,10 +10,12 @@ use Rattle.hda_files.specs.declared.node.NodeTable.{NodeTable}
 use Rattle.hda_files.specs.declared.opening.NodeOpening.{NodeOpening}
 use Rattle.hda_files.specs.declared.fault.Place.{Place}
 use Rattle.hda_files.specs.declared.fault.Place.TheVariants.{Node}
-use Rattle.hda_files.specs.declared.fault.Key.TheVariants.{Pcm, Formats, PinCaps, AmpIn, AmpOut, Power, Default, Nid, Caps, Long, List as ListKey}
+use Rattle.hda_files.specs.declared.fault.Key.TheVariants.{Pcm, Formats, PinCaps, AmpIn, AmpOut, Power, Default, Nid}
+use Rattle.hda_files.specs.declared.fault.Key.TheVariants.{Caps, Long, List as ListKey}
 use Rattle.hda_files.specs.declared.fault.FileFault.{FileFault}
 use Rattle.hda_files.specs.declared.fault.FileFault.TheVariants.{OutOfRange, Doubled}
-use Rattle.hda_files.specs.Values.{◌>>=◌, value_at, required_number, word_or_zero, most_word, flag_at, numbers_of, each_after}
+use Rattle.hda_files.specs.Values.{◌>>=◌, value_at, required_number, word_or_zero, most_word, flag_at, numbers_of}
+use Rattle.hda_files.specs.Values.{each_after}
 use Rattle.hda_files.specs.Openings.{opening_of}
 
 -- the words of a widget; the words that are not given are 0, and the connection list is empty
@@ -28,10 +30,11 @@ words_of table place = do
   power ← word_or_zero table place Power
   default ← word_or_zero table place Default
   long ← flag_at table place Long
-  Ok (record (plain_node caps) { pcm = pcm; formats = formats; pin_caps = pin_caps; amp_in = amp_in; amp_out = amp_out; power = power; default = default; long = long })
+  Ok (record (plain_node caps) { pcm = pcm; formats = formats; pin_caps = pin_caps; amp_in = amp_in; amp_out = amp_out;
+      power = power; default = default; long = long })
 
--- the entries of the connection list of a widget with these words, as they are given: of 16 bits in the long form, else of 8
--- (7.3.3.3), and only where the widget has a list
+-- the entries of the connection list of a widget with these words, as they are given: of 16 bits in the long form, else
+-- of 8 (7.3.3.3), and only where the widget has a list
 abbrev pub entries_of : Place → RawNode → Option Data → Result (List ℕ) FileFault
 entries_of place words None = Ok []
 entries_of place words (Some value) = do
@@ -45,7 +48,8 @@ nid_of table place earlier = do
   if list_any (λ node. node.nid == nid) earlier then Err (Doubled place Nid) else Ok nid
 
 abbrev pub node_with : ℕ → RawNode → NodeOpening → NodeTable
-node_with nid widget opening = record { nid = nid; widget = listed_node widget; list_fault = list_fault widget; opening = opening }
+node_with nid widget opening = record { nid = nid; widget = listed_node widget; list_fault = list_fault widget; opening
+    = opening }
 
 -- what one table says of its widget, after the earlier ones of the same codec
 abbrev pub node_of : ℕ → List NodeTable → Members → Result NodeTable FileFault

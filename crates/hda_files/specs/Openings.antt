@@ -1,12 +1,13 @@
--- What a widget's table says of its settings at the start. This project's own; the settings are those of High Definition Audio
--- 1.0a, 7.3.3.
+-- What a widget's table says of its settings at the start. This project's own; the settings are those of High
+-- Definition Audio 1.0a, 7.3.3.
 use Rattle.std.specs.Prelude.{ℕ, List, [], Option, Some, None, Result, Ok}
 use Rattle.toml.specs.Data.{Data, Members}
 use Rattle.codec_graph.specs.Widget.{most_amplified}
 use Rattle.hda_files.specs.declared.opening.NodeOpening.{NodeOpening}
 use Rattle.hda_files.specs.declared.fault.Place.{Place}
 use Rattle.hda_files.specs.declared.fault.Key.{Key}
-use Rattle.hda_files.specs.declared.fault.Key.TheVariants.{Select, PowerState, Stream, Control, Unsol, Eapd, Digital, GainOut, Format, GainIn, Present}
+use Rattle.hda_files.specs.declared.fault.Key.TheVariants.{Select, PowerState, Stream, Control, Unsol, Eapd, Digital}
+use Rattle.hda_files.specs.declared.fault.Key.TheVariants.{GainOut, Format, GainIn, Present}
 use Rattle.hda_files.specs.declared.fault.FileFault.{FileFault}
 use Rattle.hda_files.specs.Values.{◌>>=◌, value_at, given_number, numbers_of, flag_at}
 
@@ -33,4 +34,5 @@ opening_of table place = do
   format ← given_number table place Format 0 65535
   gain_in ← gains_of place (value_at table GainIn)
   present ← flag_at table place Present
-  Ok (record { select = select; power_state = power_state; stream = stream; control = control; unsol = unsol; eapd = eapd; digital = digital; gain_out = gain_out; format = format; gain_in = gain_in; present = present })
+  Ok (record { select = select; power_state = power_state; stream = stream; control = control; unsol = unsol; eapd
+      = eapd; digital = digital; gain_out = gain_out; format = format; gain_in = gain_in; present = present })

@@ -1,10 +1,12 @@
--- What the settings keys of a codec file come to: each key that is given acts as its set verb, after the opening of the codec.
--- Verbs: High Definition Audio 1.0a, 7.3.3. The keys are this project's own.
-use Rattle.std.specs.Prelude.{ℕ, Bool, true, false, not, ◌==◌, ◌&&◌, List, [], ◌∷◌, map, fold, slice_get, Option, None, Some}
+-- What the settings keys of a codec file come to: each key that is given acts as its set verb, after the opening of the
+-- codec. Verbs: High Definition Audio 1.0a, 7.3.3. The keys are this project's own.
+use Rattle.std.specs.Prelude.{ℕ, Bool, true, false, not, ◌==◌, ◌&&◌, List, [], ◌∷◌, map, fold, slice_get, Option, None}
+use Rattle.std.specs.Prelude.{Some}
 use Rattle.std.specs.Option.{option_map}
 use Rattle.std.specs.List.{list_any, range_with_len}
 use Rattle.verb_codes.specs.declared.verbs.Verb.{Verb}
-use Rattle.verb_codes.specs.declared.verbs.Verb.TheVariants.{SetSelect, SetPower, SetStream, SetPin, SetUnsol, SetEapd, SetDigital, SetFormat, SetAmp}
+use Rattle.verb_codes.specs.declared.verbs.Verb.TheVariants.{SetSelect, SetPower, SetStream, SetPin, SetUnsol, SetEapd}
+use Rattle.verb_codes.specs.declared.verbs.Verb.TheVariants.{SetDigital, SetFormat, SetAmp}
 use Rattle.verb_codes.specs.declared.amplifiers.AmpSetting.{AmpSetting}
 use Rattle.verb_codes.specs.Words.{has_bit, bits_of}
 use Rattle.verb_codes.specs.Amplifiers.{setting_payload}
@@ -17,7 +19,8 @@ use Rattle.hda_files.specs.declared.node.NodeTable.{NodeTable}
 
 -- mute, in bit 7, and gain of both sides: of the output amplifier or else of the input amplifier at a place (7.3.3.7)
 abbrev pub both_sides : Bool → ℕ → ℕ → AmpSetting
-both_sides output place gain = record { output = output; input = not output; left = true; right = true; place = place; mute = has_bit gain 7; gain = bits_of gain 0 7 }
+both_sides output place gain = record { output = output; input = not output; left = true; right = true; place = place;
+    mute = has_bit gain 7; gain = bits_of gain 0 7 }
 
 abbrev pub amplifier_verb : Bool → ℕ → ℕ → Verb
 amplifier_verb output place gain = SetAmp (setting_payload (both_sides output place gain))
@@ -45,7 +48,8 @@ gain_verbs gains = map (gain_verb gains) (range_with_len 0 most_amplified)
 -- the settings after a verb to this node, where there is one
 abbrev pub set_given : RawCodec → ℕ → Entries → Option Verb → Entries
 set_given codec nid settings None = settings
-set_given codec nid settings (Some verb) = after codec settings (record { codec = codec.address; nid = nid; verb = verb })
+set_given codec nid settings (Some verb) = after codec settings
+    (record { codec = codec.address; nid = nid; verb = verb })
 
 -- the settings after some verbs to this node in turn
 abbrev pub set_all : RawCodec → ℕ → Entries → List (Option Verb) → Entries
@@ -54,9 +58,11 @@ set_all codec nid settings verbs = fold (set_given codec nid) settings verbs
 -- the settings after the keys of a widget's table
 abbrev pub set_node : RawCodec → Entries → NodeTable → Entries
 set_node codec settings node =
-    set_all codec node.nid (set_all codec node.nid settings (control_verbs node.opening)) (gain_verbs node.opening.gain_in)
+    set_all codec node.nid (set_all codec node.nid settings (control_verbs node.opening))
+    (gain_verbs node.opening.gain_in)
 
--- the settings at the start: those of the opening, and then the function group's power state and the keys of the widgets' tables
+-- the settings at the start: those of the opening, and then the function group's power state and the keys of the
+-- widgets' tables
 abbrev pub settings_of : RawCodec → ℕ → List NodeTable → Entries
 settings_of codec group_power nodes =
     fold (set_node codec) (set_given codec codec.group (opening codec) (Some (SetPower group_power))) nodes

@@ -1,5 +1,5 @@
--- The top table of a codec file. This project's own; the sizes of the rings are those of High Definition Audio 1.0a, 3.3.24 and
--- 3.3.31.
+-- The top table of a codec file. This project's own; the sizes of the rings are those of High Definition Audio 1.0a,
+-- 3.3.24 and 3.3.31.
 use Rattle.std.specs.Prelude.{ℕ, ◌==◌, List, [], Option, Some, None, Result, Ok, if◌then◌else◌}
 use Rattle.std.specs.Option.{ok_or}
 use Rattle.toml.specs.Data.{Members}
@@ -17,7 +17,8 @@ use Rattle.hda_files.specs.Codecs.{codecs_after}
 
 -- the size of a ring with so many entries, if a ring can have so many
 abbrev pub ring_size : ℕ → Option RingSize
-ring_size entries = if entries == 2 then Some Two else (if entries == 16 then Some Sixteen else (if entries == 256 then Some Full else None))
+ring_size entries = if entries == 2 then Some Two else
+    (if entries == 16 then Some Sixteen else (if entries == 256 then Some Full else None))
 
 -- the size of a ring, 256 entries where it is not given
 abbrev pub ring_size_at : Members → Key → Result RingSize FileFault

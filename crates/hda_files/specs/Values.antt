@@ -1,5 +1,6 @@
 -- The values of a codec file's keys. A fault names the key and its table. This project's own.
-use Rattle.std.specs.Prelude.{ℕ, ℤ, pos, negsuc, Bool, false, ◌&&◌, List, [], ◌∷◌, ◌++◌, length, nat_le, Option, Some, None, Result, Ok, Err, if◌then◌else◌, is_some, unwrap_or, option_and_then}
+use Rattle.std.specs.Prelude.{ℕ, ℤ, pos, negsuc, Bool, false, ◌&&◌, List, [], ◌∷◌, ◌++◌, length, nat_le, Option, Some}
+use Rattle.std.specs.Prelude.{None, Result, Ok, Err, if◌then◌else◌, is_some, unwrap_or, option_and_then}
 use Rattle.std.specs.Option.{ok_or}
 use Rattle.std.specs.List.{list_all, filter_map}
 use Rattle.toml.specs.Data.{Data, Items, no_items, item, Members, get_member, as_integer, as_bool, as_array, as_table}
@@ -93,14 +94,16 @@ is_up_to most value = is_some (number_up_to most value)
 abbrev pub numbers_of : Place → Key → ℕ → ℕ → Data → Result (List ℕ) FileFault
 numbers_of place key count most value = do
   values ← array_of place key is_integer value
-  if nat_le (length values) count && list_all (is_up_to most) values then Ok (filter_map (number_up_to most) values) else Err (OutOfRange place key)
+  if nat_le (length values) count && list_all (is_up_to most) values then Ok (filter_map (number_up_to most) values)
+      else Err (OutOfRange place key)
 
 abbrev pub is_table : Data → Bool
 is_table value = is_some (as_table value)
 
 -- the values, where they are from 1 to `most`
 abbrev pub up_to : Place → Key → ℕ → List Data → Result (List Data) FileFault
-up_to place key most values = if nat_le 1 (length values) && nat_le (length values) most then Ok values else Err (OutOfRange place key)
+up_to place key most values = if nat_le 1 (length values) && nat_le (length values) most then Ok values else Err
+    (OutOfRange place key)
 
 -- the value as an array of 1 to `most` tables
 abbrev pub tables_of : Place → Key → ℕ → Data → Result (List Members) FileFault
@@ -116,7 +119,8 @@ tables_at table place key most = do
   tables_of place key most value
 
 -- what the tables of an array say in order, where each is read after those before it: the first fault counts
-abbrev pub each_after : {A : Type 0} → (List A → Members → Result A FileFault) → List A → List Members → Result (List A) FileFault
+abbrev pub each_after : {A : Type 0} → (List A → Members → Result A FileFault) → List A → List Members
+    → Result (List A) FileFault
 each_after read_one earlier [] = Ok earlier
 each_after read_one earlier (table ∷ tables) = do
   one ← read_one earlier table

@@ -1,13 +1,15 @@
--- What an access to the registers gives and changes, computed from the table. High Definition Audio 1.0a, 3.3. That a place
--- without a register reads 0 and takes no write, that writes other than to GCTL are ignored while CRST is 0, and that a
--- reset takes effect at the write, is this project's own.
-use Rattle.std.specs.Prelude.{◌+◌, ◌-◌, ◌*◌, ◌/◌, ◌%◌, ◌^◌, ◌==◌, ◌&&◌, ◌||◌, nat_lt, bit_and, bit_or, ℕ, Bool, not, if◌then◌else◌, List, [], ◌∷◌, filter, sum_by}
+-- What an access to the registers gives and changes, computed from the table. High Definition Audio 1.0a, 3.3. That a
+-- place without a register reads 0 and takes no write, that writes other than to GCTL are ignored while CRST is 0, and
+-- that a reset takes effect at the write, is this project's own.
+use Rattle.std.specs.Prelude.{◌+◌, ◌-◌, ◌*◌, ◌/◌, ◌%◌, ◌^◌, ◌==◌, ◌&&◌, ◌||◌, nat_lt, bit_and, bit_or, ℕ, Bool, not}
+use Rattle.std.specs.Prelude.{if◌then◌else◌, List, [], ◌∷◌, filter, sum_by}
 use Rattle.hda_registers.specs.declared.shapes.Width.{Width}
 use Rattle.hda_registers.specs.declared.shapes.Width.TheVariants.{One, Two, Four}
 use Rattle.hda_registers.specs.declared.shapes.Shape.{Shape}
 use Rattle.hda_registers.specs.declared.shapes.Effects.{Effects}
 use Rattle.hda_registers.specs.declared.accesses.Access.{Access}
-use Rattle.hda_registers.specs.Fields.{Global, Descriptor, Fields, reset_fields, reset_descriptor, is_out_of_reset, is_running}
+use Rattle.hda_registers.specs.Fields.{Global, Descriptor, Fields, reset_fields, reset_descriptor, is_out_of_reset}
+use Rattle.hda_registers.specs.Fields.{is_running}
 use Rattle.hda_registers.specs.Table as table
 use Rattle.hda_registers.specs.Table.{Rule, Row, GlobalGroup, StreamGroup, global_row, stream_row, size_code}
 use Rattle.hda_registers.specs.Status.{interrupt_status}
@@ -21,8 +23,8 @@ bytes_of Four = 4
 abbrev pub part : ℕ → ℕ → ℕ → ℕ
 part low bits word = word / 2 ^ low % 2 ^ bits
 
--- An access at a multiple of its width lies in one aligned word of four bytes: here are the number of that word, the bits of it
--- that the access covers, and what it writes there.
+-- An access at a multiple of its width lies in one aligned word of four bytes: here are the number of that word, the
+-- bits of it that the access covers, and what it writes there.
 abbrev pub covered_bits : ℕ → ℕ → ℕ
 covered_bits at bytes = (2 ^ (8 * bytes) - 1) * 2 ^ (8 * (at % 4))
 
@@ -131,14 +133,17 @@ abbrev pub global_groups : List GlobalGroup
 global_groups =
     table.Capabilities ∷ table.MinorVersion ∷ table.MajorVersion ∷ table.OutputPayload ∷ table.InputPayload
     ∷ table.ControllerReset ∷ table.Unsolicited ∷ table.WakeEnable ∷ table.StateStatus ∷ table.InputInterrupt
-    ∷ table.OutputInterrupt ∷ table.ControllerInterrupt ∷ table.GlobalInterrupt ∷ table.InterruptStatus ∷ table.WallClock
-    ∷ table.CorbBase ∷ table.CorbWritePointer ∷ table.CorbReadPointer ∷ table.CorbPointerReset ∷ table.CorbErrorInterrupt
+    ∷ table.OutputInterrupt ∷ table.ControllerInterrupt ∷ table.GlobalInterrupt ∷ table.InterruptStatus ∷
+    table.WallClock
+    ∷ table.CorbBase ∷ table.CorbWritePointer ∷ table.CorbReadPointer ∷ table.CorbPointerReset ∷
+    table.CorbErrorInterrupt
     ∷ table.CorbRun ∷ table.CorbSize ∷ table.RirbBase ∷ table.RirbWritePointer ∷ table.ResponseCount
     ∷ table.ResponseInterrupt ∷ table.RirbRun ∷ table.RirbOverrunInterrupt ∷ table.ResponseFlag ∷ table.RirbSize ∷ []
 
 abbrev pub stream_groups : List StreamGroup
 stream_groups =
-    table.StreamReset ∷ table.Run ∷ table.CompletionInterrupt ∷ table.FifoInterrupt ∷ table.DescriptorInterrupt ∷ table.Tag
+    table.StreamReset ∷ table.Run ∷ table.CompletionInterrupt ∷ table.FifoInterrupt ∷ table.DescriptorInterrupt ∷
+    table.Tag
     ∷ table.Completion ∷ table.FifoError ∷ table.DescriptorError ∷ table.FifoReady ∷ table.Position ∷ table.Length
     ∷ table.LastIndex ∷ table.FifoSize ∷ table.Format ∷ table.ListBase ∷ []
 
@@ -152,7 +157,8 @@ stream_groups_in word = filter (λ group. (stream_row 0 group).place / 4 == word
 -- what an access reads, before it is moved down to bit 0: the groups of its word, added up
 unfoldable pub global_shown : Shape → Global → (status : ℕ) → Access → ℕ
 global_shown shape g status access =
-    sum_by (λ group. shown access (global_row shape group) (global_value shape g status group)) (global_groups_in shape access.word)
+    sum_by (λ group. shown access (global_row shape group) (global_value shape g status group))
+    (global_groups_in shape access.word)
 
 unfoldable pub stream_shown : Shape → Descriptor → Access → ℕ
 stream_shown shape d access =
@@ -219,7 +225,8 @@ stream_by_rules access d = record {
 }
 
 unfoldable pub stream_written : Access → Descriptor → Descriptor
-stream_written access d = if (access.word == 0) && writes_one access 0 then reset_descriptor 1 else stream_by_rules access d
+stream_written access d = if (access.word == 0) && writes_one access 0 then reset_descriptor 1 else stream_by_rules
+    access d
 
 -- a write to the controller's part; where it leaves CRST 0, all registers take their reset values but STATESTS
 abbrev pub with_global : Fields → Global → Fields

@@ -1,7 +1,8 @@
 -- What the device itself does to the registers. High Definition Audio 1.0a, 3.3.
 use Rattle.std.specs.Prelude.{◌+◌, ◌%◌, ◌^◌, ◌==◌, ◌<◌, ◌≤◌, bit_or, ℕ, if◌then◌else◌}
 use Rattle.hda_registers.specs.declared.shapes.Raise.{Raise}
-use Rattle.hda_registers.specs.declared.shapes.Raise.TheVariants.{Codec, Response, BufferDone, FifoError, DescriptorError}
+use Rattle.hda_registers.specs.declared.shapes.Raise.TheVariants.{Codec, Response, BufferDone, FifoError}
+use Rattle.hda_registers.specs.declared.shapes.Raise.TheVariants.{DescriptorError}
 use Rattle.hda_registers.specs.declared.shapes.Moved.{Moved}
 use Rattle.hda_registers.specs.declared.shapes.Moved.TheVariants.{CorbRp, RirbWp, Lpib, Ready}
 use Rattle.hda_registers.specs.declared.places.TheConstants.{TICKS_PER_FRAME}
@@ -12,7 +13,8 @@ use Rattle.hda_registers.specs.Status.{worth}
 abbrev pub framed : Fields → Fields
 framed fields = record fields {
   global = record fields.global {
-    wall_clock = if is_out_of_reset fields.global then (fields.global.wall_clock + TICKS_PER_FRAME) % 2 ^ 32 else fields.global.wall_clock;
+    wall_clock = if is_out_of_reset fields.global then (fields.global.wall_clock + TICKS_PER_FRAME) % 2 ^ 32 else
+    fields.global.wall_clock;
   };
 }
 

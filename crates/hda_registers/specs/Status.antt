@@ -1,4 +1,5 @@
--- How INTSTS and the interrupt line come from the status bits, this project's own. High Definition Audio 1.0a, 3.3.14 and 3.3.15.
+-- How INTSTS and the interrupt line come from the status bits, this project's own. High Definition Audio 1.0a, 3.3.14
+-- and 3.3.15.
 use Rattle.std.specs.Prelude.{◌+◌, ◌^◌, ◌==◌, ◌&&◌, ◌||◌, nat_lt, bit_and, ℕ, Bool, if◌then◌else◌}
 use Rattle.hda_registers.specs.Fields.{Global, Descriptor, Fields}
 

@@ -1,11 +1,16 @@
--- The table of the registers: where each group of bits stands and what a write does to it. High Definition Audio 1.0a, 3.3.
--- Places without a group here read 0 and ignore writes, this project's own; so GSTS, CORBUBASE, CORBSTS, RIRBUBASE and the
--- BDPU of the descriptors have none. What a register does beyond its name, place and width is this project's own.
+-- The table of the registers: where each group of bits stands and what a write does to it. High Definition Audio 1.0a,
+-- 3.3. Places without a group here read 0 and ignore writes, this project's own; so GSTS, CORBUBASE, CORBSTS, RIRBUBASE
+-- and the BDPU of the descriptors have none. What a register does beyond its name, place and width is this project's
+-- own.
 use Rattle.std.specs.Prelude.{ℕ, ◌==◌, if◌then◌else◌}
 use Rattle.hda_registers.specs.declared.shapes.RingSize.{RingSize}
 use Rattle.hda_registers.specs.declared.shapes.RingSize.TheVariants.{Two, Sixteen, Full}
 use Rattle.hda_registers.specs.declared.shapes.Shape.{Shape}
-use Rattle.hda_registers.specs.declared.places.TheConstants.{GCAP, VMIN, VMAJ, OUTPAY, INPAY, GCTL, WAKEEN, STATESTS, INTCTL, INTSTS, WALCLK, CORBLBASE, CORBWP, CORBRP, CORBCTL, CORBSIZE, RIRBLBASE, RIRBWP, RINTCNT, RIRBCTL, RIRBSTS, RIRBSIZE, SDCTL, SDSTS, SDLPIB, SDCBL, SDLVI, SDFIFOS, SDFMT, SDBDPL}
+use Rattle.hda_registers.specs.declared.places.TheConstants.{GCAP, VMIN, VMAJ, OUTPAY, INPAY, GCTL, WAKEEN, STATESTS}
+use Rattle.hda_registers.specs.declared.places.TheConstants.{INTCTL, INTSTS, WALCLK, CORBLBASE, CORBWP, CORBRP, CORBCTL}
+use Rattle.hda_registers.specs.declared.places.TheConstants.{CORBSIZE, RIRBLBASE, RIRBWP, RINTCNT, RIRBCTL, RIRBSTS}
+use Rattle.hda_registers.specs.declared.places.TheConstants.{RIRBSIZE, SDCTL, SDSTS, SDLPIB, SDCBL, SDLVI, SDFIFOS}
+use Rattle.hda_registers.specs.declared.places.TheConstants.{SDFMT, SDBDPL}
 use Rattle.hda_registers.specs.Fields.{entries_of}
 
 -- what a write does to the bits of a group

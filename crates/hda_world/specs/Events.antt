@@ -1,5 +1,5 @@
--- What happens to the world, event by event: steps of the device, and accesses of the driver between the marks of its runs.
--- This project's own.
+-- What happens to the world, event by event: steps of the device, and accesses of the driver between the marks of its
+-- runs. This project's own.
 use Rattle.std.specs.Prelude.{◌≡◌, ◌≤◌, ℕ, ◌+◌, Bool, true, false, List, [], ◌∷◌, length, slice_range, map}
 use Rattle.codec_graph.specs.CodecStates.{cleared}
 use Rattle.hda_registers.specs.declared.shapes.Width.{Width}
@@ -47,7 +47,8 @@ registers_written new world = record world {
 abbrev pub after_write : ℕ → Width → ℕ → World → World
 after_write at width value world =
     let effects = effects_of world.registers at width value in
-    counted_anew_if effects.left_reset (reset_if effects.reset (registers_written (written world.registers at width value) world))
+    counted_anew_if effects.left_reset
+    (reset_if effects.reset (registers_written (written world.registers at width value) world))
 
 -- the world after an event. A read changes nothing
 abbrev pub happens : World → Event → World

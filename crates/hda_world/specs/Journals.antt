@@ -1,5 +1,5 @@
--- A journal as contracts see it: what happened, in order, and for how much more there is room. A piece of memory has its
--- bytes from the journal's bytes. This project's own.
+-- A journal as contracts see it: what happened, in order, and for how much more there is room. A piece of memory has
+-- its bytes from the journal's bytes. This project's own.
 use Rattle.std.specs.Prelude.{◌≡◌, ℕ, ◌+◌, ◌≤◌, List, All, get_or, length, slice_range}
 use Rattle.hda_world.specs.declared.entry.Entry.{Entry}
 use Rattle.hda_world.specs.declared.entry.Entry.TheVariants as entry
@@ -27,8 +27,10 @@ event_of pieces bytes entry.Begin = Begin
 event_of pieces bytes entry.End = End
 event_of pieces bytes (entry.Read at width value) = Read at width value
 event_of pieces bytes (entry.Write at width value) = Write at width value
-event_of pieces bytes (entry.DmaRead number) = DmaRead (piece_at pieces number).at (bytes_of bytes (piece_at pieces number))
-event_of pieces bytes (entry.DmaWrite number) = DmaWrite (piece_at pieces number).at (bytes_of bytes (piece_at pieces number))
+event_of pieces bytes (entry.DmaRead number) = DmaRead (piece_at pieces number).at
+    (bytes_of bytes (piece_at pieces number))
+event_of pieces bytes (entry.DmaWrite number) = DmaWrite (piece_at pieces number).at
+    (bytes_of bytes (piece_at pieces number))
 
 -- how many pieces there are at the least where there is this entry
 abbrev pub pieces_named : Entry → ℕ

@@ -1,6 +1,6 @@
--- What is kept by every move of the device is kept by every list of steps. A move ends where a schedule can stop: a command was
--- handed over whole, a batch of responses was written and flagged, a byte was fetched, a link frame passed whole. Each move carries
--- its guard, and those that come where a guard fails its negation. This project's own.
+-- What is kept by every move of the device is kept by every list of steps. A move ends where a schedule can stop: a
+-- command was handed over whole, a batch of responses was written and flagged, a byte was fetched, a link frame passed
+-- whole. Each move carries its guard, and those that come where a guard fails its negation. This project's own.
 use Rattle.std.specs.Prelude.{◌≡◌, ◌<◌, ◌≤◌, ℕ, ◌+◌, Bool, true, false, List, [], ◌∷◌, ◌++◌, length, drop}
 use Rattle.codec_graph.specs.declared.waiting.Waiting.{Waiting}
 use Rattle.hda_registers.specs.Fields.{is_out_of_reset, is_running, list_address}
@@ -15,7 +15,8 @@ use Rattle.world_streams.specs.Streams.{held, due, is_usable, broke}
 use Rattle.world_streams.specs.Output.{next_of, completes, byte_came, Gap, Blocks, Hole}
 use Rattle.hda_world.specs.declared.step.TheConstants.{FRAMES_TO_DISCOVERY}
 use Rattle.hda_world.specs.Worlds.{World, codec_at, output_of, with_output}
-use Rattle.hda_world.specs.Steps.{address_of, is_busy, handed, waiting_of, sent, lost, responded, discovered, passed, output_framed, plugged_at}
+use Rattle.hda_world.specs.Steps.{address_of, is_busy, handed, waiting_of, sent, lost, responded, discovered, passed}
+use Rattle.hda_world.specs.Steps.{output_framed, plugged_at}
 
 -- the moves of the codecs are kept
 pub record KeptByCodecs (Holds : World → Type 0) : Type 0 where
@@ -28,9 +29,11 @@ pub record KeptByCodecs (Holds : World → Type 0) : Type 0 where
       → is_out_of_reset world.registers.global ≡ true → length world.waiting < MOST_WAITING
       → waiting_of (codec_at address world.codecs) ≡ item ∷ rest → Holds (sent address item world)
   -- a codec loses its first waiting answer to a command
-  pub loses : (world : World) (address : ℕ) → Holds world → is_out_of_reset world.registers.global ≡ true → Holds (lost address world)
+  pub loses : (world : World) (address : ℕ) → Holds world → is_out_of_reset world.registers.global ≡ true
+      → Holds (lost address world)
   -- something is plugged in or out
-  pub plugs : (world : World) (address nid : ℕ) (present : Bool) → Holds world → Holds (plugged_at address nid present world)
+  pub plugs : (world : World) (address nid : ℕ) (present : Bool) → Holds world
+      → Holds (plugged_at address nid present world)
 
 -- the output stream runs, and its registers can be used
 pub record CanStream (world : World) : Type 0 where
@@ -58,10 +61,12 @@ next_completes world = completes world.memory (list_address world.registers.outp
 -- the moves of a fetch of the output stream are kept
 pub record KeptByBytes (Holds : World → Type 0) : Type 0 where
   -- a byte comes that does not end a buffer with IOC
-  pub comes : (world : World) → Holds world → CanStream world → HasRoom world → next_is_good world ≡ true → next_completes world ≡ false
+  pub comes : (world : World) → Holds world → CanStream world → HasRoom world → next_is_good world ≡ true
+      → next_completes world ≡ false
       → Holds (with_output (byte_came world.memory (output_of world)) world)
   -- a byte comes that ends one
-  pub ends : (world : World) → Holds world → CanStream world → HasRoom world → next_is_good world ≡ true → next_completes world ≡ true
+  pub ends : (world : World) → Holds world → CanStream world → HasRoom world → next_is_good world ≡ true
+      → next_completes world ≡ true
       → Holds (with_output (byte_came world.memory (output_of world)) world)
   -- the list has an entry that can't be used
   pub breaks : (world : World) → Holds world → CanStream world → HasRoom world → next_is_good world ≡ false
@@ -72,15 +77,18 @@ pub record KeptByBytes (Holds : World → Type 0) : Type 0 where
 -- what a link frame does to the running output stream is kept, after what else it does
 pub record KeptByFrames (Holds : World → Type 0) (before : World → World) : Type 0 where
   -- no block is due
-  pub gaps : (world : World) → Holds world → CanStream world → due (output_of world) ≡ 0 → Holds (output_framed Gap (before world))
+  pub gaps : (world : World) → Holds world → CanStream world → due (output_of world) ≡ 0
+      → Holds (output_framed Gap (before world))
   -- the blocks that are due are sent
-  pub sends : (world : World) → Holds world → CanStream world → 0 < due (output_of world) → due (output_of world) ≤ held world.output
+  pub sends : (world : World) → Holds world → CanStream world → 0 < due (output_of world)
+      → due (output_of world) ≤ held world.output
       → Holds (output_framed Blocks (before world))
   -- they are not there
   pub misses : (world : World) → Holds world → CanStream world → held world.output < due (output_of world)
       → Holds (output_framed Hole (before world))
   -- the registers can't be used
-  pub stops : (world : World) → Holds world → MustBreak world → Holds (with_output (broke (output_of (before world))) (before world))
+  pub stops : (world : World) → Holds world → MustBreak world
+      → Holds (with_output (broke (output_of (before world))) (before world))
 
 pub record Kept (Holds : World → Type 0) : Type 0 where
   pub codecs : KeptByCodecs Holds
@@ -89,14 +97,16 @@ pub record Kept (Holds : World → Type 0) : Type 0 where
       → can_respond world.registers ≡ true → batch world.registers world.waiting ≡ response ∷ rest
       → Holds (responded (response ∷ rest) world)
   pub bytes : KeptByBytes Holds
-  -- a link frame passes while the output stream does not run; in that of the discovery the codecs' bits of the state change status
-  -- are set
-  pub passes : (world : World) → Holds world → is_out_of_reset world.registers.global ≡ true → is_running world.registers.output ≡ false
+  -- a link frame passes while the output stream does not run; in that of the discovery the codecs' bits of the state
+  -- change status are set
+  pub passes : (world : World) → Holds world → is_out_of_reset world.registers.global ≡ true
+      → is_running world.registers.output ≡ false
       → Holds (passed world)
   -- and one while it runs
   pub frames : KeptByFrames Holds passed
 
--- ---- the same by single responses, and by the tick, the discovery and the stream of a frame, for what these keep one by one
+-- ---- the same by single responses, and by the tick, the discovery and the stream of a frame,
+-- for what these keep one by one
 
 -- RIRB's engine wrote this response, the first that waited
 abbrev pub wrote_one : Response → World → World
@@ -113,11 +123,13 @@ flagged world = record world { registers = raised world.registers event.Response
 
 -- the wall clock and the count of frames moved on
 abbrev pub ticked : World → World
-ticked world = record world { registers = record world.registers { global = (framed world.registers).global }; frames = world.frames + 1 }
+ticked world = record world { registers = record world.registers { global = (framed world.registers).global }; frames
+    = world.frames + 1 }
 
 -- the codecs were discovered
 abbrev pub announced : World → World
-announced world = record world { registers = record world.registers { global = (discovered world.codecs world.registers).global } }
+announced world = record world
+    { registers = record world.registers { global = (discovered world.codecs world.registers).global } }
 
 -- nothing else
 abbrev pub unmoved : World → World

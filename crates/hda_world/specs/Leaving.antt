@@ -1,5 +1,6 @@
 -- What steps of the device and accesses of the driver leave alone. This project's own.
-use Rattle.std.specs.Prelude.{◌≡◌, ◌≢◌, ◌<◌, ◌≤◌, ◌⊎◌, ℕ, ◌+◌, ◌*◌, false, List, [], ◌∷◌, ◌++◌, Option, None, Some, length, map, slice_index}
+use Rattle.std.specs.Prelude.{◌≡◌, ◌≢◌, ◌<◌, ◌≤◌, ◌⊎◌, ℕ, ◌+◌, ◌*◌, false, List, [], ◌∷◌, ◌++◌, Option, None, Some}
+use Rattle.std.specs.Prelude.{length, map, slice_index}
 use Rattle.codec_graph.specs.declared.raw.RawCodec.{RawCodec}
 use Rattle.hda_registers.specs.Fields.{Fields, Descriptor, entries_of, rirb_address, is_running}
 use Rattle.world_rings.specs.declared.entries.TheConstants.{RESPONSE_BYTES}
@@ -9,8 +10,8 @@ use Rattle.world_steps.specs.declared.Step.TheVariants as step
 use Rattle.hda_world.specs.Worlds.{World}
 use Rattle.hda_world.specs.Steps.{address_of, after_step}
 
--- a descriptor is the old one but for LPIB and the status bits, and where its list or its registers could not be used RUN; it stays
--- while its stream does not run
+-- a descriptor is the old one but for LPIB and the status bits, and where its list or its registers could not be used
+-- RUN; it stays while its stream does not run
 pub record DescriptorStays (old new : Descriptor) : Type 0 where
   pub only : new ≡ record old {
     run = new.run;
@@ -23,8 +24,8 @@ pub record DescriptorStays (old new : Descriptor) : Type 0 where
   pub run : (new.run ≡ old.run) ⊎ ((new.run ≡ 0) × (new.descriptor_error ≡ 1))
   pub still : is_running old ≡ false → new ≡ old
 
--- the registers are the old ones but for what the device itself moves: the wall clock, the codecs' bits of the state change
--- status, the pointers and the flag of the rings, and the descriptors of streams that run
+-- the registers are the old ones but for what the device itself moves: the wall clock, the codecs' bits of the state
+-- change status, the pointers and the flag of the rings, and the descriptors of streams that run
 pub record RegistersStay (old new : Fields) : Type 0 where
   pub shape : new.shape ≡ old.shape
   pub input : DescriptorStays old.input new.input
@@ -39,12 +40,14 @@ pub record RegistersStay (old new : Fields) : Type 0 where
 
 -- an address that is none of RIRB's
 abbrev pub IsOutsideRirb : Fields → ℕ → Type 0
-IsOutsideRirb fields at = (at < rirb_address fields) ⊎ (rirb_address fields + RESPONSE_BYTES * entries_of fields.shape.rirb ≤ at)
+IsOutsideRirb fields at = (at < rirb_address fields)
+    ⊎ (rirb_address fields + RESPONSE_BYTES * entries_of fields.shape.rirb ≤ at)
 
 -- the memory has as many bytes as before, and where the input stream does not run, outside RIRB the same
 pub record MemoryStays (fields : Fields) (old new : List ℕ) : Type 0 where
   pub size : length new ≡ length old
-  pub outside : is_running fields.input ≡ false → (at : ℕ) → IsOutsideRirb fields at → slice_index new at ≡ slice_index old at
+  pub outside : is_running fields.input ≡ false → (at : ℕ) → IsOutsideRirb fields at
+      → slice_index new at ≡ slice_index old at
 
 -- a history went on
 abbrev pub WentOn : {A : Type 0} → List A → List A → Type 0
@@ -62,8 +65,8 @@ pub record StepsLeave (old new : World) : Type 0 where
   pub written : WentOn old.written new.written
   pub carried : WentOn old.carried new.carried
 
--- what an event leaves alone that is no step of the device: an access changes the registers or a piece of memory, and of the
--- codecs nothing but what waits at them, which a reset drops
+-- what an event leaves alone that is no step of the device: an access changes the registers or a piece of memory, and
+-- of the codecs nothing but what waits at them, which a reset drops
 pub record AccessLeaves (old new : World) : Type 0 where
   pub commands : new.commands ≡ old.commands
   pub written : new.written ≡ old.written
@@ -77,8 +80,8 @@ abbrev pub AddressesOther : Option ℕ → ℕ → Type 0
 AddressesOther None address = Unit {0}
 AddressesOther (Some word) address = address ≢ address_of word
 
--- the step does not name the codec of this address. The engine of CORB names the codec of the command that it fetches, if it
--- fetches one
+-- the step does not name the codec of this address. The engine of CORB names the codec of the command that it fetches,
+-- if it fetches one
 abbrev pub NamesOthers : Step → World → ℕ → Type 0
 NamesOthers step.Corb world address = AddressesOther (next_word world.registers world.memory) address
 NamesOthers (step.Answer codec) world address = address ≢ codec
@@ -92,7 +95,8 @@ NamesOthers (step.Unplug codec nid) world address = address ≢ codec
 -- nor does any of some steps in turn
 abbrev pub NameOthers : List Step → World → ℕ → Type 0
 NameOthers [] world address = Unit {0}
-NameOthers (step ∷ steps) world address = NamesOthers step world address × NameOthers steps (after_step step world) address
+NameOthers (step ∷ steps) world address = NamesOthers step world address
+    × NameOthers steps (after_step step world) address
 
 -- the step names no stream
 abbrev pub NamesNoStream : Step → Type 0

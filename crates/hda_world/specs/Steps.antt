@@ -1,7 +1,8 @@
--- What a step of the device does to the world: the moves of High Definition Audio 1.0a, 4.4 (rings), 4.5 (streams), 5.3 (link
--- frames), 4.3 (codec discovery) and 7.3.3.15 (presence). When a step comes is the schedule's choice. The queues' limits and that a step does nothing
--- while CRST is 0, but for what is plugged in, are this project's own.
-use Rattle.std.specs.Prelude.{ℕ, zero, suc, Bool, true, false, ◌==◌, ◌&&◌, ◌+◌, ◌/◌, ◌^◌, nat_lt, List, [], ◌∷◌, ◌++◌, length, map, drop, fold, Option, None, Some, if◌then◌else◌}
+-- What a step of the device does to the world: the moves of High Definition Audio 1.0a, 4.4 (rings), 4.5 (streams), 5.3
+-- (link frames), 4.3 (codec discovery) and 7.3.3.15 (presence). When a step comes is the schedule's choice. The queues'
+-- limits and that a step does nothing while CRST is 0, but for what is plugged in, are this project's own.
+use Rattle.std.specs.Prelude.{ℕ, zero, suc, Bool, true, false, ◌==◌, ◌&&◌, ◌+◌, ◌/◌, ◌^◌, nat_lt, List, [], ◌∷◌, ◌++◌}
+use Rattle.std.specs.Prelude.{length, map, drop, fold, Option, None, Some, if◌then◌else◌}
 use Rattle.codec_graph.specs.declared.waiting.Waiting.{Waiting}
 use Rattle.codec_graph.specs.declared.waiting.Waiting.TheVariants.{Answer, Unsolicited}
 use Rattle.codec_graph.specs.CodecStates.{CodecState, taken, is_full, plugged, without_first, without_answer}
@@ -27,14 +28,16 @@ address_of word = word / 2 ^ 28
 -- what the history of commands gains by a word: nothing where no codec has its address
 abbrev pub taking : ℕ → Option CodecState → Bool → ℕ → List TakenCommand
 taking word None running carried = []
-taking word (Some codec) running carried = record { word = word; codec = codec; running = running; carried = carried } ∷ []
+taking word (Some codec) running carried = record { word = word; codec = codec; running = running; carried = carried } ∷
+    []
 
 -- CORB's engine fetched this word, and the codec of its address took it
 abbrev pub handed : ℕ → World → World
 handed word world = record world {
   registers = fetched world.registers;
   codecs = with_codec (address_of word) (λ codec. taken codec word) world.codecs;
-  commands = world.commands ++ taking word (codec_at (address_of word) world.codecs) (is_running world.registers.output) (length world.carried);
+  commands = world.commands ++ taking word (codec_at (address_of word) world.codecs) (is_running world.registers.output)
+      (length world.carried);
 }
 
 -- whether a codec can take no command now
@@ -113,14 +116,16 @@ discovered_at frames codecs fields = if frames == FRAMES_TO_DISCOVERY then disco
 -- a link frame passed: the wall clock went on, and in the frame of the discovery the codecs' bits were set
 abbrev pub passed : World → World
 passed world = record world {
-  registers = record world.registers { global = (discovered_at (world.frames + 1) world.codecs (framed world.registers)).global };
+  registers = record world.registers
+      { global = (discovered_at (world.frames + 1) world.codecs (framed world.registers)).global };
   frames = world.frames + 1;
 }
 
 -- what the history of link frames gains where one carried this
 abbrev pub frame_carried : World → Carriage → CarriedFrame
 frame_carried world carriage =
-    record { codecs = world.codecs; tag = world.registers.output.tag; format = world.registers.output.format; carriage = carriage }
+    record { codecs = world.codecs; tag = world.registers.output.tag; format = world.registers.output.format; carriage
+    = carriage }
 
 -- the output stream after a link frame that found this of it
 abbrev pub output_framed : Frame → World → World
@@ -152,7 +157,8 @@ fetch_step stream most world =
 
 -- something was plugged into a pin of the codec, or unplugged
 abbrev pub plugged_at : ℕ → ℕ → Bool → World → World
-plugged_at address nid present world = record world { codecs = with_codec address (λ codec. plugged codec nid present) world.codecs }
+plugged_at address nid present world = record world { codecs = with_codec address (λ codec. plugged codec nid present)
+    world.codecs }
 
 -- ---- steps
 

@@ -1,5 +1,5 @@
--- What holds of the output stream at every moment: what its FIFO holds, where its position stands, what was sent. High Definition
--- Audio 1.0a, 3.3.36, 3.3.37 and 4.5.
+-- What holds of the output stream at every moment: what its FIFO holds, where its position stands, what was sent. High
+-- Definition Audio 1.0a, 3.3.36, 3.3.37 and 4.5.
 use Rattle.std.specs.Prelude.{◌≡◌, ◌≤◌, ◌+◌, ◌%◌, ℕ, true, false, List, [], length, take, drop}
 use Rattle.std.specs.List.{flat_map}
 use Rattle.hda_registers.specs.Fields.{Descriptor, is_running}
@@ -35,7 +35,8 @@ bytes_of Missed = []
 abbrev pub carried_bytes : List CarriedFrame → List ℕ
 carried_bytes frames = flat_map (λ (frame : CarriedFrame). bytes_of frame.carriage) frames
 
--- since the link frame of this place as many passed as the stream counts, and what they carried is what was fetched, in order
+-- since the link frame of this place as many passed as the stream counts, and what they carried is what was fetched, in
+-- order
 pub record AreSent (from : ℕ) (frame left : ℕ) (entered : List ℕ) (carried : List CarriedFrame) : Type 0 where
   pub frames : from + frame ≡ length carried
   pub behind : left ≤ length entered
@@ -45,7 +46,8 @@ abbrev pub HasSent : ℕ → World → Type 0
 HasSent from world = AreSent from world.output.frame world.output.left world.output.entered world.carried
 
 -- an output stream that does not run stays as it is
-pub record StaysStopped (descriptor : Descriptor) (state : StreamState) (carried : List CarriedFrame) (world : World) : Type 0 where
+pub record StaysStopped (descriptor : Descriptor) (state : StreamState) (carried : List CarriedFrame) (world : World)
+    : Type 0 where
   pub stopped : is_running world.registers.output ≡ false
   pub registers : world.registers.output ≡ descriptor
   pub state_stays : world.output ≡ state

@@ -1,5 +1,5 @@
--- The world that driver and device act on in turn. This project's own, over the controller and the codecs of High Definition
--- Audio 1.0a.
+-- The world that driver and device act on in turn. This project's own, over the controller and the codecs of High
+-- Definition Audio 1.0a.
 use Rattle.std.specs.Prelude.{ℕ, ◌==◌, Bool, List, map, Option, if◌then◌else◌}
 use Rattle.std.specs.List.{find}
 use Rattle.codec_graph.specs.CodecStates.{CodecState}
@@ -8,24 +8,24 @@ use Rattle.world_rings.specs.declared.response.Response.{Response}
 use Rattle.world_streams.specs.Streams.{StreamState, Stream}
 use Rattle.world_streams.specs.Output.{Carriage}
 
--- a command that a codec took, with what later statements ask of that moment: the word, the codec as it was then, whether the
--- output stream ran, and how many of the link frames below had passed
+-- a command that a codec took, with what later statements ask of that moment: the word, the codec as it was then,
+-- whether the output stream ran, and how many of the link frames below had passed
 pub record TakenCommand : Type 0 where
   pub word : ℕ
   pub codec : CodecState
   pub running : Bool
   pub carried : ℕ
 
--- a link frame of the running output stream: what it carried of the stream, and the codecs, the stream's tag and its format word at
--- that moment
+-- a link frame of the running output stream: what it carried of the stream, and the codecs, the stream's tag and its
+-- format word at that moment
 pub record CarriedFrame : Type 0 where
   pub codecs : List CodecState
   pub tag : ℕ
   pub format : ℕ
   pub carriage : Carriage
 
--- everything that an access or a device step may read or change. The last three are histories: device steps only append to them,
--- and nothing ever shortens them.
+-- everything that an access or a device step may read or change. The last three are histories: device steps only append
+-- to them, and nothing ever shortens them.
 pub record World : Type 0 where
   -- the region that the controller's engines reach, as bytes
   pub memory : List ℕ

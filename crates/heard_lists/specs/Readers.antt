@@ -14,7 +14,8 @@ pub record IsStart (pieces : List Piece) (start : PieceStart) : Type 0 where
   pub byte : start.byte ≡ pieces_size (take start.piece pieces)
 
 -- each piece has its signal and its bytes, and the start is not behind the item that is read next
-pub record IsReader (pieces : List Piece) (signals : List Signal) (bytes : List ℕ) (holes next : ℕ) (start : PieceStart) : Type 0 where
+pub record IsReader (pieces : List Piece) (signals : List Signal) (bytes : List ℕ) (holes next : ℕ) (start : PieceStart)
+    : Type 0 where
   pub among : AllZip (λ piece signal. IsAmong piece.format.channels signal) pieces signals
   pub whole : pieces_size pieces ≤ length bytes
   pub few : pieces_count pieces + holes < 2 ^ 64

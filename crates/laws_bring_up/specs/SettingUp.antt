@@ -26,7 +26,8 @@ are_answered task trail = are_set_up trail.state.phase || (is_asking trail.state
 -- something holds of world and trail before the first of these events and after each of them
 abbrev pub Always : (World → Trail → Type 0) → Task → List Event → World → Trail → Type 0
 Always Holds task [] world trail = Holds world trail
-Always Holds task (event ∷ events) world trail = Holds world trail × Always Holds task events (happens world event) (noted task trail world event)
+Always Holds task (event ∷ events) world trail = Holds world trail
+    × Always Holds task events (happens world event) (noted task trail world event)
 
 -- ---- the codecs
 
@@ -61,6 +62,7 @@ pub record AreSetUpForGood (means : Means) (graphs : List RawCodec) (world : Wor
   pub set_up : AreSetUp means graphs world
 
 -- so it is in an open stretch whose accesses were made, where all commands are answered then or by where it leads
-pub record RemainSetUp (means : Means) (graphs : List RawCodec) (task : Task) (lines : List DriverLine) (bring_up : BringUp) (telling : Telling) : Type 0 where
+pub record RemainSetUp (means : Means) (graphs : List RawCodec) (task : Task) (lines : List DriverLine)
+    (bring_up : BringUp) (telling : Telling) : Type 0 where
   pub before : are_answered task (trail_of task lines telling) ≡ true → AreSetUpForGood means graphs (world_of telling)
   pub after : are_set_up bring_up.phase ≡ true → AreSetUpForGood means graphs (world_of telling)

@@ -1,5 +1,6 @@
 -- How a bring-up stands to the world that is told. This project's own.
-use Rattle.std.specs.Prelude.{◌≡◌, ◌≢◌, ◌≤◌, ◌<◌, ℕ, ◌+◌, List, [], ◌∷◌, ◌++◌, length, map, take, drop, slice_get, All, Option, Some, None}
+use Rattle.std.specs.Prelude.{◌≡◌, ◌≢◌, ◌≤◌, ◌<◌, ℕ, ◌+◌, List, [], ◌∷◌, ◌++◌, length, map, take, drop, slice_get, All}
+use Rattle.std.specs.Prelude.{Option, Some, None}
 use Rattle.verb_codes.specs.declared.verbs.Command.{Command}
 use Rattle.codec_graph.specs.declared.raw.RawCodec.{RawCodec}
 use Rattle.route_planner.specs.declared.routes.Plan.{Plan}
@@ -28,7 +29,8 @@ use Rattle.driver_bring_up.specs.Calls.{IsTaskOf}
 -- ---- what is to be done
 
 -- the commands of codecs with these graphs: well-formed, one to four of them, with some pin that has a route
-pub record IsTaskOfCodecs (means : Means) (verbs : RawCodec → List Command) (graphs : List RawCodec) (task : Task) : Type 0 where
+pub record IsTaskOfCodecs (means : Means) (verbs : RawCodec → List Command) (graphs : List RawCodec) (task : Task)
+    : Type 0 where
   pub right : AreRight means verbs graphs
   pub is_for : IsTaskFor verbs graphs task
   pub some : graphs ≢ []
@@ -40,20 +42,24 @@ pub record IsTaskOfCodecs (means : Means) (verbs : RawCodec → List Command) (g
 abbrev pub IsLastSent : List Order → (sent : ℕ) → Option Outstanding → Type 0
 IsLastSent orders sent None = Unit {0}
 IsLastSent orders sent (Some command) =
-    (count : ℕ) × (sent ≡ count + 1) × (slice_get orders count ≡ Some (record { codec = command.codec; word = command.word }))
+    (count : ℕ) × (sent ≡ count + 1)
+    × (slice_get orders count ≡ Some (record { codec = command.codec; word = command.word }))
 
--- codecs that had their pins' defaults had taken so many commands, and since then took the words of those that were answered
+-- codecs that had their pins' defaults had taken so many commands, and since then took the words of those that were
+-- answered
 pub record HaveTaken (orders : List Order) (answers from : ℕ) (world : World) : Type 0 where
   pub start : List CodecState
   pub begun : ℕ
   pub defaults : All KeepsDefaults start
   pub remembers : Remembers start begun world
   pub from_is : from ≡ begun + answers
-  pub words : words_of (take answers (drop begun world.commands)) ≡ map (λ (order : Order). order.word) (take answers orders)
+  pub words : words_of (take answers (drop begun world.commands)) ≡ map (λ (order : Order). order.word)
+      (take answers orders)
 
--- the engine stands to the world, the agenda follows the codecs' commands, and so many responses were written when the last of them was
--- submitted
-pub record IsAsking (means : Means) (verbs : RawCodec → List Command) (graphs : List RawCodec) (task : Task) (written : ℕ) (bring_up : BringUp) (world : World) : Type 0 where
+-- the engine stands to the world, the agenda follows the codecs' commands, and so many responses were written when the
+-- last of them was submitted
+pub record IsAsking (means : Means) (verbs : RawCodec → List Command) (graphs : List RawCodec) (task : Task)
+    (written : ℕ) (bring_up : BringUp) (world : World) : Type 0 where
   pub from : ℕ
   pub read : ℕ
   pub stands : Stands from read bring_up.engine.corb.address bring_up.engine.rirb.address bring_up.engine.rings world
@@ -81,8 +87,9 @@ pub record Announce (bring_up : BringUp) (world : World) : Type 0 where
 
 -- ---- what was walked
 
--- the graphs that were walked are the first of those on the link, as many as so many answers told: all commands of the walks over them were
--- answered, and not all of the walk over the next one. So they are all once more commands were sent than those of the walks
+-- the graphs that were walked are the first of those on the link, as many as so many answers told: all commands of the
+-- walks over them were answered, and not all of the walk over the next one. So they are all once more commands were
+-- sent than those of the walks
 pub record AreWalked (graphs walked : List RawCodec) (walks sent answers : ℕ) : Type 0 where
   pub rest : List RawCodec
   pub first : graphs ≡ walked ++ rest
@@ -93,22 +100,28 @@ pub record AreWalked (graphs walked : List RawCodec) (walks sent answers : ℕ) 
 
 abbrev pub HasWalked : (graphs : List RawCodec) (task : Task) → BringUp → Type 0
 HasWalked graphs task bring_up =
-    AreWalked graphs bring_up.agenda.graphs.items task.walks bring_up.sent (answers_of bring_up.sent bring_up.engine.rings.outstanding)
+    AreWalked graphs bring_up.agenda.graphs.items task.walks bring_up.sent
+    (answers_of bring_up.sent bring_up.engine.rings.outstanding)
 
 -- ---- by phase
 
-abbrev pub StandsIn : Phase → (means : Means) (verbs : RawCodec → List Command) (graphs : List RawCodec) (task : Task) (written : ℕ) (bring_up : BringUp) (world : World) → Type 0
+abbrev pub StandsIn : Phase → (means : Means) (verbs : RawCodec → List Command) (graphs : List RawCodec) (task : Task)
+    (written : ℕ) (bring_up : BringUp) (world : World) → Type 0
 StandsIn Reset means verbs graphs task written bring_up world = CanBegin bring_up world
 StandsIn Settling means verbs graphs task written bring_up world = Announce bring_up world
-StandsIn Walking means verbs graphs task written bring_up world = IsAsking means verbs graphs task written bring_up world
-StandsIn SettingUp means verbs graphs task written bring_up world = IsAsking means verbs graphs task written bring_up world
+StandsIn Walking means verbs graphs task written bring_up world = IsAsking means verbs graphs task written bring_up
+    world
+StandsIn SettingUp means verbs graphs task written bring_up world = IsAsking means verbs graphs task written bring_up
+    world
 StandsIn Ready means verbs graphs task written bring_up world = IsAsking means verbs graphs task written bring_up world
-StandsIn (Unanswered codec command issued noticed) means verbs graphs task written bring_up world = HasWalked graphs task bring_up
+StandsIn (Unanswered codec command issued noticed) means verbs graphs task written bring_up world = HasWalked graphs
+    task bring_up
 StandsIn Failed means verbs graphs task written bring_up world = HasWalked graphs task bring_up
 StandsIn phase means verbs graphs task written bring_up world = ⊥
 
 -- a bring-up for a task over the codecs with these graphs, as it stands to the world
-pub record IsBroughtUp (means : Means) (verbs : RawCodec → List Command) (graphs : List RawCodec) (task : Task) (written : ℕ) (bring_up : BringUp) (world : World) : Type 0 where
+pub record IsBroughtUp (means : Means) (verbs : RawCodec → List Command) (graphs : List RawCodec) (task : Task)
+    (written : ℕ) (bring_up : BringUp) (world : World) : Type 0 where
   pub blocks : IsTaskOf bring_up task
   pub graphs_are : graphs_in world.codecs ≡ graphs
   pub stage : StandsIn bring_up.phase means verbs graphs task written bring_up world

@@ -1,5 +1,5 @@
--- A stretch of a driver as it is told: what it is to find, and how it goes between two of them, at its beginning, and once its accesses were
--- made. This project's own, over High Definition Audio 1.0a, 4.3.
+-- A stretch of a driver as it is told: what it is to find, and how it goes between two of them, at its beginning, and
+-- once its accesses were made. This project's own, over High Definition Audio 1.0a, 4.3.
 use Rattle.std.specs.Prelude.{◌≡◌, true, false, List, [], ◌∷◌, Option, None, Some}
 use Rattle.std.specs.Option.{is_some}
 use Rattle.verb_codes.specs.Words.{has_bit}
@@ -17,8 +17,8 @@ use Rattle.driver_progress.specs.Progress.{Trail, trail_of, trail_opened, noted,
 
 -- ---- what a stretch is to find
 
--- by phase: GCTL says that the controller is out of reset, and once the codecs had their time, one announced itself and both sizes of the
--- rings are named; from the walk on nothing
+-- by phase: GCTL says that the controller is out of reset, and once the codecs had their time, one announced itself and
+-- both sizes of the rings are named; from the walk on nothing
 abbrev pub FindsIn : Phase → State → Seen → Type 0
 FindsIn Reset state seen = has_bit seen.control 0 ≡ true
 FindsIn Settling state seen = has_settled state.kept (clock_of seen) ≡ true → is_some (rings_seen seen) ≡ true
@@ -45,7 +45,8 @@ FindsAt trail (DmaWrite at bytes) = Unit {0}
 -- wherever one of them ends
 abbrev pub FindsAll : Task → List Event → World → Trail → Type 0
 FindsAll task [] world trail = Unit {0}
-FindsAll task (event ∷ events) world trail = FindsAt trail event × FindsAll task events (happens world event) (noted task trail world event)
+FindsAll task (event ∷ events) world trail = FindsAt trail event
+    × FindsAll task events (happens world event) (noted task trail world event)
 
 -- in all that is told, from these lines on
 abbrev pub HasFound : Task → (lines : List DriverLine) → Telling → Type 0
@@ -53,7 +54,8 @@ HasFound task lines telling = FindsAll task telling.journal telling.start (trail
 
 -- ---- as it is told
 
--- no stretch is open, each that was made the accesses that were to be made and found what it was to find, and those of these lines are left
+-- no stretch is open, each that was made the accesses that were to be made and found what it was to find, and those of
+-- these lines are left
 pub record IsAtRest (task : Task) (lines left : List DriverLine) (state : State) (telling : Telling) : Type 0 where
   pub conforms : Conforms task telling.journal telling.start (trail_opened lines)
   pub finds : HasFound task lines telling
@@ -62,7 +64,8 @@ pub record IsAtRest (task : Task) (lines left : List DriverLine) (state : State)
   pub state_is : (trail_of task lines telling).state ≡ state
 
 -- one is open, of this line or the closing one, and made no access; those of these lines are left after it
-pub record IsOpen (task : Task) (lines left : List DriverLine) (turn : Option DriverLine) (state : State) (telling : Telling) : Type 0 where
+pub record IsOpen (task : Task) (lines left : List DriverLine) (turn : Option DriverLine) (state : State)
+    (telling : Telling) : Type 0 where
   pub conforms : Conforms task telling.journal telling.start (trail_opened lines)
   pub finds : HasFound task lines telling
   pub within : (trail_of task lines telling).within ≡ true
@@ -80,4 +83,5 @@ pub record IsDone (task : Task) (lines left : List DriverLine) (state' : State) 
   pub left_is : (trail_of task lines telling).left ≡ left
   pub fits : Fits task (trail_of task lines telling)
   pub found : Finds (trail_of task lines telling)
-  pub leads : next task (trail_of task lines telling).state (trail_of task lines telling).turn (seen_in (trail_of task lines telling)) ≡ state'
+  pub leads : next task (trail_of task lines telling).state (trail_of task lines telling).turn
+      (seen_in (trail_of task lines telling)) ≡ state'

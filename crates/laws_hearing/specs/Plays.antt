@@ -1,6 +1,7 @@
--- What it means that a pin's list is a line of bytes that was played. This project's own, over the blocks and samples of High Definition
--- Audio 1.0a, 4.5.1.
-use Rattle.std.specs.Prelude.{◌≡◌, ◌≤◌, ◌<◌, ℕ, ◌+◌, ◌*◌, Bool, true, false, not, List, ◌++◌, length, map, filter, replicate, get_or}
+-- What it means that a pin's list is a line of bytes that was played. This project's own, over the blocks and samples
+-- of High Definition Audio 1.0a, 4.5.1.
+use Rattle.std.specs.Prelude.{◌≡◌, ◌≤◌, ◌<◌, ℕ, ◌+◌, ◌*◌, Bool, true, false, not, List, ◌++◌, length, map, filter}
+use Rattle.std.specs.Prelude.{replicate, get_or}
 use Rattle.std.specs.List.{range_with_len}
 use Rattle.stream_format.specs.Layouts.{Layout}
 use Rattle.codec_sound.specs.declared.signals.Signal.TheVariants.{Pair}
@@ -25,8 +26,8 @@ is_hole (Sound left right) = false
 abbrev pub without_holes : List Heard → List Heard
 without_holes list = filter (λ item. not (is_hole item)) list
 
--- but for its holes the list is the pair's samples of some whole blocks of the line, from its first one on, each once and in order. Where
--- the line has drained, zeros may follow it
+-- but for its holes the list is the pair's samples of some whole blocks of the line, from its first one on, each once
+-- and in order. Where the line has drained, zeros may follow it
 pub record Plays (layout : Layout) (pair : ℕ) (line : List ℕ) (drained : Bool) (list : List Heard) : Type 0 where
   pub count : ℕ
   pub zeros : ℕ

@@ -1,5 +1,5 @@
--- That no setting changes while the output stream plays: no command is under way, and each link frame found the codecs as they are. This
--- project's own.
+-- That no setting changes while the output stream plays: no command is under way, and each link frame found the codecs
+-- as they are. This project's own.
 use Rattle.std.specs.Prelude.{◌≡◌, ◌≢◌, ◌≤◌, ◌<◌, ◌⊎◌, ℕ, ◌*◌, ◌/◌, List, length, map, drop, All}
 use Rattle.codec_graph.specs.declared.raw.RawCodec.{RawCodec}
 use Rattle.codec_graph.specs.CodecStates.{CodecState}
@@ -16,7 +16,8 @@ use Rattle.hda_world.specs.Streaming.{bytes_of}
 abbrev pub settings_of : List CodecState → List (RawCodec × Entries)
 settings_of codecs = map (λ (codec : CodecState). (codec.graph, codec.settings)) codecs
 
--- a link frame found these codecs' settings and the stream with this tag and format word, and carried whole blocks of so many bytes
+-- a link frame found these codecs' settings and the stream with this tag and format word, and carried whole blocks of
+-- so many bytes
 pub record IsSteadyFrame (codecs : List CodecState) (tag word block : ℕ) (frame : CarriedFrame) : Type 0 where
   pub settings : settings_of frame.codecs ≡ settings_of codecs
   pub tag_is : frame.tag ≡ tag
@@ -24,8 +25,10 @@ pub record IsSteadyFrame (codecs : List CodecState) (tag word block : ℕ) (fram
   pub blocks : ℕ
   pub whole : length (bytes_of frame.carriage) ≡ blocks * block
 
--- so did all link frames since this place of their history, and so are codecs and stream now; CORB has no command that was not fetched
-pub record SteadyBy (codecs : List CodecState) (tag word block from : ℕ) (now : List CodecState) (read write : ℕ) (output : Descriptor) (carried : List CarriedFrame) : Type 0 where
+-- so did all link frames since this place of their history, and so are codecs and stream now; CORB has no command that
+-- was not fetched
+pub record SteadyBy (codecs : List CodecState) (tag word block from : ℕ) (now : List CodecState) (read write : ℕ)
+    (output : Descriptor) (carried : List CarriedFrame) : Type 0 where
   pub settings : settings_of now ≡ settings_of codecs
   pub idle : read ≡ write
   pub tag_is : output.tag ≡ tag
@@ -35,7 +38,8 @@ pub record SteadyBy (codecs : List CodecState) (tag word block from : ℕ) (now 
 
 abbrev pub Steady : (codecs : List CodecState) (tag word block from : ℕ) → World → Type 0
 Steady codecs tag word block from world =
-    SteadyBy codecs tag word block from world.codecs world.registers.global.corb_read_pointer world.registers.global.corb_write_pointer
+    SteadyBy codecs tag word block from world.codecs world.registers.global.corb_read_pointer
+    world.registers.global.corb_write_pointer
     world.registers.output world.carried
 
 -- a write of a descriptor's status (STS, 3.3.36), or the one that stops the output stream (CTL, 3.3.35)
@@ -65,7 +69,8 @@ pub record AreIdleBy (codecs : List CodecState) (now : List CodecState) (read wr
   pub idle : read ≡ write
 
 abbrev pub AreIdle : (codecs : List CodecState) → World → Type 0
-AreIdle codecs world = AreIdleBy codecs world.codecs world.registers.global.corb_read_pointer world.registers.global.corb_write_pointer
+AreIdle codecs world = AreIdleBy codecs world.codecs world.registers.global.corb_read_pointer
+    world.registers.global.corb_write_pointer
 
 -- an event writes neither GCTL nor a register of CORB
 abbrev pub LeavesCommands : Event → Type 0

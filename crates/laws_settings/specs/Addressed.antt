@@ -1,5 +1,5 @@
--- Which words and commands go to the codec with an address, and what comes of a codec's own. This project's own, over bits 31:28 of
--- a command (High Definition Audio 1.0a, 7.3).
+-- Which words and commands go to the codec with an address, and what comes of a codec's own. This project's own, over
+-- bits 31:28 of a command (High Definition Audio 1.0a, 7.3).
 use Rattle.std.specs.Prelude.{◌≡◌, ◌≤◌, ◌==◌, ℕ, List, filter, All}
 use Rattle.verb_codes.specs.declared.verbs.Command.{Command}
 use Rattle.codec_graph.specs.declared.raw.RawCodec.{RawCodec}
@@ -20,7 +20,8 @@ graphs_at address graphs = filter (λ (graph : RawCodec). graph.address == addre
 
 -- each graph's commands go to its codec
 abbrev pub GoToTheirCodecs : (RawCodec → List Command) → List RawCodec → Type 0
-GoToTheirCodecs commands graphs = All (λ (graph : RawCodec). All (λ (command : Command). command.codec ≡ graph.address) (commands graph)) graphs
+GoToTheirCodecs commands graphs = All (λ (graph : RawCodec). All (λ (command : Command). command.codec ≡ graph.address)
+    (commands graph)) graphs
 
 -- codecs with these graphs can be walked over, and their commands can be encoded
 pub record CanBeSent (commands : RawCodec → List Command) (graphs : List RawCodec) : Type 0 where

@@ -1,5 +1,7 @@
--- What codecs took, and the settings that came of it. This project's own, over the commands of High Definition Audio 1.0a, 7.3.
-use Rattle.std.specs.Prelude.{◌≡◌, ◌≤◌, ◌==◌, ℕ, List, length, map, filter, fold, take, drop, slice_get, Option, None, Some}
+-- What codecs took, and the settings that came of it. This project's own, over the commands of High Definition Audio
+-- 1.0a, 7.3.
+use Rattle.std.specs.Prelude.{◌≡◌, ◌≤◌, ◌==◌, ℕ, List, length, map, filter, fold, take, drop, slice_get, Option, None}
+use Rattle.std.specs.Prelude.{Some}
 use Rattle.verb_codes.specs.declared.verbs.Command.{Command}
 use Rattle.verb_codes.specs.Verbs.{reading_of}
 use Rattle.codec_graph.specs.declared.raw.RawCodec.{RawCodec}
@@ -54,18 +56,21 @@ pub record WasTaken (start : List CodecState) (before : List TakenCommand) (one 
 
 -- each of some commands was taken so, after those before it
 abbrev pub WereTaken : List CodecState → List TakenCommand → Type 0
-WereTaken start commands = (place : ℕ) (one : TakenCommand) → slice_get commands place ≡ Some one → WasTaken start (take place commands) one
+WereTaken start commands = (place : ℕ) (one : TakenCommand) → slice_get commands place ≡ Some one
+    → WasTaken start (take place commands) one
 
 -- ---- the world
 
 -- codecs and all commands that codecs took, where the codecs were these when so many had been taken
-pub record RemembersBy (start : List CodecState) (from : ℕ) (codecs : List CodecState) (commands : List TakenCommand) : Type 0 where
+pub record RemembersBy (start : List CodecState) (from : ℕ) (codecs : List CodecState) (commands : List TakenCommand)
+    : Type 0 where
   pub within : from ≤ length commands
   pub graphs : map (λ (codec : CodecState). codec.graph) codecs ≡ map (λ (codec : CodecState). codec.graph) start
   pub settings : map (λ (codec : CodecState). codec.settings) codecs ≡ map (settings_since (drop from commands)) start
   pub taken : WereTaken start (drop from commands)
 
--- the world remembers what its codecs were when they had taken so many commands: each has its graph still and the settings that came
--- of the words that it took since, and each command since was taken by the codec that its word names, as that was by then
+-- the world remembers what its codecs were when they had taken so many commands: each has its graph still and the
+-- settings that came of the words that it took since, and each command since was taken by the codec that its word
+-- names, as that was by then
 abbrev pub Remembers : List CodecState → ℕ → World → Type 0
 Remembers start from world = RemembersBy start from world.codecs world.commands

@@ -12,8 +12,8 @@ use Rattle.heard_lists.specs.Listings.{graphs_in}
 abbrev pub IsRead : Machine → Type 0
 IsRead machine = (bytes : List ℕ) × Reads bytes (Ok machine)
 
--- all its graphs are well-formed, it has four codecs at most, and each begins with its pins' configuration defaults; the FIFO has 8 to 4,096
--- bytes
+-- all its graphs are well-formed, it has four codecs at most, and each begins with its pins' configuration defaults;
+-- the FIFO has 8 to 4,096 bytes
 pub record IsWhole (machine : Machine) : Type 0 where
   pub well_formed : All IsWellFormed (graphs_in machine.codecs)
   pub few : length machine.codecs ≤ most_codecs

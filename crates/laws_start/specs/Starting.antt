@@ -18,9 +18,12 @@ use Rattle.laws_bring_up.specs.Standing.{IsBroughtUp}
 use Rattle.heard_lists.specs.Listings.{graphs_in}
 use Rattle.laws_start.specs.Tasks.{verbs_in, stream_tag}
 
--- a bring-up for a task stands to the start of a machine, whose commands are those of these plans, and nothing was done yet
-pub record BeginsAt (format : Format) (machine : Machine) (plans : List Plan) (task : Task) (bring_up : BringUp) : Type 0 where
-  pub stands : IsBroughtUp (analog format stream_tag) (verbs_in format machine.codecs plans) (graphs_in machine.codecs) task 0 bring_up (start_of REGION_BYTES machine)
+-- a bring-up for a task stands to the start of a machine, whose commands are those of these plans, and nothing was done
+-- yet
+pub record BeginsAt (format : Format) (machine : Machine) (plans : List Plan) (task : Task) (bring_up : BringUp) : Type
+    0 where
+  pub stands : IsBroughtUp (analog format stream_tag) (verbs_in format machine.codecs plans) (graphs_in machine.codecs)
+      task 0 bring_up (start_of REGION_BYTES machine)
   pub state : state_of bring_up ≡ state_opened
 
 -- the whole region is free

@@ -14,21 +14,27 @@ use Rattle.period_writer.specs.Runs.{Tally}
 use Rattle.period_writer.specs.Lines.{line_of}
 use Rattle.laws_hearing.specs.Plays.{Plays, PlaysBelow, WasSent, IsSilent, without_holes}
 
--- a list of what a pin heard, by how the last run ended: the pair's samples of the line, of which after a late run those below its reach
+-- a list of what a pin heard, by how the last run ended: the pair's samples of the line, of which after a late run
+-- those below its reach
 abbrev pub HeardAs : Ran → Layout → (pair : ℕ) → (line : List ℕ) → (reach : ℕ) → List Heard → Type 0
 HeardAs ran.Playing sample_layout pair line reach list = Plays sample_layout pair line false list
 HeardAs ran.Drained sample_layout pair line reach list = Plays sample_layout pair line true list
 HeardAs (ran.Late from to limit) sample_layout pair line reach list = PlaysBelow sample_layout pair line reach list
 
--- what pins of these codecs heard of what link frames carried: one to which a pair comes heard the line, one to which nothing comes heard
--- nothing
-pub record HearTheLine (codecs : List CodecState) (format : Format) (pcm : List ℕ) (tally : Tally) (carried : List CarriedFrame) : Type 0 where
-  pub plays : (address pin pair : ℕ) → signal_with (codec_at address codecs) 1 (format_word format) (Some (layout format)) pin ≡ Pair pair
+-- what pins of these codecs heard of what link frames carried: one to which a pair comes heard the line, one to which
+-- nothing comes heard nothing
+pub record HearTheLine (codecs : List CodecState) (format : Format) (pcm : List ℕ) (tally : Tally)
+    (carried : List CarriedFrame) : Type 0 where
+  pub plays : (address pin pair : ℕ) → signal_with (codec_at address codecs) 1 (format_word format)
+      (Some (layout format)) pin ≡ Pair pair
       → HeardAs tally.course.ran (layout format) pair (line_of tally pcm) tally.course.sure (heard address pin carried)
   -- once the line has drained, as many blocks as end at or below where the link stood at the last run, past all sound
-  pub all_sent : tally.course.ran ≡ ran.Drained → (address pin pair : ℕ) → signal_with (codec_at address codecs) 1 (format_word format) (Some (layout format)) pin ≡ Pair pair
+  pub all_sent : tally.course.ran ≡ ran.Drained → (address pin pair : ℕ)
+      → signal_with (codec_at address codecs) 1 (format_word format) (Some (layout format)) pin ≡ Pair pair
       → tally.course.at / block_size (layout format) ≤ length (without_holes (heard address pin carried))
-  pub sent_alone : (address pin pair : ℕ) → signal_with (codec_at address codecs) 1 (format_word format) (Some (layout format)) pin ≡ Pair pair
+  pub sent_alone : (address pin pair : ℕ) → signal_with (codec_at address codecs) 1 (format_word format)
+      (Some (layout format)) pin ≡ Pair pair
       → All WasSent (heard address pin carried)
-  pub silent : (address pin : ℕ) → signal_with (codec_at address codecs) 1 (format_word format) (Some (layout format)) pin ≡ Silence
+  pub silent : (address pin : ℕ) → signal_with (codec_at address codecs) 1 (format_word format) (Some (layout format))
+      pin ≡ Silence
       → All IsSilent (heard address pin carried)

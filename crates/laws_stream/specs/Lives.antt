@@ -1,5 +1,5 @@
--- The life of the output stream as it is told: where no sound was played it is set going, and stopped once. This project's own, over High
--- Definition Audio 1.0a, 3.3.35 and 3.3.36.
+-- The life of the output stream as it is told: where no sound was played it is set going, and stopped once. This
+-- project's own, over High Definition Audio 1.0a, 3.3.35 and 3.3.36.
 use Rattle.std.specs.Prelude.{◌≡◌, Bool, true, false, List, [], ◌∷◌, ◌++◌}
 use Rattle.hda_registers.specs.declared.shapes.Width.TheVariants.{One}
 use Rattle.hda_registers.specs.Fields.{is_running}

@@ -1,5 +1,5 @@
--- That no stream runs, and that the wall clock counts the link frames. This project's own, over High Definition Audio 1.0a, 3.3.7, 3.3.16
--- and 3.3.35.
+-- That no stream runs, and that the wall clock counts the link frames. This project's own, over High Definition Audio
+-- 1.0a, 3.3.7, 3.3.16 and 3.3.35.
 use Rattle.std.specs.Prelude.{◌≡◌, ◌⊎◌, ◌+◌, ◌*◌, ◌%◌, ◌^◌, ◌≤◌, ◌<◌, ◌==◌, false, ℕ, List, [], slice_index}
 use Rattle.hda_registers.specs.declared.shapes.Width.{Width}
 use Rattle.hda_registers.specs.declared.shapes.Width.TheVariants.{Four}
@@ -12,9 +12,10 @@ use Rattle.period_writer.specs.Rings.{list_bytes}
 use Rattle.period_writer.specs.Standing.{Ring, bytes_in}
 use Rattle.period_writer.specs.Beside.{IsBesideStreaming, IsStatusWrite}
 
--- the FIFO has so many bytes, neither stream runs, the output stream had no error, and no link frame carried anything. The wall clock goes
--- by the link frames since CRST rose, of which there are none while it is 0
-pub record RestsBy (fifo size clock reset : ℕ) (input output : Descriptor) (frames : ℕ) (carried : List CarriedFrame) : Type 0 where
+-- the FIFO has so many bytes, neither stream runs, the output stream had no error, and no link frame carried anything.
+-- The wall clock goes by the link frames since CRST rose, of which there are none while it is 0
+pub record RestsBy (fifo size clock reset : ℕ) (input output : Descriptor) (frames : ℕ) (carried : List CarriedFrame)
+    : Type 0 where
   pub fifo_is : size ≡ fifo
   pub input_stopped : is_running input ≡ false
   pub output_stopped : is_running output ≡ false
@@ -25,7 +26,8 @@ pub record RestsBy (fifo size clock reset : ℕ) (input output : Descriptor) (fr
 
 abbrev pub Rests : (fifo : ℕ) → World → Type 0
 Rests fifo world =
-    RestsBy fifo world.registers.shape.fifo world.registers.global.wall_clock world.registers.global.controller_reset world.registers.input
+    RestsBy fifo world.registers.shape.fifo world.registers.global.wall_clock world.registers.global.controller_reset
+    world.registers.input
     world.registers.output world.frames world.carried
 
 -- a write that resets the controller, or takes it out of reset
@@ -51,4 +53,5 @@ IsApartFrom rirb address bytes = (address + bytes ≤ rirb) ⊎ (rirb + rirb_byt
 -- the blocks of a ring and RIRB's
 pub record AreApartFrom (ring : Ring) (rirb : ℕ) : Type 0 where
   pub list : IsApartFrom rirb ring.list (list_bytes ring.geometry.periods)
-  pub periods : (index : ℕ) → index < ring.geometry.periods → IsApartFrom rirb (slice_index ring.periods index) (bytes_in ring)
+  pub periods : (index : ℕ) → index < ring.geometry.periods
+      → IsApartFrom rirb (slice_index ring.periods index) (bytes_in ring)

@@ -23,13 +23,16 @@ StreamIs ran.Playing ring pcm tally world = IsPlaying ring pcm tally world
 StreamIs ran.Drained ring pcm tally world = HasDrained ring pcm tally world
 StreamIs (ran.Late from to limit) ring pcm tally world = WasStopped ring pcm tally world
 
--- these codecs were as they are in every link frame that carried something, and what link frames carried is what was fetched
+-- these codecs were as they are in every link frame that carried something, and what link frames carried is what was
+-- fetched
 pub record IsHeardBy (codecs : List CodecState) (ring : Ring) (world : World) : Type 0 where
   pub steady : Steady codecs 1 (format_word ring.geometry.format) (block_size (layout ring.geometry.format)) 0 world
   pub sent : HasSent 0 world
 
--- a stream that plays or has played, as these codecs hear it: it is as the last run left it, and was set going where it had not begun
-pub record StreamSounds (codecs : List CodecState) (ring : Ring) (pcm : List ℕ) (tally : Tally) (telling : Telling) : Type 0 where
+-- a stream that plays or has played, as these codecs hear it: it is as the last run left it, and was set going where it
+-- had not begun
+pub record StreamSounds (codecs : List CodecState) (ring : Ring) (pcm : List ℕ) (tally : Tally) (telling : Telling)
+    : Type 0 where
   pub started : tally.course.started ≡ true
   pub heard : IsHeardBy codecs ring (world_of telling)
   pub stream : StreamIs tally.course.ran ring pcm tally (world_of telling)

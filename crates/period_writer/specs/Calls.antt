@@ -8,31 +8,40 @@ use Rattle.period_writer.specs.Outcomes.{StartTellsOf, RunTellsOf, FinishTellsOf
 use Rattle.period_writer.specs.Writers.{WriterState, tally_of, periods_of, ring_of}
 
 -- the first run with this budget, on every platform
-abbrev pub StartsAny : (budget : ℕ) → (old new : WriterState) → (supply supply' : Supplied) → (before after : Option Telling) → Type 0
+abbrev pub StartsAny : (budget : ℕ) → (old new : WriterState) → (supply supply' : Supplied)
+    → (before after : Option Telling) → Type 0
 StartsAny budget old new supply supply' before after =
     (later : List ℕ) → MayGive supply' later
-    → Starts old.geometry old.list.address (periods_of old) budget (sound_before supply supply' later) (tally_of old) (tally_of new) later before after
+    → Starts old.geometry old.list.address (periods_of old) budget (sound_before supply supply' later) (tally_of old)
+    (tally_of new) later before after
 
 -- and where the platform tells
-abbrev pub StartTellsAny : (budget : ℕ) → (old new : WriterState) → (supply supply' : Supplied) → (before after : Option Telling) → Type 0
+abbrev pub StartTellsAny : (budget : ℕ) → (old new : WriterState) → (supply supply' : Supplied)
+    → (before after : Option Telling) → Type 0
 StartTellsAny budget old new supply supply' before after =
     (later : List ℕ) → MayGive supply' later
-    → Between (StartTellsOf (ring_of old) (sound_before supply supply' later) budget (tally_of old) (tally_of new)) before after
+    → Between (StartTellsOf (ring_of old) (sound_before supply supply' later) budget (tally_of old) (tally_of new))
+    before after
 
 -- a later run with this budget and this answer, up to its stop
-abbrev pub TakesAnyTurn : (budget : ℕ) → (old new : WriterState) → (supply supply' : Supplied) → Ran → (before after : Option Telling) → Type 0
+abbrev pub TakesAnyTurn : (budget : ℕ) → (old new : WriterState) → (supply supply' : Supplied) → Ran
+    → (before after : Option Telling) → Type 0
 TakesAnyTurn budget old new supply supply' ran before after =
     (later : List ℕ) → MayGive supply' later → EndsWith supply (sound_before supply supply' later)
-    → TakesTurn old.geometry (periods_of old) budget (sound_before supply supply' later) (tally_of old) ran (tally_of new) later before after
+    → TakesTurn old.geometry (periods_of old) budget (sound_before supply supply' later) (tally_of old) ran
+    (tally_of new) later before after
 
 -- the whole of it
-abbrev pub PlaysAny : (budget : ℕ) → (old new : WriterState) → (supply supply' : Supplied) → Ran → (before after : Option Telling) → Type 0
+abbrev pub PlaysAny : (budget : ℕ) → (old new : WriterState) → (supply supply' : Supplied) → Ran
+    → (before after : Option Telling) → Type 0
 PlaysAny budget old new supply supply' ran before after =
     (later : List ℕ) → MayGive supply' later → EndsWith supply (sound_before supply supply' later)
-    → Plays old.geometry (periods_of old) budget (sound_before supply supply' later) (tally_of old) ran (tally_of new) later before after
+    → Plays old.geometry (periods_of old) budget (sound_before supply supply' later) (tally_of old) ran (tally_of new)
+    later before after
 
 -- and where the platform tells
-abbrev pub RunTellsAny : (budget : ℕ) → (old new : WriterState) → (supply supply' : Supplied) → Ran → (before after : Option Telling) → Type 0
+abbrev pub RunTellsAny : (budget : ℕ) → (old new : WriterState) → (supply supply' : Supplied) → Ran
+    → (before after : Option Telling) → Type 0
 RunTellsAny budget old new supply supply' ran before after =
     (later : List ℕ) → MayGive supply' later → EndsWith supply (sound_before supply supply' later)
     → (pcm : List ℕ) → sound_before supply supply' later ≡ drop old.course.used pcm

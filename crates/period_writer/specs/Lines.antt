@@ -1,5 +1,6 @@
 -- The bytes of the line: zeros in its silences, and the sound in order elsewhere. This project's own.
-use Rattle.std.specs.Prelude.{◌≡◌, ◌≤◌, ◌<◌, ℕ, ◌+◌, ◌-◌, ◌==◌, Bool, true, false, max, List, [], ◌∷◌, ◌++◌, length, take, drop, replicate, if◌then◌else◌}
+use Rattle.std.specs.Prelude.{◌≡◌, ◌≤◌, ◌<◌, ℕ, ◌+◌, ◌-◌, ◌==◌, Bool, true, false, max, List, [], ◌∷◌, ◌++◌, length}
+use Rattle.std.specs.Prelude.{take, drop, replicate, if◌then◌else◌}
 use Rattle.period_writer.specs.declared.course.Span.{Span}
 use Rattle.period_writer.specs.Runs.{Tally}
 
@@ -8,7 +9,8 @@ abbrev pub line_from : (at : ℕ) → List Span → (reach : ℕ) → (pcm : Lis
 line_from at [] reach pcm = take (reach - at) pcm
 line_from at (silence ∷ silences) reach pcm =
     take (silence.start - at) pcm
-    ++ (replicate (silence.end - silence.start) 0 ++ line_from silence.end silences reach (drop (silence.start - at) pcm))
+    ++ (replicate (silence.end - silence.start) 0 ++ line_from silence.end silences reach
+    (drop (silence.start - at) pcm))
 
 abbrev pub line_of : Tally → (pcm : List ℕ) → List ℕ
 line_of tally pcm = line_from 0 tally.silences tally.course.reach pcm
@@ -25,7 +27,8 @@ sound_in at (silence ∷ silences) reach = (silence.start - at) + sound_in silen
 -- silences from a position on ascend in a line, none of them is empty, and no two of them touch
 abbrev pub AreMaximal : (from : ℕ) → List Span → (reach : ℕ) → Type 0
 AreMaximal from [] reach = from ≤ reach + 1
-AreMaximal from (silence ∷ silences) reach = (from ≤ silence.start) × (silence.start < silence.end) × AreMaximal (silence.end + 1) silences reach
+AreMaximal from (silence ∷ silences) reach = (from ≤ silence.start) × (silence.start < silence.end)
+    × AreMaximal (silence.end + 1) silences reach
 
 -- no sound of the line from a position on stands past another one: each stretch of sound ends at or below it
 abbrev pub EndsBy : (end at : ℕ) → List Span → (reach : ℕ) → Type 0
@@ -45,8 +48,8 @@ pub record IsLine (tally : Tally) : Type 0 where
 abbrev pub filled : (reach : ℕ) → List ℕ → List ℕ
 filled reach line = line ++ replicate (reach - length line) 0
 
--- where a run takes silence back the line is cut and gets so many bytes of the sound. Where it doesn't, the line gets them where the cut
--- is its end. Then it gets zeros up to the reach
+-- where a run takes silence back the line is cut and gets so many bytes of the sound. Where it doesn't, the line gets
+-- them where the cut is its end. Then it gets zeros up to the reach
 abbrev pub line_after : (back : Bool) → (cut sound reach : ℕ) → (line pcm : List ℕ) → List ℕ
 line_after true cut sound reach line pcm = filled reach (take cut line ++ take sound pcm)
 line_after false cut sound reach line pcm = filled reach (if cut == length line then line ++ take sound pcm else line)

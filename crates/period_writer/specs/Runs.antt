@@ -1,10 +1,12 @@
--- What a run does to the line, and what is recorded of it, as a function of the numbers that it reads. This project's own.
+-- What a run does to the line, and what is recorded of it, as a function of the numbers that it reads. This project's
+-- own.
 --
--- The line is one list of bytes: the sound, and silence where none came in time. Its byte at position p lies at place p modulo CBL of
--- the ring. The link plays it in order, so at a run the link stands at a position b of the line, and the run makes the line longer up to
--- its reach, one ring ahead of b: first sound, then silence. Where sound came late, the run takes back silence at the line's end: as much
--- of it as the device can't have fetched before the run is over.
-use Rattle.std.specs.Prelude.{ℕ, ◌+◌, ◌*◌, ◌-◌, ◌%◌, ◌≤◌, ◌==◌, ◌&&◌, ◌||◌, not, Bool, true, false, min, max, nat_lt, nat_le, List, [], ◌∷◌, ◌++◌, slice_index, Option, Some, None, if◌then◌else◌}
+-- The line is one list of bytes: the sound, and silence where none came in time. Its byte at position p lies at place p
+-- modulo CBL of the ring. The link plays it in order, so at a run the link stands at a position b of the line, and the
+-- run makes the line longer up to its reach, one ring ahead of b: first sound, then silence. Where sound came late, the
+-- run takes back silence at the line's end: as much of it as the device can't have fetched before the run is over.
+use Rattle.std.specs.Prelude.{ℕ, ◌+◌, ◌*◌, ◌-◌, ◌%◌, ◌≤◌, ◌==◌, ◌&&◌, ◌||◌, not, Bool, true, false, min, max, nat_lt}
+use Rattle.std.specs.Prelude.{nat_le, List, [], ◌∷◌, ◌++◌, slice_index, Option, Some, None, if◌then◌else◌}
 use Rattle.stream_format.specs.Cadence.{block_bytes}
 use Rattle.period_writer.specs.Rings.{ring_bytes, limit_of, slack_of, ahead_of}
 pub use Rattle.period_writer.specs.Rings.{whole_blocks}
@@ -15,8 +17,8 @@ use Rattle.period_writer.specs.declared.course.Course.{Course}
 use Rattle.period_writer.specs.declared.course.Ran.{Ran}
 use Rattle.period_writer.specs.declared.course.Ran.TheVariants.{Playing, Drained, Late}
 
--- the numbers of a geometry that runs go by: the bytes of the ring and of a block, how many link frames may pass from run to run, how many
--- while a run takes silence back, and how far past the link it begins
+-- the numbers of a geometry that runs go by: the bytes of the ring and of a block, how many link frames may pass from
+-- run to run, how many while a run takes silence back, and how far past the link it begins
 pub record Measures : Type 0 where
   pub ring : ℕ
   pub block : ℕ
@@ -33,8 +35,8 @@ measures geometry = record {
   ahead = ahead_of geometry.periods geometry.period geometry.fifo geometry.format;
 }
 
--- what a run goes by: how many bytes of sound it may write, how many are left, and what it reads: the clock first, LPIB, and the clock
--- last. The first run reads no LPIB
+-- what a run goes by: how many bytes of sound it may write, how many are left, and what it reads: the clock first,
+-- LPIB, and the clock last. The first run reads no LPIB
 pub record RunFacts : Type 0 where
   pub budget : ℕ
   pub left : ℕ
@@ -53,7 +55,8 @@ pub record Tally : Type 0 where
 
 -- before the first run
 abbrev pub course_opened : Course
-course_opened = record { started = false; at = 0; from = 0; reach = 0; sure = 0; used = 0; sound_end = 0; ran = Playing }
+course_opened = record { started = false; at = 0; from = 0; reach = 0; sure = 0; used = 0; sound_end = 0; ran
+    = Playing }
 
 abbrev pub tally_opened : Tally
 tally_opened = record { runs = []; silences = []; course = course_opened }
@@ -136,7 +139,8 @@ run_sound_end m course facts =
 -- a later run has drained the line where no sound is left and the link played the last byte of it
 abbrev pub has_drained : Measures → Course → RunFacts → Bool
 has_drained m course facts =
-    course.started && facts.left == run_sound m course facts && nat_le (run_sound_end m course facts) (run_at m course facts)
+    course.started && facts.left == run_sound m course facts && nat_le (run_sound_end m course facts)
+    (run_at m course facts)
 
 -- below this position what was fetched stays the line, even if the run is late
 abbrev pub run_sure : Measures → Course → RunFacts → ℕ
@@ -154,7 +158,8 @@ silent_too (one ∷ other ∷ more) span = one ∷ silent_too (other ∷ more) s
 -- the silences of a line that is cut at a position of its last silence
 abbrev pub silences_to : (cut : ℕ) → List Span → List Span
 silences_to cut [] = []
-silences_to cut (one ∷ []) = if nat_le cut one.start then [] else record { start = one.start; end = min one.end cut } ∷ []
+silences_to cut (one ∷ []) = if nat_le cut one.start then [] else record { start = one.start; end = min one.end cut } ∷
+    []
 silences_to cut (one ∷ other ∷ more) = one ∷ silences_to cut (other ∷ more)
 
 -- the line is cut where silence is taken back, gets sound, and then silence up to the reach
@@ -204,8 +209,8 @@ tally_after m tally facts = tally_if (is_late m tally.course facts) m tally fact
 
 -- ---- all runs
 
--- a stretch of the driver's accesses, from Begin to End: how many bytes of sound it may write, and the values that it read from WALCLK
--- and from LPIB, in order
+-- a stretch of the driver's accesses, from Begin to End: how many bytes of sound it may write, and the values that it
+-- read from WALCLK and from LPIB, in order
 pub record Stretch : Type 0 where
   pub budget : ℕ
   pub clocks : List ℕ

@@ -112,7 +112,8 @@ pub record Goes (means : Meaning) (format : Format) (play : Bool) (items : List 
   pub silent : play ≡ false → new.writer ≡ old.writer
 
 -- a driver line was run, for which the supply was filled
-pub record RanLine (means : Meaning) (format : Format) (play : Bool) (line : Line) (old new : Player) (before after : Rig)
+pub record RanLine (means : Meaning) (format : Format) (play : Bool) (line : Line) (old new : Player)
+    (before after : Rig)
     : Type 0 where
   pub taken : IsTaken old.supply new.supply
   pub accounts : Accounts (measures_of old.writer) old.supply new.supply old.writer.course new.writer.course

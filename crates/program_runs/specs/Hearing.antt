@@ -34,9 +34,9 @@ heard_by carried codec = map (heard_of carried codec.0) codec.1.pins
 abbrev pub lists_heard : List CarriedFrame → List CodecFile → List Plan → List PinHeard
 lists_heard carried files plans = flat_map (heard_by carried) (zip files plans)
 
--- the list of a pin with a route: its pair of the line, by how the last run ended, and nothing else but holes. Of a late
--- run it is the line up to the last recorded reach, which is lower where that run took silence back. Once the line has
--- drained it has all blocks that end at or below where the link stood at the last run
+-- the list of a pin with a route: its pair of the line, by how the last run ended, and nothing else but holes. Of a
+-- late run it is the line up to the last recorded reach, which is lower where that run took silence back. Once the line
+-- has drained it has all blocks that end at or below where the link stood at the last run
 pub record HearsItsPair (format : Format) (pcm : List ℕ) (tally : Tally) (pair : ℕ) (list : List Heard) : Type 0 where
   pub plays : HeardAs tally.course.ran (layout format) pair (line_of tally pcm) tally.course.sure list
   pub alone : All WasSent list

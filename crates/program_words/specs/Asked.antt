@@ -1,5 +1,6 @@
 -- What the words ask of the program: this project's own.
-use Rattle.std.specs.Prelude.{⊤, ℕ, ◌≤◌, List, [], ◌∷◌, Option, Some, None, find, option_map, option_and_then, slice_index, slice_get, unwrap_or}
+use Rattle.std.specs.Prelude.{⊤, ℕ, ◌≤◌, List, [], ◌∷◌, Option, Some, None, find, option_map, option_and_then}
+use Rattle.std.specs.Prelude.{slice_index, slice_get, unwrap_or}
 use Rattle.std.specs.Str.{bytes_eq}
 use Rattle.stream_format.specs.declared.format.Rate.{Rate}
 use Rattle.stream_format.specs.declared.format.Rate.TheVariants.{R8, R16, R44, R48, R96, R192}
@@ -19,7 +20,8 @@ pub data Asked : Type 0 where
   route : List ℕ → ℕ → ℕ → ℕ → Asked
   -- `walk`: the names of the codec file and of the schedule
   walk : List ℕ → List ℕ → Asked
-  -- `play`: the names of the codec file, of the WAV file and of the schedule, the periods of the ring, and the units of a period
+  -- `play`: the names of the codec file, of the WAV file and of the schedule, the periods of the ring, and the units of
+  -- a period
   play : List ℕ → List ℕ → List ℕ → ℕ → ℕ → Asked
   -- `make`: the number of which the input is made
   make : ℕ → Asked
@@ -69,7 +71,8 @@ abbrev pub asked_of : CommandName → CommandLine → Option Asked
 asked_of Route line = Some (route (operand_at line 0) (slice_index line.numbers 0) 16 (slice_index line.numbers 1))
 asked_of Walk line = Some (walk (operand_at line 0) (operand_at line 1))
 asked_of Play line =
-    Some (play (operand_at line 0) (operand_at line 1) (operand_at line 2) (slice_index line.numbers 0) (slice_index line.numbers 1))
+    Some (play (operand_at line 0) (operand_at line 1) (operand_at line 2) (slice_index line.numbers 0)
+    (slice_index line.numbers 1))
 asked_of Make line = option_map make (number_in made_numbers (operand_at line 0))
 
 abbrev pub grammar_named : List ℕ → Option CommandGrammar
@@ -78,7 +81,8 @@ grammar_named name = find (λ grammar. bytes_eq grammar.name name) commands
 abbrev pub asked_with : List (List ℕ) → CommandGrammar → Option Asked
 asked_with rest grammar = option_and_then (asked_of grammar.command) (command_line_of grammar rest)
 
--- what the words after the program's name ask: the first is the name of a command, and those after it are a line of that command
+-- what the words after the program's name ask: the first is the name of a command, and those after it are a line of
+-- that command
 abbrev pub request_of : List (List ℕ) → Option Asked
 request_of [] = None
 request_of (name ∷ rest) = option_and_then (asked_with rest) (grammar_named name)

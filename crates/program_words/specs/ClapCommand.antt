@@ -1,5 +1,5 @@
--- What `clap` knows of a command of the table: its options by name and its operands, each any number of times. The rules on how often
--- and how many are this project's own, and `clap` sees none of them.
+-- What `clap` knows of a command of the table: its options by name and its operands, each any number of times. The
+-- rules on how often and how many are this project's own, and `clap` sees none of them.
 use Rattle.std.specs.Prelude.{◌≡◌, ℕ, List, [], ◌∷◌, ◌++◌, Option, Some, None, codes, map, option_map, unwrap_or, true}
 use Rattle.clap.specs.Words.{App, Rule, Shape, found_of, matched_of, new_rule, raw_values}
 use Rattle.clap.specs.Simple.{new_shape}
@@ -42,4 +42,5 @@ FindsParts names (Some parts) matches = HoldsParts names parts matches
 -- the numbers of the options, by what `clap` found
 abbrev pub numbers_found : List OptionGrammar → ArgMatches → Option (List ℕ)
 numbers_found [] matches = Some []
-numbers_found (option ∷ rest) matches = with_number (number_once option (values_found matches option.name)) (numbers_found rest matches)
+numbers_found (option ∷ rest) matches = with_number (number_once option (values_found matches option.name))
+    (numbers_found rest matches)

@@ -1,5 +1,6 @@
 -- What the words after a command's name say, by the grammar of the command: this project's own.
-use Rattle.std.specs.Prelude.{◌≡◌, ⊤, true, ℕ, List, [], ◌∷◌, Option, Some, None, ◌==◌, length, if◌then◌else◌, option_map, option_and_then}
+use Rattle.std.specs.Prelude.{◌≡◌, ⊤, true, ℕ, List, [], ◌∷◌, Option, Some, None, ◌==◌, length, if◌then◌else◌}
+use Rattle.std.specs.Prelude.{option_map, option_and_then}
 use Rattle.program_words.specs.Numbers.{is_taken, number_in}
 use Rattle.program_words.specs.Commands.{CommandGrammar, OptionGrammar, option_names}
 use Rattle.program_words.specs.Words.{Part, operands_of, parts_of, values_of}
@@ -27,7 +28,8 @@ numbers_of (option ∷ rest) parts = with_number (number_of option parts) (numbe
 
 abbrev pub line_with : CommandGrammar → List (List ℕ) → Option (List ℕ) → Option CommandLine
 line_with grammar operands numbers =
-    if length operands == grammar.operands then option_map (λ ns. record { operands = operands; numbers = ns }) numbers else None
+    if length operands == grammar.operands then option_map (λ ns. record { operands = operands; numbers = ns }) numbers
+    else None
 
 -- the parts as a line, where the operands are as many as the command has, and each option has its number
 abbrev pub line_of_parts : CommandGrammar → List Part → Option CommandLine

@@ -1,5 +1,6 @@
 -- What the words after a command's name are: this project's own.
-use Rattle.std.specs.Prelude.{ℕ, Bool, true, false, List, [], ◌∷◌, Option, Some, None, ◌==◌, map, option_map, if◌then◌else◌}
+use Rattle.std.specs.Prelude.{ℕ, Bool, true, false, List, [], ◌∷◌, Option, Some, None, ◌==◌, map, option_map}
+use Rattle.std.specs.Prelude.{if◌then◌else◌}
 use Rattle.std.specs.List.{list_any, before_first, after_first}
 use Rattle.std.specs.Str.{bytes_eq}
 
@@ -24,7 +25,8 @@ is_equals byte = byte == 61
 
 -- what stands after two hyphens, split at its first `=` (61)
 abbrev pub option_word : List ℕ → Word
-option_word text = option (before_first is_equals text) (if list_any is_equals text then Some (after_first is_equals text) else None)
+option_word text = option (before_first is_equals text)
+    (if list_any is_equals text then Some (after_first is_equals text) else None)
 
 abbrev pub word_after_two : List ℕ → Word
 word_after_two [] = ending
@@ -68,7 +70,8 @@ abbrev pub with_part : Part → Option (List Part) → Option (List Part)
 with_part part = option_map (λ parts. part ∷ parts)
 
 -- a word is met, where an option waits for its value or none does. `next` is what the words after it are.
-abbrev pub part_met : List (List ℕ) → Option (List ℕ) → Word → List ℕ → List (List ℕ) → (Option (List ℕ) → Option (List Part))
+abbrev pub part_met : List (List ℕ) → Option (List ℕ) → Word → List ℕ → List (List ℕ)
+    → (Option (List ℕ) → Option (List Part))
     → Option (List Part)
 part_met names (Some name) plain word rest next = with_part (given name word) (next None)
 part_met names (Some name) _ word rest next = None
@@ -97,4 +100,5 @@ operands_of (given name value ∷ rest) = operands_of rest
 abbrev pub values_of : List ℕ → List Part → List (List ℕ)
 values_of name [] = []
 values_of name (operand text ∷ rest) = values_of name rest
-values_of name (given other value ∷ rest) = if bytes_eq other name then value ∷ values_of name rest else values_of name rest
+values_of name (given other value ∷ rest) = if bytes_eq other name then value ∷ values_of name rest else values_of name
+    rest

@@ -3,7 +3,8 @@ use Rattle.std.specs.Prelude.{List, [], ◌∷◌}
 use Rattle.std.specs.Coded.{×_prop, Unit-prop}
 use Rattle.std.proofs.Props.{props}
 use Rattle.hda_world.specs.Worlds.{World}
-use Rattle.hda_world.specs.Events.{Event, Stepped, Begin, End, Read, Write, DmaRead, DmaWrite, happens, IsHonest, AreHonest}
+use Rattle.hda_world.specs.Events.{Event, Stepped, Begin, End, Read, Write, DmaRead, DmaWrite, happens, IsHonest}
+use Rattle.hda_world.specs.Events.{AreHonest}
 
 IsHonest-prop : (world : World) (event : Event) → IsProp (IsHonest world event)
 IsHonest-prop world (Read at width value) = Prim.hlevel props

@@ -10,7 +10,8 @@ use Rattle.hda_controller.specs.Hearing.{AreHeard, most_items}
 use Rattle.rig.specs.Replays.{AreHeardIn}
 
 -- the controller with its memory and the heard lists are where the journal leads from the start
-pub record IsWhere (start : World) (events : List Event) (memory : List ℕ) (controller : ControllerState) (lists : List Listing) : Type 0 where
+pub record IsWhere (start : World) (events : List Event) (memory : List ℕ) (controller : ControllerState)
+    (lists : List Listing) : Type 0 where
   pub stands : StandsFor memory controller (after events start)
   pub known : AreHeard controller.device.codecs lists
   pub heard : AreHeardIn (after events start) lists

@@ -12,8 +12,8 @@ use Rattle.hda_controller.specs.Openings.{opening_world}
 unfoldable pub zeros : ℕ → List ℕ
 zeros size = replicate size 0
 
--- the start of a machine: a region of so many bytes that are 0, the controller in reset, and the codecs with the settings and what is
--- plugged in that its file says
+-- the start of a machine: a region of so many bytes that are 0, the controller in reset, and the codecs with the
+-- settings and what is plugged in that its file says
 abbrev pub start_of : ℕ → Machine → World
 start_of size machine = opening_world (zeros size) machine
 

@@ -26,7 +26,8 @@ told_by rig = Some (telling_of rig)
 
 -- its region has as many bytes at every moment
 pub told_whole : (rig : Rig) → IfSome (told_by rig) (λ telling. length (world_of telling).memory ≡ REGION_BYTES)
-told_whole rig = ∥∥₁_elim rig.recording.stands (Coded-set coded_ℕ _ _) (λ here. ap length here.stands.memory_is ∙ rig.recording.whole)
+told_whole rig = ∥∥₁_elim rig.recording.stands (Coded-set coded_ℕ _ _)
+    (λ here. ap length here.stands.memory_is ∙ rig.recording.whole)
 
 -- what no access changes: the machine, whether a run is open, and with which entry and which groups the last one began
 abbrev pub setting_of : Rig → Setting
@@ -36,8 +37,8 @@ setting_of rig = record { machine = rig.recording.machine; in_run = rig.in_run; 
 abbrev pub lists_of : Rig → List Listing
 lists_of rig = rig.recording.heard
 
--- the journal replays to a world, and the rig is there: its controller with its memory stands for this world, and there is one list for
--- each candidate pin of the machine, which has what that pin heard in it
+-- the journal replays to a world, and the rig is there: its controller with its memory stands for this world, and there
+-- is one list for each candidate pin of the machine, which has what that pin heard in it
 pub record IsReplayed (rig : Rig) : Type 0 where
   pub world : World
   pub replays : Replays (start_of REGION_BYTES (setting_of rig).machine) (telling_of rig).journal world

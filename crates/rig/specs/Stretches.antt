@@ -1,4 +1,5 @@
--- Stretches of a journal: the runs of the driver, with the steps that the device makes between its accesses. This project's own.
+-- Stretches of a journal: the runs of the driver, with the steps that the device makes between its accesses. This
+-- project's own.
 use Rattle.std.specs.Prelude.{◌≡◌, ◌≤◌, ℕ, Bool, true, false, List, [], ◌∷◌, ◌++◌, length, map, drop, filter, flat_map}
 use Rattle.schedule_reader.specs.declared.schedule.Group.{Group}
 use Rattle.hda_world.specs.Events.{Event, Stepped, Begin, End, Read, Write, DmaRead, DmaWrite}
@@ -24,7 +25,8 @@ steps_in group = map Stepped group.steps
 abbrev pub all_steps_in : List Group → List Event
 all_steps_in groups = flat_map steps_in groups
 
--- the accesses, each directly behind the steps of its group: those of the k-th group before the k-th access, while there are groups
+-- the accesses, each directly behind the steps of its group: those of the k-th group before the k-th access, while
+-- there are groups
 abbrev pub woven : List Group → List Event → List Event
 woven groups [] = []
 woven [] (access ∷ accesses) = access ∷ woven [] accesses

@@ -1,5 +1,5 @@
--- What a converter must support for a stream format: supported PCM sizes and rates, High Definition Audio 1.0a, 7.3.4.7,
--- and supported stream formats, 7.3.4.8.
+-- What a converter must support for a stream format: supported PCM sizes and rates, High Definition Audio 1.0a,
+-- 7.3.4.7, and supported stream formats, 7.3.4.8.
 use Rattle.std.specs.Prelude.{ℕ, Bool, ◌&&◌}
 use Rattle.codec_graph.specs.declared.raw.RawNode.{RawNode}
 use Rattle.codec_graph.specs.declared.raw.RawCodec.{RawCodec}
@@ -27,4 +27,5 @@ size_bit B32 = 20
 -- the converter takes PCM of this rate and sample size
 abbrev pub supports : RawCodec → Rate → Bits → RawNode → Bool
 supports codec rate bits node =
-    has_bit (formats_word codec node) 0 && has_bit (pcm_word codec node) (rate_bit rate) && has_bit (pcm_word codec node) (size_bit bits)
+    has_bit (formats_word codec node) 0 && has_bit (pcm_word codec node) (rate_bit rate) && has_bit
+    (pcm_word codec node) (size_bit bits)

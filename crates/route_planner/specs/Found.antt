@@ -9,7 +9,8 @@ use Rattle.route_planner.specs.Plans.{IsOpenPath, IsOutcome}
 use Rattle.route_planner.specs.Order.{pair_of}
 
 -- an admissible path that the earlier entries leave open, and no larger than any other
-pub record IsLeastOpen (codec : RawCodec) (format : Format) (earlier : List PinPlan) (pair pin : ℕ) (route : Route) : Type 0 where
+pub record IsLeastOpen (codec : RawCodec) (format : Format) (earlier : List PinPlan) (pair pin : ℕ) (route : Route)
+    : Type 0 where
   pub is_open : IsOpenPath codec format earlier pair pin route
   pub least : (other : Route) → IsOpenPath codec format earlier pair pin other → IsNoLarger route other
 
@@ -18,7 +19,8 @@ abbrev pub HasNoOpenPath : RawCodec → Format → List PinPlan → ℕ → ℕ 
 HasNoOpenPath codec format earlier pair pin = (other : Route) → IsOpenPath codec format earlier pair pin other → ⊥
 
 -- the entry of a pin after some earlier entries
-pub record IsEntry (codec : RawCodec) (format : Format) (earlier : List PinPlan) (pin : ℕ) (entry : PinPlan) : Type 0 where
+pub record IsEntry (codec : RawCodec) (format : Format) (earlier : List PinPlan) (pin : ℕ) (entry : PinPlan) : Type 0
+    where
   pub of_pin : entry.pin ≡ pin
   pub of_pair : entry.pair ≡ pair_of codec format.channels pin
   pub of_outcome : IsOutcome codec format earlier entry.pair pin entry.outcome

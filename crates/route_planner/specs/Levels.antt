@@ -28,5 +28,7 @@ pub record IsNext (inner : ℕ → Bool) (next : ℕ → ℕ → Option ℕ) (le
 pub record IsNextLevel (inner : ℕ → Bool) (next : ℕ → ℕ → Option ℕ) (old new : List ℕ) (level : ℕ) : Type 0 where
   pub kept : (nid : ℕ) → level_of old nid ≢ 65535 → level_of new nid ≡ level_of old nid
   pub marked : (nid : ℕ) → level_of old nid ≡ 65535 → level_of new nid ≢ 65535
-      → (level_of new nid ≡ level + 1) × (inner nid ≡ true) × ((index to : ℕ) × (next nid index ≡ Some to) × (level_of old to ≡ level))
-  pub all : (nid index to : ℕ) → inner nid ≡ true → next nid index ≡ Some to → level_of old to ≡ level → level_of new nid ≢ 65535
+      → (level_of new nid ≡ level + 1) × (inner nid ≡ true)
+      × ((index to : ℕ) × (next nid index ≡ Some to) × (level_of old to ≡ level))
+  pub all : (nid index to : ℕ) → inner nid ≡ true → next nid index ≡ Some to → level_of old to ≡ level
+      → level_of new nid ≢ 65535

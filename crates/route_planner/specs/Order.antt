@@ -1,6 +1,7 @@
 -- The order of the candidate pins, and the channel pair of each. This project's own, over the configuration default's
 -- association and sequence (High Definition Audio 1.0a, 7.3.3.31).
-use Rattle.std.specs.Prelude.{◌≡◌, ◌↔◌, ℕ, Bool, true, ◌==◌, ◌&&◌, ◌||◌, ◌/◌, ◌%◌, nat_lt, List, Option, Some, None, AllPairs, Contains, count_by}
+use Rattle.std.specs.Prelude.{◌≡◌, ◌↔◌, ℕ, Bool, true, ◌==◌, ◌&&◌, ◌||◌, ◌/◌, ◌%◌, nat_lt, List, Option, Some, None}
+use Rattle.std.specs.Prelude.{AllPairs, Contains, count_by}
 use Rattle.std.specs.List.{range_with_len}
 use Rattle.codec_graph.specs.declared.raw.RawNode.{RawNode}
 use Rattle.codec_graph.specs.declared.raw.RawCodec.{RawCodec}
@@ -32,8 +33,10 @@ pub record IsOrder (codec : RawCodec) (pins : List ℕ) : Type 0 where
 -- a candidate of the same association that comes before the pin
 abbrev pub is_earlier_companion : RawCodec → ℕ → ℕ → Bool
 is_earlier_companion codec pin other =
-    is_candidate codec other && association_of (node_at codec other) == association_of (node_at codec pin) && comes_before codec other pin
+    is_candidate codec other && association_of (node_at codec other) == association_of (node_at codec pin) &&
+    comes_before codec other pin
 
 -- the channel pair of a pin: its rank among the candidates of its association, round the stream's pairs of channels
 abbrev pub pair_of : RawCodec → ℕ → ℕ → ℕ
-pair_of codec channels pin = count_by (is_earlier_companion codec pin) (range_with_len 0 node_identifiers) % (channels / 2)
+pair_of codec channels pin = count_by (is_earlier_companion codec pin)
+    (range_with_len 0 node_identifiers) % (channels / 2)

@@ -1,9 +1,11 @@
--- Paths from a pin to an output converter along connection lists (High Definition Audio 1.0a, 7.1.3), and which of them can
--- carry a stream. The four conditions of an admissible path are this project's own.
-use Rattle.std.specs.Prelude.{◌≡◌, ◌≢◌, ◌<◌, ◌⊎◌, ℕ, Bool, true, false, ◌&&◌, not, nat_le, List, [], ◌∷◌, ◌++◌, map, drop, length, Option, Some, None, MatchOption, slice_get, All, Contains, if◌then◌else◌}
+-- Paths from a pin to an output converter along connection lists (High Definition Audio 1.0a, 7.1.3), and which of them
+-- can carry a stream. The four conditions of an admissible path are this project's own.
+use Rattle.std.specs.Prelude.{◌≡◌, ◌≢◌, ◌<◌, ◌⊎◌, ℕ, Bool, true, false, ◌&&◌, not, nat_le, List, [], ◌∷◌, ◌++◌, map}
+use Rattle.std.specs.Prelude.{drop, length, Option, Some, None, MatchOption, slice_get, All, Contains, if◌then◌else◌}
 use Rattle.codec_graph.specs.declared.raw.RawNode.{RawNode}
 use Rattle.codec_graph.specs.declared.raw.RawCodec.{RawCodec}
-use Rattle.codec_graph.specs.Widget.{node_at, is_mixer, is_selector, is_inner, is_output_converter, is_stereo, is_digital, has_input_amplifier, input_amplifier_word, can_mute}
+use Rattle.codec_graph.specs.Widget.{node_at, is_mixer, is_selector, is_inner, is_output_converter, is_stereo}
+use Rattle.codec_graph.specs.Widget.{is_digital, has_input_amplifier, input_amplifier_word, can_mute}
 use Rattle.route_planner.specs.declared.routes.Hop.{Hop}
 use Rattle.route_planner.specs.declared.routes.Route.{Route}
 use Rattle.stream_format.specs.declared.format.Format.{Format}
@@ -47,7 +49,8 @@ is_analog_stereo node = is_stereo node && not (is_digital node)
 -- and a selector with an input amplifier has to reach that of the index
 abbrev pub can_be_left : RawCodec → ℕ → RawNode → Bool
 can_be_left codec index node =
-    (if is_mixer node && nat_le 2 (length node.list) then has_input_amplifier node && can_mute (input_amplifier_word codec node) else true)
+    (if is_mixer node && nat_le 2 (length node.list) then has_input_amplifier node && can_mute
+    (input_amplifier_word codec node) else true)
     && (if is_selector node && has_input_amplifier node then nat_le index 15 else true)
 
 -- an admissible path of a pin for a stream format
@@ -80,4 +83,5 @@ indexes route = map (λ (hop : Hop). hop.index) route.hops
 -- a route is no larger than another: by the number of hops, and then by the indexes compared in order
 abbrev pub IsNoLarger : Route → Route → Type 0
 IsNoLarger route other =
-    (length route.hops < length other.hops) ⊎ ((length route.hops ≡ length other.hops) × IsNoLater (indexes route) (indexes other))
+    (length route.hops < length other.hops)
+    ⊎ ((length route.hops ≡ length other.hops) × IsNoLater (indexes route) (indexes other))

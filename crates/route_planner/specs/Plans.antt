@@ -20,7 +20,8 @@ LeavesOpen codec route pair other_pair outcome.NoPath = Unit {0}
 -- an admissible path of the pin that all earlier entries leave open
 abbrev pub IsOpenPath : RawCodec → Format → List PinPlan → ℕ → ℕ → declared_route.Route → Type 0
 IsOpenPath codec format earlier pair pin route =
-    IsAdmissible codec format pin route × All (λ (entry : PinPlan). LeavesOpen codec route pair entry.pair entry.outcome) earlier
+    IsAdmissible codec format pin route
+    × All (λ (entry : PinPlan). LeavesOpen codec route pair entry.pair entry.outcome) earlier
 
 -- the right outcome of a pin, after some earlier entries
 abbrev pub IsOutcome : RawCodec → Format → List PinPlan → ℕ → ℕ → Outcome → Type 0
@@ -37,7 +38,8 @@ IsOutcome codec format earlier pair pin outcome.NoPath =
 abbrev pub HaveOutcomes : RawCodec → Format → List PinPlan → List PinPlan → Type 0
 HaveOutcomes codec format earlier [] = Unit {0}
 HaveOutcomes codec format earlier (entry ∷ entries) =
-    IsOutcome codec format earlier entry.pair entry.pin entry.outcome × HaveOutcomes codec format (earlier ++ entry ∷ []) entries
+    IsOutcome codec format earlier entry.pair entry.pin entry.outcome
+    × HaveOutcomes codec format (earlier ++ entry ∷ []) entries
 
 -- the entries are those of the candidate pins, in order, each with its channel pair
 pub record HasPins (codec : RawCodec) (format : Format) (plan : Plan) : Type 0 where

@@ -1,6 +1,7 @@
 -- How the planner searches: which connections it may take, how far each node is from an allowed converter, and the ways
 -- along allowed connections. This project's own.
-use Rattle.std.specs.Prelude.{◌≡◌, ◌<◌, ◌≤◌, ℕ, Bool, true, false, ◌&&◌, ◌||◌, ◌==◌, not, List, length, Option, None, is_some, slice_index_or, if◌then◌else◌, count_by}
+use Rattle.std.specs.Prelude.{◌≡◌, ◌<◌, ◌≤◌, ℕ, Bool, true, false, ◌&&◌, ◌||◌, ◌==◌, not, List, length, Option, None}
+use Rattle.std.specs.Prelude.{is_some, slice_index_or, if◌then◌else◌, count_by}
 use Rattle.std.specs.List.{list_all}
 use Rattle.codec_graph.specs.declared.raw.RawNode.{RawNode}
 use Rattle.codec_graph.specs.declared.raw.RawCodec.{RawCodec}

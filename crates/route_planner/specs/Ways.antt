@@ -1,5 +1,6 @@
 -- Ways along any connections to an end, and which of them is the least. This project's own.
-use Rattle.std.specs.Prelude.{◌≡◌, ◌<◌, ◌≤◌, ◌+◌, ◌⊎◌, ◌≢◌, ◌==◌, ℕ, Bool, true, List, [], ◌∷◌, map, length, Option, Some}
+use Rattle.std.specs.Prelude.{◌≡◌, ◌<◌, ◌≤◌, ◌+◌, ◌⊎◌, ◌≢◌, ◌==◌, ℕ, Bool, true, List, [], ◌∷◌, map, length, Option}
+use Rattle.std.specs.Prelude.{Some}
 use Rattle.route_planner.specs.declared.routes.Hop.{Hop}
 use Rattle.route_planner.specs.declared.routes.Route.{Route}
 use Rattle.route_planner.specs.Search.{level_of}
@@ -12,7 +13,8 @@ Leaves next from hop Rest = (hop.nid ≡ from) × ((to : ℕ) × (next from hop.
 -- the hops lead from the node, each along a connection of a mixer or selector, to an end
 abbrev pub IsWay : (ℕ → Bool) → (ℕ → ℕ → Option ℕ) → (ℕ → Bool) → ℕ → List Hop → ℕ → Type 0
 IsWay inner next end from [] to = (from ≡ to) × (end to ≡ true)
-IsWay inner next end from (hop ∷ hops) to = (inner from ≡ true) × Leaves next from hop (λ n. IsWay inner next end n hops to)
+IsWay inner next end from (hop ∷ hops) to = (inner from ≡ true)
+    × Leaves next from hop (λ n. IsWay inner next end n hops to)
 
 -- the same from any node, and by one hop at least
 abbrev pub IsWayOut : (ℕ → Bool) → (ℕ → ℕ → Option ℕ) → (ℕ → Bool) → ℕ → List Hop → ℕ → Type 0
@@ -26,20 +28,24 @@ LeadsToNoEnd inner next end from = (hops : List Hop) (to : ℕ) → IsWayOut inn
 -- hops are no larger than others: by their number, and then by the indexes compared in order
 abbrev pub AreNoLarger : List Hop → List Hop → Type 0
 AreNoLarger hops others =
-    (length hops < length others) ⊎ ((length hops ≡ length others) × IsNoLater (map (λ (hop : Hop). hop.index) hops) (map (λ (hop : Hop). hop.index) others))
+    (length hops < length others) ⊎ ((length hops ≡ length others)
+    × IsNoLater (map (λ (hop : Hop). hop.index) hops) (map (λ (hop : Hop). hop.index) others))
 
 -- the levels are right up to one: each node at most as far from an end as it says has its distance
-pub record AreLevels (inner : ℕ → Bool) (next : ℕ → ℕ → Option ℕ) (end : ℕ → Bool) (levels : List ℕ) (level : ℕ) : Type 0 where
+pub record AreLevels (inner : ℕ → Bool) (next : ℕ → ℕ → Option ℕ) (end : ℕ → Bool) (levels : List ℕ) (level : ℕ) : Type
+    0 where
   pub whole : length levels ≡ 256
   pub at_ends : (nid : ℕ) → end nid ≡ true → level_of levels nid ≡ 0
   pub are_ends : (nid : ℕ) → level_of levels nid ≡ 0 → end nid ≡ true
   pub below : (nid : ℕ) → level_of levels nid ≢ 65535 → level_of levels nid ≤ level
   pub behind : (nid before : ℕ) → before < 65534 → level_of levels nid ≡ before + 1
       → (inner nid ≡ true) × ((index : ℕ) × (to : ℕ) × (next nid index ≡ Some to) × (level_of levels to ≡ before))
-  pub near : (nid index to : ℕ) → inner nid ≡ true → next nid index ≡ Some to → level_of levels to < level → level_of levels nid ≤ level_of levels to + 1
+  pub near : (nid index to : ℕ) → inner nid ≡ true → next nid index ≡ Some to → level_of levels to < level
+      → level_of levels nid ≤ level_of levels to + 1
 
 -- the levels are right up to one, and that is the least to which a connection of the node leads
-pub record IsNearest (inner : ℕ → Bool) (next : ℕ → ℕ → Option ℕ) (end : ℕ → Bool) (levels : List ℕ) (from level : ℕ) : Type 0 where
+pub record IsNearest (inner : ℕ → Bool) (next : ℕ → ℕ → Option ℕ) (end : ℕ → Bool) (levels : List ℕ) (from level : ℕ)
+    : Type 0 where
   pub right : AreLevels inner next end levels level
   pub below : level < 65534
   pub leads : (index : ℕ) × (to : ℕ) × (next from index ≡ Some to) × (level_of levels to ≡ level)
@@ -50,6 +56,7 @@ abbrev pub has_level_0 : List ℕ → ℕ → Bool
 has_level_0 levels nid = level_of levels nid == 0
 
 -- the least way from a node to an end
-pub record IsLeastWay (inner : ℕ → Bool) (next : ℕ → ℕ → Option ℕ) (end : ℕ → Bool) (from : ℕ) (route : Route) : Type 0 where
+pub record IsLeastWay (inner : ℕ → Bool) (next : ℕ → ℕ → Option ℕ) (end : ℕ → Bool) (from : ℕ) (route : Route) : Type 0
+    where
   pub way : IsWayOut inner next end from route.hops route.converter
   pub least : (others : List Hop) (to : ℕ) → IsWayOut inner next end from others to → AreNoLarger route.hops others

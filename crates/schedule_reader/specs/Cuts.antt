@@ -1,5 +1,5 @@
--- How a text is cut. Lines are those of std's `lines`: they end at a line feed or at the text's end, and one carriage return directly
--- before a line feed is dropped. This project's own format.
+-- How a text is cut. Lines are those of std's `lines`: they end at a line feed or at the text's end, and one carriage
+-- return directly before a line feed is dropped. This project's own format.
 use Rattle.std.specs.Prelude.{ℕ, Bool, not, List, [], ◌∷◌, ◌==◌, length, filter, Option, Some, None}
 use Rattle.std.specs.List.{slice_split}
 

@@ -1,7 +1,8 @@
 -- The words of a schedule's fault. This project's own.
 use Rattle.std.specs.Prelude.{ℕ, List, ◌++◌, codes, decimal}
 use Rattle.schedule_reader.specs.declared.fault.SchedFault.{SchedFault}
-use Rattle.schedule_reader.specs.declared.fault.SchedFault.TheVariants.{Line, Nested, Unclosed, TooManySteps, TooManyFrames, OutOfMemory}
+use Rattle.schedule_reader.specs.declared.fault.SchedFault.TheVariants.{Line, Nested, Unclosed, TooManySteps}
+use Rattle.schedule_reader.specs.declared.fault.SchedFault.TheVariants.{TooManyFrames, OutOfMemory}
 
 abbrev pub fault_text : SchedFault → List ℕ
 fault_text (Line number) = codes "Line " ++ decimal number

@@ -1,10 +1,11 @@
--- What stands on a line before its first bar: `corb`, `rirb`, `answer C`, `lose C`, `fetch S N`, `link N`, `plug C NID`,
--- `unplug C NID`, `run N`, `irq N`, `repeat K` or `end`. This project's own format.
+-- What stands on a line before its first bar: `corb`, `rirb`, `answer C`, `lose C`, `fetch S N`, `link N`, `plug C
+-- NID`, `unplug C NID`, `run N`, `irq N`, `repeat K` or `end`. This project's own format.
 use Rattle.std.specs.Prelude.{ℕ, List, [], ◌∷◌, true, false, Option, Some, None}
 use Rattle.world_steps.specs.declared.Step.{Step}
 use Rattle.world_steps.specs.declared.Step.TheVariants as step
 use Rattle.schedule_reader.specs.declared.keywords.Keyword.{Keyword}
-use Rattle.schedule_reader.specs.declared.keywords.Keyword.TheVariants.{Corb, Answer, Lose, Rirb, Fetch, Link, Plug, Unplug, Run, Irq, Repeat, End}
+use Rattle.schedule_reader.specs.declared.keywords.Keyword.TheVariants.{Corb, Answer, Lose, Rirb, Fetch, Link, Plug}
+use Rattle.schedule_reader.specs.declared.keywords.Keyword.TheVariants.{Unplug, Run, Irq, Repeat, End}
 use Rattle.schedule_reader.specs.declared.heads.Head.{Head}
 use Rattle.schedule_reader.specs.declared.heads.Head.TheVariants.{Device, Drive, Repeat as Again, End as Over}
 use Rattle.schedule_reader.specs.Numbers.{◌>>=◌}

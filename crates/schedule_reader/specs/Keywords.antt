@@ -1,7 +1,8 @@
 -- The words with which lines and steps begin. This project's own format.
 use Rattle.std.specs.Prelude.{ℕ, List, Option, Some, None, if◌then◌else◌, bytes_eq, codes}
 use Rattle.schedule_reader.specs.declared.keywords.Keyword.{Keyword}
-use Rattle.schedule_reader.specs.declared.keywords.Keyword.TheVariants.{Corb, Answer, Lose, Rirb, Fetch, Link, Plug, Unplug, Run, Irq, Repeat, End}
+use Rattle.schedule_reader.specs.declared.keywords.Keyword.TheVariants.{Corb, Answer, Lose, Rirb, Fetch, Link, Plug}
+use Rattle.schedule_reader.specs.declared.keywords.Keyword.TheVariants.{Unplug, Run, Irq, Repeat, End}
 
 -- which of them a word is
 unfoldable pub keyword_of : List ℕ → Option Keyword

@@ -1,5 +1,6 @@
 -- Numbers and node identifiers of a schedule. This project's own format.
-use Rattle.std.specs.Prelude.{ℕ, ◌+◌, ◌-◌, ◌*◌, Bool, ◌&&◌, List, [], ◌∷◌, length, nat_le, Option, Some, None, if◌then◌else◌, option_and_then}
+use Rattle.std.specs.Prelude.{ℕ, ◌+◌, ◌-◌, ◌*◌, Bool, ◌&&◌, List, [], ◌∷◌, length, nat_le, Option, Some, None}
+use Rattle.std.specs.Prelude.{if◌then◌else◌, option_and_then}
 use Rattle.std.specs.List.{list_all}
 use Rattle.std.specs.Char.{is_ascii_digit}
 use Rattle.std.specs.Int.{is_in_range}
@@ -30,7 +31,8 @@ number least most word = do
 
 -- what a hexadecimal digit of either case stands for: 0 to 9 from 30h on, A to F from 41h on, a to f from 61h on
 abbrev pub hex_digit : ℕ → Option ℕ
-hex_digit b = if is_in_range 48 57 b then Some (b - 48) else (if is_in_range 65 70 b then Some (b - 55) else (if is_in_range 97 102 b then Some (b - 87) else None))
+hex_digit b = if is_in_range 48 57 b then Some (b - 48) else
+    (if is_in_range 65 70 b then Some (b - 55) else (if is_in_range 97 102 b then Some (b - 87) else None))
 
 -- the node identifier from 01h to 7Fh that a word of two hexadecimal digits writes
 unfoldable pub nid_of : List ℕ → Option ℕ

@@ -1,7 +1,8 @@
 -- The table of what may follow each keyword. This project's own format.
 use Rattle.std.specs.Prelude.{ℕ, List, [], ◌∷◌, Option, Some, None}
 use Rattle.schedule_reader.specs.declared.keywords.Keyword.{Keyword}
-use Rattle.schedule_reader.specs.declared.keywords.Keyword.TheVariants.{Corb, Answer, Lose, Rirb, Fetch, Link, Plug, Unplug, Run, Irq, Repeat, End}
+use Rattle.schedule_reader.specs.declared.keywords.Keyword.TheVariants.{Corb, Answer, Lose, Rirb, Fetch, Link, Plug}
+use Rattle.schedule_reader.specs.declared.keywords.Keyword.TheVariants.{Unplug, Run, Irq, Repeat, End}
 use Rattle.schedule_reader.specs.Numbers.{◌>>=◌, number, nid_of}
 
 -- what a word behind a keyword has to be

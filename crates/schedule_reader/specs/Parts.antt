@@ -13,11 +13,13 @@ items_ahead (Some (Repeat _) ∷ rows) = []
 items_ahead (Some End ∷ rows) = []
 items_ahead (_ ∷ rows) = items_ahead rows
 
--- A part begins at each `repeat`, and at the first item outside of one that stands behind the file's start or an `end`; it has the
--- items up to the next `repeat` or `end`. `begun` says whether a part has begun already to which the items belong that come first.
+-- A part begins at each `repeat`, and at the first item outside of one that stands behind the file's start or an `end`;
+-- it has the items up to the next `repeat` or `end`. `begun` says whether a part has begun already to which the items
+-- belong that come first.
 abbrev pub parts_of : Bool → List (Option Row) → List Part
 parts_of begun [] = []
-parts_of begun (Some (Item item) ∷ rows) = if begun then parts_of true rows else record { times = 1; items = item ∷ items_ahead rows } ∷ parts_of true rows
+parts_of begun (Some (Item item) ∷ rows) = if begun then parts_of true rows else record
+    { times = 1; items = item ∷ items_ahead rows } ∷ parts_of true rows
 parts_of begun (Some (Repeat times) ∷ rows) = record { times = times; items = items_ahead rows } ∷ parts_of true rows
 parts_of begun (Some End ∷ rows) = parts_of false rows
 parts_of begun (_ ∷ rows) = parts_of begun rows

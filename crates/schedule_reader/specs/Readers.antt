@@ -1,9 +1,11 @@
--- What private functions promise one another of the words of a line: the same as the table of operands, keyword by keyword.
+-- What private functions promise one another of the words of a line: the same as the table of operands, keyword by
+-- keyword.
 use Rattle.std.specs.Prelude.{ℕ, List, [], ◌∷◌, ◌==◌, length, true, false, Option, Some, None, if◌then◌else◌}
 use Rattle.world_steps.specs.declared.Step.{Step}
 use Rattle.world_steps.specs.declared.Step.TheVariants as step
 use Rattle.schedule_reader.specs.declared.keywords.Keyword.{Keyword}
-use Rattle.schedule_reader.specs.declared.keywords.Keyword.TheVariants.{Corb, Answer, Lose, Rirb, Fetch, Link, Plug, Unplug, Run, Irq, Repeat, End}
+use Rattle.schedule_reader.specs.declared.keywords.Keyword.TheVariants.{Corb, Answer, Lose, Rirb, Fetch, Link, Plug}
+use Rattle.schedule_reader.specs.declared.keywords.Keyword.TheVariants.{Unplug, Run, Irq, Repeat, End}
 use Rattle.schedule_reader.specs.declared.heads.Head.{Head}
 use Rattle.schedule_reader.specs.declared.heads.Head.TheVariants as head
 use Rattle.schedule_reader.specs.Cuts.{one, two}

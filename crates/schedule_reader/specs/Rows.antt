@@ -2,7 +2,8 @@
 --   line  = nothing | # and anything | step | repeat K | end | (run N | irq N) group*
 --   group = '|' ('-' | step (',' step)*)
 -- Spaces stand between words, and are free at both ends and round '|' and ','.
-use Rattle.std.specs.Prelude.{ℕ, List, [], ◌∷◌, ◌==◌, Bool, true, false, Option, Some, None, if◌then◌else◌, bytes_eq, codes}
+use Rattle.std.specs.Prelude.{ℕ, List, [], ◌∷◌, ◌==◌, Bool, true, false, Option, Some, None, if◌then◌else◌, bytes_eq}
+use Rattle.std.specs.Prelude.{codes}
 use Rattle.world_steps.specs.declared.Step.{Step}
 use Rattle.schedule_reader.specs.declared.schedule.Item.TheVariants as item
 use Rattle.schedule_reader.specs.declared.schedule.Group.{Group}

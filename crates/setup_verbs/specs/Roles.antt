@@ -41,7 +41,8 @@ abbrev pub role_among : Uses → ℕ → Role
 role_among [] nid = Unused
 role_among (used ∷ uses) nid = first_role (if used.0 == nid then used.1 else Unused) (role_among uses nid)
 
--- what the routes of a plan make of a node: in the plan of a well-formed graph all routes that have it make the same of it
+-- what the routes of a plan make of a node: in the plan of a well-formed graph all routes that have it make the same of
+-- it
 unfoldable pub role_of : Plan → ℕ → Role
 role_of plan nid = role_among (uses_of plan.pins) nid
 

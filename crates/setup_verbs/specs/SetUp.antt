@@ -1,4 +1,5 @@
--- What the set-up verbs are for: routes that are open under some settings, and codecs that are set up for a plan. This project's own.
+-- What the set-up verbs are for: routes that are open under some settings, and codecs that are set up for a plan. This
+-- project's own.
 use Rattle.std.specs.Prelude.{◌≡◌, ◌≢◌, ◌≤◌, ◌<◌, ℕ, true, List, length, fold, All, Some}
 use Rattle.codec_graph.specs.declared.raw.RawNode.{RawNode}
 use Rattle.codec_graph.specs.declared.raw.RawCodec.{RawCodec}
@@ -23,7 +24,8 @@ use Rattle.setup_verbs.specs.VerbList.{has_choice}
 
 -- a hop that leaves a selector or pin with a choice has its index selected
 abbrev pub IsSelected : RawCodec → Entries → Hop → Type 0
-IsSelected codec settings hop = passes has_choice (node_at codec hop.nid) ≡ true → setting_of settings hop.nid Select ≡ hop.index
+IsSelected codec settings hop = passes has_choice (node_at codec hop.nid) ≡ true
+    → setting_of settings hop.nid Select ≡ hop.index
 
 -- both sides of an input's amplifier are muted
 pub record AreSidesMuted (settings : Entries) (nid place : ℕ) : Type 0 where
@@ -37,7 +39,8 @@ AreOthersMuted codec settings hop =
     → (place : ℕ) → place < length node.list → place ≢ hop.index → AreSidesMuted settings hop.nid place
 
 -- a pin's route with a pair of channels is open while the stream with this tag and format plays
-pub record IsOpen (codec : RawCodec) (settings : Entries) (format : Format) (tag pin pair : ℕ) (route : declared_route.Route) : Type 0 where
+pub record IsOpen (codec : RawCodec) (settings : Entries) (format : Format) (tag pin pair : ℕ)
+    (route : declared_route.Route) : Type 0 where
   pub selected : All (IsSelected codec settings) route.hops
   pub muted : All (AreOthersMuted codec settings) route.hops
   pub heard : signal_of codec settings (stream_of tag format) pin ≡ Pair pair
@@ -59,8 +62,10 @@ HasNoRoute plan pin = All (λ (entry : PinPlan). entry.pin ≡ pin → IsNoRoute
 
 -- every route of the plan is open, and every other pin widget is silent
 pub record IsSetUp (codec : RawCodec) (settings : Entries) (plan : Plan) (format : Format) (tag : ℕ) : Type 0 where
-  pub routes : All (λ (entry : PinPlan). IsOutcomeOpen codec settings format tag entry.pin entry.pair entry.outcome) plan.pins
-  pub others : (pin : ℕ) → passes is_pin (node_at codec pin) ≡ true → HasNoRoute plan pin → signal_of codec settings (stream_of tag format) pin ≡ Silence
+  pub routes : All (λ (entry : PinPlan). IsOutcomeOpen codec settings format tag entry.pin entry.pair entry.outcome)
+      plan.pins
+  pub others : (pin : ℕ) → passes is_pin (node_at codec pin) ≡ true → HasNoRoute plan pin
+      → signal_of codec settings (stream_of tag format) pin ≡ Silence
 
 -- the settings after some commands
 abbrev pub settings_after : RawCodec → Entries → List Command → Entries
@@ -69,7 +74,8 @@ settings_after codec settings commands = fold (after codec) settings commands
 -- some commands lead from any settings of the codec to one that is set up
 abbrev pub LeadToSetUp : RawCodec → Plan → Format → ℕ → List Command → Type 0
 LeadToSetUp codec plan format tag commands =
-    (settings : Entries) → IsSettingsOf codec settings → IsSetUp codec (settings_after codec settings commands) plan format tag
+    (settings : Entries) → IsSettingsOf codec settings → IsSetUp codec (settings_after codec settings commands) plan
+    format tag
 
 -- the command goes to the codec, and where that is one of 0 to 14 it can be encoded
 pub record IsCommandOf (codec : RawCodec) (command : Command) : Type 0 where

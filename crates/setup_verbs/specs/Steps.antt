@@ -1,4 +1,5 @@
--- The four steps by name, tables of roles, and what the plan of a well-formed graph keeps within the widths of verbs. This project's own.
+-- The four steps by name, tables of roles, and what the plan of a well-formed graph keeps within the widths of verbs.
+-- This project's own.
 use Rattle.std.specs.Prelude.{◌≡◌, ◌≤◌, ◌<◌, ℕ, true, ◌&&◌, List, length, Some, slice_index_or}
 use Rattle.codec_graph.specs.declared.raw.RawNode.{RawNode}
 use Rattle.codec_graph.specs.declared.raw.RawCodec.{RawCodec}

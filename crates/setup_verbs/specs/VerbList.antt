@@ -1,15 +1,20 @@
--- The verbs that set a codec up for the plan of its graph, in four steps: power, pins without a route, converters on no route, and
--- the nodes of the routes. Within a step nodes ascend. Verbs: High Definition Audio 1.0a, 7.3.3. The list is this project's own.
-use Rattle.std.specs.Prelude.{ℕ, zero, suc, Bool, true, false, ◌==◌, ◌&&◌, ◌||◌, not, ◌+◌, ◌*◌, ◌^◌, List, [], ◌∷◌, ◌++◌, map, length, nat_le, if◌then◌else◌, Option, Some, None}
+-- The verbs that set a codec up for the plan of its graph, in four steps: power, pins without a route, converters on no
+-- route, and the nodes of the routes. Within a step nodes ascend. Verbs: High Definition Audio 1.0a, 7.3.3. The list is
+-- this project's own.
+use Rattle.std.specs.Prelude.{ℕ, zero, suc, Bool, true, false, ◌==◌, ◌&&◌, ◌||◌, not, ◌+◌, ◌*◌, ◌^◌, List, [], ◌∷◌}
+use Rattle.std.specs.Prelude.{◌++◌, map, length, nat_le, if◌then◌else◌, Option, Some, None}
 use Rattle.std.specs.List.{range_with_len}
 use Rattle.codec_graph.specs.declared.raw.RawNode.{RawNode}
 use Rattle.codec_graph.specs.declared.raw.RawCodec.{RawCodec}
-use Rattle.codec_graph.specs.Widget.{node_identifiers, node_at, is_output_converter, is_mixer, is_selector, is_pin, has_power_control, has_input_amplifier, has_output_amplifier, input_amplifier_word, output_amplifier_word, amplifier_offset}
+use Rattle.codec_graph.specs.Widget.{node_identifiers, node_at, is_output_converter, is_mixer, is_selector, is_pin}
+use Rattle.codec_graph.specs.Widget.{has_power_control, has_input_amplifier, has_output_amplifier, input_amplifier_word}
+use Rattle.codec_graph.specs.Widget.{output_amplifier_word, amplifier_offset}
 use Rattle.codec_graph.specs.Candidates.{device}
 use Rattle.codec_graph.specs.Settings.{sends_unsolicited, detects_presence, has_eapd}
 use Rattle.verb_codes.specs.declared.verbs.Command.{Command}
 use Rattle.verb_codes.specs.declared.verbs.Verb.{Verb}
-use Rattle.verb_codes.specs.declared.verbs.Verb.TheVariants.{SetSelect, SetPower, SetStream, SetPin, SetUnsol, SetEapd, SetFormat, SetAmp}
+use Rattle.verb_codes.specs.declared.verbs.Verb.TheVariants.{SetSelect, SetPower, SetStream, SetPin, SetUnsol, SetEapd}
+use Rattle.verb_codes.specs.declared.verbs.Verb.TheVariants.{SetFormat, SetAmp}
 use Rattle.verb_codes.specs.declared.amplifiers.AmpSetting.{AmpSetting}
 use Rattle.verb_codes.specs.Amplifiers.{setting_payload}
 use Rattle.verb_codes.specs.Words.{has_bit}
@@ -45,14 +50,17 @@ source_verbs format tag pair = SetFormat (format_word format) ∷ SetStream (tag
 
 -- both sides of an amplifier (7.3.3.7): of the input at a place, and of the output
 abbrev pub input_setting : ℕ → Bool → ℕ → AmpSetting
-input_setting place mute gain = record { output = false; input = true; left = true; right = true; place = place; mute = mute; gain = gain }
+input_setting place mute gain = record { output = false; input = true; left = true; right = true; place = place; mute
+    = mute; gain = gain }
 
 abbrev pub output_setting : ℕ → AmpSetting
-output_setting gain = record { output = true; input = false; left = true; right = true; place = 0; mute = false; gain = gain }
+output_setting gain = record { output = true; input = false; left = true; right = true; place = 0; mute = false; gain
+    = gain }
 
 -- the input passes at 0 dB, or is muted
 abbrev pub pass_input : RawCodec → RawNode → ℕ → Verb
-pass_input codec node place = SetAmp (setting_payload (input_setting place false (amplifier_offset (input_amplifier_word codec node))))
+pass_input codec node place = SetAmp
+    (setting_payload (input_setting place false (amplifier_offset (input_amplifier_word codec node))))
 
 abbrev pub mute_input : ℕ → Verb
 mute_input place = SetAmp (setting_payload (input_setting place true 0))
@@ -63,7 +71,8 @@ mixer_input codec node index place = if place == index then pass_input codec nod
 
 abbrev pub mixer_verbs : RawCodec → RawNode → ℕ → List Verb
 mixer_verbs codec node index =
-    if is_mixer node && has_input_amplifier node then map (mixer_input codec node index) (range_with_len 0 (length node.list)) else []
+    if is_mixer node && has_input_amplifier node then map (mixer_input codec node index)
+    (range_with_len 0 (length node.list)) else []
 
 -- a selector or pin that has a choice selects the route's connection (7.3.3.2)
 abbrev pub has_choice : RawNode → Bool
@@ -77,7 +86,8 @@ selector_verbs codec node index = only_if (is_selector node && has_input_amplifi
 
 abbrev pub output_verbs : RawCodec → RawNode → List Verb
 output_verbs codec node =
-    only_if (has_output_amplifier node) (SetAmp (setting_payload (output_setting (amplifier_offset (output_amplifier_word codec node)))))
+    only_if (has_output_amplifier node)
+    (SetAmp (setting_payload (output_setting (amplifier_offset (output_amplifier_word codec node)))))
 
 -- a pin of device 2, a headphone, that has the drive for it drives it so (7.3.3.13, 7.3.3.31, 7.3.4.9)
 abbrev pub drives_headphone : RawNode → Bool
@@ -86,8 +96,8 @@ drives_headphone node = device node == 2 && has_bit node.pin_caps 3
 abbrev pub pin_control : RawNode → ℕ
 pin_control node = if drives_headphone node then 0xC0 else 0x40
 
--- a pin's external amplifier is on (7.3.3.16); where the pin can tell of a change it does, by its own tag (7.3.3.14): its place in the
--- order of pins, from 1; its output is enabled
+-- a pin's external amplifier is on (7.3.3.16); where the pin can tell of a change it does, by its own tag (7.3.3.14):
+-- its place in the order of pins, from 1; its output is enabled
 abbrev pub event_tag : Plan → ℕ → ℕ
 event_tag plan pin = place_among plan.pins pin + 1
 

@@ -1,5 +1,7 @@
--- The parts of pins: what each candidate pin heard, in stretches of one kind that are as long as can be. This project's own.
-use Rattle.std.specs.Prelude.{ℕ, ◌+◌, ◌-◌, ◌/◌, Bool, true, false, List, [], ◌∷◌, ◌++◌, length, map, codes, decimal, if◌then◌else◌}
+-- The parts of pins: what each candidate pin heard, in stretches of one kind that are as long as can be. This project's
+-- own.
+use Rattle.std.specs.Prelude.{ℕ, ◌+◌, ◌-◌, ◌/◌, Bool, true, false, List, [], ◌∷◌, ◌++◌, length, map, codes, decimal}
+use Rattle.std.specs.Prelude.{if◌then◌else◌}
 use Rattle.std.specs.List.{flat_map, range_with_len}
 use Rattle.std.specs.Fork.{slice_chunk}
 use Rattle.hex.specs.Hex.{encode_lower}
@@ -20,11 +22,13 @@ is_like Hole Hole = true
 is_like Altered Altered = true
 is_like _ _ = false
 
--- an item before stretches: it makes the first of them longer where it is of that one's kind, and else is a stretch of its own
+-- an item before stretches: it makes the first of them longer where it is of that one's kind, and else is a stretch of
+-- its own
 abbrev pub before : Heard → List (List Heard) → List (List Heard)
 before item [] = (item ∷ []) ∷ []
 before item ([] ∷ more) = (item ∷ []) ∷ more
-before item ((next ∷ stretch) ∷ more) = if is_like item next then (item ∷ next ∷ stretch) ∷ more else (item ∷ []) ∷ (next ∷ stretch) ∷ more
+before item ((next ∷ stretch) ∷ more) = if is_like item next then (item ∷ next ∷ stretch) ∷ more else (item ∷ []) ∷
+    (next ∷ stretch) ∷ more
 
 -- the stretches of a list
 unfoldable pub stretches : List Heard → List (List Heard)

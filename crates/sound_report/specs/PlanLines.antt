@@ -29,7 +29,8 @@ entry_head word address entry =
 -- what was found for a pin
 abbrev pub outcome_line : ℕ → PinPlan → Outcome → List ℕ
 outcome_line address entry (outcome.Route route) =
-    entry_head (codes "route") address entry ++ codes " via " ++ flat_map hop_text route.hops ++ nid_text route.converter ++ newline
+    entry_head (codes "route") address entry ++ codes " via " ++ flat_map hop_text route.hops ++ nid_text
+    route.converter ++ newline
 outcome_line address entry outcome.Blocked = entry_head (codes "blocked") address entry ++ newline
 outcome_line address entry outcome.NoPath = entry_head (codes "nopath") address entry ++ newline
 

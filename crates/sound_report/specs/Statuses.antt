@@ -1,7 +1,10 @@
 -- The numbers of the exit statuses. This project's own.
 use Rattle.std.specs.Prelude.{ℕ}
 use Rattle.sound_report.specs.declared.status.Status.{Status}
-use Rattle.sound_report.specs.declared.status.Status.TheVariants.{Done, WordsRefused, ShelfFailed, SinkFailed, CodecRefused, WavRefused, ScheduleRefused, NothingRouted, Unanswered, Late, ScheduleEnded, OutOfMemory, GeometryRefused, WavShrank}
+use Rattle.sound_report.specs.declared.status.Status.TheVariants.{Done, WordsRefused, ShelfFailed, SinkFailed}
+use Rattle.sound_report.specs.declared.status.Status.TheVariants.{CodecRefused, WavRefused, ScheduleRefused}
+use Rattle.sound_report.specs.declared.status.Status.TheVariants.{NothingRouted, Unanswered, Late, ScheduleEnded}
+use Rattle.sound_report.specs.declared.status.Status.TheVariants.{OutOfMemory, GeometryRefused, WavShrank}
 
 abbrev pub number_of : Status → ℕ
 number_of Done = 0

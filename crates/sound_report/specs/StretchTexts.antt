@@ -1,5 +1,5 @@
--- The text of what a pin heard, by its stretches and the bytes of its sound. What private functions promise one another;
--- this project's own.
+-- The text of what a pin heard, by its stretches and the bytes of its sound. What private functions promise one
+-- another; this project's own.
 use Rattle.std.specs.Prelude.{ℕ, ◌+◌, ◌-◌, ◌*◌, ◌/◌, List, [], ◌∷◌, ◌++◌, length, map, take, drop, codes}
 use Rattle.std.specs.List.{flat_map, range_with_len}
 use Rattle.std.specs.Fork.{slice_chunk}

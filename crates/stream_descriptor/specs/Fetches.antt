@@ -30,26 +30,37 @@ pub record Broke (done : Bool) (playing : Playing) (old : Fields) (after : Playi
   pub registers : new ≡ with_descriptor playing.index (broke_at done (stream_of old playing.index)) old
 
 -- or the FIFO holds the bytes that came
-pub record Came (done : Bool) (came : StreamState) (playing : Playing) (old : Fields) (after : Playing) (new : Fields) : Type 0 where
+pub record Came (done : Bool) (came : StreamState) (playing : Playing) (old : Fields) (after : Playing) (new : Fields)
+    : Type 0 where
   pub fetch : fetching.StandsFor after.fetch came
   pub frame : after.frame ≡ playing.frame
-  pub registers : new ≡ with_descriptor playing.index (came_to done (length after.fetch.bytes) (stream_of old playing.index)) old
+  pub registers : new ≡ with_descriptor playing.index
+      (came_to done (length after.fetch.bytes) (stream_of old playing.index)) old
 
 -- a stream that runs, whose registers can be used, fetched at most so many bytes: whatever state its FIFO stands for
-pub record WasFilled (most : ℕ) (memory : List ℕ) (playing : Playing) (old : Fields) (after : Playing) (new : Fields) : Type 0 where
+pub record WasFilled (most : ℕ) (memory : List ℕ) (playing : Playing) (old : Fields) (after : Playing) (new : Fields)
+    : Type 0 where
   pub came : (state : StreamState) → fetching.StandsFor playing.fetch state
-      → some_breaks most playing.fetch.capacity memory (list_address (stream_of old playing.index)) (stream_of old playing.index).last_index state ≡ false
-      → Came (some_completes most playing.fetch.capacity memory (list_address (stream_of old playing.index)) (stream_of old playing.index).last_index state)
-      (bytes_came most playing.fetch.capacity memory (list_address (stream_of old playing.index)) (stream_of old playing.index).last_index state) playing old after new
+      → some_breaks most playing.fetch.capacity memory (list_address (stream_of old playing.index))
+      (stream_of old playing.index).last_index state ≡ false
+      → Came (some_completes most playing.fetch.capacity memory (list_address (stream_of old playing.index))
+      (stream_of old playing.index).last_index state)
+      (bytes_came most playing.fetch.capacity memory (list_address (stream_of old playing.index))
+      (stream_of old playing.index).last_index state) playing old after new
   pub broke : (state : StreamState) → fetching.StandsFor playing.fetch state
-      → some_breaks most playing.fetch.capacity memory (list_address (stream_of old playing.index)) (stream_of old playing.index).last_index state ≡ true
-      → Broke (some_completes most playing.fetch.capacity memory (list_address (stream_of old playing.index)) (stream_of old playing.index).last_index state)
+      → some_breaks most playing.fetch.capacity memory (list_address (stream_of old playing.index))
+      (stream_of old playing.index).last_index state ≡ true
+      → Broke (some_completes most playing.fetch.capacity memory (list_address (stream_of old playing.index))
+      (stream_of old playing.index).last_index state)
       playing old after new
 
--- a fetch of at most so many bytes: nothing where none is asked for or the stream does not run, and where its registers can't be used it stops
-pub record WasFetched (most : ℕ) (memory : List ℕ) (playing : Playing) (old : Fields) (after : Playing) (new : Fields) : Type 0 where
+-- a fetch of at most so many bytes: nothing where none is asked for or the stream does not run, and where its registers
+-- can't be used it stops
+pub record WasFetched (most : ℕ) (memory : List ℕ) (playing : Playing) (old : Fields) (after : Playing) (new : Fields)
+    : Type 0 where
   pub none : most ≡ 0 → (after ≡ playing) × (new ≡ old)
-  pub idle : (is_out_of_reset old.global && is_running (stream_of old playing.index)) ≡ false → (after ≡ playing) × (new ≡ old)
+  pub idle : (is_out_of_reset old.global && is_running (stream_of old playing.index)) ≡ false → (after ≡ playing)
+      × (new ≡ old)
   pub unusable : nat_lt 0 most ≡ true → (is_out_of_reset old.global && is_running (stream_of old playing.index)) ≡ true
       → is_usable (stream_of old playing.index) ≡ false → Broke false playing old after new
   pub filled : nat_lt 0 most ≡ true → (is_out_of_reset old.global && is_running (stream_of old playing.index)) ≡ true

@@ -13,14 +13,16 @@ use Rattle.stream_descriptor.specs.declared.frame.Frame.TheVariants.{Idle, Gap, 
 -- so many blocks are due of the stream in its next frame
 abbrev pub AreDue : Stream → ℕ → Type 0
 AreDue stream blocks =
-    (layout : Layout) × (layout_of stream.descriptor.format ≡ Some layout) × (blocks ≡ blocks_of layout.rate stream.state.frame)
+    (layout : Layout) × (layout_of stream.descriptor.format ≡ Some layout)
+    × (blocks ≡ blocks_of layout.rate stream.state.frame)
 
 -- the answer to what a frame found of a stream, and what stands where the bytes are to go
 abbrev pub IsAnswer : Stream → output.Frame → List ℕ → List ℕ → Frame → Type 0
 IsAnswer stream found old new Idle = ((found ≡ output.Stopped) ⊎ (found ≡ output.Broken)) × (new ≡ old)
 IsAnswer stream found old new Gap = (found ≡ output.Gap) × (new ≡ old)
 IsAnswer stream found old new (Blocks blocks) =
-    (found ≡ output.Blocks) × AreDue stream blocks × (new ≡ take (due stream) (held_bytes stream.state) ++ drop (due stream) old)
+    (found ≡ output.Blocks) × AreDue stream blocks
+    × (new ≡ take (due stream) (held_bytes stream.state) ++ drop (due stream) old)
 IsAnswer stream found old new Hole = (found ≡ output.Hole) × (new ≡ old)
 
 -- what a frame finds where so many bytes are due and so many are held
@@ -33,7 +35,8 @@ found_by fields playing =
     if is_out_of_reset fields.global && is_running (stream_of fields playing.index)
     then (
     if is_usable (stream_of fields playing.index)
-    then found_due (due_by (layout_of (stream_of fields playing.index).format) playing.frame) (length playing.fetch.bytes)
+    then found_due (due_by (layout_of (stream_of fields playing.index).format) playing.frame)
+    (length playing.fetch.bytes)
     else output.Broken
     )
     else output.Stopped

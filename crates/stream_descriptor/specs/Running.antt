@@ -1,4 +1,5 @@
--- What the code of an output stream is seen as, and the stream that it stands for. High Definition Audio 1.0a, 3.3.35 to 3.3.42.
+-- What the code of an output stream is seen as, and the stream that it stands for. High Definition Audio 1.0a, 3.3.35
+-- to 3.3.42.
 use Rattle.std.specs.Prelude.{◌≡◌, ℕ, ◌%◌, true, false, List, [], Some, if◌then◌else◌}
 use Rattle.hda_registers.specs.Fields.{Descriptor, Fields, is_out_of_reset, is_running, stream_of}
 use Rattle.hda_registers.specs.Moves.{at_stream}
@@ -49,7 +50,8 @@ pub record LeadsTo (playing : Playing) (old new : Fields) (stream : Stream) : Ty
 -- a fetch of at most so many bytes, which does nothing while CRST is 0
 abbrev pub fetched_at : ℕ → ℕ → List ℕ → Fields → StreamState → Stream
 fetched_at index most memory fields state =
-    if is_out_of_reset fields.global then fetch most fields.shape.fifo memory (stream_at index fields state) else stream_at index fields state
+    if is_out_of_reset fields.global then fetch most fields.shape.fifo memory (stream_at index fields state) else
+    stream_at index fields state
 
 -- what a link frame finds, nothing while CRST is 0
 abbrev pub found_at : ℕ → Fields → StreamState → Frame
@@ -67,4 +69,5 @@ pub record StoodFor (playing : Playing) (fields : Fields) (old : Descriptor) (st
   pub capacity : playing.fetch.capacity ≡ fields.shape.fifo
   pub stopped : is_running old ≡ false → playing.fetch.bytes ≡ []
   pub running : is_running old ≡ true → Runs playing (record { descriptor = old; state = state })
-  pub plays : is_running old ≡ true → is_running (stream_of fields playing.index) ≡ true → SamePlay old (stream_of fields playing.index)
+  pub plays : is_running old ≡ true → is_running (stream_of fields playing.index) ≡ true
+      → SamePlay old (stream_of fields playing.index)

@@ -11,7 +11,8 @@ use Rattle.stream_fetch.specs.declared.fetch.Bytes.TheVariants.{Full, Broken, Ca
 -- the place in a list that ends with an entry, after so many bytes of a buffer that has as many left
 abbrev pub after_bytes : ℕ → ℕ → Buffer → ListPlace → ListPlace
 after_bytes count last buffer place =
-    if place.fetched + count == buffer.bytes then record { index = next_index last place.index; buffer = None; fetched = 0 }
+    if place.fetched + count == buffer.bytes then record { index = next_index last place.index; buffer = None; fetched
+    = 0 }
     else record { index = place.index; buffer = Some buffer; fetched = place.fetched + count }
 
 -- they came
@@ -26,7 +27,8 @@ with_bytes count memory base last state =
 -- it says whether there was room, whether the buffer can be used, and whether the bytes end one with IOC
 abbrev pub AreBytes : (fifo : ℕ) → (memory : List ℕ) → (base last : ℕ) → StreamState → Bytes → Type 0
 AreBytes fifo memory base last state Full = has_room fifo state ≡ false
-AreBytes fifo memory base last state Broken = (has_room fifo state ≡ true) × (is_good memory (next_of memory base state) ≡ false)
+AreBytes fifo memory base last state Broken = (has_room fifo state ≡ true)
+    × (is_good memory (next_of memory base state) ≡ false)
 AreBytes fifo memory base last state (Came count ends) =
     (some_completes count fifo memory base last state ≡ ends) × (some_breaks count fifo memory base last state ≡ false)
 

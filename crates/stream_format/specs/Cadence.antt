@@ -1,5 +1,5 @@
--- How many sample blocks are due in each link frame of a running stream: High Definition Audio 1.0a, 5.4.2. In which frames 16 and
--- 8 kHz have a block, and in which of its frames the cadence of 44.1 kHz begins, is this project's own.
+-- How many sample blocks are due in each link frame of a running stream: High Definition Audio 1.0a, 5.4.2. In which
+-- frames 16 and 8 kHz have a block, and in which of its frames the cadence of 44.1 kHz begins, is this project's own.
 use Rattle.std.specs.Prelude.{ℕ, ◌*◌, ◌%◌, List, [], ◌∷◌, ◌++◌, length, replicate, slice_index}
 use Rattle.std.specs.List.{flat_map}
 use Rattle.stream_format.specs.declared.format.Rate.{Rate}

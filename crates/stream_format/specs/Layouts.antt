@@ -1,5 +1,5 @@
--- What a format word says, for any word: the rate, the sample size and the channels, or that it is no format's. High Definition Audio
--- 1.0a, 3.7.1.
+-- What a format word says, for any word: the rate, the sample size and the channels, or that it is no format's. High
+-- Definition Audio 1.0a, 3.7.1.
 use Rattle.std.specs.Prelude.{ℕ, ◌==◌, ◌||◌, ◌+◌, ◌*◌, ◌/◌, ◌%◌, Bool, [], ◌∷◌, Option, Some, None, if◌then◌else◌}
 use Rattle.std.specs.List.{find}
 use Rattle.stream_format.specs.declared.format.Rate.{Rate}
@@ -32,7 +32,8 @@ abbrev pub is_channel_count : ℕ → Bool
 is_channel_count channels = channels == 2 || channels == 4 || channels == 6 || channels == 8
 
 abbrev pub with_channels : Rate → Bits → ℕ → Option Layout
-with_channels rate bits channels = if is_channel_count channels then Some (record { rate = rate; bits = bits; channels = channels }) else None
+with_channels rate bits channels = if is_channel_count channels then Some
+    (record { rate = rate; bits = bits; channels = channels }) else None
 
 abbrev pub with_size : Rate → Option Bits → ℕ → Option Layout
 with_size rate None channels = None

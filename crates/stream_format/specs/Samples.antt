@@ -1,5 +1,5 @@
--- The samples of a block: signed numbers in two's complement, lowest byte first (High Definition Audio 1.0a, 4.5.1). A container of
--- a sample of 24 bits has it in its upper three bytes.
+-- The samples of a block: signed numbers in two's complement, lowest byte first (High Definition Audio 1.0a, 4.5.1). A
+-- container of a sample of 24 bits has it in its upper three bytes.
 use Rattle.std.specs.Prelude.{ℕ, ℤ, ◌*◌, List, drop}
 use Rattle.std.specs.Int.{cast_signed, w16, w32}
 use Rattle.byteorder.specs.Endian.{little_number}

@@ -22,7 +22,8 @@ setting_of payload = record {
 
 abbrev pub setting_payload : AmpSetting → ℕ
 setting_payload s =
-    worth s.output 15 + worth s.input 14 + worth s.left 13 + worth s.right 12 + s.place * 2 ^ 8 + worth s.mute 7 + s.gain
+    worth s.output 15 + worth s.input 14 + worth s.left 13 + worth s.right 12 + s.place * 2 ^ 8 + worth s.mute
+    7 + s.gain
 
 -- the place has four bits and the gain seven
 pub record IsSettingInRange (s : AmpSetting) : Type 0 where

@@ -1,10 +1,13 @@
--- Connection lists: their entries in words, and the nodes that they stand for. High Definition Audio 1.0a, 7.3.3.3 (the words)
--- and 7.1.2 (ranges). What is a fault, and which of several counts, is this project's own.
-use Rattle.std.specs.Prelude.{◌≡◌, ◌<◌, ◌+◌, ◌-◌, ◌*◌, ◌/◌, ◌%◌, ◌^◌, ⊤, ℕ, Bool, true, false, ◌==◌, List, [], ◌∷◌, ◌++◌, map, length, Option, None, Some, Result, Ok, Err, if◌then◌else◌, nat_lt, nat_le, replicate}
+-- Connection lists: their entries in words, and the nodes that they stand for. High Definition Audio 1.0a, 7.3.3.3 (the
+-- words) and 7.1.2 (ranges). What is a fault, and which of several counts, is this project's own.
+use Rattle.std.specs.Prelude.{◌≡◌, ◌<◌, ◌+◌, ◌-◌, ◌*◌, ◌/◌, ◌%◌, ◌^◌, ⊤, ℕ, Bool, true, false, ◌==◌, List, [], ◌∷◌}
+use Rattle.std.specs.Prelude.{◌++◌, map, length, Option, None, Some, Result, Ok, Err, if◌then◌else◌, nat_lt, nat_le}
+use Rattle.std.specs.Prelude.{replicate}
 use Rattle.std.specs.List.{flat_map, range_with_len}
 use Rattle.verb_codes.specs.declared.entries.Entry.{Entry}
 use Rattle.verb_codes.specs.declared.entries.ListFault.{ListFault}
-use Rattle.verb_codes.specs.declared.entries.ListFault.TheVariants.{Zero, Beyond, FirstIsRange, RangeAfterRange, RangeBackward}
+use Rattle.verb_codes.specs.declared.entries.ListFault.TheVariants.{Zero, Beyond, FirstIsRange, RangeAfterRange}
+use Rattle.verb_codes.specs.declared.entries.ListFault.TheVariants.{RangeBackward}
 use Rattle.verb_codes.specs.declared.entries.ListError.{ListError}
 use Rattle.verb_codes.specs.declared.entries.ListError.TheVariants.{Fault, OutOfMemory}
 
@@ -40,7 +43,8 @@ range_fault (Some before) nid =
 abbrev pub entry_fault : Option Entry → Entry → Option ListFault
 entry_fault before entry =
     if entry.nid == 0 then Some Zero
-    else (if nat_lt 0x7F entry.nid then Some Beyond else (if entry.is_range then range_fault before entry.nid else None))
+    else (if nat_lt 0x7F entry.nid then Some Beyond else (if entry.is_range then range_fault before entry.nid else
+    None))
 
 -- a range begins after the entry before it, any other entry with its own node
 abbrev pub first_nid : Option Entry → Entry → ℕ
@@ -77,5 +81,6 @@ IsRefusal OutOfMemory expansion = ⊤
 
 -- the words have the entries, then zeros up to the end of the last word, and no word without an entry
 pub record IsPacking (long : Bool) (entries words : List ℕ) : Type 0 where
-  pub filled : entries_of_words long words ≡ entries ++ replicate (length words * entries_per_word long - length entries) 0
+  pub filled : entries_of_words long words ≡ entries ++ replicate
+      (length words * entries_per_word long - length entries) 0
   pub least : length words * entries_per_word long < length entries + entries_per_word long

@@ -1,7 +1,10 @@
 -- The parameters of nodes by their numbers. High Definition Audio 1.0a, 7.3.4.
 use Rattle.std.specs.Prelude.{ℕ, ◌==◌, List, [], ◌∷◌, Option, find}
 use Rattle.verb_codes.specs.declared.parameters.Parameter.{Parameter}
-use Rattle.verb_codes.specs.declared.parameters.Parameter.TheVariants.{Vendor, Revision, Nodes, GroupType, WidgetCapabilities, PcmSizesAndRates, StreamFormats, PinCapabilities, InputAmplifier, ListLength, PowerStates, OutputAmplifier}
+use Rattle.verb_codes.specs.declared.parameters.Parameter.TheVariants.{Vendor, Revision, Nodes, GroupType}
+use Rattle.verb_codes.specs.declared.parameters.Parameter.TheVariants.{WidgetCapabilities, PcmSizesAndRates}
+use Rattle.verb_codes.specs.declared.parameters.Parameter.TheVariants.{StreamFormats, PinCapabilities, InputAmplifier}
+use Rattle.verb_codes.specs.declared.parameters.Parameter.TheVariants.{ListLength, PowerStates, OutputAmplifier}
 
 abbrev pub number_of : Parameter → ℕ
 -- Vendor ID (7.3.4.1)

@@ -1,10 +1,15 @@
 -- Commands as 32-bit words. Format of a command: High Definition Audio 1.0a, 7.3; verbs: 7.3.3.
 -- That codec 15 and node identifiers above 7Fh name nothing is this project's own.
-use Rattle.std.specs.Prelude.{◌≤◌, ◌+◌, ◌*◌, ◌/◌, ◌%◌, ◌^◌, ℕ, Bool, true, ◌==◌, ◌&&◌, List, [], ◌∷◌, Option, None, if◌then◌else◌, IsTrue, nat_lt, nat_le, bit_and, find}
+use Rattle.std.specs.Prelude.{◌≤◌, ◌+◌, ◌*◌, ◌/◌, ◌%◌, ◌^◌, ℕ, Bool, true, ◌==◌, ◌&&◌, List, [], ◌∷◌, Option, None}
+use Rattle.std.specs.Prelude.{if◌then◌else◌, IsTrue, nat_lt, nat_le, bit_and, find}
 use Rattle.std.specs.Option.{option_map}
 use Rattle.verb_codes.specs.declared.verbs.Command.{Command}
 use Rattle.verb_codes.specs.declared.verbs.Verb.{Verb}
-use Rattle.verb_codes.specs.declared.verbs.Verb.TheVariants.{GetParam, GetSelect, SetSelect, GetList, GetPower, SetPower, GetStream, SetStream, GetPin, SetPin, GetUnsol, SetUnsol, GetSense, GetEapd, SetEapd, GetDigital, SetDigital, GetDefault, SetDefault, GetFormat, SetFormat, GetAmp, SetAmp}
+use Rattle.verb_codes.specs.declared.verbs.Verb.TheVariants.{GetParam, GetSelect, SetSelect, GetList, GetPower}
+use Rattle.verb_codes.specs.declared.verbs.Verb.TheVariants.{SetPower, GetStream, SetStream, GetPin, SetPin, GetUnsol}
+use Rattle.verb_codes.specs.declared.verbs.Verb.TheVariants.{SetUnsol, GetSense, GetEapd, SetEapd, GetDigital}
+use Rattle.verb_codes.specs.declared.verbs.Verb.TheVariants.{SetDigital, GetDefault, SetDefault, GetFormat, SetFormat}
+use Rattle.verb_codes.specs.declared.verbs.Verb.TheVariants.{GetAmp, SetAmp}
 
 -- one row of the table of verbs: the code above `width` bits of payload
 pub record Row : Type 0 where
@@ -109,7 +114,8 @@ verb_of_bits bits = find (reads_as bits) (verbs_with (bits % 2 ^ 8) (bits % 2 ^ 
 -- the command that the word is the word of
 abbrev pub command_with : ℕ → ℕ → Option Verb → Option Command
 command_with codec nid verb =
-    if nat_le codec 14 && nat_le nid 127 then option_map (λ v. record { codec = codec; nid = nid; verb = v }) verb else None
+    if nat_le codec 14 && nat_le nid 127 then option_map (λ v. record { codec = codec; nid = nid; verb = v }) verb else
+    None
 
 unfoldable pub reading_of : ℕ → Option Command
 reading_of word = command_with (word / 2 ^ 28) (word / 2 ^ 20 % 2 ^ 8) (verb_of_bits (word % 2 ^ 20))

@@ -1,6 +1,7 @@
--- One call of the engine of each ring. High Definition Audio 1.0a, 4.4.1 and 4.4.2. That RIRB's engine waits for RINTFL, and how many
--- responses it writes at once, is this project's own.
-use Rattle.std.specs.Prelude.{ℕ, Bool, ◌==◌, ◌&&◌, not, ◌-◌, min, List, [], ◌∷◌, take, Option, Some, None, if◌then◌else◌}
+-- One call of the engine of each ring. High Definition Audio 1.0a, 4.4.1 and 4.4.2. That RIRB's engine waits for
+-- RINTFL, and how many responses it writes at once, is this project's own.
+use Rattle.std.specs.Prelude.{ℕ, Bool, ◌==◌, ◌&&◌, not, ◌-◌, min, List, [], ◌∷◌, take, Option, Some, None}
+use Rattle.std.specs.Prelude.{if◌then◌else◌}
 use Rattle.hda_registers.specs.declared.shapes.Raise.TheVariants as event
 use Rattle.hda_registers.specs.Fields.{Fields, entries_of, responses_of, is_out_of_reset}
 use Rattle.hda_registers.specs.Moves.{raised}
@@ -26,9 +27,11 @@ after_corb fields = if can_fetch fields then fetched fields else fields
 
 -- its engine runs, and the driver has cleared the response interrupt flag
 abbrev pub can_respond : Fields → Bool
-can_respond fields = is_out_of_reset fields.global && fields.global.rirb_run == 1 && not (fields.global.response_flag == 1)
+can_respond fields = is_out_of_reset fields.global && fields.global.rirb_run == 1 && not
+    (fields.global.response_flag == 1)
 
--- how many responses are written at most before the flag is set: fewer than the ring has entries, so none is overwritten
+-- how many responses are written at most before the flag is set: fewer than the ring has entries, so none is
+-- overwritten
 abbrev pub batch_of : Fields → ℕ
 batch_of fields = min (responses_of fields.global.response_count) (entries_of fields.shape.rirb - 1)
 

@@ -1,5 +1,5 @@
--- The entries of the ring of commands (CORB) and of the ring of responses (RIRB) in memory, where each stands, and what one entry
--- more leaves. High Definition Audio 1.0a, 4.4.1 and 4.4.2; their registers: 3.3.18 to 3.3.31.
+-- The entries of the ring of commands (CORB) and of the ring of responses (RIRB) in memory, where each stands, and what
+-- one entry more leaves. High Definition Audio 1.0a, 4.4.1 and 4.4.2; their registers: 3.3.18 to 3.3.31.
 use Rattle.std.specs.Prelude.{ℕ, ◌+◌, ◌*◌, ◌%◌, List, [], ◌∷◌, ◌++◌, if◌then◌else◌}
 use Rattle.byteorder.specs.Endian.{little_bytes}
 use Rattle.hda_registers.specs.declared.shapes.Moved.TheVariants.{CorbRp, RirbWp}
@@ -42,7 +42,8 @@ abbrev pub after_response : Fields → Fields
 after_response fields = moved fields (RirbWp (response_place fields))
 
 abbrev pub response_stored : Fields → List ℕ → Response → List ℕ
-response_stored fields memory response = stored memory (rirb_address fields + RESPONSE_BYTES * response_place fields) (response_bytes response)
+response_stored fields memory response = stored memory (rirb_address fields + RESPONSE_BYTES * response_place fields)
+    (response_bytes response)
 
 -- the registers and the memory after some responses in order
 abbrev pub after_responses : Fields → List Response → Fields

@@ -13,7 +13,8 @@ entry_after fields places =
 -- a response stands in the entry so many places after the write pointer, byte for byte
 abbrev pub StandsAt : Fields → List ℕ → ℕ → Response → Type 0
 StandsAt fields memory places response =
-    (byte : ℕ) → byte < RESPONSE_BYTES → slice_index memory (entry_after fields places + byte) ≡ slice_index (response_bytes response) byte
+    (byte : ℕ) → byte < RESPONSE_BYTES → slice_index memory (entry_after fields places + byte) ≡ slice_index
+    (response_bytes response) byte
 
 -- all entries of RIRB lie in the memory
 abbrev pub IsRirbInside : Fields → List ℕ → Type 0

@@ -1,6 +1,7 @@
--- The list of buffers that a stream fetches from: High Definition Audio 1.0a, 3.6.2 and 3.6.3. That a buffer which is empty or does
--- not lie in the region stops the stream is this project's own.
-use Rattle.std.specs.Prelude.{ℕ, ◌==◌, ◌&&◌, ◌+◌, ◌*◌, ◌%◌, ◌^◌, Bool, not, nat_le, nat_lt, List, length, slice_index, Some, None, unwrap_or, if◌then◌else◌}
+-- The list of buffers that a stream fetches from: High Definition Audio 1.0a, 3.6.2 and 3.6.3. That a buffer which is
+-- empty or does not lie in the region stops the stream is this project's own.
+use Rattle.std.specs.Prelude.{ℕ, ◌==◌, ◌&&◌, ◌+◌, ◌*◌, ◌%◌, ◌^◌, Bool, not, nat_le, nat_lt, List, length, slice_index}
+use Rattle.std.specs.Prelude.{Some, None, unwrap_or, if◌then◌else◌}
 use Rattle.world_rings.specs.Memory.{word_at}
 use Rattle.world_streams.specs.declared.buffers.Buffer.{Buffer}
 use Rattle.world_streams.specs.declared.buffers.ListPlace.{ListPlace}
@@ -10,8 +11,8 @@ use Rattle.world_streams.specs.declared.buffers.TheConstants.{BUFFER_ENTRY_BYTES
 abbrev pub list_start : ListPlace
 list_start = record { index = 0; buffer = None; fetched = 0 }
 
--- the buffer of an entry of the list at an address: its address in two words, the lower one first, its length, and IOC in bit 0 of
--- the last word
+-- the buffer of an entry of the list at an address: its address in two words, the lower one first, its length, and IOC
+-- in bit 0 of the last word
 abbrev pub buffer_of : List ℕ → ℕ → ℕ → Buffer
 buffer_of memory base index =
     let at = base + BUFFER_ENTRY_BYTES * index in
@@ -28,7 +29,8 @@ next_buffer memory base place = unwrap_or place.buffer (buffer_of memory base pl
 -- a stream can fetch from a buffer: its address is a multiple of 128, it has bytes, and they lie in the region
 abbrev pub is_good : List ℕ → Buffer → Bool
 is_good memory buffer =
-    buffer.address % BUFFER_ALIGNMENT == 0 && not (buffer.bytes == 0) && nat_le (buffer.address + buffer.bytes) (length memory)
+    buffer.address % BUFFER_ALIGNMENT == 0 && not (buffer.bytes == 0) && nat_le (buffer.address + buffer.bytes)
+    (length memory)
 
 -- the next byte of a buffer of which some were fetched
 abbrev pub byte_of : List ℕ → Buffer → ℕ → ℕ

@@ -1,7 +1,8 @@
--- The state of a stream beside its descriptor's registers: what went through its FIFO since RUN rose, and where it is in its list of
--- buffers. High Definition Audio 1.0a, 3.3.35 to 3.3.42 and 4.5. One record serves both directions: an output stream's FIFO is filled
--- from memory and emptied on the link, an input stream's the other way.
-use Rattle.std.specs.Prelude.{◌≡◌, ℕ, ◌==◌, ◌&&◌, ◌||◌, ◌-◌, Bool, false, true, not, nat_le, List, [], length, drop, Option, Some, None, if◌then◌else◌}
+-- The state of a stream beside its descriptor's registers: what went through its FIFO since RUN rose, and where it is
+-- in its list of buffers. High Definition Audio 1.0a, 3.3.35 to 3.3.42 and 4.5. One record serves both directions: an
+-- output stream's FIFO is filled from memory and emptied on the link, an input stream's the other way.
+use Rattle.std.specs.Prelude.{◌≡◌, ℕ, ◌==◌, ◌&&◌, ◌||◌, ◌-◌, Bool, false, true, not, nat_le, List, [], length, drop}
+use Rattle.std.specs.Prelude.{Option, Some, None, if◌then◌else◌}
 use Rattle.hda_registers.specs.Fields.{Descriptor, is_running}
 use Rattle.hda_registers.specs.Access.{rose, fell}
 use Rattle.hda_registers.specs.Status.{worth}
@@ -55,7 +56,8 @@ has_format descriptor = is_format (layout_of descriptor.format)
 abbrev pub due : Stream → ℕ
 due stream = due_by (layout_of stream.descriptor.format) stream.state.frame
 
--- the stream can run: its format has a meaning, and neither CBL nor LVI is 0 (this project's own; 3.3.38 and 3.3.39 ask for both)
+-- the stream can run: its format has a meaning, and neither CBL nor LVI is 0 (this project's own; 3.3.38 and 3.3.39 ask
+-- for both)
 abbrev pub is_usable : Descriptor → Bool
 is_usable descriptor = has_format descriptor && not (descriptor.buffer_length == 0) && not (descriptor.last_index == 0)
 
@@ -64,7 +66,8 @@ is_usable descriptor = has_format descriptor && not (descriptor.buffer_length ==
 -- FIFORDY (3.3.36): the stream runs, has a format, and its FIFO holds the most bytes of a frame
 abbrev pub is_ready : Stream → Bool
 is_ready stream =
-    is_running stream.descriptor && has_format stream.descriptor && nat_le (most_by (layout_of stream.descriptor.format)) (held stream.state)
+    is_running stream.descriptor && has_format stream.descriptor && nat_le
+    (most_by (layout_of stream.descriptor.format)) (held stream.state)
 
 abbrev pub with_ready : Stream → Stream
 with_ready stream = record stream { descriptor = record stream.descriptor { fifo_ready = worth (is_ready stream) 0 } }
