@@ -6,7 +6,7 @@ use Rattle.codec_graph.specs.declared.raw.RawCodec.{RawCodec}
 use Rattle.stream_format.specs.declared.format.Format.{Format}
 use Rattle.route_planner.specs.declared.routes.Plan.{Plan}
 use Rattle.route_planner.specs.Plans.{IsPlan}
-use Rattle.route_setup.specs.Means.{Means, analog}
+use Rattle.route_setup.specs.Means.{Means}
 use Rattle.hda_files.specs.declared.machine.CodecFile.{CodecFile}
 use Rattle.hda_files.specs.declared.machine.Machine.{Machine}
 use Rattle.hda_files.specs.Machines.{IsSound}
@@ -32,7 +32,7 @@ use Rattle.std.specs.Prelude.{All}
 use Rattle.audio_driver.specs.Opening.{IsOpened}
 use Rattle.laws_bring_up.specs.Standing.{CanBegin, StandsIn, IsBroughtUp}
 use Rattle.heard_lists.specs.Listings.{graphs_in as graphs_of}
-use Rattle.laws_start.specs.Tasks.{verbs_in, task_of, blocks_of, stream_tag}
+use Rattle.laws_start.specs.Tasks.{verbs_meant, task_meant, blocks_of}
 use Rattle.laws_start.specs.Reading.{IsWhole}
 use Rattle.laws_start.specs.Starting.{BeginsAt}
 use Rattle.laws_start.proofs.Tasked.{stand_by_address}
@@ -85,15 +85,15 @@ opened_state bring_up geometry most writer opened =
     ∙ ap (λ (sent : ℕ). state_with Reset 0 sent bring_up.engine.rings) opened.sent
     ∙ ap (λ (rings : RingPlaces). state_with Reset 0 0 rings) opened.rings
 
-pub begins : (format : Format) (machine : Machine) (plans : List Plan) (geometry : Geometry) (plays : Bool) (pcm : List ℕ) (most : ℕ) (bring_up : BringUp) (writer : WriterState) → IsSound machine → IsWhole machine → IsOpened geometry most bring_up writer
-    → BeginsAt format machine plans (task_of format machine plans geometry plays pcm (blocks_of bring_up writer)) bring_up
-begins format machine plans geometry plays pcm most bring_up writer sound whole opened =
-    let task = task_of format machine plans geometry plays pcm (blocks_of bring_up writer) in
+pub begins : (means : Means) (machine : Machine) (plans : List Plan) (geometry : Geometry) (plays : Bool) (pcm : List ℕ) (most : ℕ) (bring_up : BringUp) (writer : WriterState) → IsSound machine → IsWhole machine → IsOpened geometry most bring_up writer
+    → BeginsAt means machine plans (task_meant means machine plans geometry plays pcm (blocks_of bring_up writer)) bring_up
+begins means machine plans geometry plays pcm most bring_up writer sound whole opened =
+    let task = task_meant means machine plans geometry plays pcm (blocks_of bring_up writer) in
     record {
       stands = record {
         blocks = record { corb = refl; rirb = refl };
         graphs_are = graphs_there machine.codecs;
-        stage = subst (λ (phase : Phase). StandsIn phase (analog format stream_tag) (verbs_in format machine.codecs plans) (graphs_of machine.codecs) task 0 bring_up (start_of REGION_BYTES machine)) (sym opened.phase)
+        stage = subst (λ (phase : Phase). StandsIn phase means (verbs_meant means machine.codecs plans) (graphs_of machine.codecs) task 0 bring_up (start_of REGION_BYTES machine)) (sym opened.phase)
             (can_begin bring_up machine REGION_BYTES refl sound whole opened.sent opened.graphs);
       };
       state = opened_state bring_up geometry most writer opened;

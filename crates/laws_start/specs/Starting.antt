@@ -1,10 +1,8 @@
 -- Where a driver begins. This project's own.
 use Rattle.std.specs.Prelude.{◌≡◌, List, []}
 use Rattle.codec_graph.specs.declared.raw.RawCodec.{RawCodec}
-use Rattle.stream_format.specs.declared.format.Format.{Format}
 use Rattle.route_planner.specs.declared.routes.Plan.{Plan}
-use Rattle.route_planner.specs.Plans.{IsPlan}
-use Rattle.route_setup.specs.Means.{analog}
+use Rattle.route_setup.specs.Means.{Means}
 use Rattle.dma_pool.specs.declared.region.TheConstants.{MOST_GRANULES}
 use Rattle.dma_pool.specs.Pools.{PoolState}
 use Rattle.hda_files.specs.declared.machine.Machine.{Machine}
@@ -16,15 +14,15 @@ use Rattle.driver_bring_up.specs.declared.bringing.BringUp.{BringUp}
 use Rattle.driver_bring_up.specs.Calls.{state_of}
 use Rattle.laws_bring_up.specs.Standing.{IsBroughtUp}
 use Rattle.heard_lists.specs.Listings.{graphs_in}
-use Rattle.laws_start.specs.Tasks.{verbs_in, stream_tag}
+use Rattle.laws_start.specs.Tasks.{verbs_meant}
 
 -- a bring-up for a task stands to the start of a machine, whose commands are those of these plans, and nothing was done
 -- yet
-pub record BeginsAt (format : Format) (machine : Machine) (plans : List Plan) (task : Task) (bring_up : BringUp) : Type
-    0 where
-  pub stands : IsBroughtUp (analog format stream_tag) (verbs_in format machine.codecs plans) (graphs_in machine.codecs)
-      task 0 bring_up (start_of REGION_BYTES machine)
-  pub state : state_of bring_up ≡ state_opened
+pub record BeginsAt (means : Means) (machine : Machine) (plans : List Plan) (task : Task) (bring_up : BringUp) : Type 0
+  where
+    pub stands : IsBroughtUp means (verbs_meant means machine.codecs plans) (graphs_in machine.codecs) task 0 bring_up
+        (start_of REGION_BYTES machine)
+    pub state : state_of bring_up ≡ state_opened
 
 -- the whole region is free
 pub record IsAllFree (pool : PoolState) : Type 0 where

@@ -11,7 +11,6 @@ ghost use Rattle.driver_bring_up.specs.Calls.{state_of, IsTaskOf};
 ghost use Rattle.codec_graph.specs.declared.raw.RawCodec.{RawCodec};
 ghost use Rattle.stream_format.specs.declared.format.Format.{Format};
 ghost use Rattle.route_planner.specs.declared.routes.Plan.{Plan};
-ghost use Rattle.route_setup.specs.Means.{analog};
 ghost use Rattle.driver_agenda.specs.Planned.{have_route};
 ghost use Rattle.dma_pool.specs.Pools.{PoolState};
 ghost use Rattle.hda_files.specs.declared.machine.Machine.{Machine};
@@ -25,7 +24,7 @@ ghost use Rattle.rig.specs.Replays.{start_of};
 ghost use Rattle.laws_stream.specs.Resting.{Rests, AreApartFrom};
 ghost use Rattle.laws_bring_up.specs.Standing.{IsTaskOfCodecs, IsBroughtUp};
 ghost use Rattle.heard_lists.specs.Listings.{graphs_in as graphs_of};
-ghost use Rattle.laws_start.specs.Tasks.{HavePlans, stream_tag, verbs_in, task_of, blocks_of};
+ghost use Rattle.laws_start.specs.Tasks.{HavePlansBy, verbs_meant, task_meant, blocks_of};
 ghost use Rattle.laws_start.specs.Reading.{IsRead, IsWhole};
 ghost use Rattle.laws_start.specs.Starting.{BeginsAt, IsAllFree};
 
@@ -40,23 +39,26 @@ pub fn read_machines_are_whole()
 
 /// What is to be done for a machine of which some pin has a route, with any ring of periods, sound and blocks, is the
 /// task of its codecs: the walks over them, and then the set-up verbs of each by its plan.
-pub fn machines_have_tasks()
-    ensures { (format : Format) (machine : Machine) (plans : List Plan) (geometry : Geometry) (plays : Bool)
+pub fn machines_have_tasks<T: Setter>()
+    ensures { (setter : T) (format : Format) (machine : Machine) (plans : List Plan) (geometry : Geometry)
+        (plays : Bool)
         (pcm : List ℕ) (blocks : Blocks)
-        → IsSound machine → IsWhole machine → HavePlans format machine.codecs plans → have_route plans ≡ true
-        → IsTaskOfCodecs (analog format stream_tag)
-        (verbs_in format machine.codecs plans) (graphs_of machine.codecs)
-        (task_of format machine plans geometry plays pcm blocks) }
+        → IsSound machine → IsWhole machine → HavePlansBy (T.means setter format TAG) machine.codecs plans
+        → have_route plans ≡ true
+        → IsTaskOfCodecs (T.means setter format TAG)
+        (verbs_meant (T.means setter format TAG) machine.codecs plans) (graphs_of machine.codecs)
+        (task_meant (T.means setter format TAG) machine plans geometry plays pcm blocks) }
 {}
 
 /// A driver that was just opened, for any number of calls, stands to the start of a machine as its task asks, and
 /// nothing was done yet.
-pub fn opened_drivers_can_begin()
-    ensures { (format : Format) (machine : Machine) (plans : List Plan) (geometry : Geometry) (plays : Bool)
+pub fn opened_drivers_can_begin<T: Setter>()
+    ensures { (setter : T) (format : Format) (machine : Machine) (plans : List Plan) (geometry : Geometry)
+        (plays : Bool)
         (pcm : List ℕ) (most : ℕ) (bring_up : BringUp) (writer : WriterState)
         → IsSound machine → IsWhole machine → IsOpened geometry most bring_up writer
-        → BeginsAt format machine plans
-        (task_of format machine plans geometry plays pcm (blocks_of bring_up writer)) bring_up }
+        → BeginsAt (T.means setter format TAG) machine plans
+        (task_meant (T.means setter format TAG) machine plans geometry plays pcm (blocks_of bring_up writer)) bring_up }
 {}
 
 /// A driver that was just opened stands to every world of which nothing was asked yet, for each task with its blocks:

@@ -40,7 +40,7 @@ use Rattle.laws_driver.specs.Keeping.{DriverHasGone}
 use Rattle.rig.specs.Follows.{Follows}
 use Rattle.rig.specs.Replays.{start_of, telling_from}
 use Rattle.heard_lists.specs.Listings.{graphs_in}
-use Rattle.laws_start.specs.Tasks.{verbs_by, verbs_in, task_of, blocks_of}
+use Rattle.laws_start.specs.Tasks.{verbs_by, verbs_in, task_of, blocks_of, stream_tag}
 use Rattle.laws_start.specs.Starting.{BeginsAt}
 use Rattle.driver_progress.specs.States.{State}
 use Rattle.program_runs.specs.Lines.{lines_of}
@@ -60,7 +60,7 @@ some_same {A} {one} {other} same = cc
 -- a driver that was just opened can begin its task over a machine
 pub record CanGo (machine : Machine) (format : Format) (plans : List Plan) (play : Bool) (task : Task) (parts : Parts) : Type 0 where
   pub is : IsTask analog format play (verbs_in format machine.codecs plans) (graphs_in machine.codecs) task
-  pub begins : BeginsAt format machine plans task parts.bring_up
+  pub begins : BeginsAt (analog format stream_tag) machine plans task parts.bring_up
   pub sound : task.plays ≡ true → IsTaskOf parts.bring_up parts.writer parts.supply task
   pub fresh : tally_in parts ≡ tally_opened
   pub apart : AreApartFrom (ring_in parts) parts.bring_up.engine.rirb.address
@@ -98,7 +98,7 @@ opened_tally geometry most bring_up writer opened =
 pub opened_can_go : (machine : Machine) (format : Format) (plans : List Plan) (geometry : Geometry) (most : ℕ) (play plays : Bool) (pcm : List ℕ) (bring_up : BringUp) (writer : WriterState) (supply : List ℕ) → play ≡ plays
     → (plays ≡ true → supply ≡ pcm) → IsOpened geometry most bring_up writer → AreApartFrom (ring_of writer) bring_up.engine.rirb.address → geometry.fifo ≡ machine.fifo → geometry.format ≡ format
     → IsTaskOfCodecs (analog format TAG) (verbs_in format machine.codecs plans) (graphs_in machine.codecs) (task_of format machine plans geometry plays pcm (blocks_of bring_up writer))
-    → BeginsAt format machine plans (task_of format machine plans geometry plays pcm (blocks_of bring_up writer)) bring_up → Rests machine.fifo (start_of REGION_BYTES machine)
+    → BeginsAt (analog format stream_tag) machine plans (task_of format machine plans geometry plays pcm (blocks_of bring_up writer)) bring_up → Rests machine.fifo (start_of REGION_BYTES machine)
     → CanGo machine format plans play (task_of format machine plans geometry plays pcm (blocks_of bring_up writer)) (parts_with bring_up writer supply)
 opened_can_go machine format plans geometry most play plays pcm bring_up writer supply same sound opened apart fifo format_is of_codecs begins rests = record {
   is = record { of_codecs = of_codecs; plays_is = sym same };

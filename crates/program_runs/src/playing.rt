@@ -148,9 +148,9 @@ pub fn play<S: Shelf>(
     ensures later { (other : List ℕ) → S.faults shelf.old other ≤ S.faults shelf.new other }
     ensures empties_later { (other : List ℕ) → S.empties shelf.old other ≤ S.empties shelf.new other }
 {
-    machines_have_tasks();
+    machines_have_tasks::<Analog>();
     machines_rest();
-    opened_drivers_can_begin();
+    opened_drivers_can_begin::<Analog>();
     drivers_keep_to_progress::<Analog>();
     one_order();
     runs_keep_the_course();

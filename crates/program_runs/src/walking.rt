@@ -135,9 +135,9 @@ pub fn walk(
     requires limits { IsLimited schedule.now }
     ensures { IfOk result (λ played. spec.IsWalked machine plans.items schedule.now played) }
 {
-    machines_have_tasks();
+    machines_have_tasks::<Analog>();
     machines_rest();
-    opened_drivers_can_begin();
+    opened_drivers_can_begin::<Analog>();
     drivers_keep_to_progress::<Analog>();
     let commands = command_count(
         alloc,

@@ -88,9 +88,9 @@ can_before g c = record {
   can_go = λ pcm.
       opened_can_go c.args.machine c.args.head.format c.args.plans.items c.args.geometry _ c.in_ok-driver.driver.play true pcm c.in_ok-driver.driver.bring_up
       c.in_ok-driver.driver.writer pcm c.in_ok-driver.ensures.play (λ plays. refl) c.in_ok-driver.ensures.opened c.in_ok-driver.ensures.apart c.requires.fifo c.requires.format
-      (c.machines_have_tasks.ensures c.args.head.format c.args.machine c.args.plans.items c.args.geometry true pcm (blocks_of c.in_ok-driver.driver.bring_up c.in_ok-driver.driver.writer)
+      (c.machines_have_tasks.ensures c.in_ok-driver.driver.setter c.args.head.format c.args.machine c.args.plans.items c.args.geometry true pcm (blocks_of c.in_ok-driver.driver.bring_up c.in_ok-driver.driver.writer)
       c.requires.sound c.requires.whole c.requires.plans c.requires.routed)
-      (c.opened_drivers_can_begin.ensures c.args.head.format c.args.machine c.args.plans.items c.args.geometry true pcm _ c.in_ok-driver.driver.bring_up c.in_ok-driver.driver.writer
+      (c.opened_drivers_can_begin.ensures c.in_ok-driver.driver.setter c.args.head.format c.args.machine c.args.plans.items c.args.geometry true pcm _ c.in_ok-driver.driver.bring_up c.in_ok-driver.driver.writer
       c.requires.sound c.requires.whole c.in_ok-driver.ensures.opened)
       (c.machines_rest.ensures c.args.machine);
 }
@@ -109,9 +109,9 @@ can_after g c = record {
   can_go = λ pcm.
       opened_can_go c.args.machine c.args.head.format c.args.plans.items c.args.geometry _ c.in_ok-driver.driver.play true pcm c.in_ok-driver.driver.bring_up
       c.in_ok-driver.driver.writer pcm c.in_ok-driver.ensures.play (λ plays. refl) c.in_ok-driver.ensures.opened c.in_ok-driver.ensures.apart c.requires.fifo c.requires.format
-      (c.machines_have_tasks.ensures c.args.head.format c.args.machine c.args.plans.items c.args.geometry true pcm (blocks_of c.in_ok-driver.driver.bring_up c.in_ok-driver.driver.writer)
+      (c.machines_have_tasks.ensures c.in_ok-driver.driver.setter c.args.head.format c.args.machine c.args.plans.items c.args.geometry true pcm (blocks_of c.in_ok-driver.driver.bring_up c.in_ok-driver.driver.writer)
       c.requires.sound c.requires.whole c.requires.plans c.requires.routed)
-      (c.opened_drivers_can_begin.ensures c.args.head.format c.args.machine c.args.plans.items c.args.geometry true pcm _ c.in_ok-driver.driver.bring_up c.in_ok-driver.driver.writer
+      (c.opened_drivers_can_begin.ensures c.in_ok-driver.driver.setter c.args.head.format c.args.machine c.args.plans.items c.args.geometry true pcm _ c.in_ok-driver.driver.bring_up c.in_ok-driver.driver.writer
       c.requires.sound c.requires.whole c.in_ok-driver.ensures.opened)
       (c.machines_rest.ensures c.args.machine);
 }

@@ -54,8 +54,8 @@ can_go c =
     let blocks = blocks_of driver.bring_up driver.writer in
     opened_can_go c.args.machine walk_format c.args.plans.items fresh.geometry _ driver.play false [] driver.bring_up driver.writer (sound_of c) c.in_ok-driver.ensures.play (λ plays. cc) fresh.opened fresh.apart fresh.ring.fifo_is
     fresh.ring.format_is
-    (c.machines_have_tasks.ensures walk_format c.args.machine c.args.plans.items fresh.geometry false [] blocks c.requires.sound c.requires.whole c.requires.plans c.requires.routed)
-    (c.opened_drivers_can_begin.ensures walk_format c.args.machine c.args.plans.items fresh.geometry false [] _ driver.bring_up driver.writer c.requires.sound c.requires.whole fresh.opened)
+    (c.machines_have_tasks.ensures c.in_ok-driver.driver.setter walk_format c.args.machine c.args.plans.items fresh.geometry false [] blocks c.requires.sound c.requires.whole c.requires.plans c.requires.routed)
+    (c.opened_drivers_can_begin.ensures c.in_ok-driver.driver.setter walk_format c.args.machine c.args.plans.items fresh.geometry false [] _ driver.bring_up driver.writer c.requires.sound c.requires.whole fresh.opened)
     (c.machines_rest.ensures c.args.machine)
 
 -- where it has gone
