@@ -5,7 +5,7 @@ pub mod Entries
 pub mod Starting
 pub mod Submitting
 pub mod Polling
-pub mod Courses
+pub mod Fetchings
 pub mod Belonging
 pub mod Quiet
 pub mod Told
