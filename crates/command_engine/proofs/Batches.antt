@@ -1,5 +1,5 @@
 -- What a batch of RIRB's engine leaves.
-use Rattle.std.proofs.Common.{◌≡◌, ◌<◌, ◌≤◌, ◌⊎◌, ◌+◌, ◌*◌, ◌%◌, ◌||◌, ℕ, suc, Bool, true, false, min, nat_le, List, [], ◌∷◌, length, slice_index, slice_get, Some, refl, sym, ap, subst, ◌∙◌, inl, inr, arith, rules, tests, lit<, length-append}
+use Rattle.std.proofs.Common.{◌≡◌, ◌<◌, ◌≤◌, ◌⊎◌, ◌+◌, ◌*◌, ◌%◌, ◌||◌, ℕ, suc, Bool, true, false, min, nat_le, List, [], ◌∷◌, length, take, slice_index, slice_get, Some, refl, sym, ap, subst, ◌∙◌, inl, inr, arith, rules, tests, lit<, length-append, if◌then◌else◌}
 use Rattle.std.proofs.Math.Nat.{mod-lt, mod-add-mod, mod-eq_of_lt}
 use Rattle.std.proofs.lemmas.List.{length-take}
 use Rattle.hda_registers.specs.declared.shapes.RingSize.{RingSize}
@@ -54,7 +54,7 @@ pointer_after (response ∷ responses) fields within =
 pub batch_short : (fields : Fields) (size : RingSize) (waiting responses : List Response) → can_respond fields ≡ true → batch fields waiting ≡ responses
     → fields.global.response_count ≡ half_of size → length responses ≤ half_of size
 batch_short fields size waiting responses can are served =
-    let taken = batch_by (can_respond fields) (batch_of fields) waiting responses can are in
+    let taken : take (batch_of fields) waiting ≡ responses = sym (ap (λ (now : Bool). if now then take (batch_of fields) waiting else []) can) ∙ are in
     let long : length responses ≡ min (batch_of fields) (length waiting) = ap length (sym taken) ∙ length-take (batch_of fields) waiting in
     let asked : responses_of fields.global.response_count ≡ half_of size = ap responses_of served ∙ half_asked size in
     omega arith
