@@ -82,8 +82,8 @@ take_in-requires-clause-piece g c =
     let held = c.self.invariant.2 in
     omega (arith, held, some, fits)
 
-pub append-requires : goal.append-requires
-append-requires g c =
+pub extend_within_capacity-requires : goal.extend_within_capacity-requires
+extend_within_capacity-requires g c =
     let h = c.self.inside in
     let size : ℕ = c.block_bytes-size.result in
     let given : List ℕ = c.args.bytes.now in
