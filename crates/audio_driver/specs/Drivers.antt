@@ -28,8 +28,8 @@ pub record DriverState (T : Type 0) : Type 0 where
 
 -- its blocks are taken, both play the same format, there is room to record a run of each call and one more, and nothing
 -- is recorded before the codecs are set up
-pub record IsDriver (bring_up : BringUp) (writer : WriterState) (pool : PoolState) (play : Bool) (runs calls : ℕ) : Type
-    0 where
+pub record IsDriver (bring_up : BringUp) (writer : WriterState) (pool : PoolState) (play : Bool) (runs calls : ℕ)
+    : Type 0 where
   pub owns_corb : Contains pool.taken (run_at bring_up.engine.corb.address corb_bytes)
   pub owns_rirb : Contains pool.taken (run_at bring_up.engine.rirb.address rirb_bytes)
   pub owns_ring : OwnsBlocks pool.taken writer

@@ -170,8 +170,8 @@ AreStanding rirb size place memory unread =
 -- how the engine stands to the world: its blocks lie at these addresses, codecs had taken `from` commands before the
 -- outstanding one was submitted, and it read the first `read` of all responses that were written
 pub record StandsBy (from read corb rirb : ℕ) (rings : RingPlaces) (part : RingPart) (memory : List ℕ)
-    (codecs : List CodecState) (waiting : List Response) (commands : List TakenCommand) (written : List Response) : Type
-    0 where
+    (codecs : List CodecState) (waiting : List Response) (commands : List TakenCommand) (written : List Response)
+    : Type 0 where
   pub has_rings : HasRings corb rirb rings part
   pub blocks : HasBlocks corb rirb (length memory)
   pub ascend : AscendByAddress codecs

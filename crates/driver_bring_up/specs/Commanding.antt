@@ -71,8 +71,8 @@ LedTo polls.Idle outstanding phase old phase' new = (phase' ≡ phase) × (new �
 LedTo (polls.Answered word) outstanding phase old phase' new = (can_follow phase' ≡ true)
     × (goes_on phase' ≡ true → phase' ≡ phase_of new)
 LedTo polls.Waiting outstanding phase old phase' new = (phase' ≡ phase) × (new ≡ old)
-LedTo (polls.Unanswered issued noticed) outstanding phase old phase' new
-    = (phase' ≡ unanswered_if outstanding issued noticed phase) × (new ≡ old)
+LedTo (polls.Unanswered issued noticed) outstanding phase old phase' new =
+    (phase' ≡ unanswered_if outstanding issued noticed phase) × (new ≡ old)
 
 -- whether the next command may be submitted then
 abbrev pub leaves_free : Poll → (phase' : Phase) → Bool

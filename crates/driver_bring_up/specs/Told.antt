@@ -107,8 +107,8 @@ pub record IsGivenUp (outstanding : Option Outstanding) (clock : ℕ) (phase : P
 
 -- after it comes the next command of the agenda, where one may be submitted and is left, and the engine stands to the
 -- world as before
-pub record LooksOn (irq : Bool) (old new : BringUp) (made : List Event) (from read : ℕ) (before after : Telling) : Type
-    0 where
+pub record LooksOn (irq : Bool) (old new : BringUp) (made : List Event) (from read : ℕ) (before after : Telling)
+    : Type 0 where
   pub first : List Event
   pub clock : ℕ
   pub reads : PollReads

@@ -75,8 +75,8 @@ abbrev pub trail_in : State → List DriverLine → List Event → World → Tra
 trail_in state lines made world = trail_after task (Begin ∷ made) world (record (trail_opened lines) { state = state })
 
 -- the stretch leads to the other state, and its accesses are those that were to be made
-pub record LeadsTo (state : State) (lines : List DriverLine) (made : List Event) (world : World) (state' : State) : Type
-    0 where
+pub record LeadsTo (state : State) (lines : List DriverLine) (made : List Event) (world : World) (state' : State)
+    : Type 0 where
   pub leads : (ended task (trail_in state lines made world)).state ≡ state'
   pub fits : Fits task (trail_in state lines made world)
 
@@ -141,7 +141,7 @@ abbrev pub first_tally : Ran → Tally
 first_tally how = record {
   runs = run_at 0 12500 8 8 ∷ [];
   silences = record { start = 8; end = 768 } ∷ [];
-  trail = record { started = true; at = 0; from = 12500; reach = 768; sure = 768; used = 8; sound_end = 8; ran = how };
+  course = record { started = true; at = 0; from = 12500; reach = 768; sure = 768; used = 8; sound_end = 8; ran = how };
 }
 
 abbrev pub plays : Phase → Tally → State
@@ -158,8 +158,9 @@ abbrev pub second_tally : (clock : ℕ) → Tally
 second_tally clock = record {
   runs = run_at 0 12500 8 8 ∷ run_at 16 clock 0 0 ∷ [];
   silences = record { start = 8; end = 784 } ∷ [];
-  trail = record { started = true; at = 16; from = clock; reach = 784; sure = 784; used = 8; sound_end = 8; ran
-      = ran.Drained };
+  course = record {
+    started = true; at = 16; from = clock; reach = 784; sure = 784; used = 8; sound_end = 8; ran = ran.Drained;
+  };
 }
 
 -- after a first run that may write one frame the line has 4 bytes of sound, and then silence, of which so much is sure
@@ -167,24 +168,24 @@ abbrev pub short_tally : Ran → (sure : ℕ) → Tally
 short_tally how sure = record {
   runs = run_at 0 12500 4 4 ∷ [];
   silences = record { start = 4; end = 768 } ∷ [];
-  trail = record { started = true; at = 0; from = 12500; reach = 768; sure = sure; used = 4; sound_end = 4; ran = how };
+  course = record { started = true; at = 0; from = 12500; reach = 768; sure = sure; used = 4; sound_end = 4; ran = how };
 }
 
 -- a later run that writes the other frame at position 352, where silence stood, and silence past the line's end,
 -- between these clocks; it finds the link at byte 16
 abbrev pub taking_back : (from to : ℕ) → List Event → List Event
 taking_back from to later =
-    Read 0x5D One 0 ∷ Read 0x30 Four from ∷ Read 0xA4 Four 16 ∷ DmaWrite 3552 (3 ∷ 0 ∷ 255 ∷ 255 ∷ []) ∷ DmaWrite 3200
-    (replicate 16 0)
-    ∷ Read 0x30 Four to ∷ later
+    Read 0x5D One 0 ∷ Read 0x30 Four from ∷ Read 0xA4 Four 16 ∷ DmaWrite 3552 (3 ∷ 0 ∷ 255 ∷ 255 ∷ [])
+    ∷ DmaWrite 3200 (replicate 16 0) ∷ Read 0x30 Four to ∷ later
 
 -- silence up to 352, the frame, and silence up to the reach
 abbrev pub back_tally : (from to : ℕ) → Tally
 back_tally from to = record {
   runs = run_at 0 12500 4 4 ∷ record { at = 16; from = from; to = to; budget = 4; written = 4 } ∷ [];
   silences = record { start = 4; end = 352 } ∷ record { start = 356; end = 784 } ∷ [];
-  trail = record { started = true; at = 16; from = from; reach = 784; sure = 784; used = 8; sound_end = 356; ran
-      = ran.Playing };
+  course = record {
+    started = true; at = 16; from = from; reach = 784; sure = 784; used = 8; sound_end = 356; ran = ran.Playing;
+  };
 }
 
 abbrev pub stopping : List Event

@@ -48,8 +48,8 @@ nid_of table place earlier = do
   if list_any (λ node. node.nid == nid) earlier then Err (Doubled place Nid) else Ok nid
 
 abbrev pub node_with : ℕ → RawNode → NodeOpening → NodeTable
-node_with nid widget opening = record { nid = nid; widget = listed_node widget; list_fault = list_fault widget; opening
-    = opening }
+node_with nid widget opening = record { nid = nid; widget = listed_node widget; list_fault = list_fault widget;
+    opening = opening }
 
 -- what one table says of its widget, after the earlier ones of the same codec
 abbrev pub node_of : ℕ → List NodeTable → Members → Result NodeTable FileFault

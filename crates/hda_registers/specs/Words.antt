@@ -7,8 +7,8 @@ use Rattle.hda_registers.specs.Access.{part}
 -- the controller's words at 08h, 0Ch, 20h, 30h, 40h, 48h, 4Ch, 50h, 58h and 5Ch
 abbrev pub global_in : (control wake interrupts wall_clock corb_base corb_pointers corb_control rirb_base
     rirb_pointers rirb_control : ℕ) → Global
-global_in control wake interrupts wall_clock corb_base corb_pointers corb_control rirb_base rirb_pointers rirb_control
-    = record {
+global_in control wake interrupts wall_clock corb_base corb_pointers corb_control rirb_base rirb_pointers rirb_control =
+    record {
   controller_reset = part 0 1 control;
   unsolicited = part 8 1 control;
   wake_enable = part 0 15 wake;

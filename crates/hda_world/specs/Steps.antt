@@ -124,8 +124,8 @@ passed world = record world {
 -- what the history of link frames gains where one carried this
 abbrev pub frame_carried : World → Carriage → CarriedFrame
 frame_carried world carriage =
-    record { codecs = world.codecs; tag = world.registers.output.tag; format = world.registers.output.format; carriage
-    = carriage }
+    record { codecs = world.codecs; tag = world.registers.output.tag; format = world.registers.output.format;
+    carriage = carriage }
 
 -- the output stream after a link frame that found this of it
 abbrev pub output_framed : Frame → World → World

@@ -52,8 +52,8 @@ DriverGoesOn means verbs graphs task lines left parts telling =
 -- ---- a call and the last one
 
 -- of a driver that is to play or not: where calls do not play yet it is one of the bring-up, else one that plays
-pub record Calls (means : Means) (play irq : Bool) (budget : ℕ) (old new : Parts) (before after : Option Telling) : Type
-    0 where
+pub record Calls (means : Means) (play irq : Bool) (budget : ℕ) (old new : Parts) (before after : Option Telling)
+    : Type 0 where
   pub leads : plays_now play old.bring_up ≡ false → bringing.Leads means irq old.bring_up new.bring_up before after
   pub kept : bringing.IsKept old.bring_up new.bring_up
   pub writer : plays_now play old.bring_up ≡ false → new.writer ≡ old.writer
@@ -101,8 +101,8 @@ pub record DriverHasGone (means : Means) (graphs : List RawCodec) (task : Task) 
 
 -- ---- how it is led on
 
-pub record KeepsPlaying (means : Means) (verbs : RawCodec → List Command) (graphs : List RawCodec) (task : Task) : Type
-    0 where
+pub record KeepsPlaying (means : Means) (verbs : RawCodec → List Command) (graphs : List RawCodec) (task : Task)
+    : Type 0 where
   -- where nothing happened yet
   pub begins : (lines : List DriverLine) (parts : Parts) (telling : Telling) → telling.journal ≡ []
       → bringing.state_of parts.bring_up ≡ state_opened

@@ -50,8 +50,8 @@ abbrev pub AreSetUpIn : (means : Means) (graphs : List RawCodec) → List CodecS
 AreSetUpIn means graphs codecs = (graph : RawCodec) → Contains graphs graph → IsThere means graph codecs
 
 -- a driver that plays or has played: all commands were answered before, and codecs that were set up hear it
-pub record IsSounding (means : Means) (graphs : List RawCodec) (task : Task) (parts : Parts) (telling : Telling) : Type
-    0 where
+pub record IsSounding (means : Means) (graphs : List RawCodec) (task : Task) (parts : Parts) (telling : Telling)
+    : Type 0 where
   pub task_is : IsTaskOf parts.bring_up parts.writer parts.supply task
   pub ready : parts.bring_up.phase ≡ Ready
   pub walked : parts.bring_up.agenda.graphs.items ≡ graphs

@@ -32,8 +32,8 @@ AreNoLarger hops others =
     × IsNoLater (map (λ (hop : Hop). hop.index) hops) (map (λ (hop : Hop). hop.index) others))
 
 -- the levels are right up to one: each node at most as far from an end as it says has its distance
-pub record AreLevels (inner : ℕ → Bool) (next : ℕ → ℕ → Option ℕ) (end : ℕ → Bool) (levels : List ℕ) (level : ℕ) : Type
-    0 where
+pub record AreLevels (inner : ℕ → Bool) (next : ℕ → ℕ → Option ℕ) (end : ℕ → Bool) (levels : List ℕ) (level : ℕ)
+    : Type 0 where
   pub whole : length levels ≡ 256
   pub at_ends : (nid : ℕ) → end nid ≡ true → level_of levels nid ≡ 0
   pub are_ends : (nid : ℕ) → level_of levels nid ≡ 0 → end nid ≡ true

@@ -107,10 +107,10 @@ place_of head at = if head.mono then head.from + at / 4 * 2 + at % 2 else head.f
 -- so many bytes of the file were given for frames whose ring bytes were put last, and where it was cut for a part of
 -- one more
 abbrev pub AreGivenFor : (mono : Bool) → (old new : Buffer ℕ) → (before after : ℕ) → Result Unit Cut → Type 0
-AreGivenFor mono old new before after (Ok done) = after ≤ before + file_bytes mono
-    ((length new.items - length old.items) / 4)
-AreGivenFor mono old new before after (Err cut)
-    = after < before + (file_bytes mono ((length new.items - length old.items) / 4) + file_bytes mono 1)
+AreGivenFor mono old new before after (Ok done) =
+    after ≤ before + file_bytes mono ((length new.items - length old.items) / 4)
+AreGivenFor mono old new before after (Err cut) =
+    after < before + (file_bytes mono ((length new.items - length old.items) / 4) + file_bytes mono 1)
 
 -- held bytes are the next ones of a sound, of which so many were taken
 abbrev pub IsNext : (pcm : List ℕ) (taken : ℕ) (held : List ℕ) → Type 0
