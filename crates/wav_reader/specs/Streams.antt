@@ -19,8 +19,7 @@ abbrev pub source_of : Stream → Source
 source_of stream = record {
   name = string_bytes stream.file.name;
   head = head_in_file stream.file.head;
-  ring
-      = stream.held.capacity;
+  ring = stream.held.capacity;
 }
 
 -- what it is seen as
@@ -37,8 +36,7 @@ abbrev pub supplied_by : Origin → Supplied
 supplied_by (Whole pcm taken) = record {
   held = drop taken pcm.items;
   left = length (drop taken pcm.items);
-  taken
-      = taken;
+  taken = taken;
   source = None;
 }
 supplied_by (Streamed stream) = stream_seen stream

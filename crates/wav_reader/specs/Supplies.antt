@@ -42,8 +42,7 @@ abbrev pub without : ℕ → Supplied → Supplied
 without count supply = record supply {
   held = drop count supply.held;
   left = supply.left - count;
-  taken
-      = supply.taken + count;
+  taken = supply.taken + count;
 }
 
 -- the bytes that were taken between two moments, and the sound at the first, by that at the second
