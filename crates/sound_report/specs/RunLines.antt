@@ -8,8 +8,8 @@ use Rattle.sound_report.specs.PlanLines.{newline}
 -- a run: where the link stood, the clocks that it read first and last, how much it might write and how much it wrote
 abbrev pub run_line : Run → List ℕ
 run_line run =
-    codes "run " ++ decimal run.at ++ codes " " ++ decimal run.from ++ codes " " ++ decimal run.to ++ codes "
-    " ++ decimal run.budget
+    codes "run " ++ decimal run.at ++ codes " " ++ decimal run.from ++ codes " " ++ decimal run.to
+    ++ codes " " ++ decimal run.budget
     ++ codes " " ++ decimal run.written ++ newline
 
 -- a silence: the position of its first byte, and the position after its last

@@ -19,8 +19,8 @@ command_text command = encode_lower (to_be_bytes w32 command)
 -- a codec left a command unanswered: the codec, the command, and the clocks when it was issued and found unanswered
 abbrev pub unanswered_line : ℕ → ℕ → ℕ → ℕ → List ℕ
 unanswered_line codec command issued noticed =
-    codes "unanswered " ++ decimal codec ++ codes " " ++ command_text command ++ codes " " ++ decimal issued ++ codes "
-    " ++ decimal noticed ++ newline
+    codes "unanswered " ++ decimal codec ++ codes " " ++ command_text command ++ codes " " ++ decimal issued
+    ++ codes " " ++ decimal noticed ++ newline
 
 -- a run was late: the clocks between which it was, and how many link frames might have passed
 abbrev pub late_line : ℕ → ℕ → ℕ → List ℕ
@@ -34,8 +34,8 @@ commands_left_line sent of = codes "schedule ended: commands " ++ decimal sent +
 -- frames were left: how many were written, how many heard, and of how many
 abbrev pub frames_left_line : ℕ → ℕ → ℕ → List ℕ
 frames_left_line written heard of =
-    codes "schedule ended: frames " ++ decimal written ++ codes " written " ++ decimal heard ++ codes " heard of
-    " ++ decimal of ++ newline
+    codes "schedule ended: frames " ++ decimal written ++ codes " written " ++ decimal heard
+    ++ codes " heard of " ++ decimal of ++ newline
 
 -- why a run ended before it was done
 abbrev pub fault_line : PlayFault → List ℕ
@@ -46,8 +46,8 @@ fault_line (FramesLeft written heard of) = frames_left_line written heard of
 
 -- what was done: a walk set codecs up by so many commands, and else so many frames were played
 abbrev pub done_line : Bool → ℕ → ℕ → List ℕ
-done_line walk commands total = if walk then codes "set up " ++ decimal commands ++ newline else codes "played
-    " ++ decimal total ++ newline
+done_line walk commands total =
+    if walk then codes "set up " ++ decimal commands ++ newline else codes "played " ++ decimal total ++ newline
 
 -- a file could not be read: its name
 abbrev pub unreadable_line : List ℕ → List ℕ
