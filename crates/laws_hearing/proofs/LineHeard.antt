@@ -1,9 +1,9 @@
 -- What pins hear of a line that a writer plays.
-use Rattle.std.proofs.Common.{◌≡◌, ◌≤◌, ◌<◌, ◌+◌, ◌-◌, ◌*◌, ◌/◌, ◌⊎◌, inl, inr, ℕ, true, false, List, [], ◌∷◌, ◌++◌, length, map, take, drop, replicate, slice_index, Some, refl, sym, ap, subst, ◌∙◌, arith, rules, append-nil}
+use Rattle.std.proofs.Common.{◌≡◌, ◌≤◌, ◌<◌, ◌+◌, ◌-◌, ◌*◌, ◌/◌, ◌⊎◌, inl, inr, ℕ, List, [], ◌∷◌, ◌++◌, length, map, take, drop, replicate, slice_index, Some, sym, ap, subst, ◌∙◌, arith, rules, length-append}
 use Rattle.std.specs.Prelude.{All}
 use Rattle.std.specs.List.{range_with_len}
 use Rattle.std.proofs.lemmas.List.FromFn.{length-range_with_len}
-use Rattle.std.proofs.lemmas.List.{length-map, length-take-le, get_or_append_left, get_or-append_right, get_or-replicate}
+use Rattle.std.proofs.lemmas.List.{length-map, length-take-le, length-replicate, get_or_append_left, get_or-append_right, get_or-replicate}
 use Rattle.std.proofs.lemmas.List.Elements.{All-append, All-cons, All-head, All-nil, All-tail}
 use Rattle.codec_graph.specs.CodecStates.{CodecState}
 use Rattle.stream_format.specs.Layouts.{Layout, layout_of}
@@ -16,13 +16,14 @@ use Rattle.codec_sound.specs.declared.signals.Signal.TheVariants.{Pair}
 use Rattle.codec_sound.specs.declared.heard.Heard.{Heard}
 use Rattle.codec_sound.specs.declared.heard.Heard.TheVariants.{Hole}
 use Rattle.codec_sound.specs.HeardLists.{block_size, blocks, item_of, heard_in, signal_with, frame_items, heard}
+use Rattle.period_writer.specs.declared.course.Ran.TheVariants as ran
 use Rattle.period_writer.specs.Runs.{Tally}
 use Rattle.period_writer.specs.Lines.{line_of}
 use Rattle.period_writer.specs.Standing.{Ring, limit_in}
 use Rattle.period_writer.specs.Owning.{IsPlaying}
 use Rattle.period_writer.specs.Outcomes.{HasDrained, WasStopped}
 use Rattle.period_writer.proofs.Callers.{playing_owns, playing_within}
-use Rattle.laws_hearing.specs.Plays.{without_holes, sound_at, sounds, Plays, PlaysBelow}
+use Rattle.laws_hearing.specs.Plays.{without_holes, sound_at, sounds, Plays, PlaysFront}
 use Rattle.laws_hearing.specs.Steady.{IsSteadyFrame, Steady}
 use Rattle.laws_hearing.proofs.Hearing.{pair_heard, frame_is}
 use Rattle.laws_hearing.proofs.Playing.{plays, plays_below, sounds_of}
@@ -55,46 +56,53 @@ module _ (codecs : List CodecState) (tag word : ℕ) (layout : Layout) (known : 
         ∙ length-range_with_len 0 (world.output.left / block_size layout)
 
     -- the line that the writer plays
-    pub playing_heard : (ring : Ring) (pcm : List ℕ) (tally : Tally) → IsPlaying ring pcm tally world → 500 * world.frames ≤ tally.course.from + 500 * limit_in ring → Plays layout pair (line_of tally pcm) false list
+    pub playing_heard : (ring : Ring) (pcm : List ℕ) (tally : Tally) → IsPlaying ring pcm tally world → 500 * world.frames ≤ tally.course.from + 500 * limit_in ring → PlaysFront layout pair (line_of tally pcm) list
     playing_heard ring pcm tally playing few =
         let within = playing_within ring pcm tally world playing few in
         let owns = playing_owns ring pcm tally world playing in
         let long = playing.written.whole in
         let behind = sent.behind in
-        plays layout pair world.output.entered world.output.left sent.behind list heard_is (line_of tally pcm) false 0 (λ e. refl) (omega (arith, within, long, behind))
-        (λ at below. owns.fetched at (omega (arith, below, behind)) (omega (arith, below, behind, within)) ∙ ap (λ l. slice_index l at) (sym (append-nil (line_of tally pcm))))
+        plays layout pair world.output.entered world.output.left sent.behind list heard_is (line_of tally pcm) (omega (arith, within, long, behind))
+        (λ at below. owns.fetched at (omega (arith, below, behind)) (omega (arith, below, behind, within)))
 
     -- the line that has drained, and zeros after it
-    pub drained_heard : (ring : Ring) (pcm : List ℕ) (tally : Tally) → HasDrained ring pcm tally world → Plays layout pair (line_of tally pcm) true list
+    pub drained_heard : (ring : Ring) (pcm : List ℕ) (tally : Tally) → HasDrained ring pcm tally world → Plays ran.Drained layout pair (line_of tally pcm) tally.course.sure list
     drained_heard ring pcm tally drained =
-        plays layout pair world.output.entered world.output.left sent.behind list heard_is (line_of tally pcm) true (world.output.left - tally.course.reach) (λ e. cc)
-        (let long = drained.written.whole in omega (arith, long)) each where
-          order : (at : ℕ) → (at < tally.course.reach) ⊎ (tally.course.reach ≤ at)
-          order at = search (rules, arith)
+        (world.output.left - tally.course.reach, plays layout pair world.output.entered world.output.left sent.behind list heard_is (line_of tally pcm ++ replicate (world.output.left - tally.course.reach) 0) enough each)
+      where
+        enough : world.output.left ≤ length (line_of tally pcm ++ replicate (world.output.left - tally.course.reach) 0)
+        enough =
+            let long = drained.written.whole in
+            let both = length-append (line_of tally pcm) (replicate {A = ℕ} (world.output.left - tally.course.reach) 0) in
+            let none = length-replicate {A = ℕ} (world.output.left - tally.course.reach) 0 in
+            omega (arith, long, both, none)
 
-          by : (at : ℕ) → at < world.output.left → (at < tally.course.reach) ⊎ (tally.course.reach ≤ at)
-              → slice_index world.output.entered at ≡ slice_index (line_of tally pcm ++ replicate (world.output.left - tally.course.reach) 0) at
-          by at below (inl under) =
-              let behind = sent.behind in
-              let long = drained.written.whole in
-              drained.fetched at (omega (arith, below, behind)) under
-              ∙ sym (get_or_append_left (line_of tally pcm) (replicate (world.output.left - tally.course.reach) 0) 0 at (omega (arith, under, long)))
-          by at below (inr past) =
-              let behind = sent.behind in
-              drained.silent at (omega (arith, below, behind)) past
-              ∙ sym (get_or-append_right (line_of tally pcm) (replicate (world.output.left - tally.course.reach) 0) tally.course.reach at 0 drained.written.whole past
-              ∙ get_or-replicate (world.output.left - tally.course.reach) (at - tally.course.reach) 0 0 (omega (arith, below, past)))
+        order : (at : ℕ) → (at < tally.course.reach) ⊎ (tally.course.reach ≤ at)
+        order at = search (rules, arith)
 
-          each : (at : ℕ) → at < world.output.left → slice_index world.output.entered at ≡ slice_index (line_of tally pcm ++ replicate (world.output.left - tally.course.reach) 0) at
-          each at below = by at below (order at)
+        by : (at : ℕ) → at < world.output.left → (at < tally.course.reach) ⊎ (tally.course.reach ≤ at)
+            → slice_index world.output.entered at ≡ slice_index (line_of tally pcm ++ replicate (world.output.left - tally.course.reach) 0) at
+        by at below (inl under) =
+            let behind = sent.behind in
+            let long = drained.written.whole in
+            drained.fetched at (omega (arith, below, behind)) under
+            ∙ sym (get_or_append_left (line_of tally pcm) (replicate (world.output.left - tally.course.reach) 0) 0 at (omega (arith, under, long)))
+        by at below (inr past) =
+            let behind = sent.behind in
+            drained.silent at (omega (arith, below, behind)) past
+            ∙ sym (get_or-append_right (line_of tally pcm) (replicate (world.output.left - tally.course.reach) 0) tally.course.reach at 0 drained.written.whole past
+            ∙ get_or-replicate (world.output.left - tally.course.reach) (at - tally.course.reach) 0 0 (omega (arith, below, past)))
+
+        each : (at : ℕ) → at < world.output.left → slice_index world.output.entered at ≡ slice_index (line_of tally pcm ++ replicate (world.output.left - tally.course.reach) 0) at
+        each at below = by at below (order at)
 
     -- after a stop the line below the last recorded reach
-    pub stopped_heard : (ring : Ring) (pcm : List ℕ) (tally : Tally) → WasStopped ring pcm tally world → PlaysBelow layout pair (line_of tally pcm) tally.course.sure list
-    stopped_heard ring pcm tally stopped =
+    pub stopped_heard : (ring : Ring) (pcm : List ℕ) (tally : Tally) (since to limit : ℕ) → WasStopped ring pcm tally world → Plays (ran.Late since to limit) layout pair (line_of tally pcm) tally.course.sure list
+    stopped_heard ring pcm tally since to limit stopped =
         let long = stopped.written.whole in
         let sure = stopped.written.sure in
         let behind = sent.behind in
-        plays_below layout pair world.output.entered world.output.left sent.behind list heard_is (line_of tally pcm) tally.course.sure (omega (arith, long, sure))
+        plays_below layout pair world.output.entered world.output.left sent.behind list heard_is (line_of tally pcm) tally.course.sure since to limit (omega (arith, long, sure))
         (λ at below under. stopped.fetched at (omega (arith, below, behind)) under)
 
 -- ---- every item of a list

@@ -1,8 +1,8 @@
 -- A line that was fetched is played.
-use Rattle.std.proofs.Common.{◌≡◌, ◌≤◌, ◌<◌, ◌+◌, ◌*◌, ◌/◌, ℕ, zero, suc, Bool, false, List, [], ◌∷◌, ◌++◌, length, map, take, drop, replicate, get_or, slice_index, refl, sym, ap, ◌∙◌, arith, length-append, length-drop}
+use Rattle.std.proofs.Common.{◌≡◌, ◌≤◌, ◌<◌, ◌+◌, ◌*◌, ◌/◌, ℕ, zero, suc, List, [], ◌∷◌, ◌++◌, length, map, take, drop, get_or, slice_index, refl, sym, ap, ◌∙◌, arith, length-append, length-drop}
 use Rattle.std.specs.List.{range_with_len}
 use Rattle.std.proofs.Math.Nat.{div-mul-le_self, mul-le-mul_right}
-use Rattle.std.proofs.lemmas.List.{length-take-le, length-replicate, get_or-take, get_or-drop, get_or_append_left}
+use Rattle.std.proofs.lemmas.List.{length-take-le, get_or-take, get_or-drop, get_or_append_left}
 use Rattle.std.proofs.lemmas.Grind.{same_number_lists}
 use Rattle.std.proofs.lemmas.List.FromFn.{length-map-range_with_len, get_or-map-range_with_len}
 use Rattle.stream_format.specs.Layouts.{Layout}
@@ -10,7 +10,8 @@ use Rattle.codec_sound.specs.declared.signals.Signal.TheVariants.{Pair}
 use Rattle.codec_sound.specs.declared.heard.Heard.{Heard}
 use Rattle.codec_sound.specs.declared.heard.Heard.TheVariants.{Hole}
 use Rattle.codec_sound.specs.HeardLists.{block_at, block_size, blocks, item_of}
-use Rattle.laws_hearing.specs.Plays.{sound_at, sounds, without_holes, Plays, PlaysBelow}
+use Rattle.period_writer.specs.declared.course.Ran.TheVariants as ran
+use Rattle.laws_hearing.specs.Plays.{sound_at, sounds, without_holes, Plays, PlaysFront}
 
 -- ---- the same bytes give the same sounds
 
@@ -67,24 +68,20 @@ module _ (layout : Layout) (pair : ℕ) (entered : List ℕ) (left : ℕ) (behin
   sent_long : length (take left entered) ≡ left
   sent_long = length-take-le left entered behind
 
-  -- the line and zeros after it
-  pub plays : (line : List ℕ) (drained : Bool) (zeros : ℕ) → (drained ≡ false → zeros ≡ 0) → left ≤ length line + zeros
-      → ((at : ℕ) → at < left → slice_index entered at ≡ slice_index (line ++ replicate zeros 0) at) → Plays layout pair line drained list
-  plays line drained zeros none within same = record {
+  -- these bytes
+  pub plays : (bytes : List ℕ) → left ≤ length bytes → ((at : ℕ) → at < left → slice_index entered at ≡ slice_index bytes at) → PlaysFront layout pair bytes list
+  plays bytes within same = record {
     count = n;
-    zeros = zeros;
-    none = none;
     within = let few = whole in omega (arith, few, within);
     are = (
         heard
-        ∙ sounds_agree layout pair n (take left entered) (line ++ replicate zeros 0) (let few = whole in let long = sent_long in omega (arith, few, long))
-        (let few = whole in let one = length-append line (replicate {A = ℕ} zeros 0) in let two = length-replicate {A = ℕ} zeros 0 in omega (arith, few, within, one, two))
+        ∙ sounds_agree layout pair n (take left entered) bytes (let few = whole in let long = sent_long in omega (arith, few, long)) (let few = whole in omega (arith, few, within))
         (λ k below. let few = whole in get_or-take left entered k 0 (omega (arith, below, few)) ∙ same k (omega (arith, below, few))));
   }
 
   -- below a position
-  pub plays_below : (line : List ℕ) (reach : ℕ) → reach ≤ length line → ((at : ℕ) → at < left → at < reach → slice_index entered at ≡ slice_index line at) → PlaysBelow layout pair line reach list
-  plays_below line reach long same place within below =
+  pub plays_below : (line : List ℕ) (reach since to limit : ℕ) → reach ≤ length line → ((at : ℕ) → at < left → at < reach → slice_index entered at ≡ slice_index line at) → Plays (ran.Late since to limit) layout pair line reach list
+  plays_below line reach since to limit long same place within below =
       let number = ap length heard ∙ length-map-range_with_len (sound_at layout pair (take left entered)) 0 n in
       let inside : place < n = omega (arith, within, number) in
       let up : place + 1 ≤ n = omega (arith, inside) in
@@ -102,19 +99,11 @@ slice_front : (xs ys : List ℕ) (k : ℕ) → k < length xs → slice_index xs 
 slice_front xs ys k below = sym (get_or_append_left xs ys 0 k below)
 
 -- what plays of a line plays of one that begins with it
-pub plays_longer : (layout : Layout) (pair : ℕ) (line more : List ℕ) (list : List Heard) → Plays layout pair line false list → Plays layout pair (line ++ more) false list
+pub plays_longer : (layout : Layout) (pair : ℕ) (line more : List ℕ) (list : List Heard) → PlaysFront layout pair line list → PlaysFront layout pair (line ++ more) list
 plays_longer layout pair line more list plays =
-    let none = plays.none refl in
     let few = plays.within in
-    let long = length-append line more in
-    let short = length-append line (replicate {A = ℕ} plays.zeros 0) in
-    let zeros = length-replicate {A = ℕ} plays.zeros 0 in
-    let whole = length-append (line ++ more) (replicate {A = ℕ} 0 0) in record {
+    let long = length-append line more in record {
       count = plays.count;
-      zeros = 0;
-      none = λ e. refl;
-      within = omega (arith, few, none, long);
-      are = plays.are ∙ sounds_agree layout pair plays.count (line ++ replicate plays.zeros 0) ((line ++ more) ++ replicate 0 0) (omega (arith, few, short, zeros)) (omega (arith, few, none, long, whole))
-          (λ k below. let under : k < length line = omega (arith, below, few, none) in
-          sym (slice_front line (replicate plays.zeros 0) k under) ∙ slice_front line more k under ∙ slice_front (line ++ more) (replicate 0 0) k (omega (arith, under, long)));
+      within = omega (arith, few, long);
+      are = plays.are ∙ sounds_agree layout pair plays.count line (line ++ more) few (omega (arith, few, long)) (λ k below. slice_front line more k (omega (arith, below, few)));
     }

@@ -8,6 +8,8 @@ use Rattle.codec_sound.specs.declared.signals.Signal.TheVariants.{Pair}
 use Rattle.codec_sound.specs.declared.heard.Heard.{Heard}
 use Rattle.codec_sound.specs.declared.heard.Heard.TheVariants.{Sound, Quiet, Hole, Altered}
 use Rattle.codec_sound.specs.HeardLists.{block_at, block_size, item_of}
+use Rattle.period_writer.specs.declared.course.Ran.{Ran}
+use Rattle.period_writer.specs.declared.course.Ran.TheVariants as ran
 
 -- the two samples of a pair in the block of some bytes at this place, counted from 0
 abbrev pub sound_at : Layout → (pair : ℕ) → (bytes : List ℕ) → (place : ℕ) → Heard
@@ -26,18 +28,20 @@ is_hole (Sound left right) = false
 abbrev pub without_holes : List Heard → List Heard
 without_holes list = filter (λ item. not (is_hole item)) list
 
--- but for its holes the list is the pair's samples of some whole blocks of the line, from its first one on, each once
--- and in order. Where the line has drained, zeros may follow it
-pub record Plays (layout : Layout) (pair : ℕ) (line : List ℕ) (drained : Bool) (list : List Heard) : Type 0 where
+-- but for its holes the list is the pair's samples of some whole blocks of these bytes, from the first one on, each
+-- once and in order
+pub record PlaysFront (layout : Layout) (pair : ℕ) (bytes : List ℕ) (list : List Heard) : Type 0 where
   pub count : ℕ
-  pub zeros : ℕ
-  pub none : drained ≡ false → zeros ≡ 0
-  pub within : count * block_size layout ≤ length line + zeros
-  pub are : without_holes list ≡ sounds layout pair (line ++ replicate zeros 0) count
+  pub within : count * block_size layout ≤ length bytes
+  pub are : without_holes list ≡ sounds layout pair bytes count
 
--- but for its holes the list has the line's blocks below a position of it
-abbrev pub PlaysBelow : Layout → (pair : ℕ) → (line : List ℕ) → (reach : ℕ) → List Heard → Type 0
-PlaysBelow layout pair line reach list =
+-- what a pin heard of a line, by how the last run ended: a front of the line; once it has drained, a front of the line
+-- and zeros after it; after a late run, but for the holes, the line's blocks below its reach
+abbrev pub Plays : Ran → Layout → (pair : ℕ) → (line : List ℕ) → (reach : ℕ) → List Heard → Type 0
+Plays ran.Playing layout pair line reach list = PlaysFront layout pair line list
+Plays ran.Drained layout pair line reach list =
+    (zeros : ℕ) × PlaysFront layout pair (line ++ replicate zeros 0) list
+Plays (ran.Late from to limit) layout pair line reach list =
     (place : ℕ) → place < length (without_holes list) → (place + 1) * block_size layout ≤ reach
     → get_or (without_holes list) place Hole ≡ sound_at layout pair line place
 

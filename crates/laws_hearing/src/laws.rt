@@ -1,5 +1,5 @@
 //! Laws of what is heard, each the contract of a function that does nothing.
-ghost use Rattle.std.specs.Prelude.{◌≡◌, ◌≤◌, ◌+◌, ◌*◌, ◌/◌, ◌++◌, ℕ, true, false, List, Some, All, length, drop};
+ghost use Rattle.std.specs.Prelude.{◌≡◌, ◌≤◌, ◌+◌, ◌*◌, ◌/◌, ◌++◌, ℕ, List, Some, All, length, drop};
 ghost use Rattle.codec_graph.specs.CodecStates.{CodecState};
 ghost use Rattle.world_steps.specs.declared.Step.{Step};
 ghost use Rattle.hda_world.specs.Worlds.{World, codec_at};
@@ -12,12 +12,13 @@ ghost use Rattle.world_streams.specs.Streams.{begun};
 ghost use Rattle.codec_sound.specs.declared.signals.Signal.TheVariants.{Pair, Silence};
 ghost use Rattle.codec_sound.specs.declared.heard.Heard.{Heard};
 ghost use Rattle.codec_sound.specs.HeardLists.{block_size, signal_with, heard};
+ghost use Rattle.period_writer.specs.declared.course.Ran.TheVariants as ran;
 ghost use Rattle.period_writer.specs.Runs.{Tally};
 ghost use Rattle.period_writer.specs.Lines.{line_of};
 ghost use Rattle.period_writer.specs.Standing.{Ring, limit_in};
 ghost use Rattle.period_writer.specs.Owning.{IsPlaying};
 ghost use Rattle.period_writer.specs.Outcomes.{HasDrained, WasStopped};
-ghost use Rattle.laws_hearing.specs.Plays.{Plays, PlaysBelow, WasSent, IsSilent, without_holes};
+ghost use Rattle.laws_hearing.specs.Plays.{Plays, PlaysFront, WasSent, IsSilent, without_holes};
 ghost use Rattle.laws_hearing.specs.Steady.{Steady, LeavesSteady, AreIdle, LeavesCommands};
 
 /// While CORB has no command that was not fetched, no step of the device changes a setting.
@@ -66,17 +67,21 @@ pub fn the_line_is_heard()
         → Steady codecs tag word (block_size layout) from world → HasSent from world
         → signal_with (codec_at address codecs) tag word (Some layout) pin ≡ Pair pair → IsPlaying ring pcm tally world
         → 500 * world.frames ≤ tally.course.from + 500 * limit_in ring
-        → Plays layout pair (line_of tally pcm) false (heard address pin (drop from world.carried)) }
+        → Plays ran.Playing layout pair (line_of tally pcm) tally.course.sure
+        (heard address pin (drop from world.carried)) }
     ensures drained { (codecs : List CodecState) (tag word : ℕ) (layout : Layout) (from : ℕ) (world : World)
         (address pin pair : ℕ) (ring : Ring) (pcm : List ℕ) (tally : Tally) → layout_of word ≡ Some layout
         → Steady codecs tag word (block_size layout) from world → HasSent from world
         → signal_with (codec_at address codecs) tag word (Some layout) pin ≡ Pair pair → HasDrained ring pcm tally world
-        → Plays layout pair (line_of tally pcm) true (heard address pin (drop from world.carried)) }
+        → Plays ran.Drained layout pair (line_of tally pcm) tally.course.sure
+        (heard address pin (drop from world.carried)) }
     ensures stopped { (codecs : List CodecState) (tag word : ℕ) (layout : Layout) (from : ℕ) (world : World)
-        (address pin pair : ℕ) (ring : Ring) (pcm : List ℕ) (tally : Tally) → layout_of word ≡ Some layout
+        (address pin pair : ℕ) (ring : Ring) (pcm : List ℕ) (tally : Tally) (since to limit : ℕ)
+        → layout_of word ≡ Some layout
         → Steady codecs tag word (block_size layout) from world → HasSent from world
         → signal_with (codec_at address codecs) tag word (Some layout) pin ≡ Pair pair → WasStopped ring pcm tally world
-        → PlaysBelow layout pair (line_of tally pcm) tally.course.sure (heard address pin (drop from world.carried)) }
+        → Plays (ran.Late since to limit) layout pair (line_of tally pcm) tally.course.sure
+        (heard address pin (drop from world.carried)) }
 {}
 
 /// A pin that hears a pair of a steady stream heard as many blocks as were sent.
@@ -105,6 +110,6 @@ pub fn routed_pins_hear_what_was_sent()
 
 /// What plays of a line plays of a longer one that begins with it.
 pub fn longer_lines_are_heard()
-    ensures { (layout : Layout) (pair : ℕ) (line more : List ℕ) (list : List Heard) → Plays layout pair line false list
-        → Plays layout pair (line ++ more) false list }
+    ensures { (layout : Layout) (pair : ℕ) (line more : List ℕ) (list : List Heard) → PlaysFront layout pair line list
+        → PlaysFront layout pair (line ++ more) list }
 {}

@@ -43,14 +43,14 @@ use Rattle.period_writer.specs.Outcomes.{HasNotWrapped, HasDrained, WasStopped, 
 use Rattle.period_writer.proofs.Callers.{started_by}
 use Rattle.driver_progress.specs.Shutting.{shut_accesses}
 use Rattle.driver_bring_up.specs.declared.bringing.BringUp.{BringUp}
-use Rattle.laws_hearing.specs.Plays.{Plays, PlaysBelow, WasSent, IsSilent, without_holes}
+use Rattle.laws_hearing.specs.Plays.{Plays, PlaysFront, WasSent, IsSilent, without_holes}
 use Rattle.laws_hearing.specs.Steady.{Steady}
 use Rattle.audio_driver.specs.States.{is_open, was_late, IsLeft}
 use Rattle.audio_driver.specs.Sounding.{ShutsAlone, StopsSound, EndTells}
 use Rattle.audio_driver.proofs.Callers.{open_playing}
 use Rattle.laws_stream.specs.Lives.{Along, IsStopped, IsGoing, HasStopped, Lives}
 use Rattle.laws_stream.specs.Sounding.{StreamIs, IsHeardBy, StreamSounds}
-use Rattle.laws_stream.specs.Ending.{HeardAs, HearTheLine}
+use Rattle.laws_stream.specs.Ending.{HearTheLine}
 use Rattle.laws_stream.proofs.Rows.{woven_all, woven_alone, carried_alone, went_same}
 use Rattle.laws_stream.proofs.Lives.{Along-end, Along-front, stays_stopped}
 use Rattle.laws_stream.proofs.Beside.{Laws, heard_row, drained_stopped, stopped_along}
@@ -65,16 +65,16 @@ not_true is = cc
 pub record HearLaws : Type 0 where
   pub playing : (codecs : List CodecState) (tag word : ℕ) (layout : Layout) (from : ℕ) (world : World) (address pin pair : ℕ) (ring : Ring) (pcm : List ℕ) (tally : Tally) → layout_of word ≡ Some layout
       → Steady codecs tag word (block_size layout) from world → HasSent from world → signal_with (codec_at address codecs) tag word (Some layout) pin ≡ Pair pair → IsPlaying ring pcm tally world
-      → 500 * world.frames ≤ tally.course.from + 500 * limit_in ring → Plays layout pair (line_of tally pcm) false (heard address pin (drop from world.carried))
+      → 500 * world.frames ≤ tally.course.from + 500 * limit_in ring → Plays ran.Playing layout pair (line_of tally pcm) tally.course.sure (heard address pin (drop from world.carried))
   pub drained : (codecs : List CodecState) (tag word : ℕ) (layout : Layout) (from : ℕ) (world : World) (address pin pair : ℕ) (ring : Ring) (pcm : List ℕ) (tally : Tally) → layout_of word ≡ Some layout
       → Steady codecs tag word (block_size layout) from world → HasSent from world → signal_with (codec_at address codecs) tag word (Some layout) pin ≡ Pair pair → HasDrained ring pcm tally world
-      → Plays layout pair (line_of tally pcm) true (heard address pin (drop from world.carried))
-  pub stopped : (codecs : List CodecState) (tag word : ℕ) (layout : Layout) (from : ℕ) (world : World) (address pin pair : ℕ) (ring : Ring) (pcm : List ℕ) (tally : Tally) → layout_of word ≡ Some layout
+      → Plays ran.Drained layout pair (line_of tally pcm) tally.course.sure (heard address pin (drop from world.carried))
+  pub stopped : (codecs : List CodecState) (tag word : ℕ) (layout : Layout) (from : ℕ) (world : World) (address pin pair : ℕ) (ring : Ring) (pcm : List ℕ) (tally : Tally) (since to limit : ℕ) → layout_of word ≡ Some layout
       → Steady codecs tag word (block_size layout) from world → HasSent from world → signal_with (codec_at address codecs) tag word (Some layout) pin ≡ Pair pair → WasStopped ring pcm tally world
-      → PlaysBelow layout pair (line_of tally pcm) tally.course.sure (heard address pin (drop from world.carried))
+      → Plays (ran.Late since to limit) layout pair (line_of tally pcm) tally.course.sure (heard address pin (drop from world.carried))
   pub count : (codecs : List CodecState) (tag word : ℕ) (layout : Layout) (from : ℕ) (world : World) (address pin pair : ℕ) → layout_of word ≡ Some layout → Steady codecs tag word (block_size layout) from world
       → HasSent from world → signal_with (codec_at address codecs) tag word (Some layout) pin ≡ Pair pair → length (without_holes (heard address pin (drop from world.carried))) ≡ world.output.left / block_size layout
-  pub longer : (layout : Layout) (pair : ℕ) (line more : List ℕ) (list : List Heard) → Plays layout pair line false list → Plays layout pair (line ++ more) false list
+  pub longer : (layout : Layout) (pair : ℕ) (line more : List ℕ) (list : List Heard) → PlaysFront layout pair line list → PlaysFront layout pair (line ++ more) list
   pub sent_alone : (codecs : List CodecState) (tag word : ℕ) (layout : Layout) (from : ℕ) (world : World) (address pin pair : ℕ) → layout_of word ≡ Some layout → Steady codecs tag word (block_size layout) from world
       → signal_with (codec_at address codecs) tag word (Some layout) pin ≡ Pair pair → All WasSent (heard address pin (drop from world.carried))
   pub silent : (codecs : List CodecState) (tag word : ℕ) (layout : Layout) (from : ℕ) (world : World) (address pin : ℕ) → layout_of word ≡ Some layout → Steady codecs tag word (block_size layout) from world
@@ -121,16 +121,16 @@ module _ (laws : HearLaws) (codecs : List CodecState) (ring : Ring) (pcm : List 
   -- of a stream that was over
   over_heard : (was : Ran) → is_open was ≡ false → StreamIs was ring pcm tally world → (address pin pair : ℕ)
       → signal_with (codec_at address codecs) 1 (format_word ring.geometry.format) (Some (layout ring.geometry.format)) pin ≡ Pair pair
-      → HeardAs was (layout ring.geometry.format) pair (line_of tally pcm) tally.course.sure (heard address pin world.carried)
+      → Plays was (layout ring.geometry.format) pair (line_of tally pcm) tally.course.sure (heard address pin world.carried)
   over_heard ran.Playing over stream address pin pair is = absurd (not_true (sym over))
   over_heard ran.Drained over stream address pin pair is =
       laws.drained codecs 1 (format_word ring.geometry.format) (layout ring.geometry.format) 0 world address pin pair ring pcm tally (read_back ring.geometry.format) hears.steady hears.sent is stream
   over_heard (ran.Late from to limit) over stream address pin pair is =
-      laws.stopped codecs 1 (format_word ring.geometry.format) (layout ring.geometry.format) 0 world address pin pair ring pcm tally (read_back ring.geometry.format) hears.steady hears.sent is stream
+      laws.stopped codecs 1 (format_word ring.geometry.format) (layout ring.geometry.format) 0 world address pin pair ring pcm tally from to limit (read_back ring.geometry.format) hears.steady hears.sent is stream
 
   hear : (carried : List CarriedFrame) → carried ≡ world.carried
       → ((address pin pair : ℕ) → signal_with (codec_at address codecs) 1 (format_word ring.geometry.format) (Some (layout ring.geometry.format)) pin ≡ Pair pair
-      → HeardAs tally.course.ran (layout ring.geometry.format) pair (line_of tally pcm) tally.course.sure (heard address pin world.carried))
+      → Plays tally.course.ran (layout ring.geometry.format) pair (line_of tally pcm) tally.course.sure (heard address pin world.carried))
       → (tally.course.ran ≡ ran.Drained → tally.course.at ≤ world.output.left) → HearTheLine codecs ring.geometry.format pcm tally carried
   hear carried same plays past = subst (HearTheLine codecs ring.geometry.format pcm tally) (sym same) (record {
     plays = plays;
@@ -226,10 +226,10 @@ module _ (laws : HearLaws) (codecs : List CodecState) (ring : Ring) (pcm : List 
         few_frames (world_of begins).frames run.facts.to tally.course.from (limit_in ring) clock_is (not_more (500 * limit_in ring) (run.facts.to - tally.course.from) late)
 
     playing_heard : (address pin pair : ℕ) → signal_with (codec_at address codecs) 1 (format_word ring.geometry.format) (Some (layout ring.geometry.format)) pin ≡ Pair pair
-        → HeardAs tally'.course.ran (layout ring.geometry.format) pair (line_of tally' pcm) tally'.course.sure (heard address pin (world_of begins).carried)
+        → Plays tally'.course.ran (layout ring.geometry.format) pair (line_of tally' pcm) tally'.course.sure (heard address pin (world_of begins).carried)
     playing_heard address pin pair is =
-        subst (λ (was : Ran). HeardAs was (layout ring.geometry.format) pair (line_of tally' pcm) tally'.course.sure (heard address pin (world_of begins).carried)) plays
-        (subst (λ (line : List ℕ). Plays (layout ring.geometry.format) pair line false (heard address pin (world_of begins).carried)) (sym line_is)
+        subst (λ (was : Ran). Plays was (layout ring.geometry.format) pair (line_of tally' pcm) tally'.course.sure (heard address pin (world_of begins).carried)) plays
+        (subst (λ (line : List ℕ). PlaysFront (layout ring.geometry.format) pair line (heard address pin (world_of begins).carried)) (sym line_is)
         (laws.longer (layout ring.geometry.format) pair (line_of tally pcm) (run_bytes m tally.course run.facts (drop tally.course.used pcm)) (heard address pin (world_of begins).carried)
         (laws.playing codecs 1 (format_word ring.geometry.format) (layout ring.geometry.format) 0 (world_of begins) address pin pair ring pcm tally (read_back ring.geometry.format) hears.steady hears.sent is playing few)))
 
@@ -350,7 +350,7 @@ module _ (on : Laws) (laws : HearLaws) (codecs : List CodecState) (pcm : List �
     abbrev HeardAt : Ran → Type 0
     HeardAt was =
         (address pin pair : ℕ) → signal_with (codec_at address codecs) 1 (format_word writer.geometry.format) (Some (layout writer.geometry.format)) pin ≡ Pair pair
-        → HeardAs was (layout writer.geometry.format) pair (line_of tally' pcm) tally'.course.sure (heard address pin (world_of ends).carried)
+        → Plays was (layout writer.geometry.format) pair (line_of tally' pcm) tally'.course.sure (heard address pin (world_of ends).carried)
 
     ends_by : (answer : Ran) → answer ≡ tally'.course.ran → FinishTells ring pcm tally answer tally' begins ends → Ends
     ends_by ran.Playing is run = (

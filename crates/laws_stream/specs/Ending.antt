@@ -1,25 +1,17 @@
 -- What is heard of a driver that was closed. This project's own.
-use Rattle.std.specs.Prelude.{◌≡◌, ◌≤◌, ◌/◌, true, false, ℕ, List, length, All, Some}
+use Rattle.std.specs.Prelude.{◌≡◌, ◌≤◌, ◌/◌, ℕ, List, length, All, Some}
 use Rattle.codec_graph.specs.CodecStates.{CodecState}
 use Rattle.stream_format.specs.declared.format.Format.{Format}
 use Rattle.stream_format.specs.Words.{format_word}
-use Rattle.stream_format.specs.Layouts.{Layout, layout}
+use Rattle.stream_format.specs.Layouts.{layout}
 use Rattle.codec_sound.specs.declared.signals.Signal.TheVariants.{Pair, Silence}
 use Rattle.codec_sound.specs.declared.heard.Heard.{Heard}
 use Rattle.codec_sound.specs.HeardLists.{block_size, heard, signal_with}
 use Rattle.hda_world.specs.Worlds.{CarriedFrame, codec_at}
-use Rattle.period_writer.specs.declared.course.Ran.{Ran}
 use Rattle.period_writer.specs.declared.course.Ran.TheVariants as ran
 use Rattle.period_writer.specs.Runs.{Tally}
 use Rattle.period_writer.specs.Lines.{line_of}
-use Rattle.laws_hearing.specs.Plays.{Plays, PlaysBelow, WasSent, IsSilent, without_holes}
-
--- a list of what a pin heard, by how the last run ended: the pair's samples of the line, of which after a late run
--- those below its reach
-abbrev pub HeardAs : Ran → Layout → (pair : ℕ) → (line : List ℕ) → (reach : ℕ) → List Heard → Type 0
-HeardAs ran.Playing sample_layout pair line reach list = Plays sample_layout pair line false list
-HeardAs ran.Drained sample_layout pair line reach list = Plays sample_layout pair line true list
-HeardAs (ran.Late from to limit) sample_layout pair line reach list = PlaysBelow sample_layout pair line reach list
+use Rattle.laws_hearing.specs.Plays.{Plays, WasSent, IsSilent, without_holes}
 
 -- what pins of these codecs heard of what link frames carried: one to which a pair comes heard the line, one to which
 -- nothing comes heard nothing
@@ -27,7 +19,7 @@ pub record HearTheLine (codecs : List CodecState) (format : Format) (pcm : List 
     (carried : List CarriedFrame) : Type 0 where
   pub plays : (address pin pair : ℕ) → signal_with (codec_at address codecs) 1 (format_word format)
       (Some (layout format)) pin ≡ Pair pair
-      → HeardAs tally.course.ran (layout format) pair (line_of tally pcm) tally.course.sure (heard address pin carried)
+      → Plays tally.course.ran (layout format) pair (line_of tally pcm) tally.course.sure (heard address pin carried)
   -- once the line has drained, as many blocks as end at or below where the link stood at the last run, past all sound
   pub all_sent : tally.course.ran ≡ ran.Drained → (address pin pair : ℕ)
       → signal_with (codec_at address codecs) 1 (format_word format) (Some (layout format)) pin ≡ Pair pair

@@ -136,7 +136,7 @@ nothing P = λ k d within. absurd (omega (arith, within))
 -- no pin heard anything where no link frame carried anything, which is what its plan says of a line without runs
 none_hears : (format : Format) (pcm : List ℕ) (pair : ℕ) (found : Outcome) → HearsBy format pcm tally_opened pair found []
 none_hears format pcm pair (outcome.Route route) =
-    record { plays = record { count = 0; zeros = 0; none = λ is. refl; within = omega arith; are = refl }; alone = nothing WasSent; all = λ drained. absurd (never_drained drained) }
+    record { plays = record { count = 0; within = omega arith; are = refl }; alone = nothing WasSent; all = λ drained. absurd (never_drained drained) }
 none_hears format pcm pair outcome.Blocked = nothing IsSilent
 none_hears format pcm pair outcome.NoPath = nothing IsSilent
 

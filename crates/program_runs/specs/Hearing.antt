@@ -16,9 +16,8 @@ use Rattle.hda_world.specs.Tellings.{Telling, world_of}
 use Rattle.period_writer.specs.declared.course.Ran.TheVariants as ran
 use Rattle.period_writer.specs.Runs.{Tally, tally_opened}
 use Rattle.period_writer.specs.Lines.{line_of}
-use Rattle.laws_hearing.specs.Plays.{WasSent, IsSilent, without_holes}
+use Rattle.laws_hearing.specs.Plays.{Plays, WasSent, IsSilent, without_holes}
 use Rattle.laws_stream.specs.Lives.{Along, IsStopped}
-use Rattle.laws_stream.specs.Ending.{HeardAs}
 
 -- what link frames carried, as each candidate pin of some codecs hears it, in the order of their plans
 abbrev pub heard_of : List CarriedFrame → CodecFile → PinPlan → PinHeard
@@ -38,7 +37,7 @@ lists_heard carried files plans = flat_map (heard_by carried) (zip files plans)
 -- late run it is the line up to the last recorded reach, which is lower where that run took silence back. Once the line
 -- has drained it has all blocks that end at or below where the link stood at the last run
 pub record HearsItsPair (format : Format) (pcm : List ℕ) (tally : Tally) (pair : ℕ) (list : List Heard) : Type 0 where
-  pub plays : HeardAs tally.course.ran (layout format) pair (line_of tally pcm) tally.course.sure list
+  pub plays : Plays tally.course.ran (layout format) pair (line_of tally pcm) tally.course.sure list
   pub alone : All WasSent list
   pub all : tally.course.ran ≡ ran.Drained → tally.course.at / block_size (layout format) ≤ length (without_holes list)
 

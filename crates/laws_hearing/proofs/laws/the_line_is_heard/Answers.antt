@@ -10,5 +10,5 @@ returns-clause-drained c = λ codecs tag word layout from world address pin pair
     drained_heard codecs tag word layout known (some_of word layout known) from world steady sent address pin pair is ring pcm tally drained
 
 pub returns-clause-stopped : goal.returns-clause-stopped
-returns-clause-stopped c = λ codecs tag word layout from world address pin pair ring pcm tally known steady sent is stopped.
-    stopped_heard codecs tag word layout known (some_of word layout known) from world steady sent address pin pair is ring pcm tally stopped
+returns-clause-stopped c = λ codecs tag word layout from world address pin pair ring pcm tally since to limit known steady sent is stopped.
+    stopped_heard codecs tag word layout known (some_of word layout known) from world steady sent address pin pair is ring pcm tally since to limit stopped
