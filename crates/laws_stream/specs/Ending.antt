@@ -5,7 +5,6 @@ use Rattle.stream_format.specs.declared.format.Format.{Format}
 use Rattle.stream_format.specs.Words.{format_word}
 use Rattle.stream_format.specs.Layouts.{layout}
 use Rattle.codec_sound.specs.declared.signals.Signal.TheVariants.{Pair, Silence}
-use Rattle.codec_sound.specs.declared.heard.Heard.{Heard}
 use Rattle.codec_sound.specs.HeardLists.{block_size, heard, signal_with}
 use Rattle.hda_world.specs.Worlds.{CarriedFrame, codec_at}
 use Rattle.period_writer.specs.declared.course.Ran.TheVariants as ran
