@@ -186,10 +186,10 @@ and_none true b is = is
 and_none false b is = refl
 
 -- a run that ends in time is not late
-pub in_time : (m : Measures) (trail : period.Trail) (facts : RunFacts) → facts.to ≤ trail.from + 500 * m.limit → facts.to ≤ facts.from + 500 * m.slack → is_late m trail facts ≡ false
-in_time m trail facts soon quick =
-    ap (λ (late : Bool). late || is_slow m trail facts) (and_none trail.started (is_over m.limit trail.from facts.to) (not_over m.limit trail.from facts.to soon))
-    ∙ and_none (takes_back m trail facts) (is_over m.slack facts.from facts.to) (not_over m.slack facts.from facts.to quick)
+pub in_time : (m : Measures) (course : period.Course) (facts : RunFacts) → facts.to ≤ course.from + 500 * m.limit → facts.to ≤ facts.from + 500 * m.slack → is_late m course facts ≡ false
+in_time m course facts soon quick =
+    ap (λ (late : Bool). late || is_slow m course facts) (and_none course.started (is_over m.limit course.from facts.to) (not_over m.limit course.from facts.to soon))
+    ∙ and_none (takes_back m course facts) (is_over m.slack facts.from facts.to) (not_over m.slack facts.from facts.to quick)
 
 -- ---- where it leads
 
@@ -282,7 +282,7 @@ module _ (task : Task) (trail trail' : Trail) (accesses : List Event) (world : W
   -- what a run leads to that ended at a moment
   ran_so : (turn : Option DriverLine) (later : List Request) (there : World) → AreAccesses accesses → (run : IsLater task trail.state (budget_of turn) seen later accesses) → All (ReadsNone WALCLK) run.back
       → IsClocked run.from run.to world there → IsInTime task there.frames trail → there.frames ≤ world.frames + m.slack
-      → trail'.state ≡ record trail.state { phase = phase_played task (tally_next task trail.state turn seen).trail.ran; rings = polled trail.state.rings seen; tally = tally_next task trail.state turn seen }
+      → trail'.state ≡ record trail.state { phase = phase_played task (tally_next task trail.state turn seen).course.ran; rings = polled trail.state.rings seen; tally = tally_next task trail.state turn seen }
       → HasPlayedOn task turn later trail trail' accesses world
   ran_so turn later there are run quiet clocks in_time_is quick leads =
       let state = trail.state in

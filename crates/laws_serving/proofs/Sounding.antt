@@ -75,7 +75,7 @@ pub record IsOver (commands : ℕ) (trail : Trail) : Type 0 where
   pub phase : trail.state.phase ≡ Drained
   pub sent_is : trail.state.sent ≡ commands
 
-how_played : (m : Measures) (tally : Tally) (budget left from lpib to : ℕ) → (tally_if false m tally (facts_of budget left from lpib to)).trail.ran ≡ (if has_drained m tally.course (facts_of budget left from lpib to) then ended.Drained else ended.Playing)
+how_played : (m : Measures) (tally : Tally) (budget left from lpib to : ℕ) → (tally_if false m tally (facts_of budget left from lpib to)).course.ran ≡ (if has_drained m tally.course (facts_of budget left from lpib to) then ended.Drained else ended.Playing)
 how_played m tally budget left from lpib to = refl
 
 module _ (task : Task) (graphs : List RawCodec) (closing : List Event) (commands : ℕ) where
