@@ -14,7 +14,7 @@ use Rattle.sound_report.specs.declared.played.Played.{Played}
 use Rattle.sound_report.specs.declared.status.Status.{Status}
 use Rattle.sound_report.specs.declared.status.Status.TheVariants.{Done, WordsRefused, ShelfFailed, SinkFailed, CodecRefused, WavRefused, ScheduleRefused, NothingRouted, Unanswered, Late, ScheduleEnded, OutOfMemory, GeometryRefused, WavShrank}
 use Rattle.sound_report.specs.PlanLines.{plans_lines}
-use Rattle.hda_program.specs.Answers.{IsMeant, RouteAnswers, WalkAnswers, MachineWalks, PlansWalk, PlayAnswers, MachinePlays, SoundPlays, SchedulePlays, PlansPlay}
+use Rattle.hda_program.specs.Answers.{IsMeant, RouteAnswers, WalkAnswers, MachineWalks, PlansWalk, PlayAnswers, AtCodec, AtWav, AtSchedule, AtRing, AtPlans, AtRun}
 use Rattle.hda_program.specs.Asks.{IsNoCommand, IsRouteOf, IsWalkOf, IsPlayOf, Names, NamesCodecFile, codec_of, files_asked, files_of}
 use Rattle.program_runs.specs.Walks.{walk_format}
 use Rattle.hda_program.specs.Causes.{HasBadCodecFile, HasBadRing, HasBadSchedule, HasBadWav, HasPlanned, HasStoppedUnread, HasUnreadFile, WantsRun, WantsSound}
@@ -145,70 +145,41 @@ module _ (told : Option Files) (failed emptied unasked : List ℕ → Type 0) (g
   -- ---- `play`
 
   module _ (codec wav name : List ℕ) (periods period : ℕ) (meant : Meant) (is : IsPlayOf words codec wav name periods period) where
-    -- what the files gave at most
-    abbrev codec_gave : (machine : Machine) → IsMachineOf told codec machine → ℕ → Type 0
-    codec_gave machine file bytes = gave (length file.bytes + bytes)
-
-    abbrev head_gave : (machine : Machine) (head : WavHead) → IsMachineOf told codec machine → ℕ → Type 0
-    head_gave machine head file bytes = codec_gave machine file (bytes_before head + bytes)
-
-    abbrev steps_gave : (machine : Machine) (head : WavHead) (schedule : Schedule) → IsMachineOf told codec machine → IsScheduleOf told name schedule → ℕ → Type 0
-    steps_gave machine head schedule file steps bytes = head_gave machine head file (length steps.bytes + bytes)
-
-    -- the names other than the codec file's under which it was not asked
-    abbrev beside : List ℕ → Type 0
-    beside other = other ≢ codec → unasked other
-
     play_wants : (head : WavHead) → IsHeadOf told wav head → WantsSound told words codec name head
     play_wants head file = record { wav_name = wav; periods = periods; period = period; asks = is; wav_file = file }
 
-    play_plans : (machine : Machine) (head : WavHead) (schedule : Schedule) (geometry : Geometry) (plans : List Plan) → (file : IsMachineOf told codec machine) → IsHeadOf told wav head
-        → (steps : IsScheduleOf told name schedule) → IsRingOf periods period machine head geometry → HavePlans head.format machine.codecs plans
-        → PlansPlay told failed emptied (steps_gave machine head schedule file steps) wav machine head geometry schedule plans meant → WordsCase told failed emptied unasked gave words meant
-    play_plans machine head schedule geometry plans file wav_file steps ring planned (inl none) =
-        said NothingRouted (record {
+    play_cases : PlayAnswers told failed emptied unasked gave codec wav name periods period meant → WordsCase told failed emptied unasked gave words meant
+    play_cases (AtCodec stop alone) =
+        codec_stop codec (wav ∷ name ∷ []) meant (names_of (play codec wav name periods period) codec is (0, omega arith, refl)) (ap files_asked is) (ap (option_and_then codec_of) is)
+        (λ other within apart. alone other (other_one codec other apart)) stop
+    play_cases (AtWav machine file (inl stop) alone) =
+        said ShelfFailed (
+          (wav, names_of (play codec wav name periods period) wav is (1, omega arith, refl), stop.0),
+          record {
+            before = codec ∷ [];
+            name = wav;
+            after = name ∷ [];
+            among = ap files_asked is;
+            unread = stop.0;
+            stopped = λ other within apart. alone other (other_second codec wav other apart) (other_first codec wav other apart);
+          },
+        ) _ stop.1
+    play_cases (AtWav machine file (inr stop) alone) =
+        said WavRefused (record {
           codec_name = codec;
-          format = head.format;
+          wav_name = wav;
+          schedule_name = name;
+          periods = periods;
+          period = period;
           machine = machine;
-          plans = plans;
-          wants = inr (inr (name, head, play_wants head wav_file, refl));
+          text = stop.0;
+          asks = is;
           codec_file = file;
-          planned = planned;
-          routed = none.0;
-        }) _ none.1
-    play_plans machine head schedule geometry plans file wav_file steps ring planned (inr run) =
-        ran run.0 _ (inl (
-          inr (record {
-            codec_name = codec;
-            wav_name = wav;
-            schedule_name = name;
-            periods = periods;
-            period = period;
-            asks = is;
-            files = record {
-              machine = machine;
-              head = head;
-              geometry = geometry;
-              schedule = schedule;
-              plans = plans;
-              codec_file = file;
-              wav_file = wav_file;
-              schedule_file = steps;
-              ring = ring;
-              planned = planned;
-              routed = run.1;
-              run = run.2;
-              cut = run.4;
-              reads_little = run.5;
-              reads_frames = run.6;
-            };
-          }),
-          refl,
-        )) run.3
-
-    play_schedule : (machine : Machine) (head : WavHead) (schedule : Schedule) → (file : IsMachineOf told codec machine) → IsHeadOf told wav head → (steps : IsScheduleOf told name schedule)
-        → SchedulePlays told failed emptied (steps_gave machine head schedule file steps) periods period wav machine head schedule meant → WordsCase told failed emptied unasked gave words meant
-    play_schedule machine head schedule file wav_file steps (inl stop) =
+          refused = stop.1;
+        }) _ stop.2
+    play_cases (AtSchedule machine head file wav_file stop) =
+        schedule_stop (codec ∷ wav ∷ []) codec name machine meant (ap files_asked is) (inr (head, play_wants head wav_file)) (names_of (play codec wav name periods period) name is (2, omega arith, refl)) file stop
+    play_cases (AtRing machine head schedule file wav_file steps stop) =
         said GeometryRefused (record {
           codec_name = codec;
           wav_name = wav;
@@ -225,48 +196,22 @@ module _ (told : Option Files) (failed emptied unasked : List ℕ → Type 0) (g
           schedule_file = steps;
           refused = stop.1;
         }) _ stop.2
-    play_schedule machine head schedule file wav_file steps (inr answers) =
-        play_plans machine head schedule answers.0 answers.2.0 file wav_file steps answers.1 answers.2.1 answers.2.2
-
-    play_sound : (machine : Machine) (head : WavHead) → (file : IsMachineOf told codec machine) → IsHeadOf told wav head → SoundPlays told failed emptied (head_gave machine head file) periods period wav machine head name meant
-        → WordsCase told failed emptied unasked gave words meant
-    play_sound machine head file wav_file (inl stop) =
-        schedule_stop (codec ∷ wav ∷ []) codec name machine meant (ap files_asked is) (inr (head, play_wants head wav_file)) (names_of (play codec wav name periods period) name is (2, omega arith, refl)) file stop
-    play_sound machine head file wav_file (inr answers) = play_schedule machine head answers.0 file wav_file answers.1 answers.2
-
-    play_machine : (machine : Machine) → (file : IsMachineOf told codec machine) → MachinePlays told failed emptied beside (codec_gave machine file) periods period machine wav name meant → WordsCase told failed emptied unasked gave words meant
-    play_machine machine file (inl (inl stop, alone)) =
-        said ShelfFailed (
-          (wav, names_of (play codec wav name periods period) wav is (1, omega arith, refl), stop.0),
-          record {
-            before = codec ∷ [];
-            name = wav;
-            after = name ∷ [];
-            among = ap files_asked is;
-            unread = stop.0;
-            stopped = λ other within apart. alone other (other_second codec wav other apart) (other_first codec wav other apart);
-          },
-        ) _ stop.1
-    play_machine machine file (inl (inr stop, alone)) =
-        said WavRefused (record {
+    play_cases (AtPlans machine head schedule geometry plans file wav_file steps ring planned none same) =
+        said NothingRouted (record {
           codec_name = codec;
-          wav_name = wav;
-          schedule_name = name;
-          periods = periods;
-          period = period;
+          format = head.format;
           machine = machine;
-          text = stop.0;
-          asks = is;
+          plans = plans;
+          wants = inr (inr (name, head, play_wants head wav_file, refl));
           codec_file = file;
-          refused = stop.1;
-        }) _ stop.2
-    play_machine machine file (inr answers) = play_sound machine answers.0 file answers.1 answers.2
-
-    play_cases : PlayAnswers told failed emptied unasked gave codec wav name periods period meant → WordsCase told failed emptied unasked gave words meant
-    play_cases (inl stop) =
-        codec_stop codec (wav ∷ name ∷ []) meant (names_of (play codec wav name periods period) codec is (0, omega arith, refl)) (ap files_asked is) (ap (option_and_then codec_of) is)
-        (λ other within apart. stop.1 other (other_one codec other apart)) stop.0
-    play_cases (inr answers) = play_machine answers.0 answers.1 answers.2
+          planned = planned;
+          routed = none;
+        }) _ same
+    play_cases (AtRun played files same) =
+        ran played _ (inl (
+          inr (record { codec_name = codec; wav_name = wav; schedule_name = name; periods = periods; period = period; asks = is; files = files }),
+          refl,
+        )) same
 
   -- ---- all commands
 

@@ -29,7 +29,7 @@ use Rattle.sound_report.specs.Statuses.{number_of}
 use Rattle.program_runs.specs.Plays.{IsCutUnder}
 use Rattle.program_runs.specs.Walks.{IsWalked, walk_fault, walk_format}
 use Rattle.laws_start.specs.Tasks.{HavePlans}
-use Rattle.hda_program.specs.Answers.{HasEnded, HasEndedPlay, HasEndedWith, HasWritten, IsMeant, MachinePlays, MachineWalks, PlansPlay, PlansWalk, PlayAnswers, RouteAnswers, SchedulePlays, SoundPlays, WalkAnswers}
+use Rattle.hda_program.specs.Answers.{HasEnded, HasEndedPlay, HasEndedWith, HasWritten, IsMeant, MachineWalks, PlansWalk, PlayAnswers, RouteAnswers, WalkAnswers, AtCodec, AtWav, AtSchedule, AtRing, AtPlans, AtRun}
 use Rattle.hda_program.specs.Asks.{IsPlayOf, IsRouteOf, IsWalkOf}
 use Rattle.hda_program.specs.Causes.{IsOfPlay, IsOfWalk, IsShortCut}
 use Rattle.hda_program.specs.Files.{IsHeadIn, bytes_before}
@@ -87,16 +87,6 @@ module _ (told : Option Files) (failed emptied : List ℕ → Type 0) (codec wav
   abbrev Here : Option Files
   Here = Some can.files
 
-  play_plans : (gave : ℕ → Type 0) (machine : Machine) (head : WavHead) (schedule : Schedule) (geometry : Geometry) (plans : List Plan) → can.machine ≡ machine → can.head.format ≡ head.format
-      → IsHeadIn can.files wav head → HavePlans head.format machine.codecs plans → PlansPlay Here failed emptied gave wav machine head geometry schedule plans meant → IsRunOf IsOfPlay meant
-  play_plans gave machine head schedule geometry plans same format file planned (inl none) =
-      let P : Format → Type 0 = λ f. HavePlans f can.machine.codecs can.plans in
-      let Q : Machine → Type 0 = λ m. HavePlans head.format m.codecs can.plans in
-      absurd (same_routes head.format machine can.plans plans (subst Q same (subst P format can.planned)) planned can.routed none.0)
-  play_plans gave machine head schedule geometry plans same format file planned (inr run) =
-      let long : IsShortCut run.0.cut → ⊥ = λ short. never_short can.files wav head machine plans geometry schedule run.0 file run.2 short in
-      (run.0, uncut wav head run.0.read (failed wav) (emptied wav) run.0.cut run.0.fault run.4 can.wav_given long, run.3)
-
   ring_good : (machine : Machine) (head : WavHead) (end : GeometryFault) → can.machine ≡ machine → can.head.format ≡ head.format
       → fault_of periods period machine.fifo head.format ≡ Some end → ⊥
   ring_good machine head end same format faulty =
@@ -105,30 +95,25 @@ module _ (told : Option Files) (failed emptied : List ℕ → Type 0) (codec wav
       let good : fault_of periods period machine.fifo head.format ≡ None = subst Q same (subst P format can.good_ring) in
       let bad : None ≡ Some end = sym good ∙ faulty in cc
 
-  play_schedule : (gave : ℕ → Type 0) (machine : Machine) (head : WavHead) (schedule : Schedule) → can.machine ≡ machine → can.head.format ≡ head.format → IsHeadIn can.files wav head
-      → SchedulePlays Here failed emptied gave periods period wav machine head schedule meant → IsRunOf IsOfPlay meant
-  play_schedule gave machine head schedule same format file (inl stop) = absurd (ring_good machine head stop.0 same format stop.1)
-  play_schedule gave machine head schedule same format file (inr (geometry, ring, (plans, planned, plays))) =
-      play_plans gave machine head schedule geometry plans same format file planned plays
-
-  play_sound : (gave : ℕ → Type 0) (machine : Machine) (head : WavHead) → can.machine ≡ machine → can.head.format ≡ head.format → IsHeadIn can.files wav head
-      → SoundPlays Here failed emptied gave periods period wav machine head name meant → IsRunOf IsOfPlay meant
-  play_sound gave machine head same format file (inl (inl stop)) = absurd (can.schedule_given stop.0)
-  play_sound gave machine head same format file (inl (inr stop)) = absurd (schedule_unrefused can.files name stop.0 can.schedule can.schedule_file stop.1)
-  play_sound gave machine head same format file (inr (schedule, steps, plays)) =
-      play_schedule (λ bytes. gave (length steps.bytes + bytes)) machine head schedule same format file plays
-
-  play_machine : (unasked : List ℕ → Type 0) (gave : ℕ → Type 0) (machine : Machine) → can.machine ≡ machine → MachinePlays Here failed emptied unasked gave periods period machine wav name meant → IsRunOf IsOfPlay meant
-  play_machine unasked gave machine same (inl (inl stop, alone)) = absurd (can.wav_given stop.0)
-  play_machine unasked gave machine same (inl (inr stop, alone)) = absurd (wav_unrefused can.files wav stop.0 can.head can.wav_file stop.1)
-  play_machine unasked gave machine same (inr (head, of, plays)) =
-      play_sound (λ bytes. gave (bytes_before head + bytes)) machine head same (one_wav_format can.files wav head can.head of.file can.wav_file) of.file plays
-
+  -- whichever way it ends, it is with a run
   play_files : (unasked : List ℕ → Type 0) (gave : ℕ → Type 0) → PlayAnswers Here failed emptied unasked gave codec wav name periods period meant → IsRunOf IsOfPlay meant
-  play_files unasked gave (inl (inl stop, alone)) = absurd (can.codec_given stop.0)
-  play_files unasked gave (inl (inr stop, alone)) = absurd (codec_unrefused can.files codec stop.0 can.machine can.codec_file stop.1)
-  play_files unasked gave (inr (machine, file, plays)) =
-      play_machine (λ other. other ≢ codec → unasked other) (λ bytes. gave (length file.bytes + bytes)) machine (one_machine can.files codec machine can.machine file can.codec_file) plays
+  play_files unasked gave (AtCodec (inl stop) alone) = absurd (can.codec_given stop.0)
+  play_files unasked gave (AtCodec (inr stop) alone) = absurd (codec_unrefused can.files codec stop.0 can.machine can.codec_file stop.1)
+  play_files unasked gave (AtWav machine file (inl stop) alone) = absurd (can.wav_given stop.0)
+  play_files unasked gave (AtWav machine file (inr stop) alone) = absurd (wav_unrefused can.files wav stop.0 can.head can.wav_file stop.1)
+  play_files unasked gave (AtSchedule machine head file wav_file (inl stop)) = absurd (can.schedule_given stop.0)
+  play_files unasked gave (AtSchedule machine head file wav_file (inr stop)) = absurd (schedule_unrefused can.files name stop.0 can.schedule can.schedule_file stop.1)
+  play_files unasked gave (AtRing machine head schedule file wav_file steps stop) =
+      absurd (ring_good machine head stop.0 (one_machine can.files codec machine can.machine file can.codec_file) (one_wav_format can.files wav head can.head wav_file.file can.wav_file) stop.1)
+  play_files unasked gave (AtPlans machine head schedule geometry plans file wav_file steps ring planned none is) =
+      let P : Format → Type 0 = λ f. HavePlans f can.machine.codecs can.plans in
+      let Q : Machine → Type 0 = λ m. HavePlans head.format m.codecs can.plans in
+      let format : can.head.format ≡ head.format = one_wav_format can.files wav head can.head wav_file.file can.wav_file in
+      let same : can.machine ≡ machine = one_machine can.files codec machine can.machine file can.codec_file in
+      absurd (same_routes head.format machine can.plans plans (subst Q same (subst P format can.planned)) planned can.routed none)
+  play_files unasked gave (AtRun played run is) =
+      let long : IsShortCut played.cut → ⊥ = λ short. never_short can.files wav run.head run.machine run.plans run.geometry run.schedule played run.wav_file.file run.run short in
+      (played, uncut wav run.head played.read (failed wav) (emptied wav) played.cut played.fault run.cut can.wav_given long, is)
 
   play_meant : (unasked : List ℕ → Type 0) (gave : ℕ → Type 0) → PlayAnswers told failed emptied unasked gave codec wav name periods period meant → IsRunOf IsOfPlay meant
   play_meant unasked gave answers =

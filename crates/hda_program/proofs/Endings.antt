@@ -23,7 +23,8 @@ use Rattle.program_runs.specs.Plays.{IsCutUnder, IsPlayedFrom}
 use Rattle.hda_program.specs.Asks.{IsNoCommand, IsPlayOf, IsRouteOf, IsWalkOf, Names, files_asked, files_of}
 use Rattle.hda_program.specs.Files.{IsHeadIn}
 use Rattle.hda_program.specs.Causes.{HasBadCodecFile, HasBadRing, HasBadSchedule, HasBadWav, HasPlanned, HasStoppedUnread, HasUnreadFile, IsFailedCut, IsOfSound, IsOfWalk, IsRunless, IsShortCut, OfItsWav, WasShortened, WasUnread}
-use Rattle.hda_program.specs.Promises.{HasPlayedFiles, HasRun, KeepsPromise}
+use Rattle.hda_program.specs.PlayedFiles.{HasPlayedFiles}
+use Rattle.hda_program.specs.Promises.{HasRun, KeepsPromise}
 use Rattle.hda_program.specs.Made.{HasMadeRun, WantsMade}
 use Rattle.hda_program.specs.Meanings.{Meant, end_status, fault_status, run_meant, status_of, telling}
 use Rattle.hda_program.proofs.Cases.{Case, Cause as CauseOf, IsRouted, WordsCase, cases, ran, said}

@@ -2,6 +2,7 @@ mod ReadLemmas
 mod WriteLemmas
 mod WalkLemmas
 mod PlayLemmas
+mod PlayWays
 mod Cases
 mod Endings
 mod PlayCases

@@ -6,7 +6,8 @@ use Rattle.sound_report.specs.declared.played.Played.{Played}
 use Rattle.sound_report.specs.declared.status.Status.{Status}
 use Rattle.hda_program.specs.Answers.{HasEndedPlay, HasEndedWith, PlayAnswers}
 use Rattle.hda_program.specs.Causes.{IsOfSound, IsRunless, WasShortened, WasUnread}
-use Rattle.hda_program.specs.Promises.{HasPlayedFiles, IsReported, KeepsPromise}
+use Rattle.hda_program.specs.PlayedFiles.{HasPlayedFiles}
+use Rattle.hda_program.specs.Promises.{IsReported, KeepsPromise}
 use Rattle.hda_program.proofs.Cases.{Case}
 use Rattle.hda_program.proofs.Endings.{by_cases, never_shrunk, none_at, of_run_at, played_short, played_unread, promise_kept, said_at, shrunk_at, some_at, told_never_short}
 use Rattle.hda_program.proofs.PlayCases.{IsRefusal, UnreadOf, play_cases}

@@ -9,7 +9,7 @@ use Rattle.wav_reader.specs.declared.opened.WavHead.{WavHead}
 use Rattle.sound_report.specs.declared.played.CutLine.{CutLine}
 use Rattle.sound_report.specs.declared.played.CutLine.TheVariants as cuts
 use Rattle.program_runs.specs.Plays.{IsCutUnder}
-use Rattle.hda_program.specs.Answers.{MachinePlays, PlansPlay, SchedulePlays, SoundPlays}
+use Rattle.hda_program.specs.Playing.{MachinePlays, PlansPlay, SchedulePlays, SoundPlays}
 use Rattle.hda_program.specs.Files.{bytes_before}
 use Rattle.hda_program.specs.Meanings.{Meant}
 

@@ -39,7 +39,8 @@ use Rattle.hda_program.specs.Causes.{IsOfPlay, IsOfWalk, IsShortCut}
 use Rattle.hda_program.specs.Complete.{CanPlay, CanWalk}
 use Rattle.hda_program.specs.Files.{IsMachineOf, IsScheduleOf}
 use Rattle.hda_program.specs.Meanings.{end_status, fault_status, run_meant, status_of}
-use Rattle.hda_program.specs.Promises.{HasWalked, HasPlayedFiles, HasRun, IsReported, KeepsPromise}
+use Rattle.hda_program.specs.PlayedFiles.{HasPlayedFiles}
+use Rattle.hda_program.specs.Promises.{HasWalked, HasRun, IsReported, KeepsPromise}
 use Rattle.hda_program.specs.Rings.{IsRingOf}
 use Rattle.hda_program.specs.Served.{EndsSo, WalksSo, PlaysSo, PlaysWhole}
 use Rattle.hda_program.proofs.Complete.{files_complete, play_complete, walk_complete}

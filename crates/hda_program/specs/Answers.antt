@@ -17,9 +17,9 @@ use Rattle.sound_report.specs.PlanLines.{plans_lines}
 use Rattle.sound_report.specs.Statuses.{number_of}
 use Rattle.hda_program.specs.Asks.{IsNoCommand, IsRouteOf, IsWalkOf, IsPlayOf}
 use Rattle.program_runs.specs.Walks.{walk_format, IsWalked}
-use Rattle.program_runs.specs.Plays.{IsCutUnder, IsPlayedFrom, most_of_frames, most_read}
 use Rattle.hda_program.specs.Files.{IsMachineOf, IsHeadOf, IsScheduleOf, CodecStops, WavStops, ScheduleStops}
-use Rattle.hda_program.specs.Files.{IsAskedAlone, bytes_before}
+use Rattle.hda_program.specs.Files.{IsAskedAlone}
+use Rattle.hda_program.specs.PlayedFiles.{HasPlayedFiles}
 use Rattle.hda_program.specs.Rings.{IsRingOf, RingStops}
 use Rattle.hda_program.specs.Meanings.{Meant, telling, unrouted, of_run}
 use Rattle.laws_start.specs.Tasks.{HavePlans}
@@ -69,58 +69,35 @@ WalkAnswers told failed unasked codec name meant =
 
 -- ---- `play`
 
--- what it answers for plans: nothing is run where no pin has a route, and else the sound of the WAV file of this name
--- is played through the ring by the schedule, and read meanwhile
-abbrev pub PlansPlay : Option Files → (failed emptied : List ℕ → Type 0) → (gave : ℕ → Type 0) → (wav : List ℕ)
-    → Machine → WavHead → Geometry → Schedule → List Plan → Meant → Type 0
-PlansPlay told failed emptied gave wav machine head geometry schedule plans meant =
-    ((have_route plans ≡ false) × (meant ≡ unrouted machine.codecs plans))
-    ⊎ ((played : Played) × (have_route plans ≡ true) × IsPlayedFrom told wav head machine plans geometry schedule played
-    × (meant ≡ of_run played) × IsCutUnder wav head played.read (failed wav) (emptied wav) played.cut
-    × gave (most_read geometry played) × gave (most_of_frames head played.read))
-
--- the plans are for the sound's format
-abbrev pub RingPlays : Option Files → (failed emptied : List ℕ → Type 0) → (gave : ℕ → Type 0) → (wav : List ℕ)
-    → Machine → WavHead → Geometry → Schedule → Meant → Type 0
-RingPlays told failed emptied gave wav machine head geometry schedule meant =
-    (plans : List Plan) × HavePlans head.format machine.codecs plans
-    × PlansPlay told failed emptied gave wav machine head geometry schedule plans meant
-
--- it ends at the ring, or goes on with that of the words
-abbrev pub SchedulePlays : Option Files → (failed emptied : List ℕ → Type 0) → (gave : ℕ → Type 0)
-    → (periods period : ℕ) → (wav : List ℕ) → Machine → WavHead → Schedule → Meant → Type 0
-SchedulePlays told failed emptied gave periods period wav machine head schedule meant =
-    RingStops periods period machine head meant
-    ⊎ ((geometry : Geometry) × IsRingOf periods period machine head geometry
-    × RingPlays told failed emptied gave wav machine head geometry schedule meant)
-
--- it ends at the schedule, or goes on with what this reads as
-abbrev pub SoundPlays : Option Files → (failed emptied : List ℕ → Type 0) → (gave : ℕ → Type 0)
-    → (periods period : ℕ) → (wav : List ℕ) → Machine → WavHead → (schedule : List ℕ) → Meant → Type 0
-SoundPlays told failed emptied gave periods period wav machine head name meant =
-    ScheduleStops told failed name meant
-    ⊎ ((schedule : Schedule) × (file : IsScheduleOf told name schedule)
-    × SchedulePlays told failed emptied (λ bytes. gave (length file.bytes + bytes)) periods period wav machine head
-    schedule meant)
-
--- it ends at the WAV file and has asked for no other, or goes on with what this says before its sound
-abbrev pub MachinePlays : Option Files → (failed emptied unasked : List ℕ → Type 0) → (gave : ℕ → Type 0)
-    → (periods period : ℕ) → Machine → (wav schedule : List ℕ) → Meant → Type 0
-MachinePlays told failed emptied unasked gave periods period machine wav name meant =
-    (WavStops told failed wav meant × IsAskedAlone unasked wav)
-    ⊎ ((head : WavHead) × IsHeadOf told wav head
-    × SoundPlays told failed emptied (λ bytes. gave (bytes_before head + bytes)) periods period wav machine head name
-    meant)
-
--- it ends at the codec file and has asked for no other, or goes on with the machine that this reads as
-abbrev pub PlayAnswers : Option Files → (failed emptied unasked : List ℕ → Type 0) → (gave : ℕ → Type 0)
-    → (codec wav schedule : List ℕ) → (periods period : ℕ) → Meant → Type 0
-PlayAnswers told failed emptied unasked gave codec wav name periods period meant =
-    (CodecStops told failed codec meant × IsAskedAlone unasked codec)
-    ⊎ ((machine : Machine) × (file : IsMachineOf told codec machine)
-    × MachinePlays told failed emptied (λ other. other ≢ codec → unasked other)
-    (λ bytes. gave (length file.bytes + bytes))
-    periods period machine wav name meant)
+-- what `play` answers for the files of three names and a ring of these numbers: the ways in which it can end, in the
+-- order of its checks
+pub data PlayAnswers (told : Option Files) (failed emptied unasked : List ℕ → Type 0) (gave : ℕ → Type 0)
+    (codec wav name : List ℕ) (periods period : ℕ) (meant : Meant) : Type 0 where
+  -- at the codec file, and it has asked for no other
+  AtCodec : CodecStops told failed codec meant → IsAskedAlone unasked codec
+      → PlayAnswers told failed emptied unasked gave codec wav name periods period meant
+  -- at the WAV file, and it has asked for none but these two
+  AtWav : (machine : Machine) → IsMachineOf told codec machine → WavStops told failed wav meant
+      → IsAskedAlone (λ other. other ≢ codec → unasked other) wav
+      → PlayAnswers told failed emptied unasked gave codec wav name periods period meant
+  -- at the schedule
+  AtSchedule : (machine : Machine) (head : WavHead) → IsMachineOf told codec machine → IsHeadOf told wav head
+      → ScheduleStops told failed name meant
+      → PlayAnswers told failed emptied unasked gave codec wav name periods period meant
+  -- at the ring
+  AtRing : (machine : Machine) (head : WavHead) (schedule : Schedule) → IsMachineOf told codec machine
+      → IsHeadOf told wav head → IsScheduleOf told name schedule → RingStops periods period machine head meant
+      → PlayAnswers told failed emptied unasked gave codec wav name periods period meant
+  -- at the plans, of which none has a route
+  AtPlans : (machine : Machine) (head : WavHead) (schedule : Schedule) (geometry : Geometry) (plans : List Plan)
+      → IsMachineOf told codec machine → IsHeadOf told wav head → IsScheduleOf told name schedule
+      → IsRingOf periods period machine head geometry → HavePlans head.format machine.codecs plans
+      → have_route plans ≡ false → meant ≡ unrouted machine.codecs plans
+      → PlayAnswers told failed emptied unasked gave codec wav name periods period meant
+  -- with a run
+  AtRun : (played : Played)
+      → HasPlayedFiles told failed emptied gave codec wav name periods period played → meant ≡ of_run played
+      → PlayAnswers told failed emptied unasked gave codec wav name periods period meant
 
 -- ---- all commands
 

@@ -7,6 +7,8 @@ pub mod Made
 pub mod Files
 pub mod Rings
 pub mod Served
+pub mod Playing
+pub mod PlayedFiles
 pub mod Answers
 pub mod Causes
 pub mod Promises

@@ -2,7 +2,8 @@
 ghost use Rattle.std.specs.Prelude.{◌≡◌, ◌≢◌, ◌≤◌, ℕ, List, IfOk};
 ghost use Rattle.hda_files.specs.Machines.{IsSound};
 ghost use Rattle.program_words.specs.Asked.{IsRingInRange};
-ghost use Rattle.hda_program.specs.Answers.{MachinePlays, PlayAnswers, RingPlays, SchedulePlays, SoundPlays};
+ghost use Rattle.hda_program.specs.Answers.{PlayAnswers};
+ghost use Rattle.hda_program.specs.Playing.{MachinePlays, RingPlays, SchedulePlays, SoundPlays};
 ghost use Rattle.laws_start.specs.Reading.{IsRead};
 ghost use Rattle.hda_program.specs.Files.{EmptiedUnder, FailedUnder, GivenAtMost, IsGoodSchedule, IsHeadOf};
 ghost use Rattle.hda_program.specs.Files.{UnaskedUnder};

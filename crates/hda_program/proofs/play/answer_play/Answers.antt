@@ -1,15 +1,17 @@
-use Rattle.std.proofs.Common.{◌≡◌, ◌≢◌, ◌∙◌, ℕ, ◌+◌, ◌≤◌, List, length, inr, Option, Result, subst}
+use Rattle.std.proofs.Common.{◌≡◌, ◌≢◌, ◌∙◌, ℕ, ◌+◌, ◌≤◌, List, length, Option, Result, subst}
 use Rattle.std.specs.Prelude.{IfOk}
 use Rattle.std.proofs.Math.Nat.{le_refl}
 use Rattle.std.proofs.lemmas.Result.{IfOk-weaker}
 use Rattle.hda_outside.specs.Counts.{Rose}
 use Rattle.hda_outside.specs.Shelf.{Files}
 use Rattle.hda_files.specs.declared.machine.Machine.{Machine}
-use Rattle.hda_program.specs.Answers.{MachinePlays, PlayAnswers}
+use Rattle.hda_program.specs.Answers.{PlayAnswers, AtCodec}
+use Rattle.hda_program.specs.Playing.{MachinePlays}
 use Rattle.hda_program.specs.declared.message.Message.{Message}
 use Rattle.hda_program.specs.Files.{IsCodecRead}
 use Rattle.hda_program.specs.Meanings.{answer_meant}
 use Rattle.hda_program.proofs.PlayLemmas.{MachinePlays-both}
+use Rattle.hda_program.proofs.PlayWays.{of_machine}
 use Rattle.hda_program.proofs.WalkLemmas.{Rose-longer, given_longer}
 use Rattle.hda_program.proofs.play.answer_play.Goals as goal
 
@@ -37,13 +39,20 @@ returns-in-Ok-clause-answers g c =
     IfOk-weaker c.play_machine.result
     (λ answer. MachinePlays told later emptied_later unasked_later gave_later c.args.periods c.args.period c.in-Ok.machine c.args.wav.now c.args.schedule.now (answer_meant answer))
     (λ answer. PlayAnswers told failed emptied unasked gave c.args.codec.now c.args.wav.now c.args.schedule.now c.args.periods c.args.period (answer_meant answer))
-    (λ answer h. inr (
-      c.in-Ok.machine,
-      read.0,
-      MachinePlays-both told later emptied_later failed emptied (answer_meant answer)
-          (λ name rose. Rose-longer (faults c.args.shelf.now name) (faults c.read_codec_file.new.shelf name) (faults c.play_machine.new.shelf name) (faults c.play_machine.new.shelf name) (c.read_codec_file.ensures.later name) rose (le_refl (faults c.play_machine.new.shelf name)))
-          (λ name rose. Rose-longer (empties c.args.shelf.now name) (empties c.read_codec_file.new.shelf name) (empties c.play_machine.new.shelf name) (empties c.play_machine.new.shelf name) (c.read_codec_file.ensures.empties_later name) rose (le_refl (empties c.play_machine.new.shelf name)))
-          unasked_later beside (λ other still apart. still ∙ c.read_codec_file.ensures.asked other apart)
-          gave_later (λ n. gave (length read.0.bytes + n)) (given_longer (given c.args.shelf.now) (given c.read_codec_file.new.shelf) (given c.play_machine.new.shelf) (length read.0.bytes) read.2)
-          c.args.periods c.args.period c.in-Ok.machine c.args.wav.now c.args.schedule.now h,
-    )) answers
+    (λ answer h. of_machine told failed emptied unasked gave c.args.codec.now c.args.wav.now c.args.schedule.now c.args.periods c.args.period (answer_meant answer) c.in-Ok.machine read.0
+    (MachinePlays-both told later emptied_later failed emptied (answer_meant answer)
+    (λ name rose. Rose-longer (faults c.args.shelf.now name) (faults c.read_codec_file.new.shelf name) (faults c.play_machine.new.shelf name) (faults c.play_machine.new.shelf name) (c.read_codec_file.ensures.later name) rose (le_refl (faults c.play_machine.new.shelf name)))
+    (λ name rose. Rose-longer (empties c.args.shelf.now name) (empties c.read_codec_file.new.shelf name) (empties c.play_machine.new.shelf name) (empties c.play_machine.new.shelf name) (c.read_codec_file.ensures.empties_later name) rose (le_refl (empties c.play_machine.new.shelf name)))
+    unasked_later beside (λ other still apart. still ∙ c.read_codec_file.ensures.asked other apart)
+    gave_later (λ n. gave (length read.0.bytes + n)) (given_longer (given c.args.shelf.now) (given c.read_codec_file.new.shelf) (given c.play_machine.new.shelf) (length read.0.bytes) read.2)
+    c.args.periods c.args.period c.in-Ok.machine c.args.wav.now c.args.schedule.now h)) answers
+
+-- it ends at the codec file
+pub returns-in-Err-clause-answers : goal.returns-in-Err-clause-answers
+returns-in-Err-clause-answers g c =
+    let told = g.S.Shelf.told c.args.shelf.now in
+    let given = g.S.Shelf.given in
+    let failed : List ℕ → Type 0 = λ name. Rose (g.S.Shelf.faults c.args.shelf.now name) (g.S.Shelf.faults c.read_codec_file.new.shelf name) in
+    let gave : ℕ → Type 0 = λ n. given c.read_codec_file.new.shelf ≤ given c.args.shelf.now + n in
+    let read = subst (λ (r : Result Machine Message). IsCodecRead told failed gave c.args.codec.now r) c.in-Err.is c.in_ok-machine.ensures.read in
+    AtCodec read (λ other apart. c.read_codec_file.ensures.asked other apart)

@@ -5,7 +5,7 @@ use Rattle.std.proofs.lemmas.Result.{IfOk-weaker}
 use Rattle.hda_outside.specs.Counts.{Rose}
 use Rattle.hda_outside.specs.Shelf.{Files}
 use Rattle.wav_reader.specs.declared.opened.WavHead.{WavHead}
-use Rattle.hda_program.specs.Answers.{MachinePlays, SoundPlays}
+use Rattle.hda_program.specs.Playing.{MachinePlays, SoundPlays}
 use Rattle.hda_program.specs.declared.message.Message.{Message}
 use Rattle.hda_program.specs.Files.{IsHeadOf, IsWavOpened, bytes_before}
 use Rattle.hda_program.specs.Meanings.{answer_meant}

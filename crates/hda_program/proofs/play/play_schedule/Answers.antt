@@ -1,7 +1,7 @@
 use Rattle.std.proofs.Common.{ℕ, ◌+◌, ◌≤◌, List, inr}
 use Rattle.std.proofs.lemmas.Result.{IfOk-weaker}
 use Rattle.hda_outside.specs.Counts.{Rose}
-use Rattle.hda_program.specs.Answers.{RingPlays, SchedulePlays}
+use Rattle.hda_program.specs.Playing.{RingPlays, SchedulePlays}
 use Rattle.hda_program.specs.Meanings.{answer_meant}
 use Rattle.hda_program.specs.Rings.{IsRingOf}
 use Rattle.hda_program.proofs.play.play_schedule.Goals as goal

@@ -5,7 +5,7 @@ use Rattle.std.proofs.lemmas.Result.{IfOk-weaker}
 use Rattle.hda_outside.specs.Counts.{Rose}
 use Rattle.hda_outside.specs.Shelf.{Files}
 use Rattle.schedule_reader.specs.declared.schedule.Schedule.{Schedule}
-use Rattle.hda_program.specs.Answers.{SchedulePlays, SoundPlays}
+use Rattle.hda_program.specs.Playing.{SchedulePlays, SoundPlays}
 use Rattle.hda_program.specs.declared.message.Message.{Message}
 use Rattle.hda_program.specs.Files.{IsHeadOf, IsScheduleRead}
 use Rattle.hda_program.specs.Meanings.{answer_meant}
