@@ -17,7 +17,7 @@ use Rattle.sound_report.specs.PlanLines.{plans_lines}
 use Rattle.hda_program.specs.Answers.{IsMeant, RouteAnswers, WalkAnswers, MachineWalks, PlansWalk, PlayAnswers, AtCodec, AtWav, AtSchedule, AtRing, AtPlans, AtRun}
 use Rattle.hda_program.specs.Asks.{IsNoCommand, IsRouteOf, IsWalkOf, IsPlayOf, Names, NamesCodecFile, codec_of, files_asked, files_of}
 use Rattle.program_runs.specs.Walks.{walk_format}
-use Rattle.hda_program.specs.Causes.{HasBadCodecFile, HasBadRing, HasBadSchedule, HasBadWav, HasPlanned, HasStoppedUnread, HasUnreadFile, WantsRun, WantsSound}
+use Rattle.hda_program.specs.Causes.{HasBadCodecFile, HasBadRing, HasBadSchedule, HasBadWav, HasPlanned, NoRoute, SomeRoute, HasStoppedUnread, HasUnreadFile, WantsRun, WantsSound}
 use Rattle.hda_program.specs.Promises.{HasRun}
 use Rattle.hda_program.specs.Files.{CodecStops, IsHeadOf, IsMachineOf, IsScheduleOf, ScheduleStops, bytes_before}
 use Rattle.hda_program.specs.Meanings.{Meant, run_meant, telling, unrouted}
@@ -28,7 +28,7 @@ use Rattle.driver_agenda.specs.Planned.{have_route}
 
 -- a route was asked for, and there is one
 abbrev pub IsRouted : Option Files → List (List ℕ) → Type 0
-IsRouted told words = (name : List ℕ) × (format : Format) × IsRouteOf words name format × HasPlanned told words true
+IsRouted told words = (name : List ℕ) × (format : Format) × IsRouteOf words name format × HasPlanned told words SomeRoute
 
 -- why no more than a text is meant, with this status
 abbrev pub Cause : Option Files → (failed unasked : List ℕ → Type 0) → List (List ℕ) → Status → Type 0
@@ -39,7 +39,7 @@ Cause told failed unasked words SinkFailed = ⊥
 Cause told failed unasked words CodecRefused = HasBadCodecFile told words
 Cause told failed unasked words WavRefused = HasBadWav told words
 Cause told failed unasked words ScheduleRefused = HasBadSchedule told words
-Cause told failed unasked words NothingRouted = HasPlanned told words false
+Cause told failed unasked words NothingRouted = HasPlanned told words NoRoute
 Cause told failed unasked words Unanswered = ⊥
 Cause told failed unasked words Late = ⊥
 Cause told failed unasked words ScheduleEnded = ⊥

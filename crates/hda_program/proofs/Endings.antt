@@ -22,7 +22,7 @@ use Rattle.hda_program.specs.Answers.{HasEnded, HasEndedWith, HasWritten, IsMean
 use Rattle.program_runs.specs.Plays.{IsCutUnder, IsPlayedFrom}
 use Rattle.hda_program.specs.Asks.{IsNoCommand, IsPlayOf, IsRouteOf, IsWalkOf, Names, files_asked, files_of}
 use Rattle.hda_program.specs.Files.{IsHeadIn}
-use Rattle.hda_program.specs.Causes.{HasBadCodecFile, HasBadRing, HasBadSchedule, HasBadWav, HasPlanned, HasStoppedUnread, HasUnreadFile, IsFailedCut, IsOfSound, IsOfWalk, IsRunless, IsShortCut, OfItsWav, WasShortened, WasUnread}
+use Rattle.hda_program.specs.Causes.{HasBadCodecFile, HasBadRing, HasBadSchedule, HasBadWav, HasPlanned, NoRoute, SomeRoute, HasStoppedUnread, HasUnreadFile, IsFailedCut, IsOfSound, IsOfWalk, IsRunless, IsShortCut, OfItsWav, WasShortened, WasUnread}
 use Rattle.hda_program.specs.PlayedFiles.{HasPlayedFiles}
 use Rattle.hda_program.specs.Promises.{HasRun, KeepsPromise}
 use Rattle.hda_program.specs.Made.{HasMadeRun, WantsMade}
@@ -230,7 +230,7 @@ named words codec wav name periods period is =
 -- ---- the causes
 
 -- plans of a run have a route
-was_planned : {told : Option Files} {failed emptied : List ℕ → Type 0} {gave : ℕ → Type 0} {words : List (List ℕ)} {played : Played} {text : List ℕ} → HasRun told failed emptied gave words played text → HasPlanned told words true ⊎ WantsMade words
+was_planned : {told : Option Files} {failed emptied : List ℕ → Type 0} {gave : ℕ → Type 0} {words : List (List ℕ)} {played : Played} {text : List ℕ} → HasRun told failed emptied gave words played text → HasPlanned told words SomeRoute ⊎ WantsMade words
 was_planned (inr made) = inr (made.number, made.asks)
 was_planned (inl (inl walked, is)) = inl (record {
   codec_name = walked.codec_name;
@@ -272,7 +272,7 @@ module _ (Cause : Status → Type 0) (Run : Played → List ℕ → Type 0) wher
 
 -- some pin has a route, of a route or of a run
 some_routed : (told : Option Files) (failed emptied unasked : List ℕ → Type 0) (gave : ℕ → Type 0) (words : List (List ℕ)) (meant : Meant) → WordsCase told failed emptied unasked gave words meant → number_of meant.status ≡ 0
-    → HasPlanned told words true ⊎ WantsMade words
+    → HasPlanned told words SomeRoute ⊎ WantsMade words
 some_routed told failed emptied unasked gave words meant (said status cause text e) number =
     let routed : IsRouted told words = said_cause (CauseOf told failed unasked words) (HasRun told failed emptied gave words) 0 meant status text e number cause in inl routed.3
 some_routed told failed emptied unasked gave words meant (ran played text run e) number = was_planned run
@@ -472,11 +472,11 @@ module _ (told : Option Files) (failed emptied unasked : List ℕ → Type 0) (g
   pub refused_geometry : HasEnded told failed emptied unasked gave words before after sink_failed play status → status ≡ 13 → HasBadRing told words
   refused_geometry = cause_of 13 refl (λ e. absurd (omega (arith, e))) (λ e. absurd (omega (arith, e)))
 
-  pub was_routed : HasEnded told failed emptied unasked gave words before after sink_failed play status → status ≡ 0 → HasPlanned told words true ⊎ WantsMade words
+  pub was_routed : HasEnded told failed emptied unasked gave words before after sink_failed play status → status ≡ 0 → HasPlanned told words SomeRoute ⊎ WantsMade words
   was_routed ended is =
       caused CauseHere RunHere before after sink_failed play status 0 (some_routed told failed emptied unasked gave words) (λ e. absurd (omega (arith, e))) (λ e. absurd (omega (arith, e))) (by_words ended) is
 
-  pub was_unrouted : HasEnded told failed emptied unasked gave words before after sink_failed play status → status ≡ 8 → HasPlanned told words false
+  pub was_unrouted : HasEnded told failed emptied unasked gave words before after sink_failed play status → status ≡ 8 → HasPlanned told words NoRoute
   was_unrouted = cause_of 8 refl (λ e. absurd (omega (arith, e))) (λ e. absurd (omega (arith, e)))
 
   pub sink_faulted : HasEnded told failed emptied unasked gave words before after sink_failed play status → status ≡ 4 → sink_failed

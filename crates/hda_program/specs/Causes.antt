@@ -1,6 +1,6 @@
 -- The causes of single statuses, and when a run is given. This project's own.
 use Rattle.std.specs.List.{Contains}
-use Rattle.std.specs.Prelude.{◌≡◌, ◌⊎◌, ◌++◌, ◌∷◌, [], ℕ, Bool, List, Option, Some, None, string_bytes}
+use Rattle.std.specs.Prelude.{◌≡◌, ◌⊎◌, ◌++◌, ◌∷◌, [], ℕ, true, false, List, Option, Some, None, string_bytes}
 use Rattle.stream_format.specs.declared.format.Format.{Format}
 use Rattle.route_planner.specs.declared.routes.Plan.{Plan}
 use Rattle.hda_files.specs.declared.machine.Machine.{Machine}
@@ -106,8 +106,19 @@ pub record HasBadRing (told : Option Files) (words : List (List ℕ)) : Type 0 w
   pub schedule_file : IsScheduleOf told schedule_name schedule
   pub refused : IsBadRing periods period machine head fault
 
--- the words name a codec file that reads as a machine, of whose plans some has a route, or none
-pub record HasPlanned (told : Option Files) (words : List (List ℕ)) (some : Bool) : Type 0 where
+-- what plans come to
+pub data Routing : Type 0 where
+  -- some pin has a route
+  SomeRoute : Routing
+  -- none has
+  NoRoute : Routing
+
+abbrev pub IsRouting : Routing → List Plan → Type 0
+IsRouting SomeRoute plans = have_route plans ≡ true
+IsRouting NoRoute plans = have_route plans ≡ false
+
+-- the words name a codec file that reads as a machine, whose plans come to this
+pub record HasPlanned (told : Option Files) (words : List (List ℕ)) (routing : Routing) : Type 0 where
   pub codec_name : List ℕ
   pub format : Format
   pub machine : Machine
@@ -115,7 +126,7 @@ pub record HasPlanned (told : Option Files) (words : List (List ℕ)) (some : Bo
   pub wants : WantsPlans told words codec_name format
   pub codec_file : IsMachineOf told codec_name machine
   pub planned : HavePlans format machine.codecs plans
-  pub routed : have_route plans ≡ some
+  pub routed : IsRouting routing plans
 
 -- a status at which no run was made
 abbrev pub IsRunless : ℕ → Type 0

@@ -1,7 +1,5 @@
 //! The program over any shelf and sink.
 ghost use Rattle.std.specs.Prelude.{◌≡◌, ◌≢◌, ◌≤◌, ◌⊎◌, ℕ, List, map, string_bytes, IfSome, IsNone, IsSome, IsSomeAnd};
-ghost use Rattle.std.specs.Prelude.{true};
-ghost use Rattle.std.specs.Prelude.{false};
 ghost use Rattle.stream_format.specs.declared.format.Format.{Format};
 ghost use Rattle.hda_outside.specs.Counts.{Rose};
 ghost use Rattle.sound_report.specs.Statuses.{number_of};
@@ -9,6 +7,7 @@ ghost use Rattle.hda_program.specs.Answers.{HasEnded, HasWritten};
 ghost use Rattle.program_words.specs.Asked.{request_of};
 ghost use Rattle.hda_program.specs.Asks.{AsksForItsFiles, IsNoCommand, IsPlayOf, IsRouteOf, IsWalkOf, files_asked};
 ghost use Rattle.hda_program.specs.Causes.{HasBadCodecFile, HasBadRing, HasBadSchedule, HasBadWav, HasPlanned};
+ghost use Rattle.hda_program.specs.Causes.{SomeRoute, NoRoute};
 ghost use Rattle.hda_program.specs.Causes.{HasStoppedUnread, HasUnreadFile, IsOfSound, IsOfWalk, IsRunless};
 ghost use Rattle.hda_program.specs.Causes.{OfItsWav, WasShortened, WasUnread};
 ghost use Rattle.hda_program.specs.Made.{IsMakeOf, IsOfMade, WantsMade};
@@ -109,9 +108,9 @@ pub fn hda_main<S: Shelf, K: Sink>(
     ensures refused_geometry { result.status ≡ number_of Status.GeometryRefused
         → HasBadRing (S.told shelf.old) (map string_bytes words.now) }
     ensures routed { result.status ≡ number_of Status.Done → HasPlanned (S.told shelf.old) (map string_bytes words.now)
-        true ⊎ WantsMade (map string_bytes words.now) }
+        SomeRoute ⊎ WantsMade (map string_bytes words.now) }
     ensures nothing_routed { result.status ≡ number_of Status.NothingRouted
-        → HasPlanned (S.told shelf.old) (map string_bytes words.now) false }
+        → HasPlanned (S.told shelf.old) (map string_bytes words.now) NoRoute }
     ensures unwritten { result.status ≡ number_of Status.SinkFailed → Rose (K.faults out.old) (K.faults out.new) }
 
     // Good files and a good ring are not refused.
