@@ -6,7 +6,6 @@ use Rattle.hda_outside.specs.Shelf.{Files, file_of}
 use Rattle.stream_format.specs.Layouts.{layout}
 use Rattle.stream_format.specs.declared.format.Rate.TheVariants.{R48}
 use Rattle.stream_format.proofs.Callers.{one_format}
-use Rattle.route_setup.specs.Means.{Meaning}
 use Rattle.wav_reader.specs.declared.fault.WavFault.{WavFault}
 use Rattle.wav_reader.specs.declared.opened.WavHead.{WavHead}
 use Rattle.wav_reader.specs.declared.opened.WavOpen.{WavOpen}

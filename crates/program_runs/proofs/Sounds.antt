@@ -10,7 +10,6 @@ use Rattle.hda_files.specs.declared.machine.Machine.{Machine}
 use Rattle.schedule_reader.specs.declared.schedule.Schedule.{Schedule}
 use Rattle.period_writer.specs.declared.geometry.Geometry.{Geometry}
 use Rattle.route_planner.specs.declared.routes.Plan.{Plan}
-use Rattle.route_setup.specs.Means.{Meaning}
 use Rattle.sound_report.specs.declared.played.CutLine.{CutLine}
 use Rattle.sound_report.specs.declared.played.CutLine.TheVariants as cuts
 use Rattle.sound_report.specs.declared.played.Played.{Played}
