@@ -23,9 +23,9 @@ use Rattle.sound_report.specs.declared.status.Status.TheVariants.{ScheduleRefuse
 use Rattle.hda_program.specs.declared.message.Message.{Message}
 use Rattle.hda_program.specs.Meanings.{Meant, telling, message_meant}
 use Rattle.sound_report.specs.Texts.{unreadable_line}
-use Rattle.hda_files.specs.FaultText as codec
-use Rattle.schedule_reader.specs.FaultText as schedule
-use Rattle.wav_reader.specs.FaultText as wav
+use Rattle.hda_files.specs.FaultText as codec_words
+use Rattle.schedule_reader.specs.FaultText as schedule_words
+use Rattle.wav_reader.specs.FaultText as wav_words
 use Rattle.hda_program.specs.Text.{codec_refused_line}
 use Rattle.hda_program.specs.Text.{wav_refused_line, schedule_refused_line}
 
@@ -103,7 +103,7 @@ pub record IsCodecFault (bytes text : List ℕ) : Type 0 where
   pub fault : FileFault
   pub known : fault ≢ OutOfMemory
   pub reads : Reads bytes (Err fault)
-  pub says : text ≡ codec.fault_text fault
+  pub says : text ≡ codec_words.fault_text fault
 
 abbrev pub IsCodecRefused : Option Files → (name text : List ℕ) → Type 0
 IsCodecRefused told name text = IsRefused most_codec_bytes IsCodecFault told name text
@@ -162,7 +162,7 @@ pub record IsWavFault (told : Option Files) (name text : List ℕ) : Type 0 wher
   pub fault : WavFault
   pub known : fault ≢ wav.OutOfMemory
   pub file : IsFaultTold told name fault
-  pub says : text ≡ wav.fault_text fault
+  pub says : text ≡ wav_words.fault_text fault
 
 -- a WAV file is refused: it is too long, or has a fault before its sound; the text says which
 abbrev pub IsWavRefused : Option Files → (name text : List ℕ) → Type 0
@@ -193,7 +193,7 @@ pub record IsScheduleOf (told : Option Files) (name : List ℕ) (schedule : Sche
 pub record IsScheduleFault (bytes text : List ℕ) : Type 0 where
   pub fault : SchedFault
   pub reads : schedule_of bytes ≡ Err fault
-  pub says : text ≡ schedule.fault_text fault
+  pub says : text ≡ schedule_words.fault_text fault
 
 abbrev pub IsScheduleRefused : Option Files → (name text : List ℕ) → Type 0
 IsScheduleRefused told name text = IsRefused most_schedule_bytes IsScheduleFault told name text
