@@ -72,7 +72,8 @@ impl Settings {
         ensures value { IfOk result (λ settings. settings ≡ spec.opening graph.now) }
         ensures of_graph { IfOk result (spec.IsSettingsOf graph.now) }
         ensures each { IfOk result (λ settings. (nid : ℕ) (control : Control) → spec.setting_at settings nid control
-            ≡ (if spec.has_control graph.now nid control then Some (spec.opening_value graph.now nid control) else None)) }
+            ≡ (if spec.has_control graph.now nid control
+            then Some (spec.opening_value graph.now nid control) else None)) }
     {
         let codec = graph.raw();
         let mut settings = Settings {

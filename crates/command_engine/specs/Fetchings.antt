@@ -112,10 +112,10 @@ pub record AllFetched (outstanding : Option Outstanding) (part : RingPart) (gain
 
 -- or the outstanding one is the next that it fetches, and no codec took a command since it was submitted
 pub record IsNext (outstanding : Option Outstanding) (part : RingPart) (word : ℕ) (gained : List TakenCommand) : Type 0
-    where
-  pub pointers : next_place part.corb_read_pointer (entries_of part.corb_size) ≡ part.corb_write_pointer
-  pub is : IsWordOf outstanding word
-  pub none : gained ≡ []
+  where
+    pub pointers : next_place part.corb_read_pointer (entries_of part.corb_size) ≡ part.corb_write_pointer
+    pub is : IsWordOf outstanding word
+    pub none : gained ≡ []
 
 abbrev pub Fetching : Option Outstanding → RingPart → ℕ → List TakenCommand → Type 0
 Fetching outstanding part word gained = AllFetched outstanding part gained ⊎ IsNext outstanding part word gained
@@ -153,12 +153,12 @@ waiting_answers codecs = sum_by (λ (codec : CodecState). answers codec.waiting)
 -- what is on its way from codecs to the engine: what waits at codecs, what waits in the controller, and what stands
 -- unread in RIRB
 pub record IsOnItsWay (gained : List TakenCommand) (unread waiting : List Response) (codecs : List CodecState) : Type 0
-    where
-  pub in_ring : All (ResponseCanCome gained) unread
-  pub in_controller : All (ResponseCanCome gained) waiting
-  pub at_codecs : All (CodecCanSend gained) codecs
-  -- at most as many answers as commands were taken
-  pub few : solicited unread + (solicited waiting + waiting_answers codecs) ≤ length gained
+  where
+    pub in_ring : All (ResponseCanCome gained) unread
+    pub in_controller : All (ResponseCanCome gained) waiting
+    pub at_codecs : All (CodecCanSend gained) codecs
+    -- at most as many answers as commands were taken
+    pub few : solicited unread + (solicited waiting + waiting_answers codecs) ≤ length gained
 
 -- responses that were not read stand in RIRB, the first in the entry after the one that was read last
 abbrev pub AreStanding : (rirb size place : ℕ) → List ℕ → List Response → Type 0

@@ -37,8 +37,9 @@ pub record ReadsNew (rirb : ℕ) (rings : RingPlaces) (flag : ℕ) (found : Opti
   pub number : length entries ≡ (if has_bit flag 0 then new_entries rings pointer else 0)
   pub whole : All (λ (entry : List ℕ). length entry ≡ RESPONSE_BYTES) entries
   pub made : Between (Makes (if has_bit flag 0 then batch_accesses rirb rings pointer entries else [])) old new
-  pub rings_are : rings' ≡ record rings { read = if has_bit flag 0 then pointer % entries_of rings.rirb else
-      rings.read }
+  pub rings_are : rings' ≡ record rings {
+    read = if has_bit flag 0 then pointer % entries_of rings.rirb else rings.read;
+  }
   pub events_are : events ≡ unasked_events_of (responses_in entries)
   pub found_is : found ≡ answer_among (asked_of rings.outstanding) (responses_in entries)
 

@@ -38,8 +38,13 @@ sent_if false sent = sent
 
 -- how far it has come
 abbrev pub state_of : BringUp → State
-state_of bring_up = record { phase = bring_up.phase; kept = bring_up.kept; sent = bring_up.sent;
-    rings = bring_up.engine.rings; tally = tally_opened }
+state_of bring_up = record {
+  phase = bring_up.phase;
+  kept = bring_up.kept;
+  sent = bring_up.sent;
+  rings = bring_up.engine.rings;
+  tally = tally_opened;
+}
 
 -- a task with its blocks
 pub record IsTaskOf (bring_up : BringUp) (task : Task) : Type 0 where

@@ -100,19 +100,19 @@ poll_by rings reads clock = poll_of rings.outstanding (found_by rings reads) clo
 
 pub record Looks (means : Means) (corb rirb : ℕ) (rings : RingPlaces) (phase : Phase) (old : Agenda) (jacks : Jacks)
     (answer : Answer) (rings' : RingPlaces) (new : Agenda) (jacks' : Jacks) (before after : Option Telling) : Type 0
-    where
-  pub reads : PollReads
-  pub new_ones : AreNew rings reads
-  pub made : Between (Makes (ask_accesses rirb answer.clock rings reads)) before after
-  -- where it is told and the engine stood to the world: the answer belongs to the outstanding command
-  pub tells : Between (PollTellsOf answer.clock corb rirb rings (poll_by rings reads answer.clock) rings'
-      (unasked_events_of (responses_in reads.entries))) before after
-  pub rings_are : rings' ≡ rings_polled rings reads
-  pub led : LedTo (poll_by rings reads answer.clock) rings.outstanding phase old answer.phase new
-  -- of all that was told unasked until now
-  pub counted : (events : List told.Event) → IsCount events jacks → IsCount (with_told events reads.entries) jacks'
-  pub taken : Taken means (poll_by rings reads answer.clock) old answer.phase new
-  pub free : answer.is_free ≡ leaves_free (poll_by rings reads answer.clock) answer.phase
+  where
+    pub reads : PollReads
+    pub new_ones : AreNew rings reads
+    pub made : Between (Makes (ask_accesses rirb answer.clock rings reads)) before after
+    -- where it is told and the engine stood to the world: the answer belongs to the outstanding command
+    pub tells : Between (PollTellsOf answer.clock corb rirb rings (poll_by rings reads answer.clock) rings'
+        (unasked_events_of (responses_in reads.entries))) before after
+    pub rings_are : rings' ≡ rings_polled rings reads
+    pub led : LedTo (poll_by rings reads answer.clock) rings.outstanding phase old answer.phase new
+    -- of all that was told unasked until now
+    pub counted : (events : List told.Event) → IsCount events jacks → IsCount (with_told events reads.entries) jacks'
+    pub taken : Taken means (poll_by rings reads answer.clock) old answer.phase new
+    pub free : answer.is_free ≡ leaves_free (poll_by rings reads answer.clock) answer.phase
 
 -- a look that found an answer which memory was wanting to take: RIRB was read and what was told unasked counted, and
 -- nothing else was done

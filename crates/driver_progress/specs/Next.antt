@@ -87,8 +87,10 @@ phase_played task (ran.Late from to limit) = Late from to limit
 
 -- after a later run that left this tally
 abbrev pub after_run : Task → State → Seen → Tally → State
-after_run task state seen tally = record state { phase = phase_played task tally.course.ran; rings = polled state.rings
-    seen }
+after_run task state seen tally = record state {
+  phase = phase_played task tally.course.ran;
+  rings = polled state.rings seen;
+}
 
 -- ---- a stretch
 

@@ -61,11 +61,13 @@ noted task trail world (Stepped step) = trail
 noted task trail world Begin = begun trail
 noted task trail world End = ended task trail
 noted task trail world (Read at width value) =
-    record (with_access trail (Read at width value)) { answered = if at == RIRBSTS then is_answered trail world else
-    trail.answered }
+    record (with_access trail (Read at width value)) {
+      answered = if at == RIRBSTS then is_answered trail world else trail.answered;
+    }
 noted task trail world (Write at width value) =
-    record (with_access trail (Write at width value)) { written = if at == CORBWP then length world.written else
-    trail.written }
+    record (with_access trail (Write at width value)) {
+      written = if at == CORBWP then length world.written else trail.written;
+    }
 noted task trail world (DmaRead at bytes) = with_access trail (DmaRead at bytes)
 noted task trail world (DmaWrite at bytes) = with_access trail (DmaWrite at bytes)
 

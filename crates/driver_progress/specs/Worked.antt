@@ -159,7 +159,14 @@ second_tally clock = record {
   runs = run_at 0 12500 8 8 ∷ run_at 16 clock 0 0 ∷ [];
   silences = record { start = 8; end = 784 } ∷ [];
   course = record {
-    started = true; at = 16; from = clock; reach = 784; sure = 784; used = 8; sound_end = 8; ran = ran.Drained;
+    started = true;
+    at = 16;
+    from = clock;
+    reach = 784;
+    sure = 784;
+    used = 8;
+    sound_end = 8;
+    ran = ran.Drained;
   };
 }
 
@@ -168,7 +175,16 @@ abbrev pub short_tally : Ran → (sure : ℕ) → Tally
 short_tally how sure = record {
   runs = run_at 0 12500 4 4 ∷ [];
   silences = record { start = 4; end = 768 } ∷ [];
-  course = record { started = true; at = 0; from = 12500; reach = 768; sure = sure; used = 4; sound_end = 4; ran = how };
+  course = record {
+    started = true;
+    at = 0;
+    from = 12500;
+    reach = 768;
+    sure = sure;
+    used = 4;
+    sound_end = 4;
+    ran = how;
+  };
 }
 
 -- a later run that writes the other frame at position 352, where silence stood, and silence past the line's end,
@@ -184,7 +200,14 @@ back_tally from to = record {
   runs = run_at 0 12500 4 4 ∷ record { at = 16; from = from; to = to; budget = 4; written = 4 } ∷ [];
   silences = record { start = 4; end = 352 } ∷ record { start = 356; end = 784 } ∷ [];
   course = record {
-    started = true; at = 16; from = from; reach = 784; sure = 784; used = 8; sound_end = 356; ran = ran.Playing;
+    started = true;
+    at = 16;
+    from = from;
+    reach = 784;
+    sure = 784;
+    used = 8;
+    sound_end = 356;
+    ran = ran.Playing;
   };
 }
 

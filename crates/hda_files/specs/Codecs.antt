@@ -41,9 +41,17 @@ codec_words_of table place earlier = do
   group_type ← number_or table place GroupType 0 most_word 1
   formats ← number_or table place Formats 0 most_word 1
   pcm ← number_or table place Pcm 0 most_word 0x00020040
-  Ok (record { address = address; vendor = vendor; revision = revision; group = group; group_type = group_type;
-      group_words = record { pcm = pcm; formats = formats; amp_in = amp_in; amp_out = amp_out; power = power };
-      first = 0; count = 0; nodes = [] })
+  Ok (record {
+    address = address;
+    vendor = vendor;
+    revision = revision;
+    group = group;
+    group_type = group_type;
+    group_words = record { pcm = pcm; formats = formats; amp_in = amp_in; amp_out = amp_out; power = power };
+    first = 0;
+    count = 0;
+    nodes = [];
+  })
 
 -- the least node identifier of the tables, and the greatest
 abbrev pub least_nid : List NodeTable → ℕ

@@ -30,8 +30,16 @@ words_of table place = do
   power ← word_or_zero table place Power
   default ← word_or_zero table place Default
   long ← flag_at table place Long
-  Ok (record (plain_node caps) { pcm = pcm; formats = formats; pin_caps = pin_caps; amp_in = amp_in; amp_out = amp_out;
-      power = power; default = default; long = long })
+  Ok (record (plain_node caps) {
+    pcm = pcm;
+    formats = formats;
+    pin_caps = pin_caps;
+    amp_in = amp_in;
+    amp_out = amp_out;
+    power = power;
+    default = default;
+    long = long;
+  })
 
 -- the entries of the connection list of a widget with these words, as they are given: of 16 bits in the long form, else
 -- of 8 (7.3.3.3), and only where the widget has a list
@@ -48,8 +56,12 @@ nid_of table place earlier = do
   if list_any (λ node. node.nid == nid) earlier then Err (Doubled place Nid) else Ok nid
 
 abbrev pub node_with : ℕ → RawNode → NodeOpening → NodeTable
-node_with nid widget opening = record { nid = nid; widget = listed_node widget; list_fault = list_fault widget;
-    opening = opening }
+node_with nid widget opening = record {
+  nid = nid;
+  widget = listed_node widget;
+  list_fault = list_fault widget;
+  opening = opening;
+}
 
 -- what one table says of its widget, after the earlier ones of the same codec
 abbrev pub node_of : ℕ → List NodeTable → Members → Result NodeTable FileFault

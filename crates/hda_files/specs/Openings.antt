@@ -34,5 +34,16 @@ opening_of table place = do
   format ← given_number table place Format 0 65535
   gain_in ← gains_of place (value_at table GainIn)
   present ← flag_at table place Present
-  Ok (record { select = select; power_state = power_state; stream = stream; control = control; unsol = unsol;
-      eapd = eapd; digital = digital; gain_out = gain_out; format = format; gain_in = gain_in; present = present })
+  Ok (record {
+    select = select;
+    power_state = power_state;
+    stream = stream;
+    control = control;
+    unsol = unsol;
+    eapd = eapd;
+    digital = digital;
+    gain_out = gain_out;
+    format = format;
+    gain_in = gain_in;
+    present = present;
+  })

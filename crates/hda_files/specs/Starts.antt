@@ -19,8 +19,15 @@ use Rattle.hda_files.specs.declared.node.NodeTable.{NodeTable}
 
 -- mute, in bit 7, and gain of both sides: of the output amplifier or else of the input amplifier at a place (7.3.3.7)
 abbrev pub both_sides : Bool → ℕ → ℕ → AmpSetting
-both_sides output place gain = record { output = output; input = not output; left = true; right = true; place = place;
-    mute = has_bit gain 7; gain = bits_of gain 0 7 }
+both_sides output place gain = record {
+  output = output;
+  input = not output;
+  left = true;
+  right = true;
+  place = place;
+  mute = has_bit gain 7;
+  gain = bits_of gain 0 7;
+}
 
 abbrev pub amplifier_verb : Bool → ℕ → ℕ → Verb
 amplifier_verb output place gain = SetAmp (setting_payload (both_sides output place gain))

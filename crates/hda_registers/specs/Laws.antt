@@ -46,8 +46,11 @@ pub record LeavesRings (old new : Global) : Type 0 where
 -- all of a descriptor stays but the status bits that a driver clears: BCIS, FIFOE and DESE
 abbrev pub ChangesStatus : Descriptor → Descriptor → Type 0
 ChangesStatus old new =
-    new ≡ record old { completion = new.completion; fifo_error = new.fifo_error;
-    descriptor_error = new.descriptor_error }
+    new ≡ record old {
+      completion = new.completion;
+      fifo_error = new.fifo_error;
+      descriptor_error = new.descriptor_error;
+    }
 
 -- while CRST is 0, all registers but STATESTS hold their reset value
 abbrev pub IsHeldInReset : Fields → Type 0

@@ -14,7 +14,7 @@ abbrev pub framed : Fields → Fields
 framed fields = record fields {
   global = record fields.global {
     wall_clock = if is_out_of_reset fields.global then (fields.global.wall_clock + TICKS_PER_FRAME) % 2 ^ 32 else
-    fields.global.wall_clock;
+        fields.global.wall_clock;
   };
 }
 

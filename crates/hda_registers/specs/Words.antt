@@ -9,29 +9,29 @@ abbrev pub global_in : (control wake interrupts wall_clock corb_base corb_pointe
     rirb_pointers rirb_control : ℕ) → Global
 global_in control wake interrupts wall_clock corb_base corb_pointers corb_control rirb_base rirb_pointers rirb_control =
     record {
-  controller_reset = part 0 1 control;
-  unsolicited = part 8 1 control;
-  wake_enable = part 0 15 wake;
-  state_status = part 16 15 wake;
-  input_interrupt = part 0 1 interrupts;
-  output_interrupt = part 1 1 interrupts;
-  controller_interrupt = part 30 1 interrupts;
-  global_interrupt = part 31 1 interrupts;
-  wall_clock = part 0 32 wall_clock;
-  corb_base = part 7 25 corb_base;
-  corb_write_pointer = part 0 8 corb_pointers;
-  corb_read_pointer = part 16 8 corb_pointers;
-  corb_pointer_reset = part 31 1 corb_pointers;
-  corb_error_interrupt = part 0 1 corb_control;
-  corb_run = part 1 1 corb_control;
-  rirb_base = part 7 25 rirb_base;
-  rirb_write_pointer = part 0 8 rirb_pointers;
-  response_count = part 16 8 rirb_pointers;
-  response_interrupt = part 0 1 rirb_control;
-  rirb_run = part 1 1 rirb_control;
-  rirb_overrun_interrupt = part 2 1 rirb_control;
-  response_flag = part 8 1 rirb_control;
-}
+      controller_reset = part 0 1 control;
+      unsolicited = part 8 1 control;
+      wake_enable = part 0 15 wake;
+      state_status = part 16 15 wake;
+      input_interrupt = part 0 1 interrupts;
+      output_interrupt = part 1 1 interrupts;
+      controller_interrupt = part 30 1 interrupts;
+      global_interrupt = part 31 1 interrupts;
+      wall_clock = part 0 32 wall_clock;
+      corb_base = part 7 25 corb_base;
+      corb_write_pointer = part 0 8 corb_pointers;
+      corb_read_pointer = part 16 8 corb_pointers;
+      corb_pointer_reset = part 31 1 corb_pointers;
+      corb_error_interrupt = part 0 1 corb_control;
+      corb_run = part 1 1 corb_control;
+      rirb_base = part 7 25 rirb_base;
+      rirb_write_pointer = part 0 8 rirb_pointers;
+      response_count = part 16 8 rirb_pointers;
+      response_interrupt = part 0 1 rirb_control;
+      rirb_run = part 1 1 rirb_control;
+      rirb_overrun_interrupt = part 2 1 rirb_control;
+      response_flag = part 8 1 rirb_control;
+    }
 
 -- a descriptor's words at its places 00h, 04h, 08h, 0Ch, 10h and 18h
 abbrev pub stream_in : (control link_position buffer_length last_index format list_base : ℕ) → Descriptor

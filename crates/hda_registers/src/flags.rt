@@ -165,9 +165,9 @@ impl Flags for StreamControl {
 
     ghost exact = { ⊤ };
 
-    ghost table = { (codes "SRST", 0x1) ∷ (codes "RUN", 0x2) ∷ (codes "IOCE", 0x4) ∷ (codes "FEIE", 0x8) ∷
-        (codes "DEIE", 0x10)
-        ∷ (codes "BCIS", 0x400_0000) ∷ (codes "FIFOE", 0x800_0000) ∷ (codes "DESE", 0x1000_0000) ∷ (codes "FIFORDY", 0x2000_0000) ∷ [] };
+    ghost table = { (codes "SRST", 0x1) ∷ (codes "RUN", 0x2) ∷ (codes "IOCE", 0x4) ∷ (codes "FEIE", 0x8)
+        ∷ (codes "DEIE", 0x10) ∷ (codes "BCIS", 0x400_0000) ∷ (codes "FIFOE", 0x800_0000)
+        ∷ (codes "DESE", 0x1000_0000) ∷ (codes "FIFORDY", 0x2000_0000) ∷ [] };
 
     ghost set_of = { λ control. control.0 };
 

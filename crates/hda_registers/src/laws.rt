@@ -126,7 +126,8 @@ pub fn moves_leave_others()
 /// An event leaves all but its status bit, and a descriptor error RUN of its stream too.
 pub fn events_leave_others()
     ensures codec { (fields : Fields) (codec : ℕ) → raised fields (Codec codec)
-        ≡ record fields { global = record fields.global { state_status = bit_or fields.global.state_status (2 ^ codec) } } }
+        ≡ record fields {
+        global = record fields.global { state_status = bit_or fields.global.state_status (2 ^ codec) } } }
     ensures response { (fields : Fields)
         → raised fields Response ≡ record fields { global = record fields.global { response_flag = 1 } } }
     ensures input_completion { (fields : Fields)

@@ -123,8 +123,10 @@ flagged world = record world { registers = raised world.registers event.Response
 
 -- the wall clock and the count of frames moved on
 abbrev pub ticked : World → World
-ticked world = record world { registers = record world.registers { global = (framed world.registers).global };
-    frames = world.frames + 1 }
+ticked world = record world {
+  registers = record world.registers { global = (framed world.registers).global };
+  frames = world.frames + 1;
+}
 
 -- the codecs were discovered
 abbrev pub announced : World → World

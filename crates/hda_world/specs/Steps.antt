@@ -124,8 +124,12 @@ passed world = record world {
 -- what the history of link frames gains where one carried this
 abbrev pub frame_carried : World → Carriage → CarriedFrame
 frame_carried world carriage =
-    record { codecs = world.codecs; tag = world.registers.output.tag; format = world.registers.output.format;
-    carriage = carriage }
+    record {
+      codecs = world.codecs;
+      tag = world.registers.output.tag;
+      format = world.registers.output.format;
+      carriage = carriage;
+    }
 
 -- the output stream after a link frame that found this of it
 abbrev pub output_framed : Frame → World → World
@@ -157,8 +161,9 @@ fetch_step stream most world =
 
 -- something was plugged into a pin of the codec, or unplugged
 abbrev pub plugged_at : ℕ → ℕ → Bool → World → World
-plugged_at address nid present world = record world { codecs = with_codec address (λ codec. plugged codec nid present)
-    world.codecs }
+plugged_at address nid present world = record world {
+  codecs = with_codec address (λ codec. plugged codec nid present) world.codecs;
+}
 
 -- ---- steps
 

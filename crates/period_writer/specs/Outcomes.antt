@@ -145,24 +145,24 @@ pub record CanBegin (ring : Ring) (world : World) : Type 0 where
 -- a first run: from the rise of RUN on, with which the stream begins anew, the writer plays, and at each moment the
 -- device owns what it was left
 pub record StartTells (ring : Ring) (pcm : List ℕ) (budget : ℕ) (tally tally' : Tally) (old new : Telling) : Type 0
-    where
-  pub from : ℕ
-  pub in_reset : ℕ
-  pub ready : ℕ
-  pub to : ℕ
-  pub risen : Telling
-  pub events : List Event
-  pub before : let facts = facts_of budget (length pcm) from 0 to in
-      Makes (rise_accesses ring.geometry ring.list ring.periods from in_reset ready
-      (run_bytes (measures ring.geometry) tally.course facts pcm)) old risen
-  pub after : Makes (Read WALCLK Four to ∷ []) risen new
-  pub recorded : tally' ≡ tally_after (measures ring.geometry) tally (facts_of budget (length pcm) from 0 to)
-  pub rises : IsPlaying ring pcm tally' (world_of risen)
-  pub anew : (world_of risen).output ≡ begun
-  pub went : Went risen new events
-  pub moments : AtEach (IsOwned ring (line_of tally' pcm) tally'.course.reach tally'.course.from
-      (record { from = 0; to = 0; start = tally'.course.reach; reach = tally'.course.reach })) events (world_of risen)
-  pub plays : IsPlaying ring pcm tally' (world_of new)
+  where
+    pub from : ℕ
+    pub in_reset : ℕ
+    pub ready : ℕ
+    pub to : ℕ
+    pub risen : Telling
+    pub events : List Event
+    pub before : let facts = facts_of budget (length pcm) from 0 to in
+        Makes (rise_accesses ring.geometry ring.list ring.periods from in_reset ready
+        (run_bytes (measures ring.geometry) tally.course facts pcm)) old risen
+    pub after : Makes (Read WALCLK Four to ∷ []) risen new
+    pub recorded : tally' ≡ tally_after (measures ring.geometry) tally (facts_of budget (length pcm) from 0 to)
+    pub rises : IsPlaying ring pcm tally' (world_of risen)
+    pub anew : (world_of risen).output ≡ begun
+    pub went : Went risen new events
+    pub moments : AtEach (IsOwned ring (line_of tally' pcm) tally'.course.reach tally'.course.from
+        (record { from = 0; to = 0; start = tally'.course.reach; reach = tally'.course.reach })) events (world_of risen)
+    pub plays : IsPlaying ring pcm tally' (world_of new)
 
 abbrev pub StartTellsOf : Ring → (pcm : List ℕ) → (budget : ℕ) → (tally tally' : Tally) → Telling → Telling → Type 0
 StartTellsOf ring pcm budget tally tally' old new =

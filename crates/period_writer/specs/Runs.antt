@@ -55,8 +55,16 @@ pub record Tally : Type 0 where
 
 -- before the first run
 abbrev pub course_opened : Course
-course_opened = record { started = false; at = 0; from = 0; reach = 0; sure = 0; used = 0; sound_end = 0;
-    ran = Playing }
+course_opened = record {
+  started = false;
+  at = 0;
+  from = 0;
+  reach = 0;
+  sure = 0;
+  used = 0;
+  sound_end = 0;
+  ran = Playing;
+}
 
 abbrev pub tally_opened : Tally
 tally_opened = record { runs = []; silences = []; course = course_opened }

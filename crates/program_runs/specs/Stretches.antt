@@ -13,8 +13,7 @@ abbrev pub stretch_of : Option DriverLine → (made : List Event) → Stretch
 stretch_of turn made = record {
   budget = budget_of turn;
   clocks = values_of made WALCLK;
-  lpibs = values_of made
-      POSITION;
+  lpibs = values_of made POSITION;
 }
 
 -- it, where it is open

@@ -20,7 +20,7 @@ HasNoOpenPath codec format earlier pair pin = (other : Route) → IsOpenPath cod
 
 -- the entry of a pin after some earlier entries
 pub record IsEntry (codec : RawCodec) (format : Format) (earlier : List PinPlan) (pin : ℕ) (entry : PinPlan) : Type 0
-    where
-  pub of_pin : entry.pin ≡ pin
-  pub of_pair : entry.pair ≡ pair_of codec format.channels pin
-  pub of_outcome : IsOutcome codec format earlier entry.pair pin entry.outcome
+  where
+    pub of_pin : entry.pin ≡ pin
+    pub of_pair : entry.pair ≡ pair_of codec format.channels pin
+    pub of_outcome : IsOutcome codec format earlier entry.pair pin entry.outcome

@@ -57,6 +57,6 @@ has_level_0 levels nid = level_of levels nid == 0
 
 -- the least way from a node to an end
 pub record IsLeastWay (inner : ℕ → Bool) (next : ℕ → ℕ → Option ℕ) (end : ℕ → Bool) (from : ℕ) (route : Route) : Type 0
-    where
-  pub way : IsWayOut inner next end from route.hops route.converter
-  pub least : (others : List Hop) (to : ℕ) → IsWayOut inner next end from others to → AreNoLarger route.hops others
+  where
+    pub way : IsWayOut inner next end from route.hops route.converter
+    pub least : (others : List Hop) (to : ℕ) → IsWayOut inner next end from others to → AreNoLarger route.hops others

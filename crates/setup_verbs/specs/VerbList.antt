@@ -50,12 +50,26 @@ source_verbs format tag pair = SetFormat (format_word format) ∷ SetStream (tag
 
 -- both sides of an amplifier (7.3.3.7): of the input at a place, and of the output
 abbrev pub input_setting : ℕ → Bool → ℕ → AmpSetting
-input_setting place mute gain = record { output = false; input = true; left = true; right = true; place = place;
-    mute = mute; gain = gain }
+input_setting place mute gain = record {
+  output = false;
+  input = true;
+  left = true;
+  right = true;
+  place = place;
+  mute = mute;
+  gain = gain;
+}
 
 abbrev pub output_setting : ℕ → AmpSetting
-output_setting gain = record { output = true; input = false; left = true; right = true; place = 0; mute = false;
-    gain = gain }
+output_setting gain = record {
+  output = true;
+  input = false;
+  left = true;
+  right = true;
+  place = 0;
+  mute = false;
+  gain = gain;
+}
 
 -- the input passes at 0 dB, or is muted
 abbrev pub pass_input : RawCodec → RawNode → ℕ → Verb

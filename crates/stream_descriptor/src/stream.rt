@@ -174,8 +174,8 @@ impl Stream {
     /// The stream's format, where its registers can be used.
     fn usable_format(&self, regs: &Registers) -> Option<Format>
         ensures { option_map layout result
-            ≡ (if is_usable (stream_of regs.now self.now.index) then layout_of (stream_of regs.now self.now.index).format
-            else None) }
+            ≡ (if is_usable (stream_of regs.now self.now.index)
+            then layout_of (stream_of regs.now self.now.index).format else None) }
     {
         if regs.buffer_length(self.index) == 0 || regs.last_index(self.index) == 0 {
             return None;

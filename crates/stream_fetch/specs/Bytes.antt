@@ -11,8 +11,11 @@ use Rattle.stream_fetch.specs.declared.fetch.Bytes.TheVariants.{Full, Broken, Ca
 -- the place in a list that ends with an entry, after so many bytes of a buffer that has as many left
 abbrev pub after_bytes : ℕ → ℕ → Buffer → ListPlace → ListPlace
 after_bytes count last buffer place =
-    if place.fetched + count == buffer.bytes then record { index = next_index last place.index; buffer = None;
-    fetched = 0 }
+    if place.fetched + count == buffer.bytes then record {
+      index = next_index last place.index;
+      buffer = None;
+      fetched = 0;
+    }
     else record { index = place.index; buffer = Some buffer; fetched = place.fetched + count }
 
 -- they came

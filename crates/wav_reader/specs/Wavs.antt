@@ -41,8 +41,7 @@ meaning_by bytes head = record {
   format = head.format;
   mono = head.mono;
   frames = head.frames;
-  pcm = ring_bytes bytes
-      head;
+  pcm = ring_bytes bytes head;
 }
 
 -- what the bytes of a file mean, or their first fault

@@ -35,7 +35,7 @@ abbrev pub byte_came : List ℕ → Stream → Stream
 byte_came memory stream = with_ready (record {
   descriptor = record stream.descriptor {
     completion = if completes memory (list_address stream.descriptor) stream.state then 1 else
-    stream.descriptor.completion;
+        stream.descriptor.completion;
   };
   state = with_byte memory (list_address stream.descriptor) stream.descriptor.last_index stream.state;
 })

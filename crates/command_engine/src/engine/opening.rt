@@ -18,7 +18,8 @@ impl Engine {
     /// # Errors
     /// `NoRun` exactly where one of these takes, in this order, meets no run. After each error the pool is as it was.
     pub fn open(alloc: Global, pool: &mut Pool) -> Result<Engine, OpenFault>
-        ensures opens { IfOk result (λ engine. spec.OpensEngine pool.old engine.corb.address engine.rirb.address pool.new) }
+        ensures opens { IfOk result (λ engine.
+            spec.OpensEngine pool.old engine.corb.address engine.rirb.address pool.new) }
         ensures owns_corb { IfOk result (λ engine. Contains pool.new.taken (run_at engine.corb.address corb_bytes)) }
         ensures owns_rirb { IfOk result (λ engine. Contains pool.new.taken (run_at engine.rirb.address rirb_bytes)) }
         ensures rings { IfOk result (λ engine. engine.rings ≡ spec.rings_opened) }
