@@ -57,7 +57,8 @@ impl RawCodec {
             (λ faulty. spec.IsFirstListFault (spec.codec_list_fault self.old) faulty.nid faulty.fault)) }
         ensures front { (count : ℕ) × (self.new
             ≡ record self.old {
-            nodes = map spec.listed_node (take count self.old.nodes) ++ drop count self.old.nodes }) }
+              nodes = map spec.listed_node (take count self.old.nodes) ++ drop count self.old.nodes;
+            }) }
     {
         let none = Items::new(self.nodes.allocator());
         let mut nodes = mem::replace(&mut self.nodes, none).into_vec();

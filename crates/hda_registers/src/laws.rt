@@ -127,7 +127,8 @@ pub fn moves_leave_others()
 pub fn events_leave_others()
     ensures codec { (fields : Fields) (codec : ℕ) → raised fields (Codec codec)
         ≡ record fields {
-        global = record fields.global { state_status = bit_or fields.global.state_status (2 ^ codec) } } }
+          global = record fields.global { state_status = bit_or fields.global.state_status (2 ^ codec) };
+        } }
     ensures response { (fields : Fields)
         → raised fields Response ≡ record fields { global = record fields.global { response_flag = 1 } } }
     ensures input_completion { (fields : Fields)
