@@ -1,14 +1,17 @@
 -- What proofs of other crates cite of supplies.
-use Rattle.std.proofs.Common.{◌≡◌, ◌≤◌, ◌+◌, ◌-◌, ◌*◌, ◌∙◌, ℕ, zero, suc, Bool, true, false, List, [], ◌∷◌, ◌++◌, length, refl, ap, sym, subst, arith, append_assoc}
+use Rattle.std.proofs.Common.{◌≡◌, ◌≤◌, ◌+◌, ◌-◌, ◌*◌, ◌∙◌, ℕ, zero, suc, List, [], ◌∷◌, ◌++◌, length, refl, ap, sym, subst, arith, append_assoc}
 use Rattle.std.specs.Prelude.{min, take, drop, Ok}
 use Rattle.std.proofs.Math.Seq.{drop-append_seam, take-add, take-length}
 use Rattle.std.proofs.lemmas.List.{length-append, length-take-le, length-drop, take-append-le, take-append-drop, drop-drop}
-use Rattle.stream_format.specs.Cadence.{bytes_of_block}
-use Rattle.wav_reader.specs.Heads.{Head, IsRingFormat, head_of}
+use Rattle.stream_format.specs.Layouts.{layout}
+use Rattle.wav_reader.specs.declared.opened.WavHead.{WavHead}
+use Rattle.wav_reader.specs.Formats.{sample_length}
+use Rattle.wav_reader.specs.Heads.{Head, IsRingFormat, frame_length, head_of}
 use Rattle.wav_reader.specs.Wavs.{ring_bytes}
 use Rattle.wav_reader.proofs.HeadLemmas.{head_of-within}
-use Rattle.wav_reader.proofs.PlaceLemmas.{frame_mono, frame_stereo}
-use Rattle.wav_reader.proofs.RingLemmas.{ring_bytes-mono, ring_bytes-stereo, length-doubled}
+use Rattle.wav_reader.proofs.PlaceLemmas as places
+use Rattle.wav_reader.proofs.PlaceLemmas.{end_is, total_is}
+use Rattle.wav_reader.proofs.RingLemmas.{ring_bytes-slots, samples_in, slots-length}
 use Rattle.wav_reader.specs.Supplies.{Supplied, block_of, MayGive, EndsWith, IsTaken, IsFilled, without, taken_between, sound_before}
 use Rattle.wav_reader.specs.Fills.{IsNextOf}
 
@@ -161,22 +164,30 @@ bytes_both first second at then pcm one place other =
 -- ---- a file's sound
 
 -- it has a block for each frame
-pub ring_length : (file : List ℕ) (head : Head) → IsRingFormat head.format → head_of file ≡ Ok head → length (ring_bytes file head) ≡ head.frames * block_of head
-ring_length file head format is = by head.mono refl where
-  block : block_of head ≡ 4
-  block = ap (λ (channels : ℕ). bytes_of_block channels head.format.bits) format.channels ∙ ap (bytes_of_block 2) format.bits
+pub ring_length : (file : List ℕ) (head : Head) → IsRingFormat head.mono head.format → head_of file ≡ Ok head → length (ring_bytes file head) ≡ head.frames * block_of head
+ring_length file head form is =
+    let within = head_of-within file head is in
+    let rest = length-drop head.from file in
+    let end = end_is head in
+    let turned : sample_length head.format.bits * (samples_in head * head.frames) ≡ samples_in head * head.frames * sample_length head.format.bits = omega arith in
+    ap length (ring_bytes-slots file head within)
+    ∙ slots-length head.mono head.format.bits (drop head.from file) (samples_in head * head.frames) (omega (arith, within, rest, end, turned))
+    ∙ sym (total_is head form)
 
-  fours : 4 * head.frames ≡ head.frames * block_of head
-  fours = (let four = ap (λ (bytes : ℕ). head.frames * bytes) block in omega (arith, four))
+-- what is known of a file before its sound is read is of such a format
+pub form_of : (head : WavHead) → IsRingFormat head.mono (layout head.format)
+form_of head = record { even = head.format.even; some = head.format.some; few = head.format.few; doubled = head.doubled }
 
-  by : (mono : Bool) → head.mono ≡ mono → length (ring_bytes file head) ≡ head.frames * block_of head
-  by true mono =
-      let within = head_of-within file head is in
-      let frame = ap (λ (bytes : ℕ). head.frames * bytes) (frame_mono head format mono) in
-      let rest = length-drop head.from file in
-      ap length (ring_bytes-mono file head format mono) ∙ length-doubled (drop head.from file) head.frames (omega (arith, within, frame, rest)) ∙ fours
-  by false mono =
-      let within = head_of-within file head is in
-      let frame = ap (λ (bytes : ℕ). head.frames * bytes) (frame_stereo head format mono) in
-      let rest = length-drop head.from file in
-      ap length (ring_bytes-stereo file head format mono) ∙ length-take-le (4 * head.frames) (drop head.from file) (omega (arith, within, frame, rest)) ∙ fours
+-- a block and a frame have some bytes, and a block has no more than 32
+pub block_some : (head : Head) → IsRingFormat head.mono head.format → 1 ≤ block_of head
+block_some head form = places.block_some head form
+
+pub frame_some : (head : Head) → IsRingFormat head.mono head.format → 1 ≤ frame_length head.mono head.format
+frame_some head form = places.frame_some head form
+
+pub block_few : (head : Head) → IsRingFormat head.mono head.format → block_of head ≤ 32
+block_few head form = places.block_few head form
+
+-- three bytes of the file become eight of the ring at most
+pub sound_most : (head : Head) → IsRingFormat head.mono head.format → 3 * (head.frames * block_of head) ≤ 8 * (head.frames * frame_length head.mono head.format)
+sound_most head form = places.sound_most head form

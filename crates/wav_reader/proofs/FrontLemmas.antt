@@ -1,5 +1,5 @@
 -- A part of a file says as much as the file does there.
-use Rattle.std.proofs.Common.{◌≡◌, ◌≤◌, ◌<◌, ◌&&◌, Bool, min, ℕ, ◌+◌, ◌-◌, true, false, nat_le, nat_eq, if◌then◌else◌, List, length, length-drop, take, drop, codes, Some, None, Result, refl, sym, ap, ◌∙◌, arith}
+use Rattle.std.proofs.Common.{◌≡◌, ◌≤◌, ◌<◌, ◌&&◌, ◌==◌, Bool, min, ℕ, ◌+◌, ◌-◌, true, false, nat_le, nat_eq, if◌then◌else◌, List, length, length-drop, take, drop, codes, Some, None, Result, refl, sym, ap, ◌∙◌, arith}
 use Rattle.std.proofs.lemmas.Bool.Decides.{nat_tests}
 use Rattle.std.proofs.lemmas.List.{take-take, drop-drop, take-append-drop, drop-append-le, length-take-le, drop-take}
 use Rattle.std.proofs.Math.Seq.{take-length}
@@ -14,7 +14,7 @@ use Rattle.wav_reader.specs.declared.fault.WavFault.{WavFault}
 use Rattle.wav_reader.specs.declared.fault.WavFault.TheVariants.{NoFormat}
 use Rattle.wav_reader.specs.declared.formats.Fields.{Fields}
 use Rattle.wav_reader.specs.declared.formats.Sound.{Sound}
-use Rattle.wav_reader.specs.Formats.{◌>>=◌, checked, fields_of, sound_of, sound_with}
+use Rattle.wav_reader.specs.Formats.{◌>>=◌, checked, extensible_tag, fields_of, least_length, pcm_subformat, sound_of, sound_with}
 use Rattle.wav_reader.specs.Readers.{chunk_by, chunk_with}
 
 -- a number that stands in the first bytes
@@ -82,34 +82,80 @@ is_riff-front count bytes all = by (nat_le 12 (length bytes)) refl where
   by false is = let whole : length bytes ≡ count = grind (arith, nat_tests) in ap is_riff (ap (λ (count : ℕ). take count bytes) (sym whole) ∙ take-length bytes)
 
 -- the body of a chunk `fmt `
-fields_made : (tag channels hertz block bits : ℕ) → Fields
-fields_made tag channels hertz block bits = record { tag = tag; channels = channels; hertz = hertz; block = block; bits = bits }
+unfoldable pub fields_made : (tag channels hertz block bits : ℕ) (pcm : Bool) → Fields
+fields_made tag channels hertz block bits pcm = record { tag = tag; channels = channels; hertz = hertz; block = block; bits = bits; has_pcm_subformat = pcm }
 
-fields_front : (body : List ℕ) → 16 ≤ length body → fields_of (take 16 body) ≡ fields_of body
-unfolding fields_made
+unfoldable pub is_pcm_part : List ℕ → Bool
+is_pcm_part part = pointwise nat_eq pcm_subformat part
+
+pub fields_so : (body : List ℕ) → fields_of body
+    ≡ fields_made (little_number 2 body) (little_number 2 (drop 2 body)) (little_number 4 (drop 4 body)) (little_number 2 (drop 12 body)) (little_number 2 (drop 14 body)) (is_pcm_part (take 16 (drop 24 body)))
+unfolding fields_made is_pcm_part
+fields_so body = refl
+
+pub fields_same : (tag tag' channels channels' hertz hertz' block block' bits bits' : ℕ) (pcm pcm' : Bool) → tag ≡ tag' → channels ≡ channels' → hertz ≡ hertz' → block ≡ block'
+    → bits ≡ bits' → pcm ≡ pcm' → fields_made tag channels hertz block bits pcm ≡ fields_made tag' channels' hertz' block' bits' pcm'
+fields_same tag tag' channels channels' hertz hertz' block block' bits bits' pcm pcm' one two three four five six = cc
+
+fields_front : (body : List ℕ) → 40 ≤ length body → fields_of (take 40 body) ≡ fields_of body
 fields_front body long =
-    let tag = number_front 2 0 16 body long (omega arith) in
-    let channels = number_front 2 2 16 body long (omega arith) in
-    let hertz = number_front 4 4 16 body long (omega arith) in
-    let block = number_front 2 12 16 body long (omega arith) in
-    let bits = number_front 2 14 16 body long (omega arith) in
-    cc
+    let tag = number_front 2 0 40 body long (omega arith) in
+    let channels = number_front 2 2 40 body long (omega arith) in
+    let hertz = number_front 4 4 40 body long (omega arith) in
+    let block = number_front 2 12 40 body long (omega arith) in
+    let bits = number_front 2 14 40 body long (omega arith) in
+    let pcm = ap is_pcm_part (part_front 24 16 body) in
+    fields_so (take 40 body) ∙ fields_same _ _ _ _ _ _ _ _ _ _ _ _ tag channels hertz block bits pcm ∙ sym (fields_so body)
+
+-- how many bytes a body has at least
+pub enough : (tag len : ℕ) → 40 ≤ len → nat_le (least_length tag) len ≡ true
+enough tag len long = by (tag == extensible_tag) where
+  by : (extensible : Bool) → nat_le (if extensible then 40 else 16) len ≡ true
+  by true = grind (arith, nat_tests)
+  by false = grind (arith, nat_tests)
+
+pub too_short : (tag len : ℕ) → len < 16 → nat_le (least_length tag) len ≡ false
+too_short tag len short = by (tag == extensible_tag) where
+  by : (extensible : Bool) → nat_le (if extensible then 40 else 16) len ≡ false
+  by true = grind (arith, nat_tests)
+  by false = grind (arith, nat_tests)
 
 -- a body says what its first bytes say
 sound_made : Bool → Fields → Result Sound WavFault
 sound_made long fields = checked long NoFormat >>= (λ _. sound_with fields)
 
-sound_of-body : (body : List ℕ) → 16 ≤ length body → sound_of (take 16 body) ≡ sound_of body
+sound_so : (body : List ℕ) → sound_of body ≡ sound_made (nat_le (least_length (fields_of body).tag) (length body)) (fields_of body)
 unfolding sound_of sound_made
-sound_of-body body long =
-    let few : nat_le 16 (length (take 16 body)) ≡ true = let all = length-take-le 16 body long in grind (arith, nat_tests) in
-    let many : nat_le 16 (length body) ≡ true = grind (arith, nat_tests) in
-    ap (λ (long : Bool). sound_made long (fields_of (take 16 body))) (few ∙ sym many)
-    ∙ ap (λ (fields : Fields). sound_made (nat_le 16 (length body)) fields) (fields_front body long)
+sound_so body = refl
 
-pub sound_of-front : (bytes : List ℕ) (chunk : Chunk) → 16 ≤ chunk.len → chunk.from + chunk.len ≤ length bytes
-    → sound_of (take 16 (drop chunk.from bytes)) ≡ sound_of (body_of bytes chunk)
-sound_of-front bytes chunk long inside =
-    let rest : chunk.len ≤ length (drop chunk.from bytes) = simp length-drop (omega (arith, inside)) in
-    let body = length-take-le chunk.len (drop chunk.from bytes) rest in
-    ap sound_of (sym (take-take 16 chunk.len (drop chunk.from bytes) long)) ∙ sound_of-body (body_of bytes chunk) (omega (arith, body, long))
+-- a body by its fields
+pub sound_by_fields : (body : List ℕ) (fields : Fields) → fields_of body ≡ fields → nat_le (least_length fields.tag) (length body) ≡ true → sound_of body ≡ sound_with fields
+unfolding sound_made
+sound_by_fields body fields is long =
+    sound_so body ∙ ap (λ (fields : Fields). sound_made (nat_le (least_length fields.tag) (length body)) fields) is ∙ ap (λ (long : Bool). sound_made long fields) long
+
+sound_of-body : (body : List ℕ) → 40 ≤ length body → sound_of (take 40 body) ≡ sound_of body
+sound_of-body body long =
+    let all = length-take-le 40 body long in
+    let few = enough (fields_of (take 40 body)).tag (length (take 40 body)) (omega (arith, all)) in
+    let many = enough (fields_of body).tag (length body) long in
+    sound_so (take 40 body)
+    ∙ ap (λ (long : Bool). sound_made long (fields_of (take 40 body))) (few ∙ sym many)
+    ∙ ap (λ (fields : Fields). sound_made (nat_le (least_length (fields_of body).tag) (length body)) fields) (fields_front body long)
+    ∙ sym (sound_so body)
+
+pub sound_of-front : (bytes : List ℕ) (chunk : Chunk) (count : ℕ) → count ≡ min chunk.len 40 → chunk.from + chunk.len ≤ length bytes
+    → sound_of (take count (drop chunk.from bytes)) ≡ sound_of (body_of bytes chunk)
+sound_of-front bytes chunk count few inside = by (nat_le 40 chunk.len) refl where
+  by : (long : Bool) → long ≡ nat_le 40 chunk.len → sound_of (take count (drop chunk.from bytes)) ≡ sound_of (body_of bytes chunk)
+  by true is =
+      let long : 40 ≤ chunk.len = grind (arith, nat_tests) in
+      let first : count ≡ 40 = omega (arith, few, long) in
+      let rest : chunk.len ≤ length (drop chunk.from bytes) = simp length-drop (omega (arith, inside)) in
+      let body = length-take-le chunk.len (drop chunk.from bytes) rest in
+      ap (λ (n : ℕ). sound_of (take n (drop chunk.from bytes))) first
+      ∙ ap sound_of (sym (take-take 40 chunk.len (drop chunk.from bytes) long)) ∙ sound_of-body (body_of bytes chunk) (omega (arith, body, long))
+  by false is =
+      let short : chunk.len < 40 = grind (arith, nat_tests) in
+      let all : count ≡ chunk.len = omega (arith, few, short) in
+      ap (λ (n : ℕ). sound_of (take n (drop chunk.from bytes))) all

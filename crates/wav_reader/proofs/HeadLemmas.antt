@@ -1,9 +1,7 @@
 -- Where the sound stands, chunk by chunk.
-use Rattle.std.proofs.Common.{◌≡◌, ◌≤◌, ◌<◌, ℕ, zero, suc, ◌+◌, ◌*◌, ◌/◌, Bool, true, false, nat_lt, List, [], ◌∷◌, length, Option, Some, None, Result, Ok, Err, refl, sym, ap, ◌∙◌, arith}
+use Rattle.std.proofs.Common.{◌≡◌, ◌≤◌, ◌<◌, ℕ, zero, suc, ◌+◌, Bool, true, false, nat_lt, List, [], ◌∷◌, length, Option, Some, None, Result, Ok, Err, refl, sym, ap, ◌∙◌, arith}
 use Rattle.std.proofs.lemmas.Bool.Decides.{nat_tests}
 use Rattle.std.specs.List.{find, before_first, position_or_len}
-use Rattle.stream_format.specs.declared.format.Rate.{Rate}
-use Rattle.stream_format.specs.declared.format.Bits.TheVariants.{B16}
 use Rattle.wav_reader.specs.declared.fault.WavFault.{WavFault}
 use Rattle.wav_reader.specs.declared.fault.WavFault.TheVariants.{NotRiff, NoData, Truncated}
 use Rattle.wav_reader.specs.declared.chunks.Kind.{Kind}
@@ -12,8 +10,9 @@ use Rattle.wav_reader.specs.declared.chunks.Chunk.{Chunk}
 use Rattle.wav_reader.specs.declared.formats.Sound.{Sound}
 use Rattle.wav_reader.specs.Chunks.{is_riff, chunk_at, chunks_from, chunks_after, place_after, end_of, body_of}
 use Rattle.wav_reader.specs.Formats.{◌>>=◌, sound_of}
-use Rattle.wav_reader.specs.Heads.{Head, EndsWithin, frame_length, head_with, head_in, head_of, sound_by, sound_at, sound_in, is_data, is_format}
+use Rattle.wav_reader.specs.Heads.{Head, EndsWithin, is_mono, ring_format, frame_length, head_with, head_in, head_of, sound_by, sound_at, sound_in, is_data, is_format}
 use Rattle.wav_reader.specs.Readers.{known_after}
+use Rattle.wav_reader.proofs.CountLemmas.{whole-ends}
 use Rattle.wav_reader.proofs.ChunkLemmas.{chunks_after-whole, chunks_after-none, none_past_end, none_whole, one_whole, whole_ends}
 
 -- the sound that was found, or else the one that the chunks to come say
@@ -116,18 +115,12 @@ head_of-riff bytes e = rw e refl
 
 -- ---- the frames end in the file
 
-whole_frames : (mono : Bool) (rate : Rate) (len : ℕ)
-    → len / frame_length mono (record { rate = rate; bits = B16; channels = 2 }) * frame_length mono (record { rate = rate; bits = B16; channels = 2 }) ≤ len
-whole_frames true rate len = omega arith
-whole_frames false rate len = omega arith
-
 sound_ends : (bytes : List ℕ) (found : Option Sound) (chunk : Chunk) (head : Head) → chunk.from + chunk.len ≤ length bytes
     → sound_in found chunk ≡ Ok head → EndsWithin bytes head
 sound_ends bytes None chunk head inside is = absurd (cc)
 sound_ends bytes (Some sound) chunk head inside is =
     let same : head_with sound chunk ≡ head = cc in
-    let frames = whole_frames sound.mono sound.rate chunk.len in
-    let here : EndsWithin bytes (head_with sound chunk) = omega (arith, frames, inside) in
+    let here : EndsWithin bytes (head_with sound chunk) = whole-ends chunk.from chunk.len (frame_length (is_mono sound.channels) (ring_format sound)) (length bytes) inside in
     rw (← same) here
 
 none_ends : (bytes : List ℕ) (found : Option Sound) (at : ℕ) (head : Head) → head_from bytes found at [] ≡ Ok head → EndsWithin bytes head

@@ -1,9 +1,12 @@
 pub mod Callers
 mod ChunkLemmas
+mod CountLemmas
 mod HeadLemmas
+mod PieceLemmas
 mod RingLemmas
+mod SlotLemmas
 mod WrittenLemmas
-mod StereoLemmas
+mod SoundLemmas
 pub mod FrontLemmas
 pub mod OpeningLemmas
 pub mod StreamLemmas

@@ -1,6 +1,5 @@
 -- What is read of a file on a shelf is what the file says.
-use Rattle.std.proofs.Common.{◌≡◌, ◌≤◌, ◌<◌, ℕ, ◌+◌, Bool, false, nat_le, List, length, take, drop, Option, Some, None, Result, Ok, Err, refl, inl, inr, sym, ap, subst, ◌∙◌, length-take, arith}
-use Rattle.std.proofs.lemmas.Bool.Decides.{nat_tests}
+use Rattle.std.proofs.Common.{◌≡◌, ◌≤◌, ◌<◌, ℕ, ◌+◌, Bool, List, length, take, drop, Option, Some, None, Result, Ok, Err, refl, inl, inr, sym, ap, subst, ◌∙◌, length-take, arith}
 use Rattle.std.specs.Prelude.{IfSome, IsSomeAnd}
 use Rattle.hda_outside.specs.Shelf.{Files, file_of}
 use Rattle.hda_outside.specs.declared.reading.ReadAll.{ReadAll}
@@ -20,7 +19,7 @@ use Rattle.wav_reader.specs.Heads.{head_of}
 use Rattle.wav_reader.specs.Opening.{IsOpened, IsOpenedBy, most_wav_bytes}
 use Rattle.wav_reader.specs.Readers.{IsAnswer, chunk_or_cut, chunk_with, known_after, open_of_fault, open_of_length}
 use Rattle.wav_reader.specs.Shelves.{Tells}
-use Rattle.wav_reader.proofs.FrontLemmas.{chunk_at-head}
+use Rattle.wav_reader.proofs.FrontLemmas.{chunk_at-head, too_short}
 use Rattle.wav_reader.proofs.HeadLemmas.{head_after, at_cut}
 
 -- a shelf that tells goes on telling
@@ -70,7 +69,7 @@ pub known_short : (file : List ℕ) (found : Option Sound) (chunk : Chunk) → c
 unfolding sound_of
 known_short file found chunk format none few =
     let long = length-take chunk.len (drop chunk.from file) in
-    let short : nat_le 16 (length (body_of file chunk)) ≡ false = grind (arith, nat_tests) in
+    let short = too_short (fields_of (body_of file chunk)).tag (length (body_of file chunk)) (omega (arith, long, few)) in
     known_format file found chunk format none
     ∙ ap (λ (long : Bool). (checked long NoFormat >>= (λ _. sound_with (fields_of (body_of file chunk)))) >>= (λ sound. Ok (Some sound))) short
 

@@ -1,5 +1,5 @@
 -- What a read of a file's sound answers.
-use Rattle.std.proofs.Common.{◌≡◌, ◌≤◌, ◌<◌, ℕ, ◌+◌, ◌*◌, Bool, true, false, List, ◌++◌, length, take, Option, Some, None, Result, Err, subst, refl, sym, ap, ◌∙◌, length-append, arith}
+use Rattle.std.proofs.Common.{◌≡◌, ◌≤◌, ◌<◌, ℕ, ◌+◌, List, ◌++◌, length, take, Option, Some, None, Result, Err, subst, sym, ap, ◌∙◌, length-append, arith}
 use Rattle.std.proofs.lemmas.List.{take-append-le}
 use Rattle.circular_buffer.specs.Buffer.{Buffer, buffer}
 use Rattle.hda_outside.specs.declared.pieces.Cut.{Cut}
@@ -8,22 +8,15 @@ use Rattle.hda_outside.specs.Pieces.{HoldsFront}
 use Rattle.hda_outside.specs.Shelf.{Files}
 use Rattle.wav_reader.specs.Shelves.{HasFile}
 use Rattle.wav_reader.specs.Heads.{Head, EndsWithin, IsRingFormat}
-use Rattle.wav_reader.specs.Readers.{place_of}
-use Rattle.wav_reader.proofs.PlaceLemmas.{frame_mono, frame_stereo, place_mono, place_stereo}
+use Rattle.wav_reader.specs.Readers.{place_of, total}
+use Rattle.wav_reader.proofs.PlaceLemmas.{place_before}
 
 -- a byte of the sound stands in the file
-pub place_inside : (file : List ℕ) (head : Head) (at : ℕ) → IsRingFormat head.format → EndsWithin file head → at < head.frames * 4
+pub place_inside : (file : List ℕ) (head : Head) (at : ℕ) → IsRingFormat head.mono head.format → EndsWithin file head → at < total head
     → place_of head at + 1 ≤ length file
-place_inside file head at form within inside = by head.mono refl where
-  by : (mono : Bool) → head.mono ≡ mono → place_of head at + 1 ≤ length file
-  by true mono =
-      let two = frame_mono head form mono in
-      let bound : head.from + head.frames * 2 ≤ length file = rw (← two) within in
-      rw (place_mono head at mono) (omega (arith, bound, inside))
-  by false mono =
-      let four = frame_stereo head form mono in
-      let bound : head.from + head.frames * 4 ≤ length file = rw (← four) within in
-      rw (place_stereo head at mono) (omega (arith, bound, inside))
+place_inside file head at form within inside =
+    let before = place_before head at form inside in
+    omega (arith, before, within)
 
 -- more put last leaves the first ones
 pub kept_more : (old held part : List ℕ) → take (length old) held ≡ old → length old ≤ length held → take (length old) (held ++ part) ≡ old

@@ -1,7 +1,11 @@
 -- Reads of a file's sound, one after another.
-use Rattle.std.proofs.Common.{◌≡◌, ◌≢◌, ◌≤◌, ◌<◌, ℕ, ◌+◌, ◌*◌, ◌%◌, Bool, true, false, List, ◌++◌, length, take, Option, Some, None, Result, Ok, Err, OnOk, OnErr, subst, refl, sym, ap, ◌∙◌, arith, length-append, [], append-nil}
+use Rattle.std.proofs.Common.{◌≡◌, ◌≢◌, ◌≤◌, ◌<◌, ℕ, ◌+◌, ◌-◌, ◌*◌, ◌/◌, ◌%◌, min, Bool, true, false, List, ◌∷◌, ◌++◌, length, take, Option, Some, None, Result, Ok, Err, OnOk, OnErr, subst, refl, sym, ap, ◌∙◌, arith, length-append, [], append-nil}
 use Rattle.std.proofs.lemmas.List.{length-take-le, take-take}
+use Rattle.std.proofs.lemmas.Nat.{div-add-mod', div_below, mul-le}
+use Rattle.std.proofs.Math.Nat.{mul-mod_left}
 use Rattle.std.proofs.Math.Seq.{take-length, take-append_seam}
+use Rattle.stream_format.specs.declared.format.Bits.{Bits}
+use Rattle.stream_format.specs.declared.format.Bits.TheVariants.{B16, B24, B32}
 use Rattle.circular_buffer.specs.Buffer.{Buffer, buffer}
 use Rattle.hda_outside.specs.Counts.{Rose}
 use Rattle.hda_outside.specs.Shelf.{Files, file_of}
@@ -11,11 +15,13 @@ use Rattle.hda_outside.specs.declared.pieces.Cut.TheVariants.{Failed, Short}
 use Rattle.hda_outside.specs.declared.pieces.Piece.{Piece}
 use Rattle.wav_reader.specs.Fills.{end_of_sound}
 use Rattle.wav_reader.specs.Heads.{Head, IsRingFormat}
-use Rattle.wav_reader.specs.Readers.{IsGrown, IsNext, ReadsOn, AreGivenFor, answer_of, place_of, ring_part, file_bytes, frames_in}
+use Rattle.wav_reader.specs.Formats.{sample_length}
+use Rattle.wav_reader.specs.Readers.{IsGrown, IsNext, ReadsOn, AreGivenFor, IsGivenFor, answer_of, is_pad, place_of, ring_part, slot_length, total}
 use Rattle.wav_reader.specs.Shelves.{ShelfSeen, HasFile}
 use Rattle.wav_reader.specs.Wavs.{ring_bytes}
 use Rattle.wav_reader.proofs.HeadLemmas.{head_of-within}
-use Rattle.wav_reader.proofs.PlaceLemmas.{next_byte, next_frames, frames_fit, frames_few, frames_less, length-ring_part, part_inside, frames_back, bytes_bound, place_before, frame_after, place_in_frame}
+use Rattle.wav_reader.proofs.CountLemmas.{mul-div, mul-few, one-more, whole-less, whole-next, whole-all, div-few}
+use Rattle.wav_reader.proofs.PlaceLemmas.{slot_some, sample_some, next_byte, next_pad, next_samples, part-length, part_inside, place_before, place_in_frame, sample_after}
 use Rattle.wav_reader.proofs.ReadLemmas.{place_inside, front_at, still_has}
 
 -- a piece of a file that was read: what reading it promises, by what the shelf tells and has counted under the file's name
@@ -54,44 +60,69 @@ early_if (Some cut) A by = by (λ same. some_is cut same) where
   some_is : (cut : Cut) → Some cut ≡ None → ⊥
   some_is cut same = cc
 
--- ---- the frames of a piece
+-- ---- the samples of a piece
 
--- the ring bytes of the whole frames among so many bytes
-abbrev pub frames_part : Bool → List ℕ → (count : ℕ) → List ℕ
-frames_part mono buf count = ring_part mono (take (file_bytes mono (frames_in mono count)) buf)
+-- what the ring gets for the whole samples among so many bytes
+abbrev pub samples_part : Bool → Bits → List ℕ → (count : ℕ) → List ℕ
+samples_part mono bits buf count = ring_part mono bits (take (count / sample_length bits * sample_length bits) buf)
 
-pub part_length : (mono : Bool) (buf : List ℕ) (count : ℕ) → count ≤ length buf → length (frames_part mono buf count) ≡ 4 * frames_in mono count
-part_length mono buf count within =
-    let inside = frames_fit mono (frames_in mono count) count (omega arith) in
-    length-ring_part mono (take (file_bytes mono (frames_in mono count)) buf) (frames_in mono count) (length-take-le (file_bytes mono (frames_in mono count)) buf (omega (arith, inside, within)))
+pub samples_long : (mono : Bool) (bits : Bits) (buf : List ℕ) (count : ℕ) → count ≤ length buf → length (samples_part mono bits buf count) ≡ count / sample_length bits * slot_length mono bits
+samples_long mono bits buf count within =
+    let inside = whole-less count (sample_length bits) in
+    part-length mono bits (take (count / sample_length bits * sample_length bits) buf) (count / sample_length bits)
+    (length-take-le (count / sample_length bits * sample_length bits) buf (omega (arith, inside, within)))
 
-pub part_fits : (mono : Bool) (buf : List ℕ) (count frames : ℕ) → count ≤ length buf → length buf ≡ file_bytes mono frames → length (frames_part mono buf count) ≤ 4 * frames
-part_fits mono buf count frames within size =
-    let long = part_length mono buf count within in
-    let few = frames_few mono frames count (omega (arith, within, size)) in
-    omega (arith, long, few)
+pub samples_fit : (mono : Bool) (bits : Bits) (buf : List ℕ) (count samples : ℕ) → count ≤ length buf → length buf ≡ samples * sample_length bits
+    → length (samples_part mono bits buf count) ≤ samples * slot_length mono bits
+samples_fit mono bits buf count samples within size =
+    let long = samples_long mono bits buf count within in
+    let few = div-few count samples (sample_length bits) (sample_some bits) (omega (arith, within, size)) in
+    let less = mul-few (count / sample_length bits) samples (slot_length mono bits) few in
+    omega (arith, long, less)
 
-module _ (name : List ℕ) (head : Head) (taken frames : ℕ) (form : IsRingFormat head.format) (before after : ShelfSeen) (old : Buffer ℕ) (buf : List ℕ) (piece : Piece)
-    (size : length buf ≡ file_bytes head.mono frames) (aligned : (taken + length old.items) % 4 ≡ 0) (there : taken + length old.items + 4 * frames ≤ head.frames * 4)
+-- a sample has no more bytes than its slot
+sample_less : (mono : Bool) (bits : Bits) → sample_length bits ≤ slot_length mono bits
+sample_less true B16 = omega arith
+sample_less true B24 = omega arith
+sample_less true B32 = omega arith
+sample_less false B16 = omega arith
+sample_less false B24 = omega arith
+sample_less false B32 = omega arith
+
+module _ (name : List ℕ) (head : Head) (taken samples : ℕ) (form : IsRingFormat head.mono head.format) (before after : ShelfSeen) (old : Buffer ℕ) (buf : List ℕ) (piece : Piece)
+    (size : length buf ≡ samples * sample_length head.format.bits) (aligned : (taken + length old.items) % slot_length head.mono head.format.bits ≡ 0)
+    (there : taken + length old.items + samples * slot_length head.mono head.format.bits ≤ total head)
     (is : IsPiece name (place_of head (taken + length old.items)) buf before after piece) where
-  pub frames_read : ReadsOn (4 * frames) name head taken before after old (buffer (old.items ++ frames_part head.mono buf piece.count) old.capacity) (answer_of piece.cut)
-  frames_read =
+  pub samples_read : ReadsOn (samples * slot_length head.mono head.format.bits) name head taken before after old
+      (buffer (old.items ++ samples_part head.mono head.format.bits buf piece.count) old.capacity) (answer_of piece.cut)
+  samples_read =
+      let bits = head.format.bits in
+      let slot = slot_length head.mono head.format.bits in
       let within = is.within in
-      let whole = frames_in head.mono piece.count in
-      let both = length-append old.items (frames_part head.mono buf piece.count) in
-      let long = part_length head.mono buf piece.count within in
-      let less : frames_in head.mono piece.count ≤ frames = frames_few head.mono frames piece.count (omega (arith, within, size)) in
+      let whole = piece.count / sample_length head.format.bits in
+      let both = length-append old.items (samples_part head.mono head.format.bits buf piece.count) in
+      let long = samples_long head.mono head.format.bits buf piece.count within in
+      let few : piece.count / sample_length head.format.bits ≤ samples = div-few piece.count samples (sample_length head.format.bits) (sample_some head.format.bits) (omega (arith, within, size)) in
+      let less = mul-few (piece.count / sample_length head.format.bits) samples (slot_length head.mono head.format.bits) few in
       let given = is.given in
-      let bound = bytes_bound head.mono frames in
-      let inside = part_inside head (taken + length old.items) frames form aligned there in
+      let bound = mul-le samples (sample_length head.format.bits) samples (slot_length head.mono head.format.bits) (omega arith) (sample_less head.mono head.format.bits) in
+      let inside = part_inside head (taken + length old.items) samples form aligned there in
+      let some = slot_some head.mono head.format.bits in
       record {
         grown = record {
           capacity = refl;
-          kept = take-append_seam old.items (frames_part head.mono buf piece.count);
+          kept = take-append_seam old.items (samples_part head.mono head.format.bits buf piece.count);
           least = omega (arith, both);
           most = omega (arith, both, long, less);
-          all = all_if piece.cut _ (λ none. (let exact = frames_back head.mono frames piece.count (is.all none ∙ size) in omega (arith, both, long, exact)));
-          early = early_if piece.cut _ (λ some. (let early = is.early some in let fewer = frames_less head.mono frames piece.count (omega (arith, early, size)) in omega (arith, both, long, fewer)));
+          all = all_if piece.cut _ (λ none.
+              (let exact : piece.count / sample_length head.format.bits ≡ samples = ap (λ (n : ℕ). n / sample_length head.format.bits) (is.all none ∙ size) ∙ mul-div samples (sample_length head.format.bits) (sample_some head.format.bits) in
+              let same = ap (λ (n : ℕ). n * slot_length head.mono head.format.bits) exact in
+              omega (arith, both, long, same)));
+          early = early_if piece.cut _ (λ some'.
+              (let early = is.early some' in
+              let fewer = div_below piece.count (sample_length head.format.bits) samples (sample_some head.format.bits) (omega (arith, early, size)) in
+              let next = one-more (piece.count / sample_length head.format.bits) samples (slot_length head.mono head.format.bits) fewer in
+              omega (arith, both, long, next, some)));
         };
         told = is.told;
         given = omega (arith, given, within, size, bound);
@@ -104,14 +135,14 @@ module _ (name : List ℕ) (head : Head) (taken frames : ℕ) (form : IsRingForm
             let first = cut.within in
             let here = cut.at in
             let early : place < end_of_sound head = omega (arith, inside, size, first, here) in (
-              frame_after head (taken + length old.items) piece.count (taken + length (old.items ++ frames_part head.mono buf piece.count)) place form aligned here
+              sample_after head (taken + length old.items) piece.count (taken + length (old.items ++ samples_part head.mono head.format.bits buf piece.count)) place form aligned here
                   (omega (arith, both, long)) early,
               cut.rose,
             ));
         not_short = λ none. is.not_short (λ place same. none place (err_of piece.cut (Short place) same));
         reads = λ file has next.
-            next_frames file head taken old.items buf piece.count whole form (head_of-within file head has.head_is) aligned (omega (arith, there, less))
-            (is.front has.files has.told_is file has.file_is) (frames_fit head.mono whole piece.count (omega arith)) within next;
+            next_samples file head taken old.items buf piece.count whole form (head_of-within file head has.head_is) aligned (omega (arith, there, less))
+            (is.front has.files has.told_is file has.file_is) (whole-less piece.count (sample_length head.format.bits)) within next;
         never_short = λ file has place same.
             (let ends = head_of-within file head has.head_is in
             is.whole has.files has.told_is file has.file_is (omega (arith, inside, ends, size)) place (err_is piece.cut (Short place) same));
@@ -119,8 +150,27 @@ module _ (name : List ℕ) (head : Head) (taken frames : ℕ) (form : IsRingForm
 
 -- ---- one byte
 
-module _ (name : List ℕ) (head : Head) (taken : ℕ) (form : IsRingFormat head.format) (before after : ShelfSeen) (old : Buffer ℕ) (buf : List ℕ) (piece : Piece)
-    (size : length buf ≡ 1) (there : taken + length old.items + 1 ≤ head.frames * 4) (is : IsPiece name (place_of head (taken + length old.items)) buf before after piece) where
+-- the 0 before a sample is put last, and nothing is read
+pub pad_read : (name : List ℕ) (head : Head) (taken : ℕ) (seen : ShelfSeen) (old : Buffer ℕ) → IsRingFormat head.mono head.format → taken + length old.items + 1 ≤ total head
+    → is_pad head.format.bits (taken + length old.items) ≡ true → ReadsOn 1 name head taken seen seen old (buffer (old.items ++ 0 ∷ []) old.capacity) (Ok tt)
+pad_read name head taken seen old form there pad =
+    let both = length-append old.items (0 ∷ []) in
+    record {
+      grown = record { capacity = refl; kept = take-append_seam old.items (0 ∷ []); least = omega (arith, both); most = omega (arith, both); all = omega (arith, both); early = tt };
+      told = refl;
+      given = omega arith;
+      given_rises = omega arith;
+      later = omega arith;
+      failed = λ same. cc;
+      empties_later = omega arith;
+      short = λ place same. cc;
+      not_short = λ none. refl;
+      reads = λ file has next. next_pad file head taken old.items form (head_of-within file head has.head_is) (omega (arith, there)) pad next;
+      never_short = λ file has place same. cc;
+    }
+
+module _ (name : List ℕ) (head : Head) (taken : ℕ) (form : IsRingFormat head.mono head.format) (before after : ShelfSeen) (old : Buffer ℕ) (buf : List ℕ) (piece : Piece)
+    (size : length buf ≡ 1) (there : taken + length old.items + 1 ≤ total head) (sample : is_pad head.format.bits (taken + length old.items) ≡ false) (is : IsPiece name (place_of head (taken + length old.items)) buf before after piece) where
   -- it was read, or nothing was
   front_long : length (take piece.count buf) ≡ piece.count
   front_long = length-take-le piece.count buf is.within
@@ -131,7 +181,7 @@ module _ (name : List ℕ) (head : Head) (taken : ℕ) (form : IsRingFormat head
       let all : piece.count ≡ 1 = is.all none ∙ size in
       let front : HoldsFront file (place_of head (taken + length old.items)) buf 1 = front_at file buf _ _ piece.count 1 refl all (is.front has.files has.told_is file has.file_is) in
       let whole : take piece.count buf ≡ buf = ap (λ (n : ℕ). take n buf) (is.all none) ∙ take-length buf in
-      rw whole (next_byte file head taken old.items buf form (head_of-within file head has.head_is) (omega (arith, there)) size front next)
+      rw whole (next_byte file head taken old.items buf form (head_of-within file head has.head_is) (omega (arith, there)) sample size front next)
   next_held (Some cut) same file has next =
       let early = is.early (λ none. some_none cut (sym same ∙ none)) in
       let none : take piece.count buf ≡ [] = ap (λ (n : ℕ). take n buf) (nothing early) in
@@ -280,68 +330,76 @@ reads_early count more name head taken before after old new result answer cut le
     never_short = read.never_short;
   })
 
--- ---- what was given for frames
+-- ---- what was given for samples
 
-given_by : (mono : Bool) (old new : Buffer ℕ) (before after count frames : ℕ) (found : Option Cut) → length new.items ≡ length old.items + 4 * frames_in mono count → after ≤ before + count
-    → (found ≡ None → count ≡ file_bytes mono frames) → AreGivenFor mono old new before after (answer_of found)
-given_by true old new before after count frames None long given all = (let exact = all refl in omega (arith, long, given, exact))
-given_by false old new before after count frames None long given all = (let exact = all refl in omega (arith, long, given, exact))
-given_by true old new before after count frames (Some cut) long given all = omega (arith, long, given)
-given_by false old new before after count frames (Some cut) long given all = omega (arith, long, given)
+given_of : (size count slots before after : ℕ) (found : Option Cut) → after ≤ before + count → (found ≡ None → count ≡ slots * size) → count < slots * size + size
+    → IsGivenFor size slots before after (answer_of found)
+given_of size count slots before after None given all next = (let exact = all refl in omega (arith, given, exact))
+given_of size count slots before after (Some cut) given all next = omega (arith, given, next)
 
--- for the frames of a piece
-pub given_piece : (mono : Bool) (frames before after : ℕ) (old : Buffer ℕ) (buf : List ℕ) (piece : Piece) → length buf ≡ file_bytes mono frames → piece.count ≤ length buf
+-- for the samples of a piece
+pub given_piece : (mono : Bool) (bits : Bits) (samples before after : ℕ) (old : Buffer ℕ) (buf : List ℕ) (piece : Piece) → length buf ≡ samples * sample_length bits → piece.count ≤ length buf
     → after ≤ before + piece.count → (piece.cut ≡ None → piece.count ≡ length buf)
-    → AreGivenFor mono old (buffer (old.items ++ frames_part mono buf piece.count) old.capacity) before after (answer_of piece.cut)
-given_piece mono frames before after old buf piece size within given all =
-    let both = length-append old.items (frames_part mono buf piece.count) in
-    let long = part_length mono buf piece.count within in
-    given_by mono old (buffer (old.items ++ frames_part mono buf piece.count) old.capacity) before after piece.count frames piece.cut (omega (arith, both, long)) given
-    (λ none. all none ∙ size)
-
--- for so many frames
-pub given_frames : (mono : Bool) (old new : Buffer ℕ) (before after frames : ℕ) → length new.items ≡ length old.items + 4 * frames → after ≤ before + file_bytes mono frames
-    → AreGivenFor mono old new before after (Ok tt)
-given_frames true old new before after frames long given = omega (arith, long, given)
-given_frames false old new before after frames long given = omega (arith, long, given)
-
-pub more_frames : (mono : Bool) (old held new : Buffer ℕ) (before between after done frames : ℕ) → length held.items ≡ length old.items + 4 * done → length new.items ≡ length held.items + 4 * frames
-    → between ≤ before + file_bytes mono done → AreGivenFor mono held new between after (Ok tt) → after ≤ before + file_bytes mono (done + frames)
-more_frames true old held new before between after done frames long longer given more = omega (arith, long, longer, given, more)
-more_frames false old held new before between after done frames long longer given more = omega (arith, long, longer, given, more)
-
--- a read of no byte after it
-pub given_last : (mono : Bool) (old held new : Buffer ℕ) (before between after : ℕ) (result : Result Unit Cut) → IsGrown 0 held new result → after ≤ between + 0 → AreGivenFor mono old held before between (Ok tt)
-    → AreGivenFor mono old new before after result
-given_last true old held new before between after (Ok u) grown given first = (let all = grown.all in omega (arith, all, given, first))
-given_last false old held new before between after (Ok u) grown given first = (let all = grown.all in omega (arith, all, given, first))
-given_last mono old held new before between after (Err cut) grown given first = absurd (let early = grown.early in let least = grown.least in omega (arith, early, least))
+    → AreGivenFor mono bits old (buffer (old.items ++ samples_part mono bits buf piece.count) old.capacity) before after (answer_of piece.cut)
+given_piece mono bits samples before after old buf piece size within given all =
+    let both = length-append old.items (samples_part mono bits buf piece.count) in
+    let long = samples_long mono bits buf piece.count within in
+    record {
+      slots = piece.count / sample_length bits;
+      long = omega (arith, both, long);
+      given = given_of (sample_length bits) piece.count (piece.count / sample_length bits) before after piece.cut given
+          (λ none. sym (whole-all piece.count (sample_length bits) (ap (λ (n : ℕ). n % sample_length bits) (all none ∙ size) ∙ mul-mod_left samples (sample_length bits))))
+          (whole-next piece.count (sample_length bits) (sample_some bits));
+    }
 
 -- nothing was given for nothing
-pub given_none : (mono : Bool) (held : Buffer ℕ) (given : ℕ) → AreGivenFor mono held held given given (Ok tt)
-given_none true held given = omega arith
-given_none false held given = omega arith
+pub given_none : (mono : Bool) (bits : Bits) (held : Buffer ℕ) (given : ℕ) → AreGivenFor mono bits held held given given (Ok tt)
+given_none mono bits held given = record { slots = 0; long = omega arith; given = omega arith }
 
--- one after another, each for whole frames
-pub given_both : (mono : Bool) (old held new : Buffer ℕ) (before between after : ℕ) (frames : ℕ) (result : Result Unit Cut) → length held.items ≡ length old.items + 4 * frames
-    → length held.items ≤ length new.items → between ≤ before + file_bytes mono frames → AreGivenFor mono held new between after result → AreGivenFor mono old new before after result
-given_both true old held new before between after frames (Ok u) long least first next = omega (arith, long, least, first, next)
-given_both false old held new before between after frames (Ok u) long least first next = omega (arith, long, least, first, next)
-given_both true old held new before between after frames (Err cut) long least first next = omega (arith, long, least, first, next)
-given_both false old held new before between after frames (Err cut) long least first next = omega (arith, long, least, first, next)
+-- nor for a read of no byte
+pub given_nothing : (mono : Bool) (bits : Bits) (count : ℕ) (old new : Buffer ℕ) (before after : ℕ) (result : Result Unit Cut) → count ≡ 0 → IsGrown count old new result → after ≤ before + count
+    → AreGivenFor mono bits old new before after result
+given_nothing mono bits count old new before after (Ok u) none grown given =
+    (let all = grown.all in record { slots = 0; long = omega (arith, all, none); given = omega (arith, given, none) })
+given_nothing mono bits count old new before after (Err cut) none grown given = absurd (let early = grown.early in let least = grown.least in omega (arith, early, least, none))
 
--- a read of no byte is not cut
-pub none_cut : (mono : Bool) (old new : Buffer ℕ) (before after count : ℕ) (result answer : Result Unit Cut) (cut : Cut) → count ≡ 0 → result ≡ Err cut → IsGrown count old new result
-    → AreGivenFor mono old new before after answer
-none_cut mono old new before after count (Ok u) answer cut none is grown = absurd (no_err is) where
-  no_err : answer_of None ≡ Err cut → ⊥
-  no_err is = cc
-none_cut mono old new before after count (Err other) answer cut none is grown = absurd (let early = grown.early in let least = grown.least in omega (arith, early, least, none))
+-- one after another
+sum_given : (size first next before between after : ℕ) (result : Result Unit Cut) → between ≤ before + first * size → IsGivenFor size next between after result
+    → IsGivenFor size (first + next) before after result
+sum_given size first next before between after (Ok u) one other = (let sum : (first + next) * size ≡ first * size + next * size = omega arith in omega (arith, one, other, sum))
+sum_given size first next before between after (Err cut) one other = (let sum : (first + next) * size ≡ first * size + next * size = omega arith in omega (arith, one, other, sum))
 
--- after a read of no byte
-pub given_after : (mono : Bool) (old held new : Buffer ℕ) (before between after : ℕ) (result : Result Unit Cut) → length held.items ≡ length old.items → between ≤ before
-    → AreGivenFor mono held new between after result → AreGivenFor mono old new before after result
-given_after true old held new before between after (Ok u) same none next = omega (arith, same, none, next)
-given_after false old held new before between after (Ok u) same none next = omega (arith, same, none, next)
-given_after true old held new before between after (Err cut) same none next = omega (arith, same, none, next)
-given_after false old held new before between after (Err cut) same none next = omega (arith, same, none, next)
+pub given_both : (mono : Bool) (bits : Bits) (old held new : Buffer ℕ) (before between after : ℕ) (result : Result Unit Cut) → AreGivenFor mono bits old held before between (Ok tt)
+    → AreGivenFor mono bits held new between after result → AreGivenFor mono bits old new before after result
+given_both mono bits old held new before between after result first next =
+    let long = first.long in
+    let longer = next.long in
+    let sum : (first.slots + next.slots) * slot_length mono bits ≡ first.slots * slot_length mono bits + next.slots * slot_length mono bits = omega arith in
+    record {
+      slots = first.slots + next.slots;
+      long = omega (arith, long, longer, sum);
+      given = sum_given (sample_length bits) first.slots next.slots before between after result first.given next.given;
+    }
+
+-- ---- how many bytes stand before the next whole sample
+
+pub next_whole : (mono : Bool) (bits : Bits) (at count first : ℕ) → first ≡ min count ((slot_length mono bits - at % slot_length mono bits) % slot_length mono bits)
+    → 1 ≤ (count - first) / slot_length mono bits → (at + first) % slot_length mono bits ≡ 0
+next_whole true B16 at count first is some = omega (arith, is, some)
+next_whole true B24 at count first is some = omega (arith, is, some)
+next_whole true B32 at count first is some = omega (arith, is, some)
+next_whole false B16 at count first is some = omega (arith, is, some)
+next_whole false B24 at count first is some = omega (arith, is, some)
+next_whole false B32 at count first is some = omega (arith, is, some)
+
+pub next_none : (mono : Bool) (bits : Bits) (at count first : ℕ) → first ≡ min count ((slot_length mono bits - at % slot_length mono bits) % slot_length mono bits)
+    → at % slot_length mono bits ≡ 0 → first ≡ 0
+next_none true B16 at count first is whole = omega (arith, is, whole)
+next_none true B24 at count first is whole = omega (arith, is, whole)
+next_none true B32 at count first is whole = omega (arith, is, whole)
+next_none false B16 at count first is whole = omega (arith, is, whole)
+next_none false B24 at count first is whole = omega (arith, is, whole)
+next_none false B32 at count first is whole = omega (arith, is, whole)
+
+pub rest_is : (rest size slot : ℕ) → size ≡ slot → rest / size * slot + rest % size ≡ rest
+rest_is rest size slot same = ap (λ (n : ℕ). rest / size * n + rest % size) (sym same) ∙ div-add-mod' rest size

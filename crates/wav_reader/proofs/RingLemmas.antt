@@ -1,151 +1,191 @@
--- The bytes that the ring gets, piece by piece.
-use Rattle.std.proofs.Common.{◌≡◌, ◌≤◌, ◌<◌, ℕ, zero, suc, ◌+◌, ◌*◌, ◌/◌, ◌%◌, true, false, List, [], ◌∷◌, ◌++◌, length, take, drop, get_or, refl, sym, ap, ◌∙◌, drop-cons, append_assoc, length-append, arith}
+-- The bytes that the ring gets, sample by sample.
+use Rattle.std.proofs.Common.{◌≡◌, ◌≤◌, ◌<◌, ℕ, zero, suc, ◌+◌, ◌-◌, ◌*◌, ◌/◌, ◌%◌, Bool, true, false, if◌then◌else◌, List, [], ◌++◌, length, take, drop, refl, sym, ap, ◌∙◌, append_assoc, length-append, length-drop, arith}
 use Rattle.std.specs.List.{flat_map}
-use Rattle.std.proofs.lemmas.List.{drop-drop}
-use Rattle.std.proofs.lemmas.List.Concat.{flat_map-append}
-use Rattle.std.proofs.lemmas.List.FromFn.{map-range_with_len_more}
-use Rattle.std.proofs.Math.Seq.{take-add}
-use Rattle.wav_reader.specs.Heads.{Head, IsRingFormat}
-use Rattle.wav_reader.specs.Wavs.{piece_at, pieces_of, ring_block, ring_bytes}
-use Rattle.wav_reader.specs.Readers.{doubled}
+use Rattle.std.proofs.lemmas.List.{take_at, take_all, length-take-le}
+use Rattle.stream_format.specs.declared.format.Bits.{Bits}
+use Rattle.stream_format.specs.declared.format.Bits.TheVariants.{B16, B24, B32}
+use Rattle.wav_reader.specs.Formats.{sample_length}
+use Rattle.wav_reader.specs.Heads.{Head, EndsWithin}
+use Rattle.wav_reader.specs.Wavs.{container, piece_at, pieces_of, ring_block, ring_bytes}
+use Rattle.wav_reader.specs.Readers.{are_turned, group_length, ring_part, slot, slot_length, slots}
+use Rattle.wav_reader.proofs.PieceLemmas.{pieces-suc, pieces-add, pieces-front, pieces-length, pieces-same, piece-length}
 
-append-nil : (xs : List ℕ) → xs ++ [] ≡ xs
-append-nil [] = refl
-append-nil (x ∷ xs) = ap (λ rest. x ∷ rest) (append-nil xs)
+-- ---- slots
 
--- one more piece
-pub pieces-more : (f : List ℕ → List ℕ) (size : ℕ) (bytes : List ℕ) (count : ℕ)
-    → flat_map f (pieces_of size bytes (count + 1)) ≡ flat_map f (pieces_of size bytes count) ++ f (piece_at size bytes count)
-pieces-more f size bytes count =
-    ap (flat_map f) (map-range_with_len_more (piece_at size bytes) 0 count count (omega arith))
-    ∙ (flat_map-append f (pieces_of size bytes count) (piece_at size bytes count ∷ [])
-    ∙ ap (λ last. flat_map f (pieces_of size bytes count) ++ last) (append-nil (f (piece_at size bytes count))))
+-- a slot has so many bytes
+pub slot-length : (mono : Bool) (bits : Bits) (sample : List ℕ) → length sample ≡ sample_length bits → length (slot mono bits sample) ≡ slot_length mono bits
+slot-length true B16 sample long = let both = length-append sample sample in omega (arith, both, long)
+slot-length true B24 sample long = let both = length-append (container B24 sample) (container B24 sample) in omega (arith, both, long)
+slot-length true B32 sample long = let both = length-append sample sample in omega (arith, both, long)
+slot-length false B16 sample long = long
+slot-length false B24 sample long = omega (arith, long)
+slot-length false B32 sample long = long
 
--- two bytes from a place on
-pub pair_at : (bytes : List ℕ) (at : ℕ) → at + 1 < length bytes
-    → take 2 (drop at bytes) ≡ get_or bytes at 0 ∷ get_or bytes (at + 1) 0 ∷ []
-pair_at bytes at inside =
-    let first : at < length bytes = omega arith in
-    let second : suc at < length bytes = omega arith in
-    ap (take 2) (drop-cons bytes at 0 first ∙ ap (λ rest. get_or bytes at 0 ∷ rest) (drop-cons bytes (suc at) 0 second))
-    ∙ ap (λ next. get_or bytes at 0 ∷ get_or bytes next 0 ∷ []) (omega arith)
-
--- a sample of two bytes, twice
-pub doubled_pair : (bytes : List ℕ) (at number : ℕ) → at ≡ 2 * number → at + 1 < length bytes
-    → ring_block true (piece_at 2 bytes number)
-    ≡ get_or bytes at 0 ∷ get_or bytes (at + 1) 0 ∷ get_or bytes at 0 ∷ get_or bytes (at + 1) 0 ∷ []
-doubled_pair bytes at number e inside =
-    let pair : take 2 (drop (2 * number) bytes) ≡ get_or bytes at 0 ∷ get_or bytes (at + 1) 0 ∷ [] =
-    ap (λ place. take 2 (drop place bytes)) (sym e) ∙ pair_at bytes at inside in
-    ap (λ sample. sample ++ sample) pair
-
--- four of them
-pub doubled-four : (bytes : List ℕ) → 8 ≤ length bytes
-    → doubled bytes 4
-    ≡ get_or bytes 0 0 ∷ get_or bytes 1 0 ∷ get_or bytes 0 0 ∷ get_or bytes 1 0 ∷ get_or bytes 2 0 ∷ get_or bytes 3 0 ∷ get_or bytes 2 0 ∷ get_or bytes 3 0
-    ∷ get_or bytes 4 0 ∷ get_or bytes 5 0 ∷ get_or bytes 4 0 ∷ get_or bytes 5 0 ∷ get_or bytes 6 0 ∷ get_or bytes 7 0 ∷ get_or bytes 6 0 ∷ get_or bytes 7 0 ∷ []
-unfolding doubled
-doubled-four bytes many =
-    let first = pair_at bytes 0 (omega arith) in
-    let second = pair_at bytes 2 (omega arith) in
-    let third = pair_at bytes 4 (omega arith) in
-    let fourth = pair_at bytes 6 (omega arith) in
-    rw (first, second, third, fourth) refl
-
--- one more
-pub doubled-more : (bytes : List ℕ) (count : ℕ) → 2 * count + 1 < length bytes
-    → doubled bytes (count + 1)
-    ≡ doubled bytes count
-    ++ (get_or bytes (2 * count) 0 ∷ get_or bytes (2 * count + 1) 0 ∷ get_or bytes (2 * count) 0 ∷ get_or bytes (2 * count + 1) 0 ∷ [])
-unfolding doubled
-doubled-more bytes count inside =
-    pieces-more (ring_block true) 2 bytes count
-    ∙ ap (λ last. doubled bytes count ++ last) (doubled_pair bytes (2 * count) count refl inside)
+pub slots-none : (mono : Bool) (bits : Bits) (bytes : List ℕ) → slots mono bits bytes 0 ≡ []
+unfolding slots
+slots-none mono bits bytes = refl
 
 -- some, and then the others
-piece_at-drop : (bytes : List ℕ) (skipped number : ℕ) → piece_at 2 bytes (skipped + number) ≡ piece_at 2 (drop (2 * skipped) bytes) number
-piece_at-drop bytes skipped number =
-    let sum : 2 * (skipped + number) ≡ 2 * skipped + 2 * number = omega arith in
-    ap (λ place. take 2 (drop place bytes)) sum ∙ ap (take 2) (sym (drop-drop (2 * number) (2 * skipped) bytes))
+pub slots-add : (mono : Bool) (bits : Bits) (bytes : List ℕ) (first more : ℕ)
+    → slots mono bits bytes (first + more) ≡ slots mono bits bytes first ++ slots mono bits (drop (sample_length bits * first) bytes) more
+unfolding slots
+slots-add mono bits bytes first more = pieces-add (slot mono bits) (sample_length bits) bytes first more
 
-pub doubled-add : (bytes : List ℕ) (first more : ℕ) → doubled bytes (first + more) ≡ doubled bytes first ++ doubled (drop (2 * first) bytes) more
-unfolding doubled
-doubled-add bytes first zero =
-    let none : first + 0 ≡ first = omega arith in rw none (sym (append-nil (doubled bytes first)))
-doubled-add bytes first (suc more) =
-    let sum : first + suc more ≡ (first + more) + 1 = omega arith in
-    let next : suc more ≡ more + 1 = omega arith in
-    let f = ring_block true in
-    let rest = drop (2 * first) bytes in
-    ap (doubled bytes) sum
-    ∙ (pieces-more f 2 bytes (first + more)
-    ∙ (ap (λ front. front ++ f (piece_at 2 bytes (first + more))) (doubled-add bytes first more)
-    ∙ (append_assoc (doubled bytes first) (doubled rest more) (f (piece_at 2 bytes (first + more)))
-    ∙ (ap (λ last. doubled bytes first ++ (doubled rest more ++ f last)) (piece_at-drop bytes first more)
-    ∙ (ap (λ both. doubled bytes first ++ both) (sym (pieces-more f 2 rest more)) ∙ ap (λ count. doubled bytes first ++ doubled rest count) (sym next))))))
+-- they stand in the first bytes
+pub slots-front : (mono : Bool) (bits : Bits) (bytes : List ℕ) (long count : ℕ) → sample_length bits * count ≤ long → slots mono bits (take long bytes) count ≡ slots mono bits bytes count
+unfolding slots
+slots-front mono bits bytes long count inside = pieces-front (slot mono bits) (sample_length bits) bytes long count inside
 
--- none of them, put behind others
-pub append-doubled-none : (old bytes : List ℕ) → old ≡ old ++ doubled bytes 0
-unfolding doubled
-append-doubled-none old bytes = sym (append-nil old)
+pub slots-length : (mono : Bool) (bits : Bits) (bytes : List ℕ) (count : ℕ) → sample_length bits * count ≤ length bytes → length (slots mono bits bytes count) ≡ count * slot_length mono bits
+unfolding slots
+slots-length mono bits bytes count inside =
+    pieces-length (slot mono bits) (sample_length bits) (slot_length mono bits) bytes count (λ (sample : List ℕ) (long : length sample ≡ sample_length bits). slot-length mono bits sample long) inside
 
-length-none : (bytes : List ℕ) → length (doubled bytes 0) ≡ 4 * 0
-unfolding doubled
-length-none bytes = refl
+-- samples that stand in the ring as in the file
+pub slots-same : (mono : Bool) (bits : Bits) (bytes : List ℕ) (count : ℕ) → are_turned mono bits ≡ false → slots mono bits bytes count ≡ take (sample_length bits * count) bytes
+unfolding slots
+slots-same true B16 bytes count same = absurd (cc)
+slots-same mono B24 bytes count same = absurd (cc)
+slots-same true B32 bytes count same = absurd (cc)
+slots-same false B16 bytes count same = pieces-same 2 bytes count
+slots-same false B32 bytes count same = pieces-same 4 bytes count
 
--- each has four bytes
-pub length-doubled : (bytes : List ℕ) (count : ℕ) → 2 * count ≤ length bytes → length (doubled bytes count) ≡ 4 * count
-length-doubled bytes zero all = length-none bytes
-length-doubled bytes (suc count) all =
-    let next : suc count ≡ count + 1 = omega arith in
-    let inside : 2 * count + 1 < length bytes = omega arith in
-    let before = length-doubled bytes count (omega arith) in
-    let more = doubled-more bytes count inside in
-    rw (next, more) (simp length-append (omega (arith, before)))
+-- whole samples
+whole_samples : (bits : Bits) (bytes : ℕ) → bytes % sample_length bits ≡ 0 → sample_length bits * (bytes / sample_length bits) ≡ bytes
+whole_samples B16 bytes whole = omega (arith, whole)
+whole_samples B24 bytes whole = omega (arith, whole)
+whole_samples B32 bytes whole = omega (arith, whole)
 
--- some are put behind others
-pub pushed : (samples : List ℕ) (step : ℕ) (old ring four new : List ℕ) → new ≡ ring ++ four → ring ≡ old ++ doubled samples (4 * step)
-    → four ≡ doubled (drop (8 * step) samples) 4 → new ≡ old ++ doubled samples (4 * (step + 1))
-pushed samples step old ring four new e so_far next =
-    let place : 2 * (4 * step) ≡ 8 * step = omega arith in
-    let count : 4 * (step + 1) ≡ 4 * step + 4 = omega arith in
-    let add = doubled-add samples (4 * step) 4 in
-    let assoc = append_assoc old (doubled samples (4 * step)) four in
-    let same : doubled (drop (2 * (4 * step)) samples) 4 ≡ doubled (drop (8 * step) samples) 4 = ap (λ n. doubled (drop n samples) 4) place in
-    let goal : doubled samples (4 * (step + 1)) ≡ doubled samples (4 * step + 4) = ap (doubled samples) count in
-    cc
+pub part-same : (mono : Bool) (bits : Bits) (bytes : List ℕ) → are_turned mono bits ≡ false → length bytes % sample_length bits ≡ 0 → ring_part mono bits bytes ≡ bytes
+part-same mono bits bytes same whole =
+    let all = whole_samples bits (length bytes) whole in
+    slots-same mono bits bytes (length bytes / sample_length bits) same
+    ∙ take_all (sample_length bits * (length bytes / sample_length bits)) bytes (omega (arith, all))
 
--- fours and then the others are all
-pub all_pushed : (samples rest front new : List ℕ) (count : ℕ) → new ≡ front ++ doubled rest (count % 4)
-    → front ≡ doubled samples (4 * (count / 4)) → rest ≡ drop (8 * (count / 4)) samples → new ≡ doubled samples count
-all_pushed samples rest front new count e fours others =
-    let place : 2 * (4 * (count / 4)) ≡ 8 * (count / 4) = omega arith in
-    let sum : count ≡ 4 * (count / 4) + count % 4 = omega arith in
-    let add = doubled-add samples (4 * (count / 4)) (count % 4) in
-    let same : drop (2 * (4 * (count / 4))) samples ≡ drop (8 * (count / 4)) samples = ap (λ n. drop n samples) place in
-    let goal : doubled samples count ≡ doubled samples (4 * (count / 4) + count % 4) = ap (doubled samples) sum in
-    cc
+-- ---- groups
 
--- pieces that stay as they are
-pub flat_map-pieces : (size : ℕ) (bytes : List ℕ) (count : ℕ)
-    → flat_map (ring_block false) (pieces_of size bytes count) ≡ take (size * count) bytes
-flat_map-pieces size bytes zero = let none : size * 0 ≡ 0 = omega arith in rw none refl
-flat_map-pieces size bytes (suc count) =
-    let more : suc count ≡ count + 1 = omega arith in
-    let front = flat_map-pieces size bytes count in
-    let split = take-add (size * count) size bytes in
-    let sum : size * (count + 1) ≡ size * count + size = omega arith in
-    let next = pieces-more (ring_block false) size bytes count in
-    rw (more, sum) cc
+group_step : (mono : Bool) (bits : Bits) (len : ℕ) → group_length mono bits ≤ len
+    → len / sample_length bits ≡ 16 / slot_length mono bits + (len - group_length mono bits) / sample_length bits
+group_step true B16 len enough = omega (arith, enough)
+group_step true B24 len enough = omega (arith, enough)
+group_step true B32 len enough = omega (arith, enough)
+group_step false B16 len enough = omega (arith, enough)
+group_step false B24 len enough = omega (arith, enough)
+group_step false B32 len enough = omega (arith, enough)
 
--- the ring gets samples twice
-pub ring_bytes-mono : (bytes : List ℕ) (head : Head) → IsRingFormat head.format → head.mono ≡ true
-    → ring_bytes bytes head ≡ doubled (drop head.from bytes) head.frames
-unfolding ring_bytes doubled
-ring_bytes-mono bytes head form mono = rw (mono, form.bits) refl
+-- a group, and the samples behind it
+pub part-group : (mono : Bool) (bits : Bits) (bytes : List ℕ) → group_length mono bits ≤ length bytes
+    → ring_part mono bits bytes ≡ slots mono bits bytes (16 / slot_length mono bits) ++ ring_part mono bits (drop (group_length mono bits) bytes)
+part-group mono bits bytes enough =
+    let first = 16 / slot_length mono bits in
+    let count = group_step mono bits (length bytes) enough in
+    let rest : length (drop (group_length mono bits) bytes) ≡ length bytes - group_length mono bits = length-drop (group_length mono bits) bytes in
+    let place : sample_length bits * (16 / slot_length mono bits) ≡ group_length mono bits = omega arith in
+    ap (slots mono bits bytes) count ∙ slots-add mono bits bytes (16 / slot_length mono bits) ((length bytes - group_length mono bits) / sample_length bits)
+    ∙ ap (λ (at : ℕ). slots mono bits bytes first ++ slots mono bits (drop at bytes) ((length bytes - group_length mono bits) / sample_length bits)) place
+    ∙ ap (λ (len : ℕ). slots mono bits bytes first ++ slots mono bits (drop (group_length mono bits) bytes) (len / sample_length bits)) (sym rest)
 
--- the ring gets frames as they are
-pub ring_bytes-stereo : (bytes : List ℕ) (head : Head) → IsRingFormat head.format → head.mono ≡ false
-    → ring_bytes bytes head ≡ take (4 * head.frames) (drop head.from bytes)
+few_step : (mono : Bool) (bits : Bits) (len : ℕ) → len < group_length mono bits
+    → 16 / slot_length mono bits ≡ len / sample_length bits + (16 / slot_length mono bits - len / sample_length bits)
+few_step true B16 len few = omega (arith, few)
+few_step true B24 len few = omega (arith, few)
+few_step true B32 len few = omega (arith, few)
+few_step false B16 len few = omega (arith, few)
+few_step false B24 len few = omega (arith, few)
+few_step false B32 len few = omega (arith, few)
+
+samples_inside : (bits : Bits) (len : ℕ) → sample_length bits * (len / sample_length bits) ≤ len
+samples_inside B16 len = omega arith
+samples_inside B24 len = omega arith
+samples_inside B32 len = omega arith
+
+-- fewer samples at the front of a group
+pub part-few : (mono : Bool) (bits : Bits) (bytes more : List ℕ) → length bytes < group_length mono bits
+    → take (length bytes / sample_length bits * slot_length mono bits) (slots mono bits (bytes ++ more) (16 / slot_length mono bits)) ≡ ring_part mono bits bytes
+part-few mono bits bytes more few =
+    let count = length bytes / sample_length bits in
+    let others = 16 / slot_length mono bits - length bytes / sample_length bits in
+    let inside = samples_inside bits (length bytes) in
+    let both = length-append bytes more in
+    let long = slots-length mono bits (bytes ++ more) (length bytes / sample_length bits) (omega (arith, inside, both)) in
+    ap (λ (n : ℕ). take (count * slot_length mono bits) (slots mono bits (bytes ++ more) n)) (few_step mono bits (length bytes) few)
+    ∙ ap (take (count * slot_length mono bits)) (slots-add mono bits (bytes ++ more) count others)
+    ∙ take_at (slots mono bits (bytes ++ more) count) (slots mono bits (drop (sample_length bits * count) (bytes ++ more)) others) (count * slot_length mono bits) long
+    ∙ sym (slots-front mono bits (bytes ++ more) (length bytes) count inside)
+    ∙ ap (λ (front : List ℕ). slots mono bits front count) (take_at bytes more (length bytes) refl)
+
+-- ---- frames
+
+-- how many samples a frame of the file has
+abbrev pub samples_in : Head → ℕ
+samples_in head = if head.mono then 1 else head.format.channels
+
+samples_count : (bits : Bits) (count : ℕ) → count * sample_length bits / sample_length bits ≡ count
+samples_count B16 count = omega arith
+samples_count B24 count = omega arith
+samples_count B32 count = omega arith
+
+-- a block of the ring is the slots of a frame
+block-slots : (mono : Bool) (bits : Bits) (frame : List ℕ) (count : ℕ) → length frame ≡ count * sample_length bits → (mono ≡ true → count ≡ 1)
+    → ring_block mono bits frame ≡ slots mono bits frame count
+unfolding slots
+block-slots false bits frame count long one =
+    let all : length frame / sample_length bits ≡ count = ap (λ (n : ℕ). n / sample_length bits) long ∙ samples_count bits count in
+    ap (λ (n : ℕ). flat_map (container bits) (pieces_of (sample_length bits) frame n)) all
+block-slots true bits frame count long one =
+    let sample = container bits (piece_at (sample_length bits) frame 0) in
+    let single = one refl in
+    let all : length frame / sample_length bits ≡ 1 = ap (λ (n : ℕ). n / sample_length bits) long ∙ samples_count bits count ∙ single in
+    ap (λ (n : ℕ). flat_map (container bits) (pieces_of (sample_length bits) frame n ++ pieces_of (sample_length bits) frame n)) all
+    ∙ sym (append_assoc sample sample [])
+    ∙ ap (λ (n : ℕ). flat_map (slot true bits) (pieces_of (sample_length bits) frame n)) (sym single)
+
+pub blocks-slots : (mono : Bool) (bits : Bits) (bytes : List ℕ) (each count : ℕ) → (mono ≡ true → each ≡ 1) → each * sample_length bits * count ≤ length bytes
+    → flat_map (ring_block mono bits) (pieces_of (each * sample_length bits) bytes count) ≡ slots mono bits bytes (each * count)
+blocks-slots mono bits bytes each zero one inside =
+    let none : each * 0 ≡ 0 = omega arith in
+    sym (ap (slots mono bits bytes) none ∙ slots-none mono bits bytes)
+blocks-slots mono bits bytes each (suc count) one inside =
+    let size = each * sample_length bits in
+    let sum : each * sample_length bits * suc count ≡ each * sample_length bits * count + each * sample_length bits = omega arith in
+    let last : each * sample_length bits * count + each * sample_length bits ≤ length bytes = omega (arith, sum, inside) in
+    let place : each * sample_length bits * count ≡ sample_length bits * (each * count) = omega arith in
+    let all : each * count + each ≡ each * suc count = omega arith in
+    let long = piece-length (each * sample_length bits) bytes count last in
+    let swap : sample_length bits * each ≡ each * sample_length bits = omega arith in
+    pieces-suc (ring_block mono bits) size bytes count
+    ∙ ap (λ (front : List ℕ). front ++ ring_block mono bits (piece_at size bytes count)) (blocks-slots mono bits bytes each count one (omega (arith, last)))
+    ∙ ap (λ (block : List ℕ). slots mono bits bytes (each * count) ++ block)
+    (block-slots mono bits (piece_at size bytes count) each long one
+    ∙ slots-front mono bits (drop (size * count) bytes) size each (omega (arith, swap))
+    ∙ ap (λ (at : ℕ). slots mono bits (drop at bytes) each) place)
+    ∙ sym (slots-add mono bits bytes (each * count) each)
+    ∙ ap (slots mono bits bytes) all
+
+one_sample : (head : Head) → head.mono ≡ true → samples_in head ≡ 1
+one_sample head mono = rw mono refl
+
+-- the ring gets the slots of all samples
+pub ring_bytes-slots : (bytes : List ℕ) (head : Head) → EndsWithin bytes head
+    → ring_bytes bytes head ≡ slots head.mono head.format.bits (drop head.from bytes) (samples_in head * head.frames)
 unfolding ring_bytes
-ring_bytes-stereo bytes head form mono = rw (mono, form.bits, form.channels) (flat_map-pieces 4 (drop head.from bytes) head.frames)
+ring_bytes-slots bytes head within =
+    let rest = length-drop head.from bytes in
+    let swap : samples_in head * sample_length head.format.bits * head.frames ≡ head.frames * (samples_in head * sample_length head.format.bits) = omega arith in
+    blocks-slots head.mono head.format.bits (drop head.from bytes) (samples_in head) head.frames (λ (mono : head.mono ≡ true). one_sample head mono) (omega (arith, rest, within, swap))
+
+-- so it gets the slots of the bytes that its frames have
+pub ring_bytes-part : (bytes : List ℕ) (head : Head) (sound : List ℕ) (long : ℕ) → EndsWithin bytes head → long ≡ head.frames * (samples_in head * sample_length head.format.bits)
+    → sound ≡ take long (drop head.from bytes) → ring_bytes bytes head ≡ ring_part head.mono head.format.bits sound
+ring_bytes-part bytes head sound long within size is =
+    let rest = length-drop head.from bytes in
+    let bits = head.format.bits in
+    let all : head.frames * (samples_in head * sample_length head.format.bits) ≡ samples_in head * head.frames * sample_length head.format.bits = omega arith in
+    let inside : long ≤ length (drop head.from bytes) = omega (arith, rest, within, size) in
+    let count : length sound / sample_length bits ≡ samples_in head * head.frames =
+    ap (λ (n : ℕ). n / sample_length bits) (ap length is ∙ length-take-le long (drop head.from bytes) inside ∙ size ∙ all) ∙ samples_count bits (samples_in head * head.frames) in
+    let fits : sample_length bits * (samples_in head * head.frames) ≤ long = (let swap : sample_length bits * (samples_in head * head.frames) ≡ samples_in head * head.frames * sample_length bits = omega arith in omega (arith, swap, size, all)) in
+    ring_bytes-slots bytes head within
+    ∙ sym (slots-front head.mono bits (drop head.from bytes) long (samples_in head * head.frames) fits)
+    ∙ ap (λ (front : List ℕ). slots head.mono bits front (samples_in head * head.frames)) (sym is)
+    ∙ ap (slots head.mono bits sound) (sym count)

@@ -1,20 +1,20 @@
 -- Where the sound of a WAV file stands: the first chunk `fmt ` says its format, and the first chunk `data` has it.
 -- Chunks are read in order, and the first fault counts. Which chunks are read and what is a fault is this project's
 -- own.
-use Rattle.std.specs.Prelude.{◌≡◌, ◌≤◌, ℕ, ◌+◌, ◌*◌, ◌/◌, List, length, Bool, true, false, Result, Ok, Err, Option}
+use Rattle.std.specs.Prelude.{◌≡◌, ◌≤◌, ℕ, ◌+◌, ◌*◌, ◌/◌, ◌%◌, ◌==◌, List, length, Bool, true, false, Result, Ok, Err}
+use Rattle.std.specs.Prelude.{Option}
 use Rattle.std.specs.Prelude.{Some, None, if◌then◌else◌}
 use Rattle.std.specs.List.{find, before_first}
-use Rattle.stream_format.specs.declared.format.Bits.{Bits}
-use Rattle.stream_format.specs.declared.format.Bits.TheVariants.{B16, B24, B32}
 use Rattle.stream_format.specs.Layouts.{Layout}
 use Rattle.wav_reader.specs.declared.fault.WavFault.{WavFault}
 use Rattle.wav_reader.specs.declared.fault.WavFault.TheVariants.{NotRiff, NoFormat, NoData, Truncated}
 use Rattle.wav_reader.specs.declared.chunks.Kind.{Kind}
 use Rattle.wav_reader.specs.declared.chunks.Kind.TheVariants.{Format, Data, Other}
 use Rattle.wav_reader.specs.declared.chunks.Chunk.{Chunk}
+use Rattle.wav_reader.specs.declared.formats.ChannelCount.{ChannelCount}
 use Rattle.wav_reader.specs.declared.formats.Sound.{Sound}
 use Rattle.wav_reader.specs.Chunks.{is_riff, chunks_of, is_cut, body_of}
-use Rattle.wav_reader.specs.Formats.{◌>>=◌, sound_of, checked}
+use Rattle.wav_reader.specs.Formats.{◌>>=◌, sound_of, checked, channels_in, sample_length}
 
 -- what a file says before its sound: the format in which the ring gets it, whether a frame of the file has one sample
 -- that is doubled, the place of the first frame in the file, and how many whole frames there are
@@ -24,15 +24,17 @@ pub record Head : Type 0 where
   pub from : ℕ
   pub frames : ℕ
 
+-- whether a sound has one channel, whose samples are doubled
+abbrev pub is_mono : ChannelCount → Bool
+is_mono channels = channels_in channels == 1
+
+-- the channels of the ring: those of the file, and two for the one that is doubled
+abbrev pub ring_channels : ChannelCount → ℕ
+ring_channels channels = if is_mono channels then 2 else channels_in channels
+
 -- the format in which the ring gets a sound
 abbrev pub ring_format : Sound → Layout
-ring_format sound = record { rate = sound.rate; bits = B16; channels = 2 }
-
--- the bytes of a sample in the file
-abbrev pub sample_length : Bits → ℕ
-sample_length B16 = 2
-sample_length B24 = 3
-sample_length B32 = 4
+ring_format sound = record { rate = sound.rate; bits = sound.bits; channels = ring_channels sound.channels }
 
 -- the bytes of a frame in the file: a sample for each channel of the ring, but one where it is doubled
 abbrev pub frame_length : Bool → Layout → ℕ
@@ -42,9 +44,9 @@ frame_length mono format = (if mono then 1 else format.channels) * sample_length
 abbrev pub head_with : Sound → Chunk → Head
 head_with sound chunk = record {
   format = ring_format sound;
-  mono = sound.mono;
+  mono = is_mono sound.channels;
   from = chunk.from;
-  frames = chunk.len / frame_length sound.mono (ring_format sound);
+  frames = chunk.len / frame_length (is_mono sound.channels) (ring_format sound);
 }
 
 -- whether a chunk is `fmt `, and whether it is `data`
@@ -102,7 +104,9 @@ head_of bytes = do
 abbrev pub EndsWithin : List ℕ → Head → Type 0
 EndsWithin bytes head = head.from + head.frames * frame_length head.mono head.format ≤ length bytes
 
--- a block of the ring holds two samples of 16 bits
-pub record IsRingFormat (format : Layout) : Type 0 where
-  pub bits : format.bits ≡ B16
-  pub channels : format.channels ≡ 2
+-- the ring gets 2, 4, 6 or 8 channels, and two where the one of a mono file is doubled
+pub record IsRingFormat (mono : Bool) (format : Layout) : Type 0 where
+  pub even : format.channels % 2 ≡ 0
+  pub some : 2 ≤ format.channels
+  pub few : format.channels ≤ 8
+  pub doubled : mono ≡ true → format.channels ≡ 2

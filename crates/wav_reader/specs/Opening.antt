@@ -1,5 +1,6 @@
 -- What opening a WAV file answers, by what a shelf tells of it. This project's own.
-use Rattle.std.specs.Prelude.{◌≡◌, ◌≢◌, ◌⊎◌, ◌≤◌, ◌<◌, ℕ, List, length, Option, Some, None, Result, Ok, Err}
+use Rattle.std.specs.Prelude.{◌≡◌, ◌≢◌, ◌⊎◌, ◌≤◌, ◌<◌, ℕ, ◌*◌, List, length, Option, Some, None, Result, Ok, Err}
+use Rattle.stream_format.specs.Cadence.{block_bytes}
 use Rattle.stream_format.specs.Layouts.{layout}
 use Rattle.wav_reader.specs.declared.fault.WavFault.TheVariants as faults
 use Rattle.wav_reader.specs.declared.opened.WavHead.{WavHead}
@@ -14,6 +15,10 @@ most_wav_bytes = 67108864
 -- what a file says before its sound
 abbrev pub head_in_file : WavHead → Head
 head_in_file head = record { format = layout head.format; mono = head.mono; from = head.from; frames = head.frames }
+
+-- the bytes of all blocks that the ring gets
+abbrev pub total_of : WavHead → ℕ
+total_of head = head.frames * block_bytes head.format
 
 -- what was answered of a file with these bytes
 abbrev pub IsOpened : (file : List ℕ) → Result WavHead WavOpen → Type 0

@@ -1,7 +1,10 @@
 -- What the readers of a file promise one another.
 use Rattle.std.specs.Prelude.{◌≢◌, Bool, Err, List, None, Ok, OnErr, OnOk, Option, Result, Some, drop, if◌then◌else◌}
-use Rattle.std.specs.Prelude.{length, nat_le, take, true, ℕ, ◌%◌, ◌*◌, ◌+◌, ◌-◌, ◌/◌, ◌≡◌, ◌≤◌, ◌<◌}
+use Rattle.std.specs.Prelude.{false, length, nat_le, take, true, ℕ, ◌==◌, ◌++◌, ◌%◌, ◌*◌, ◌+◌, ◌-◌, ◌/◌, ◌≡◌, ◌≤◌, ◌<◌}
 use Rattle.circular_buffer.specs.Buffer.{Buffer}
+use Rattle.stream_format.specs.declared.format.Bits.{Bits}
+use Rattle.stream_format.specs.declared.format.Bits.TheVariants.{B16, B24, B32}
+use Rattle.stream_format.specs.Cadence.{container_bytes}
 use Rattle.stream_format.specs.Layouts.{layout}
 use Rattle.hda_outside.specs.declared.pieces.Cut.{Cut}
 use Rattle.hda_outside.specs.declared.pieces.Cut.TheVariants as cuts
@@ -21,7 +24,9 @@ use Rattle.std.specs.List.{flat_map}
 use Rattle.std.specs.Option.{ok_or}
 use Rattle.wav_reader.specs.Chunks.{kind_at, size_at, body_length, chunk_at}
 use Rattle.wav_reader.specs.Heads.{Head, sound_by}
-use Rattle.wav_reader.specs.Wavs.{ring_block, pieces_of, ring_bytes}
+use Rattle.wav_reader.specs.Formats.{sample_length}
+use Rattle.wav_reader.specs.Supplies.{block_of}
+use Rattle.wav_reader.specs.Wavs.{container, pieces_of, ring_bytes}
 use Rattle.hda_outside.specs.Counts.{Rose}
 use Rattle.hda_outside.specs.Shelf.{Files}
 use Rattle.wav_reader.specs.Fills.{IsInFrame}
@@ -57,9 +62,30 @@ abbrev pub seen : Result FoundHead WavFault → Result Head WavFault
 seen (Ok head) = Ok (head_seen head)
 seen (Err fault) = Err fault
 
--- the first so many samples of two bytes, each twice
-unfoldable pub doubled : List ℕ → ℕ → List ℕ
-doubled samples count = flat_map (ring_block true) (pieces_of 2 samples count)
+-- what the ring gets for a sample of the file: its container, and where the file has one channel the same again
+abbrev pub slot : Bool → Bits → List ℕ → List ℕ
+slot mono bits sample = if mono then container bits sample ++ container bits sample else container bits sample
+
+abbrev pub slot_length : Bool → Bits → ℕ
+slot_length mono bits = if mono then 2 * container_bytes bits else container_bytes bits
+
+-- for the first so many samples
+unfoldable pub slots : Bool → Bits → List ℕ → ℕ → List ℕ
+slots mono bits bytes count = flat_map (slot mono bits) (pieces_of (sample_length bits) bytes count)
+
+-- for all whole samples
+abbrev pub ring_part : Bool → Bits → List ℕ → List ℕ
+ring_part mono bits bytes = slots mono bits bytes (length bytes / sample_length bits)
+
+-- samples do not stand in the ring as they stand in the file
+abbrev pub are_turned : Bool → Bits → Bool
+are_turned mono B16 = mono
+are_turned mono B24 = true
+are_turned mono B32 = mono
+
+-- how many samples have slots of sixteen bytes together, and the bytes of these samples in the file
+abbrev pub group_length : Bool → Bits → ℕ
+group_length mono bits = 16 / slot_length mono bits * sample_length bits
 
 -- the chunk at a place of a file, or that the file is cut there
 abbrev pub chunk_or_cut : List ℕ → ℕ → Result Chunk WavFault
@@ -89,28 +115,40 @@ abbrev pub open_of_fault : WavFault → WavOpen
 open_of_fault faults.OutOfMemory = OutOfMemory
 open_of_fault fault = Wav fault
 
--- the ring bytes of whole frames
-abbrev pub ring_part : Bool → List ℕ → List ℕ
-ring_part mono frames = if mono then doubled frames (length frames / 2) else frames
+-- the ring bytes of a sound
+abbrev pub total : Head → ℕ
+total head = head.frames * block_of head
 
--- the bytes in a file of so many frames, and how many whole frames so many bytes are
-abbrev pub file_bytes : Bool → ℕ → ℕ
-file_bytes mono frames = if mono then 2 * frames else 4 * frames
+-- the byte at a place of the ring bytes is the 0 before a sample of 24 bits
+abbrev pub is_pad : Bits → ℕ → Bool
+is_pad B16 at = false
+is_pad B24 at = at % 4 == 0
+is_pad B32 at = false
 
-abbrev pub frames_in : Bool → ℕ → ℕ
-frames_in mono bytes = if mono then bytes / 2 else bytes / 4
+-- the place in its sample of the byte that stands at a place of the ring bytes
+abbrev pub in_sample : Bits → ℕ → ℕ
+in_sample B16 at = at % 2
+in_sample B24 at = at % 4 - 1
+in_sample B32 at = at % 4
 
--- the place in the file of the byte that stands at a place of the ring bytes: those of a mono frame stand twice
+-- its place in the file
 abbrev pub place_of : Head → ℕ → ℕ
-place_of head at = if head.mono then head.from + at / 4 * 2 + at % 2 else head.from + at
+place_of head at =
+    head.from + at / slot_length head.mono head.format.bits * sample_length head.format.bits + in_sample
+    head.format.bits at
 
--- so many bytes of the file were given for frames whose ring bytes were put last, and where it was cut for a part of
--- one more
-abbrev pub AreGivenFor : (mono : Bool) → (old new : Buffer ℕ) → (before after : ℕ) → Result Unit Cut → Type 0
-AreGivenFor mono old new before after (Ok done) =
-    after ≤ before + file_bytes mono ((length new.items - length old.items) / 4)
-AreGivenFor mono old new before after (Err cut) =
-    after < before + (file_bytes mono ((length new.items - length old.items) / 4) + file_bytes mono 1)
+-- so many bytes of the file were given for samples whose slots were put last, and where it was cut for a part of one
+-- more
+abbrev pub IsGivenFor : (sample slots before after : ℕ) → Result Unit Cut → Type 0
+IsGivenFor sample slots before after (Ok done) = after ≤ before + slots * sample
+IsGivenFor sample slots before after (Err cut) = after < before + slots * sample + sample
+
+pub record AreGivenFor (mono : Bool) (bits : Bits) (old new : Buffer ℕ) (before after : ℕ) (result : Result Unit Cut)
+    : Type 0
+  where
+    pub slots : ℕ
+    pub long : length new.items ≡ length old.items + slots * slot_length mono bits
+    pub given : IsGivenFor (sample_length bits) slots before after result
 
 -- held bytes are the next ones of a sound, of which so many were taken
 abbrev pub IsNext : (pcm : List ℕ) (taken : ℕ) (held : List ℕ) → Type 0

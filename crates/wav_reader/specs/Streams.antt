@@ -1,18 +1,19 @@
 -- A file's sound that is read while it is taken.
-use Rattle.std.specs.Prelude.{◌≡◌, ◌≤◌, ◌+◌, ◌-◌, ◌*◌, ◌%◌, drop, length, string_bytes, vec_len, Some, None}
+use Rattle.std.specs.Prelude.{◌≡◌, ◌≤◌, ◌+◌, ◌-◌, ◌%◌, drop, length, string_bytes, vec_len, Some, None}
 use Rattle.std.specs.Prelude.{if◌then◌else◌}
+use Rattle.stream_format.specs.Cadence.{block_bytes}
 use Rattle.wav_reader.specs.declared.streams.Stream.{Stream}
 use Rattle.wav_reader.specs.declared.supply.Origin.{Origin}
 use Rattle.wav_reader.specs.declared.supply.Origin.TheVariants.{Whole, Streamed}
-use Rattle.wav_reader.specs.Opening.{head_in_file}
+use Rattle.wav_reader.specs.Opening.{head_in_file, total_of}
 use Rattle.wav_reader.specs.Supplies.{Source, Supplied}
 
--- a block of the ring has four bytes, and pieces of the file 4,096
+-- pieces of the file have 4,096 bytes, and whole blocks are held at most
 pub record IsStream (stream : Stream) : Type 0 where
   pub piece : vec_len stream.piece ≡ 4096
   pub room : length stream.held.items ≤ stream.held.capacity
-  pub blocks : stream.held.capacity % 4 ≡ 0
-  pub within : stream.taken + length stream.held.items ≤ stream.file.head.frames * 4
+  pub blocks : stream.held.capacity % block_bytes stream.file.head.format ≡ 0
+  pub within : stream.taken + length stream.held.items ≤ total_of stream.file.head
 
 -- where it reads more
 abbrev pub source_of : Stream → Source
@@ -26,7 +27,7 @@ source_of stream = record {
 abbrev pub stream_seen : Stream → Supplied
 stream_seen stream = record {
   held = stream.held.items;
-  left = if stream.is_cut then length stream.held.items else stream.file.head.frames * 4 - stream.taken;
+  left = if stream.is_cut then length stream.held.items else total_of stream.file.head - stream.taken;
   taken = stream.taken;
   source = Some (source_of stream);
 }

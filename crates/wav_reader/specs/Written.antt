@@ -4,8 +4,11 @@ use Rattle.std.specs.List.{flat_map}
 use Rattle.byteorder.specs.Endian.{little_bytes}
 use Rattle.wav_reader.specs.declared.chunks.Chunk.{Chunk}
 use Rattle.stream_format.specs.declared.format.Rate.{Rate}
+use Rattle.stream_format.specs.declared.format.Bits.TheVariants.{B16}
+use Rattle.wav_reader.specs.declared.formats.ChannelCount.TheVariants.{Two}
+use Rattle.wav_reader.specs.declared.formats.Sound.{Sound}
 use Rattle.wav_reader.specs.Chunks.{kind_at, end_of}
-use Rattle.wav_reader.specs.Formats.{hertz}
+use Rattle.wav_reader.specs.Formats.{hertz, channels_in, sample_length, pcm_tag, extensible_tag, pcm_subformat}
 
 -- a chunk that is to be written
 pub record Part : Type 0 where
@@ -34,16 +37,46 @@ abbrev pub placed : ℕ → List Part → List Chunk
 placed at [] = []
 placed at (part ∷ parts) = chunk_of at part ∷ placed (end_of (chunk_of at part)) parts
 
--- the body of a chunk `fmt ` for sound of two channels of 16 bits
-abbrev pub stereo_format : Rate → List ℕ
-stereo_format rate =
-    little_bytes 2 1 ++ (little_bytes 2
-    2 ++ (little_bytes 4 (hertz rate) ++ (little_bytes 4 (4 * hertz rate) ++ (little_bytes 2 4 ++ little_bytes 2 16))))
+-- the bytes of a frame of a sound in its file
+abbrev pub frame_bytes : Sound → ℕ
+frame_bytes sound = channels_in sound.channels * sample_length sound.bits
 
--- its chunks, and the file of such sound
-abbrev pub stereo_parts : Rate → List ℕ → List Part
-stereo_parts rate sound = record { name = codes "fmt "; body = stereo_format rate } ∷ record
-    { name = codes "data"; body = sound } ∷ []
+-- the first sixteen bytes of the body of a chunk `fmt `, with some tag
+abbrev pub format_front : ℕ → Sound → List ℕ
+format_front tag sound =
+    little_bytes 2 tag
+    ++ (little_bytes 2 (channels_in sound.channels)
+    ++ (little_bytes 4 (hertz sound.rate)
+    ++ (little_bytes 4 (frame_bytes sound * hertz sound.rate)
+    ++ (little_bytes 2 (frame_bytes sound) ++ little_bytes 2 (8 * sample_length sound.bits)))))
+
+-- those that the extensible form has behind them: how many they are, any valid bits and any channel mask, and the
+-- subformat
+abbrev pub extension : (valid mask : ℕ) → List ℕ
+extension valid mask = little_bytes 2 22 ++ (little_bytes 2 valid ++ (little_bytes 4 mask ++ pcm_subformat))
+
+-- the body of a chunk `fmt ` for a sound, in the plain and in the extensible form
+abbrev pub plain_format : Sound → List ℕ
+plain_format sound = format_front pcm_tag sound
+
+abbrev pub extensible_format : (valid mask : ℕ) → Sound → List ℕ
+extensible_format valid mask sound = format_front extensible_tag sound ++ extension valid mask
+
+-- the chunks of such sound, and its file
+abbrev pub sound_parts : (format frames : List ℕ) → List Part
+sound_parts format frames = record { name = codes "fmt "; body = format } ∷ record
+    { name = codes "data"; body = frames } ∷ []
+
+abbrev pub sound_file : (format frames : List ℕ) → List ℕ
+sound_file format frames =
+    file_bytes (little_bytes 4 (20 + length format + length frames)) (sound_parts format frames)
+
+-- two channels of 16 bits
+abbrev pub stereo : Rate → Sound
+stereo rate = record { rate = rate; bits = B16; channels = Two }
+
+abbrev pub stereo_format : Rate → List ℕ
+stereo_format rate = plain_format (stereo rate)
 
 abbrev pub stereo_file : Rate → List ℕ → List ℕ
-stereo_file rate sound = file_bytes (little_bytes 4 (36 + length sound)) (stereo_parts rate sound)
+stereo_file rate frames = sound_file (stereo_format rate) frames

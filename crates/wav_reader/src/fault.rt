@@ -10,21 +10,23 @@ use std::fmt;
 pub enum WavFault {
     /// The file does not begin with `RIFF`, a size and `WAVE`.
     NotRiff,
-    /// A chunk `fmt ` with fewer than 16 bytes, or a chunk `data` with no chunk `fmt ` before it.
+    /// A chunk `fmt ` with fewer than 16 bytes, or of the extensible form with fewer than 40, or a chunk `data` with no
+    /// chunk `fmt ` before it.
     NoFormat,
     /// The file ends after a chunk, and none was a chunk `data`.
     NoData,
     /// A chunk's head or body goes past the end of the file, which has this many bytes.
     Truncated(u64),
-    /// The tag of the format, which is not 1.
+    /// The tag of the format, which is neither 1 nor that of the extensible form, or is that, 65534, with a subformat
+    /// whose samples are not whole numbers.
     Tag(u16),
-    /// The number of channels, which is neither 1 nor 2.
+    /// The number of channels, which is not 1, 2, 4, 6 or 8.
     Channels(u16),
     /// The frames a second, which are none of the six rates.
     Rate(u32),
-    /// The bits of a sample, which are not 16.
+    /// The bits of a sample, which are not 16, 24 or 32.
     Bits(u16),
-    /// A block has not 2 bytes for each channel.
+    /// A block has not the bytes of a sample for each channel: 2, 3 or 4.
     BlockAlign,
     /// Memory was wanting, which says nothing of the file.
     OutOfMemory,

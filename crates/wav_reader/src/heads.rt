@@ -1,14 +1,15 @@
 //! What stands before a file's sound.
-ghost use Rattle.std.specs.Prelude.{◌≡◌, ◌≤◌, ◌+◌, length, IfOk};
+ghost use Rattle.std.specs.Prelude.{◌≡◌, ◌≤◌, ◌+◌, true, length, IfOk};
+ghost use Rattle.stream_format.specs.Layouts.{layout};
 ghost use Rattle.wav_reader.specs.Fills.{end_of_sound};
 ghost use Rattle.wav_reader.specs.Heads as spec;
-ghost use Rattle.wav_reader.specs.Heads.{EndsWithin, IsRingFormat};
+ghost use Rattle.wav_reader.specs.Heads.{EndsWithin};
 ghost use Rattle.wav_reader.specs.Readers.{seen, head_seen, known_after};
 
 use crate::chunks::{Chunk, FIRST_CHUNK, Kind, chunk_at, is_riff};
 use crate::fault::WavFault;
-use crate::formats::{Sound, sound_of};
-use stream_format::{Bits, Format};
+use crate::formats::{ChannelCount, Sound, sample_len, sound_of};
+use stream_format::Format;
 
 /// What a file says before its sound.
 #[derive(Clone, Copy, Debug)]
@@ -24,12 +25,42 @@ pub(crate) struct Head {
 }
 
 impl Sound {
-    /// The bytes of a frame in the file.
-    fn frame_len(&self) -> usize
-        ensures { result ≡ spec.frame_length self.now.mono (spec.ring_format self.now) }
+    /// Whether it has one channel.
+    fn is_mono(&self) -> bool
+        ensures { result ≡ spec.is_mono self.now.channels }
     {
-        if self.mono { 2 } else { 4 }
+        self.channels.number() == 1
     }
+
+    /// The format in which the ring gets it.
+    fn ring_format(&self) -> Format
+        ensures value { layout result ≡ spec.ring_format self.now }
+        ensures doubled { spec.is_mono self.now.channels ≡ true → result.channels ≡ 2 }
+    {
+        Format {
+            rate: self.rate,
+            bits: self.bits,
+            channels: match self.channels {
+                ChannelCount::One | ChannelCount::Two => 2,
+                ChannelCount::Four => 4,
+                ChannelCount::Six => 6,
+                ChannelCount::Eight => 8,
+            },
+        }
+    }
+}
+
+/// The bytes of a frame in the file.
+pub(crate) fn frame_len(mono: bool, format: Format) -> usize
+    ensures value { result ≡ spec.frame_length mono (layout format) }
+    ensures some { 1 ≤ result }
+{
+    let samples = if mono {
+        1
+    } else {
+        usize::from(format.channels)
+    };
+    samples * sample_len(format.bits)
 }
 
 /// The sound that is known after a chunk: the first chunk `fmt ` says it.
@@ -61,20 +92,18 @@ pub(crate) fn sound_in(found: Option<Sound>, chunk: Chunk) -> Result<Head, WavFa
     ensures head { seen result ≡ spec.sound_in found chunk }
     ensures within { IfOk result (λ head. end_of_sound (head_seen head) ≤ chunk.from + chunk.len) }
     ensures from { IfOk result (λ head. head.from ≡ chunk.from) }
-    ensures format { IfOk result (λ head. IsRingFormat (head_seen head).format) }
+    ensures doubled { IfOk result (λ head. head.mono ≡ true → head.format.channels ≡ 2) }
 {
     let Some(sound) = found else {
         return Err(WavFault::NoFormat);
     };
+    let format = sound.ring_format();
+    let mono = sound.is_mono();
     Ok(Head {
-        format: Format {
-            rate: sound.rate,
-            bits: Bits::B16,
-            channels: 2,
-        },
-        mono: sound.mono,
+        format,
+        mono,
         from: chunk.from,
-        frames: chunk.len / sound.frame_len(),
+        frames: chunk.len / frame_len(mono, format),
     })
 }
 
@@ -82,7 +111,7 @@ pub(crate) fn sound_in(found: Option<Sound>, chunk: Chunk) -> Result<Head, WavFa
 fn find_sound(bytes: &[u8]) -> Result<Head, WavFault>
     ensures head { seen result ≡ spec.head_in bytes.now }
     ensures within { IfOk result (λ head. EndsWithin bytes.now (head_seen head)) }
-    ensures format { IfOk result (λ head. IsRingFormat (head_seen head).format) }
+    ensures doubled { IfOk result (λ head. head.mono ≡ true → head.format.channels ≡ 2) }
 {
     let mut found = None;
     let mut at = FIRST_CHUNK;
@@ -103,7 +132,7 @@ fn find_sound(bytes: &[u8]) -> Result<Head, WavFault>
 pub(crate) fn read_head(bytes: &[u8]) -> Result<Head, WavFault>
     ensures head { seen result ≡ spec.head_of bytes.now }
     ensures within { IfOk result (λ head. EndsWithin bytes.now (head_seen head)) }
-    ensures format { IfOk result (λ head. IsRingFormat (head_seen head).format) }
+    ensures doubled { IfOk result (λ head. head.mono ≡ true → head.format.channels ≡ 2) }
 {
     if !is_riff(bytes) {
         return Err(WavFault::NotRiff);

@@ -11,7 +11,8 @@ pub fn written_chunks_are_read()
     ensures { AreReadBack }
 {}
 
-/// Whole frames of sound that are written as a WAV file of two channels are read as that sound.
+/// Frames of a sound of any rate, sample size and number of channels that are written as a WAV file, in the plain or in
+/// the extensible form, are read as these.
 pub fn written_sound_is_read()
     ensures { IsHeardAgain }
 {}

@@ -9,15 +9,24 @@
 //! |---|---|---|
 //! | the first 12 bytes | `RIFF`, four bytes that are not looked at, `WAVE` | `NotRiff` |
 //! | each chunk, in order | its head has 8 bytes and its body ends in the file | `Truncated` |
-//! | the first chunk `fmt ` | its body has at least 16 bytes | `NoFormat` |
-//! | its places 0, 2, 4, 14 and 12, in this order | the tag is 1; 1 or 2 channels; 8,000, 16,000, 44,100, 48,000, 96,000 or 192,000 frames a second; 16 bits a sample; a block has 2 bytes for each channel | `Tag`, `Channels`, `Rate`, `Bits`, `BlockAlign` |
+//! | the first chunk `fmt ` | its body has at least 16 bytes, and at least 40 where the tag is FFFEh | `NoFormat` |
+//! | its place 0 | the tag is 1, or FFFEh with the subformat of whole numbers at place 24 | `Tag` |
+//! | its place 2 | 1, 2, 4, 6 or 8 channels | `Channels` |
+//! | its place 4 | 8,000, 16,000, 44,100, 48,000, 96,000 or 192,000 frames a second | `Rate` |
+//! | its place 14 | 16, 24 or 32 bits a sample | `Bits` |
+//! | its place 12 | a block has 2, 3 or 4 bytes for each channel, by the bits | `BlockAlign` |
 //! | the first chunk `data` | a chunk `fmt ` stood before it | `NoFormat` |
 //! | the end of the file | a chunk `data` was read before | `NoData` |
 //!
 //! The first fault counts. Nothing after the body of the chunk `data` is read. A size of FFFFFFFFh of the chunk `data`
 //! means that its body goes to the file's end. Later chunks `fmt ` and other chunks are skipped, and so is the rest of
-//! a body of the chunk `fmt `; the bytes a second are not checked. Bytes at the end of the sound that make no whole
-//! frame are ignored.
+//! a body of the chunk `fmt `; the bytes a second are not checked, nor are the valid bits and the channel mask of the
+//! extensible form, which is that of the tag FFFEh. Its subformat of whole numbers is the bytes 01 00 00 00 00 00 10 00
+//! 80 00 00 AA 00 38 9B 71. Bytes at the end of the sound that make no whole frame are ignored.
+//!
+//! The ring gets a block for each frame, at the rate and with the bits of the file, and with its channels, but two for
+//! one: the sample of a frame of one channel stands left and right. A sample of 16 or 32 bits stands in the ring as in
+//! the file, and one of 24 bits behind a byte 0, in a container of four bytes (HDA 1.0a, 4.5.1).
 #![tactic(auto)]
 
 mod chunks;
@@ -28,6 +37,7 @@ mod laws;
 mod opened;
 mod opening;
 mod ring_parts;
+mod slots;
 mod sound_files;
 mod streams;
 mod supply;

@@ -1,6 +1,5 @@
 //! What is known of a WAV file before its sound is read, or why it was not opened.
-ghost use Rattle.std.specs.Prelude.{◌≡◌};
-ghost use Rattle.stream_format.specs.declared.format.Bits.TheVariants.{B16};
+ghost use Rattle.std.specs.Prelude.{◌≡◌, true};
 ghost use Rattle.wav_reader.specs.Readers.{open_of_length, open_of_cut, open_of_fault};
 
 use crate::fault::WavFault;
@@ -10,10 +9,10 @@ use stream_format::Format;
 /// The most bytes of a WAV file.
 pub const MOST_WAV_BYTES: u64 = 67_108_864;
 
-/// What a WAV file says before its sound, and how long the file is. The sound is one of 16 bits and 2 channels.
+/// What a WAV file says before its sound, and how long the file is.
 #[derive(Clone, Copy, Debug)]
 pub struct WavHead {
-    /// The format of its ring bytes.
+    /// The format of its ring bytes: the rate and the bits of the file, and its channels, but 2 for one channel.
     pub format: Format,
     /// Whether the file has one channel, whose samples are doubled to left and right.
     pub mono: bool,
@@ -23,8 +22,7 @@ pub struct WavHead {
     pub from: u64,
     /// The bytes of the file, as they were measured.
     pub length: u64,
-    pub ghost bits: { format.bits ≡ B16 },
-    pub ghost channels: { format.channels ≡ 2 },
+    pub ghost doubled: { mono ≡ true → format.channels ≡ 2 },
 }
 
 /// Why a WAV file was not opened.

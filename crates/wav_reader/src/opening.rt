@@ -1,12 +1,12 @@
 //! Opens a WAV file on a shelf: reads what stands before its sound.
 ghost use Rattle.std.specs.Prelude.{◌≡◌, ◌≢◌, ◌≤◌, ◌<◌, ℕ, ◌+◌, ◌*◌, List, length, take, drop, Some, Ok, IfSome, IfOk};
-ghost use Rattle.std.specs.Prelude.{OnOk, Err};
+ghost use Rattle.std.specs.Prelude.{OnOk, Err, true};
 ghost use Rattle.hda_outside.specs.Counts.{Rose};
 ghost use Rattle.hda_outside.specs.Shelf.{file_of};
 ghost use Rattle.wav_reader.specs.Chunks.{is_riff as is_riff_file};
 ghost use Rattle.wav_reader.specs.Fills.{end_of_sound};
 ghost use Rattle.wav_reader.specs.Heads as spec;
-ghost use Rattle.wav_reader.specs.Heads.{frame_length, IsRingFormat};
+ghost use Rattle.wav_reader.specs.Heads.{frame_length};
 ghost use Rattle.stream_format.specs.Layouts.{layout};
 ghost use Rattle.wav_reader.specs.Opening.{IsOpenedBy, IsOfFile};
 ghost use Rattle.wav_reader.specs.Readers.{IsAnswer, chunk_or_cut, known_after, head_seen};
@@ -14,7 +14,7 @@ ghost use Rattle.wav_reader.specs.Shelves.{Tells};
 
 use crate::chunks::{CHUNK_HEAD, Chunk, FIRST_CHUNK, Kind, chunk_with, is_riff};
 use crate::fault::WavFault;
-use crate::formats::{FORMAT_BYTES, Sound, sound_of};
+use crate::formats::{EXTENSIBLE_BYTES, FORMAT_BYTES, Sound, sound_of};
 use crate::heads::{Head, is_data, sound_in};
 use crate::opened::{MOST_WAV_BYTES, WavHead, WavOpen};
 use hda_outside::{Shelf, file_length, read_piece};
@@ -107,9 +107,10 @@ fn read_known<S: Shelf>(
             if chunk.len < FORMAT_BYTES {
                 return Err(WavOpen::Wav(WavFault::NoFormat));
             }
-            let mut body = [0; FORMAT_BYTES];
-            read_exactly(alloc, shelf, name, chunk.from, &mut body)?;
-            let sound = sound_of(&body)?;
+            let mut body = [0; EXTENSIBLE_BYTES];
+            let body = &mut body[..chunk.len.min(EXTENSIBLE_BYTES)];
+            read_exactly(alloc, shelf, name, chunk.from, body)?;
+            let sound = sound_of(body)?;
             Ok(Some(sound))
         }
         _ => Ok(found),
@@ -129,7 +130,7 @@ fn seek_sound<S: Shelf>(
         → IsAnswer head_seen (spec.head_in file) result }
     ensures of_file { IsOfFile result }
     ensures within { IfOk result (λ head. end_of_sound (head_seen head) ≤ file_len) }
-    ensures format { IfOk result (λ head. IsRingFormat (head_seen head).format) }
+    ensures doubled { IfOk result (λ head. head.mono ≡ true → head.format.channels ≡ 2) }
     ensures given { IfOk result (λ head. S.given shelf.new + 12 ≤ S.given shelf.old + head.from) }
     ensures given_rises { S.given shelf.old ≤ S.given shelf.new }
     ensures failed { result ≡ Err WavOpen.Failed → Rose (S.faults shelf.old name.now) (S.faults shelf.new name.now) }

@@ -1,13 +1,13 @@
-//! The ring bytes of frames of a file, put into a ring that is held.
-ghost use Rattle.std.specs.Prelude.{◌≡◌, ◌≤◌, ◌+◌, ◌*◌, ◌/◌, ◌++◌, length, drop};
+//! The ring bytes of samples of a file, put into a ring that is held.
+ghost use Rattle.std.specs.Prelude.{◌≡◌, ◌≤◌, ◌<◌, ◌+◌, ◌%◌, ◌++◌, true, length};
 ghost use Rattle.circular_buffer.specs.Buffer.{buffer};
-ghost use Rattle.wav_reader.specs.Readers.{doubled, ring_part};
+ghost use Rattle.wav_reader.specs.Formats.{sample_length};
+ghost use Rattle.wav_reader.specs.Readers as spec;
+ghost use Rattle.wav_reader.specs.Readers.{ring_part, group_length};
 
-use crate::wav::four_doubled;
+use crate::slots::{are_turned, few_len, few_of, group_len, group_of};
 use circular_buffer::HeapCircularBuffer;
-
-/// The bytes of a block of the ring: two samples of 16 bits.
-pub(crate) const BLOCK: usize = 4;
+use stream_format::Bits;
 
 /// Puts bytes last.
 pub(crate) fn put_last(held: &mut HeapCircularBuffer<u8>, bytes: &[u8])
@@ -17,50 +17,49 @@ pub(crate) fn put_last(held: &mut HeapCircularBuffer<u8>, bytes: &[u8])
     held.fill_from_slice(bytes);
 }
 
-/// Puts the first samples last, each twice, four at a time.
-fn put_fours(held: &mut HeapCircularBuffer<u8>, samples: &[u8], fours: usize)
-    requires samples { 8 * fours ≤ length samples.now }
-    requires room { length held.old.items + 16 * fours ≤ held.old.capacity }
-    ensures { held.new ≡ buffer (held.old.items ++ doubled samples.now (4 * fours)) held.old.capacity }
+/// Puts the slots of samples last, group by group, and gives those back that make no whole group.
+fn put_groups<'a>(
+    held: &mut HeapCircularBuffer<u8>,
+    samples: &'a [u8],
+    mono: bool,
+    bits: Bits,
+) -> &'a [u8]
+    requires turned { spec.are_turned mono bits ≡ true }
+    requires room { length held.old.items + length (ring_part mono bits samples.now) ≤ held.old.capacity }
+    ensures put { held.new.items ++ ring_part mono bits result.now
+        ≡ held.old.items ++ ring_part mono bits samples.now }
+    ensures capacity { held.new.capacity ≡ held.old.capacity }
+    ensures few { length result.now < group_length mono bits }
 {
-    for step in 0..fours {
-        put_last(held, &four_doubled(&samples[8 * step..]));
+    let size = group_len(mono, bits);
+    let mut rest = samples;
+    while rest.len() >= size {
+        put_last(held, &group_of(rest, mono, bits));
+        rest = &rest[size..];
     }
+    rest
 }
 
-/// Puts the first samples last, each twice, one at a time.
-fn put_ones(held: &mut HeapCircularBuffer<u8>, samples: &[u8], count: usize)
-    requires samples { 2 * count ≤ length samples.now }
-    requires room { length held.old.items + 4 * count ≤ held.old.capacity }
-    ensures { held.new ≡ buffer (held.old.items ++ doubled samples.now count) held.old.capacity }
+/// Puts the slots of whole samples last that do not stand in the ring as they stand in the file.
+fn put_turned(held: &mut HeapCircularBuffer<u8>, samples: &[u8], mono: bool, bits: Bits)
+    requires turned { spec.are_turned mono bits ≡ true }
+    requires room { length held.old.items + length (ring_part mono bits samples.now) ≤ held.old.capacity }
+    ensures { held.new ≡ buffer (held.old.items ++ ring_part mono bits samples.now) held.old.capacity }
 {
-    for index in 0..count {
-        let at = 2 * index;
-        let low = samples[at];
-        let high = samples[at + 1];
-        put_last(held, &[low, high, low, high]);
-    }
+    let rest = put_groups(held, samples, mono, bits);
+    let last = few_of(rest, mono, bits);
+    put_last(held, &last[..few_len(rest, mono, bits)]);
 }
 
-/// Puts samples of two bytes last, each twice.
-fn put_doubled(held: &mut HeapCircularBuffer<u8>, samples: &[u8])
-    requires { length held.old.items + 4 * (length samples.now / 2) ≤ held.old.capacity }
-    ensures { held.new ≡ buffer (held.old.items ++ doubled samples.now (length samples.now / 2)) held.old.capacity }
+/// Puts what the ring gets for whole samples last.
+pub(crate) fn put_samples(held: &mut HeapCircularBuffer<u8>, samples: &[u8], mono: bool, bits: Bits)
+    requires whole { length samples.now % sample_length bits ≡ 0 }
+    requires room { length held.old.items + length (ring_part mono bits samples.now) ≤ held.old.capacity }
+    ensures { held.new ≡ buffer (held.old.items ++ ring_part mono bits samples.now) held.old.capacity }
 {
-    let count = samples.len() / 2;
-    let fours = count / 4;
-    put_fours(held, samples, fours);
-    put_ones(held, &samples[8 * fours..], count % 4);
-}
-
-/// Puts the ring bytes of whole frames last: those of a mono file are doubled to left and right.
-pub(crate) fn put_frames(held: &mut HeapCircularBuffer<u8>, frames: &[u8], mono: bool)
-    requires { length held.old.items + length (ring_part mono frames.now) ≤ held.old.capacity }
-    ensures { held.new ≡ buffer (held.old.items ++ ring_part mono frames.now) held.old.capacity }
-{
-    if mono {
-        put_doubled(held, frames);
+    if are_turned(mono, bits) {
+        put_turned(held, samples, mono, bits);
     } else {
-        put_last(held, frames);
+        put_last(held, samples);
     }
 }

@@ -1,16 +1,21 @@
 //! The sound of a file on a shelf, from which ring bytes are read.
 ghost use Rattle.std.specs.Prelude.{◌≡◌, ◌≢◌, ◌≤◌, ℕ, ◌+◌, ◌*◌, ◌%◌, List, length, string_bytes};
+ghost use Rattle.wav_reader.specs.Formats.{sample_length};
+ghost use Rattle.stream_format.specs.Cadence.{block_bytes};
 ghost use Rattle.stream_format.specs.Layouts.{layout};
 ghost use Rattle.wav_reader.specs.Heads.{frame_length};
-ghost use Rattle.wav_reader.specs.Opening.{head_in_file};
-ghost use Rattle.wav_reader.specs.Readers.{AreGivenFor, ReadsOn, place_of, file_bytes, frames_in, seen_under};
+ghost use Rattle.wav_reader.specs.Opening.{head_in_file, total_of};
+ghost use Rattle.wav_reader.specs.Readers.{AreGivenFor, ReadsOn, place_of, seen_under, slot_length};
 ghost use Rattle.wav_reader.specs.Readers as spec;
 
+use crate::formats::sample_len;
 use crate::opened::WavHead;
-use crate::ring_parts::{BLOCK, put_frames, put_last};
+use crate::ring_parts::{put_last, put_samples};
+use crate::slots::slot_len;
 use circular_buffer::HeapCircularBuffer;
 use hda_outside::{Cut, Shelf, read_piece};
 use std::alloc::Global;
+use stream_format::Bits;
 
 /// The most bytes of the file that one read asks for.
 pub(crate) const PIECE_BYTES: usize = 4_096;
@@ -24,6 +29,7 @@ pub(crate) struct SoundFile {
     pub head: WavHead,
     pub ghost short: { head.length ≤ 67108864 },
     pub ghost within: { head.from + head.frames * frame_length head.mono (layout head.format) ≤ head.length },
+    pub ghost few: { total_of head ≤ 178956970 },
 }
 
 /// What is answered of a piece of the file.
@@ -36,37 +42,68 @@ fn answer_of(cut: Option<Cut>) -> Result<(), Cut>
     }
 }
 
+/// Whether the byte at a place of the ring bytes is the 0 before a sample of 24 bits.
+fn is_pad(bits: Bits, at: u64) -> bool
+    ensures { result ≡ spec.is_pad bits at }
+{
+    match bits {
+        Bits::B24 => at % 4 == 0,
+        Bits::B16 | Bits::B32 => false,
+    }
+}
+
+/// The place in its sample of the byte that stands at a place of the ring bytes.
+fn in_sample(bits: Bits, at: u64) -> u64
+    ensures { result ≡ spec.in_sample bits at }
+{
+    match bits {
+        Bits::B16 => at % 2,
+        Bits::B24 => (at % 4).saturating_sub(1),
+        Bits::B32 => at % 4,
+    }
+}
+
 impl SoundFile {
+    /// The bytes of a sample in the file.
+    fn sample_len(&self) -> usize
+        ensures value { result ≡ sample_length self.now.head.format.bits }
+        ensures some { 2 ≤ result }
+        ensures most { result ≤ 4 }
+    {
+        sample_len(self.head.format.bits)
+    }
+
+    /// The bytes that the ring gets for a sample.
+    fn slot_len(&self) -> usize
+        ensures value { result ≡ slot_length self.now.head.mono self.now.head.format.bits }
+        ensures some { 2 ≤ result }
+    {
+        slot_len(self.head.mono, self.head.format.bits)
+    }
+
+    /// The bytes of a block of the ring.
+    pub(crate) fn block_len(&self) -> usize
+        ensures value { result ≡ block_bytes self.now.head.format }
+        ensures some { 1 ≤ result }
+    {
+        self.head.format.block_bytes() as usize
+    }
+
+    /// The bytes of all blocks that the ring gets.
+    pub(crate) fn total(&self) -> u64
+        ensures { result ≡ total_of self.now.head }
+    {
+        self.head.frames * u64::from(self.head.format.block_bytes())
+    }
+
     /// The place in the file of the byte that stands at a place of its ring bytes.
     fn place_of(&self, at: u64) -> u64
-        requires { at ≤ self.now.head.frames * 4 }
+        requires { at ≤ total_of self.now.head }
         ensures { result ≡ place_of (head_in_file self.now.head) at }
     {
-        let head = &self.head;
-        if head.mono {
-            head.from + at / 4 * 2 + at % 2
-        } else {
-            head.from + at
-        }
-    }
-
-    /// The bytes in the file of so many frames.
-    fn file_bytes(&self, frames: usize) -> usize
-        requires { frames ≤ 67108864 }
-        ensures { result ≡ file_bytes self.now.head.mono frames }
-    {
-        if self.head.mono {
-            2 * frames
-        } else {
-            4 * frames
-        }
-    }
-
-    /// How many whole frames so many bytes of the file are.
-    fn frames_in(&self, bytes: usize) -> usize
-        ensures { result ≡ frames_in self.now.head.mono bytes }
-    {
-        if self.head.mono { bytes / 2 } else { bytes / 4 }
+        let samples = at / self.slot_len() as u64;
+        let first = self.head.from + samples * self.sample_len() as u64;
+        first + in_sample(self.head.format.bits, at)
     }
 
     /// Reads the next ring byte, and puts it last.
@@ -78,7 +115,7 @@ impl SoundFile {
         held: &mut HeapCircularBuffer<u8>,
     ) -> Result<(), Cut>
         requires room { length held.old.items + 1 ≤ held.old.capacity }
-        requires there { taken + length held.old.items + 1 ≤ self.now.head.frames * 4 }
+        requires there { taken + length held.old.items + 1 ≤ total_of self.now.head }
         ensures reads { ReadsOn 1 (string_bytes self.now.name) (head_in_file self.now.head) taken
             (seen_under (S.told shelf.old) (S.faults shelf.old) (S.empties shelf.old) (S.given shelf.old)
             (string_bytes self.now.name))
@@ -90,9 +127,13 @@ impl SoundFile {
         ensures later { (other : List ℕ) → S.faults shelf.old other ≤ S.faults shelf.new other }
         ensures empties_later { (other : List ℕ) → S.empties shelf.old other ≤ S.empties shelf.new other }
     {
+        let at = taken + held.len() as u64;
+        if is_pad(self.head.format.bits, at) {
+            put_last(held, &[0]);
+            return Ok(());
+        }
         let mut byte = [0; 1];
-        let at = self.place_of(taken + held.len() as u64);
-        let read = read_piece(alloc, shelf, &self.name, at, &mut byte);
+        let read = read_piece(alloc, shelf, &self.name, self.place_of(at), &mut byte);
         put_last(held, &byte[..read.count]);
         answer_of(read.cut)
     }
@@ -107,7 +148,7 @@ impl SoundFile {
         held: &mut HeapCircularBuffer<u8>,
     ) -> Result<(), Cut>
         requires room { length held.old.items + count ≤ held.old.capacity }
-        requires there { taken + length held.old.items + count ≤ self.now.head.frames * 4 }
+        requires there { taken + length held.old.items + count ≤ total_of self.now.head }
         ensures reads { ReadsOn count (string_bytes self.now.name) (head_in_file self.now.head) taken
             (seen_under (S.told shelf.old) (S.faults shelf.old) (S.empties shelf.old) (S.given shelf.old)
             (string_bytes self.now.name))
@@ -125,24 +166,29 @@ impl SoundFile {
         Ok(())
     }
 
-    /// Reads the next frames, no more than a piece has, and puts the ring bytes of those that were read last.
-    fn read_few_frames<S: Shelf>(
+    /// Reads the next samples, no more than a piece has, and puts what the ring gets for those that were read last.
+    fn read_few_samples<S: Shelf>(
         &self,
         alloc: Global,
         shelf: &mut S,
         taken: u64,
-        frames: usize,
+        samples: usize,
         piece: &mut [u8],
         held: &mut HeapCircularBuffer<u8>,
     ) -> Result<(), Cut>
         requires piece { length piece.old ≡ 4096 }
-        requires few { frames ≤ frames_in self.now.head.mono 4096 }
-        requires blocks { (taken + length held.old.items) % 4 ≡ 0 }
-        requires room { length held.old.items + 4 * frames ≤ held.old.capacity }
-        requires there { taken + length held.old.items + 4 * frames ≤ self.now.head.frames * 4 }
-        ensures given { AreGivenFor self.now.head.mono held.old held.new (S.given shelf.old) (S.given shelf.new)
-            result }
-        ensures reads { ReadsOn (4 * frames) (string_bytes self.now.name) (head_in_file self.now.head) taken
+        requires few { samples * sample_length self.now.head.format.bits ≤ 4096 }
+        requires slots { (taken + length held.old.items)
+            % slot_length self.now.head.mono self.now.head.format.bits ≡ 0 }
+        requires room { length held.old.items + samples * slot_length self.now.head.mono self.now.head.format.bits
+            ≤ held.old.capacity }
+        requires there { taken + length held.old.items + samples * slot_length self.now.head.mono
+            self.now.head.format.bits
+            ≤ total_of self.now.head }
+        ensures given { AreGivenFor self.now.head.mono self.now.head.format.bits held.old held.new
+            (S.given shelf.old) (S.given shelf.new) result }
+        ensures reads { ReadsOn (samples * slot_length self.now.head.mono self.now.head.format.bits)
+            (string_bytes self.now.name) (head_in_file self.now.head) taken
             (seen_under (S.told shelf.old) (S.faults shelf.old) (S.empties shelf.old) (S.given shelf.old)
             (string_bytes self.now.name))
             (seen_under (S.told shelf.new) (S.faults shelf.new) (S.empties shelf.new) (S.given shelf.new)
@@ -153,31 +199,37 @@ impl SoundFile {
         ensures later { (other : List ℕ) → S.faults shelf.old other ≤ S.faults shelf.new other }
         ensures empties_later { (other : List ℕ) → S.empties shelf.old other ≤ S.empties shelf.new other }
     {
-        let part = &mut piece[..self.file_bytes(frames)];
+        let size = self.sample_len();
+        let part = &mut piece[..samples * size];
         let at = self.place_of(taken + held.len() as u64);
         let read = read_piece(alloc, shelf, &self.name, at, part);
-        let whole = self.file_bytes(self.frames_in(read.count));
-        put_frames(held, &part[..whole], self.head.mono);
+        let whole = read.count / size * size;
+        put_samples(held, &part[..whole], self.head.mono, self.head.format.bits);
         answer_of(read.cut)
     }
 
-    /// Reads the next frames, so many, and puts their ring bytes last.
-    fn read_frames<S: Shelf>(
+    /// Reads the next samples, so many, and puts what the ring gets for them last.
+    fn read_samples<S: Shelf>(
         &self,
         alloc: Global,
         shelf: &mut S,
         taken: u64,
-        frames: usize,
+        samples: usize,
         piece: &mut [u8],
         held: &mut HeapCircularBuffer<u8>,
     ) -> Result<(), Cut>
         requires piece { length piece.old ≡ 4096 }
-        requires blocks { 1 ≤ frames → (taken + length held.old.items) % 4 ≡ 0 }
-        requires room { length held.old.items + 4 * frames ≤ held.old.capacity }
-        requires there { taken + length held.old.items + 4 * frames ≤ self.now.head.frames * 4 }
-        ensures given { AreGivenFor self.now.head.mono held.old held.new (S.given shelf.old) (S.given shelf.new)
-            result }
-        ensures reads { ReadsOn (4 * frames) (string_bytes self.now.name) (head_in_file self.now.head) taken
+        requires slots { 1 ≤ samples → (taken + length held.old.items)
+            % slot_length self.now.head.mono self.now.head.format.bits ≡ 0 }
+        requires room { length held.old.items + samples * slot_length self.now.head.mono self.now.head.format.bits
+            ≤ held.old.capacity }
+        requires there { taken + length held.old.items + samples * slot_length self.now.head.mono
+            self.now.head.format.bits
+            ≤ total_of self.now.head }
+        ensures given { AreGivenFor self.now.head.mono self.now.head.format.bits held.old held.new
+            (S.given shelf.old) (S.given shelf.new) result }
+        ensures reads { ReadsOn (samples * slot_length self.now.head.mono self.now.head.format.bits)
+            (string_bytes self.now.name) (head_in_file self.now.head) taken
             (seen_under (S.told shelf.old) (S.faults shelf.old) (S.empties shelf.old) (S.given shelf.old)
             (string_bytes self.now.name))
             (seen_under (S.told shelf.new) (S.faults shelf.new) (S.empties shelf.new) (S.given shelf.new)
@@ -188,11 +240,11 @@ impl SoundFile {
         ensures later { (other : List ℕ) → S.faults shelf.old other ≤ S.faults shelf.new other }
         ensures empties_later { (other : List ℕ) → S.empties shelf.old other ≤ S.empties shelf.new other }
     {
-        let most = self.frames_in(PIECE_BYTES);
+        let most = PIECE_BYTES / self.sample_len();
         let mut done = 0;
-        while done < frames {
-            let count = (frames - done).min(most);
-            self.read_few_frames(alloc, shelf, taken, count, piece, held)?;
+        while done < samples {
+            let count = (samples - done).min(most);
+            self.read_few_samples(alloc, shelf, taken, count, piece, held)?;
             done += count;
         }
         Ok(())
@@ -211,9 +263,11 @@ impl SoundFile {
     ) -> Result<(), Cut>
         requires piece { length piece.old ≡ 4096 }
         requires room { length held.old.items + count ≤ held.old.capacity }
-        requires there { taken + length held.old.items + count ≤ self.now.head.frames * 4 }
-        ensures given { (taken + length held.old.items) % 4 ≡ 0 → count % 4 ≡ 0
-            → AreGivenFor self.now.head.mono held.old held.new (S.given shelf.old) (S.given shelf.new) result }
+        requires there { taken + length held.old.items + count ≤ total_of self.now.head }
+        ensures given { (taken + length held.old.items) % slot_length self.now.head.mono self.now.head.format.bits ≡ 0
+            → count % slot_length self.now.head.mono self.now.head.format.bits ≡ 0
+            → AreGivenFor self.now.head.mono self.now.head.format.bits held.old held.new
+            (S.given shelf.old) (S.given shelf.new) result }
         ensures reads { ReadsOn count (string_bytes self.now.name) (head_in_file self.now.head) taken
             (seen_under (S.told shelf.old) (S.faults shelf.old) (S.empties shelf.old) (S.given shelf.old)
             (string_bytes self.now.name))
@@ -225,11 +279,12 @@ impl SoundFile {
         ensures later { (other : List ℕ) → S.faults shelf.old other ≤ S.faults shelf.new other }
         ensures empties_later { (other : List ℕ) → S.empties shelf.old other ≤ S.empties shelf.new other }
     {
-        let begun = (taken + held.len() as u64) % BLOCK as u64;
-        let first = count.min((BLOCK - begun as usize) % BLOCK);
+        let slot = self.slot_len();
+        let begun = (taken + held.len() as u64) % slot as u64;
+        let first = count.min((slot - begun as usize) % slot);
         let rest = count - first;
         self.read_bytes(alloc, shelf, taken, first, held)?;
-        self.read_frames(alloc, shelf, taken, rest / BLOCK, piece, held)?;
-        self.read_bytes(alloc, shelf, taken, rest % BLOCK, held)
+        self.read_samples(alloc, shelf, taken, rest / slot, piece, held)?;
+        self.read_bytes(alloc, shelf, taken, rest % slot, held)
     }
 }

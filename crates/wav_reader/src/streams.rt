@@ -11,7 +11,6 @@ ghost use Rattle.wav_reader.specs.Streams.{stream_seen, source_of, IsStream};
 ghost use Rattle.wav_reader.specs.Supplies.{without};
 
 use crate::opened::WavHead;
-use crate::ring_parts::BLOCK;
 use crate::sound_files::{PIECE_BYTES, SoundFile};
 use circular_buffer::HeapCircularBuffer;
 use hda_outside::{Cut, Shelf};
@@ -80,7 +79,7 @@ impl Stream {
         if self.is_cut {
             self.held.len() as u64
         } else {
-            self.file.head.frames * BLOCK as u64 - self.taken
+            self.file.total() - self.taken
         }
     }
 
@@ -133,7 +132,8 @@ impl Stream {
             &mut self.held,
         );
         if read.is_err() {
-            self.held.truncate_back(self.held.len() / BLOCK * BLOCK);
+            let block = self.file.block_len();
+            self.held.truncate_back(self.held.len() / block * block);
             self.is_cut = true;
         }
         read

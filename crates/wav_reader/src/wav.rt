@@ -1,20 +1,23 @@
 //! Reads a whole WAV file.
-ghost use Rattle.std.specs.Prelude.{◌≡◌, ◌≤◌, ◌*◌, ◌++◌, length, IfOk, OnOk};
+ghost use Rattle.std.specs.Prelude.{◌≡◌, ◌<◌, ◌*◌, ◌++◌, true, length, IfOk};
 ghost use Rattle.stream_format.specs.Cadence.{block_bytes};
-ghost use Rattle.wav_reader.specs.Heads.{EndsWithin, IsRingFormat};
-ghost use Rattle.wav_reader.specs.Readers.{head_seen, doubled};
+ghost use Rattle.wav_reader.specs.Heads.{EndsWithin};
+ghost use Rattle.wav_reader.specs.Readers as readers;
+ghost use Rattle.wav_reader.specs.Readers.{head_seen, ring_part, group_length};
 ghost use Rattle.wav_reader.specs.Wavs as spec;
 
 use crate::fault::WavFault;
-use crate::heads::{Head, read_head};
+use crate::formats::sample_len;
+use crate::heads::{Head, frame_len, read_head};
+use crate::slots::{are_turned, few_len, few_of, group_len, group_of, slot_len};
 use hda_items::Items;
 use std::alloc::{AllocError, Global};
-use stream_format::Format;
+use stream_format::{Bits, Format};
 
 /// The sound of a WAV file.
 #[derive(Debug, Drop)]
 pub struct Wav {
-    /// The format of its ring bytes, of 16 bits and 2 channels.
+    /// The format of its ring bytes: the rate and the bits of the file, and its channels, but 2 for one channel.
     pub format: Format,
     /// Whether the file has one channel, whose samples were doubled to left and right.
     pub mono: bool,
@@ -24,68 +27,52 @@ pub struct Wav {
     pub pcm: Items<u8>,
 }
 
-/// The first four samples of two bytes, each twice.
-pub(crate) fn four_doubled(samples: &[u8]) -> [u8; 16]
-    requires { 8 ≤ length samples.now }
-    ensures { result ≡ doubled samples.now 4 }
+/// Puts the slots of samples last, group by group, and gives those back that make no whole group.
+fn push_groups<'a>(
+    ring: &mut Vec<u8>,
+    samples: &'a [u8],
+    mono: bool,
+    bits: Bits,
+) -> Result<&'a [u8], AllocError>
+    requires turned { readers.are_turned mono bits ≡ true }
+    ensures pushed { IfOk result (λ rest. ring.new.items ++ ring_part mono bits rest.now
+        ≡ ring.old.items ++ ring_part mono bits samples.now) }
+    ensures few { IfOk result (λ rest. length rest.now < group_length mono bits) }
 {
-    let s = samples;
-    [
-        s[0], s[1], s[0], s[1], s[2], s[3], s[2], s[3], s[4], s[5], s[4], s[5], s[6], s[7], s[6],
-        s[7],
-    ]
-}
-
-/// Puts the first samples last, each twice, four at a time.
-fn push_fours(ring: &mut Vec<u8>, samples: &[u8], fours: usize) -> Result<(), AllocError>
-    requires { 8 * fours ≤ length samples.now }
-    ensures { OnOk result (ring.new.items ≡ ring.old.items ++ doubled samples.now (4 * fours)) }
-{
-    for step in 0..fours {
-        ring.extend_from_slice(&four_doubled(&samples[8 * step..]))?;
+    let size = group_len(mono, bits);
+    let mut rest = samples;
+    while rest.len() >= size {
+        ring.extend_from_slice(&group_of(rest, mono, bits))?;
+        rest = &rest[size..];
     }
-    Ok(())
+    Ok(rest)
 }
 
-/// Puts the first samples last, each twice, one at a time.
-fn push_ones(ring: &mut Vec<u8>, samples: &[u8], count: usize) -> Result<(), AllocError>
-    requires { 2 * count ≤ length samples.now }
-    ensures { OnOk result (ring.new.items ≡ ring.old.items ++ doubled samples.now count) }
+/// What the ring gets for whole samples that do not stand in it as they stand in the file, in memory that is taken
+/// once.
+fn turned(alloc: Global, samples: &[u8], mono: bool, bits: Bits) -> Result<Vec<u8>, AllocError>
+    requires turned { readers.are_turned mono bits ≡ true }
+    ensures { IfOk result (λ ring. ring.items ≡ ring_part mono bits samples.now) }
 {
-    for index in 0..count {
-        let at = 2 * index;
-        let low = samples[at];
-        let high = samples[at + 1];
-        ring.extend_from_slice(&[low, high, low, high])?;
-    }
-    Ok(())
-}
-
-/// Samples of two bytes, each twice, in memory that is taken once.
-fn doubled(alloc: Global, samples: &[u8], count: usize) -> Result<Vec<u8>, AllocError>
-    requires { 2 * count ≤ length samples.now }
-    ensures bytes { IfOk result (λ ring. ring.items ≡ doubled samples.now count) }
-    ensures len { IfOk result (λ ring. length ring.items ≡ 4 * count) }
-{
-    let mut ring = Vec::with_capacity(alloc, 4 * count)?;
-    let fours = count / 4;
-    push_fours(&mut ring, samples, fours)?;
-    push_ones(&mut ring, &samples[8 * fours..], count % 4)?;
+    let count = samples.len() / sample_len(bits);
+    let mut ring = Vec::with_capacity(alloc, count.saturating_mul(slot_len(mono, bits)))?;
+    let rest = push_groups(&mut ring, samples, mono, bits)?;
+    let last = few_of(rest, mono, bits);
+    ring.extend_from_slice(&last[..few_len(rest, mono, bits)])?;
     Ok(ring)
 }
 
 /// The ring bytes of the frames of a file.
 fn ring_bytes(alloc: Global, bytes: &[u8], head: &Head) -> Result<Vec<u8>, AllocError>
     requires within { EndsWithin bytes.now (head_seen head.now) }
-    requires format { IsRingFormat (head_seen head.now).format }
-    ensures bytes { IfOk result (λ ring. ring.items ≡ spec.ring_bytes bytes.now (head_seen head.now)) }
-    ensures len { IfOk result (λ ring. length ring.items ≡ 4 * head.now.frames) }
+    requires doubled { head.now.mono ≡ true → head.now.format.channels ≡ 2 }
+    ensures { IfOk result (λ ring. ring.items ≡ spec.ring_bytes bytes.now (head_seen head.now)) }
 {
-    let sound = &bytes[head.from..];
-    if head.mono {
-        doubled(alloc, sound, head.frames)
+    let sound = &bytes[head.from..head.from + head.frames * frame_len(head.mono, head.format)];
+    if are_turned(head.mono, head.format.bits) {
+        turned(alloc, sound, head.mono, head.format.bits)
     } else {
-        Vec::from_slice(alloc, &sound[..4 * head.frames])
+        Vec::from_slice(alloc, sound)
     }
 }
 

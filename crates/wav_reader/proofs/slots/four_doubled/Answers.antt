@@ -1,0 +1,6 @@
+use Rattle.std.proofs.Common.{sym}
+use Rattle.wav_reader.proofs.SlotLemmas.{four_doubled as are}
+use Rattle.wav_reader.proofs.slots.four_doubled.Goals as goal
+
+pub returns : goal.returns
+returns c = sym (are c.args.samples.now c.requires)
