@@ -97,3 +97,10 @@ rest-mod one other size whole whole' =
     (ap (λ (n : ℕ). n - other) (sym first) ∙ ap (λ (n : ℕ). one / size * size - n) (sym second)
     ∙ ap (λ (n : ℕ). n - other / size * size) (sym left) ∙ ap (λ (n : ℕ). size * (one / size) - n) (sym right) ∙ sym split ∙ turned)
     ∙ mul-mod_left (one / size - other / size) size
+
+-- some of the wholes
+pub some-inside : (count len size : ℕ) → count ≤ len / size → count * size ≤ len
+some-inside count len size few =
+    let some = mul-few count (len / size) size few in
+    let all = whole-less len size in
+    omega (arith, some, all)

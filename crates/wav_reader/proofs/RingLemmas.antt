@@ -85,6 +85,40 @@ part-group mono bits bytes enough =
     ∙ ap (λ (at : ℕ). slots mono bits bytes first ++ slots mono bits (drop at bytes) ((length bytes - group_length mono bits) / sample_length bits)) place
     ∙ ap (λ (len : ℕ). slots mono bits bytes first ++ slots mono bits (drop (group_length mono bits) bytes) (len / sample_length bits)) (sym rest)
 
+-- some groups
+groups_step : (mono : Bool) (bits : Bits) (count len : ℕ) → count * group_length mono bits ≤ len
+    → len / sample_length bits ≡ count * (16 / slot_length mono bits) + (len - count * group_length mono bits) / sample_length bits
+groups_step true B16 count len enough = omega (arith, enough)
+groups_step true B24 count len enough = omega (arith, enough)
+groups_step true B32 count len enough = omega (arith, enough)
+groups_step false B16 count len enough = omega (arith, enough)
+groups_step false B24 count len enough = omega (arith, enough)
+groups_step false B32 count len enough = omega (arith, enough)
+
+groups_place : (mono : Bool) (bits : Bits) (count : ℕ) → sample_length bits * (count * (16 / slot_length mono bits)) ≡ count * group_length mono bits
+groups_place mono bits count = omega arith
+
+pub part-groups : (mono : Bool) (bits : Bits) (bytes : List ℕ) (count : ℕ) → count * group_length mono bits ≤ length bytes
+    → ring_part mono bits bytes ≡ slots mono bits bytes (count * (16 / slot_length mono bits)) ++ ring_part mono bits (drop (count * group_length mono bits) bytes)
+part-groups mono bits bytes count enough =
+    let first = count * (16 / slot_length mono bits) in
+    let size = count * group_length mono bits in
+    let number = groups_step mono bits count (length bytes) enough in
+    let rest : length (drop (count * group_length mono bits) bytes) ≡ length bytes - count * group_length mono bits = length-drop (count * group_length mono bits) bytes in
+    ap (slots mono bits bytes) number ∙ slots-add mono bits bytes first ((length bytes - size) / sample_length bits)
+    ∙ ap (λ (at : ℕ). slots mono bits bytes first ++ slots mono bits (drop at bytes) ((length bytes - size) / sample_length bits)) (groups_place mono bits count)
+    ∙ ap (λ (len : ℕ). slots mono bits bytes first ++ slots mono bits (drop size bytes) (len / sample_length bits)) (sym rest)
+
+-- a group more
+pub groups-next : (mono : Bool) (bits : Bits) (bytes : List ℕ) (count : ℕ)
+    → slots mono bits bytes ((count + 1) * (16 / slot_length mono bits))
+    ≡ slots mono bits bytes (count * (16 / slot_length mono bits)) ++ slots mono bits (drop (count * group_length mono bits) bytes) (16 / slot_length mono bits)
+groups-next mono bits bytes count =
+    let each = 16 / slot_length mono bits in
+    let sum : (count + 1) * (16 / slot_length mono bits) ≡ count * (16 / slot_length mono bits) + 16 / slot_length mono bits = omega arith in
+    ap (slots mono bits bytes) sum ∙ slots-add mono bits bytes (count * each) each
+    ∙ ap (λ (at : ℕ). slots mono bits bytes (count * each) ++ slots mono bits (drop at bytes) each) (groups_place mono bits count)
+
 few_step : (mono : Bool) (bits : Bits) (len : ℕ) → len < group_length mono bits
     → 16 / slot_length mono bits ≡ len / sample_length bits + (16 / slot_length mono bits - len / sample_length bits)
 few_step true B16 len few = omega (arith, few)

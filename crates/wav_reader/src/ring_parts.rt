@@ -5,7 +5,7 @@ ghost use Rattle.wav_reader.specs.Formats.{sample_length};
 ghost use Rattle.wav_reader.specs.Readers as spec;
 ghost use Rattle.wav_reader.specs.Readers.{ring_part, group_length};
 
-use crate::slots::{are_turned, few_len, few_of, group_len, group_of};
+use crate::slots::{GROUP_BYTES, MOST_GROUPS, are_turned, few_len, few_of, group_len, groups_of};
 use circular_buffer::HeapCircularBuffer;
 use stream_format::Bits;
 
@@ -17,7 +17,7 @@ pub(crate) fn put_last(held: &mut HeapCircularBuffer<u8>, bytes: &[u8])
     held.fill_from_slice(bytes);
 }
 
-/// Puts the slots of samples last, group by group, and gives those back that make no whole group.
+/// Puts the slots of samples last, some groups at a time, and gives those back that make no whole group.
 fn put_groups<'a>(
     held: &mut HeapCircularBuffer<u8>,
     samples: &'a [u8],
@@ -34,8 +34,10 @@ fn put_groups<'a>(
     let size = group_len(mono, bits);
     let mut rest = samples;
     while rest.len() >= size {
-        put_last(held, &group_of(rest, mono, bits));
-        rest = &rest[size..];
+        let count = (rest.len() / size).min(MOST_GROUPS);
+        let part = groups_of(rest, mono, bits, count);
+        put_last(held, &part[..count * GROUP_BYTES]);
+        rest = &rest[count * size..];
     }
     rest
 }

@@ -10,6 +10,10 @@ use stream_format::Bits;
 
 /// The bytes of the slots of a group of samples.
 pub(crate) const GROUP_BYTES: usize = 16;
+/// The most groups that are put into the ring at a time.
+pub(crate) const MOST_GROUPS: usize = 64;
+/// The bytes of their slots.
+const PART_BYTES: usize = MOST_GROUPS * GROUP_BYTES;
 /// The most bytes that the samples of a group have in the file.
 const MOST_GROUP_LEN: usize = 12;
 
@@ -40,6 +44,7 @@ pub(crate) fn slot_len(mono: bool, bits: Bits) -> usize
 pub(crate) fn group_len(mono: bool, bits: Bits) -> usize
     ensures value { result ≡ group_length mono bits }
     ensures some { 1 ≤ result }
+    ensures most { result ≤ 16 }
 {
     match bits {
         Bits::B16 if mono => 8,
@@ -109,6 +114,22 @@ pub(crate) fn group_of(samples: &[u8], mono: bool, bits: Bits) -> [u8; GROUP_BYT
         Bits::B24 => four_widened(samples),
         Bits::B32 => two_doubled(samples),
     }
+}
+
+/// The slots of the first samples, of so many groups, in the first bytes.
+pub(crate) fn groups_of(samples: &[u8], mono: bool, bits: Bits, count: usize) -> [u8; PART_BYTES]
+    requires turned { spec.are_turned mono bits ≡ true }
+    requires few { count ≤ 64 }
+    requires enough { count * group_length mono bits ≤ length samples.now }
+    ensures { take (count * 16) result ≡ slots mono bits samples.now (count * (16 / slot_length mono bits)) }
+{
+    let size = group_len(mono, bits);
+    let mut part = [0; PART_BYTES];
+    for i in 0..count {
+        let at = i * GROUP_BYTES;
+        part[at..at + GROUP_BYTES].copy_from_slice(&group_of(&samples[i * size..], mono, bits));
+    }
+    part
 }
 
 /// The slots of samples that are fewer than make a group, in the first bytes.
