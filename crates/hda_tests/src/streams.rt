@@ -1,5 +1,5 @@
 //! Sound that is read while it is taken: what a supply gives out, also where the shelf fails or the file gets shorter.
-use crate::wavs::{MONO, RIFF, STEREO, joined};
+use crate::wavs::{EIGHT_32, FOUR, MONO, MONO_24, MONO_32, RIFF, STEREO, STEREO_24, joined};
 use hda_outside::{Cut, MemShelf, SureShelf};
 use std::alloc::{AllocError, Global};
 use std::process::Abort;
@@ -13,9 +13,8 @@ fn named(alloc: Global, bytes: Vec<u8>) -> Result<Vec<(String, Vec<u8>)>, AllocE
     Ok(files)
 }
 
-/// A file of so many bytes of sound, of one channel or of two.
-fn sound_file(alloc: Global, mono: bool, len: u32) -> Result<Vec<u8>, AllocError> {
-    let format = if mono { MONO } else { STEREO };
+/// A file of so many bytes of sound, by its chunk `fmt `.
+fn sound_file(alloc: Global, format: &[u8], len: u32) -> Result<Vec<u8>, AllocError> {
     let mut bytes = joined(alloc, &[RIFF, format, b"data"])?;
     bytes.extend_from_slice(&len.to_le_bytes())?;
     for at in 0..len {
@@ -29,16 +28,18 @@ fn sound_file(alloc: Global, mono: bool, len: u32) -> Result<Vec<u8>, AllocError
 fn sound_of(
     rt: &impl Abort,
     alloc: Global,
-    (mono, len): (bool, u32),
+    (format, len): (&[u8], u32),
     ring: u32,
 ) -> Result<(Vec<u8>, Wav, Supply), Fail> {
-    let file = sound_file(alloc, mono, len)?;
+    let file = sound_file(alloc, format, len)?;
     let whole = read_wav(alloc, &file)?;
     let mut shelf = SureShelf::new(named(alloc, file.clone()?)?);
     let Ok(head) = open_wav(alloc, &mut shelf, "file") else {
         return Err(Fail::from("not opened"));
     };
-    assert!(rt; ring != 0 && ring % 4 == 0);
+    let block = head.format.block_bytes();
+    assert!(rt; ring != 0 && block != 0);
+    assert!(rt; ring % block == 0);
     let supply = Supply::stream(alloc, head, "file", ring)?;
     Ok((file, whole, supply))
 }
@@ -78,22 +79,30 @@ fn expect_all(
     Ok(all)
 }
 
-/// Whether a file has one channel, and the bytes that a supply of it holds at most.
-const RINGS: [(bool, u32); 6] = [
-    (false, 4),
-    (false, 768),
-    (false, 100_000),
-    (true, 16),
-    (true, 12_288),
-    (true, 100_000),
+/// The chunk `fmt ` of a file, and the bytes that a supply of it holds at most.
+const RINGS: [(&[u8], u32); 14] = [
+    (STEREO, 4),
+    (STEREO, 768),
+    (STEREO, 100_000),
+    (MONO, 16),
+    (MONO, 12_288),
+    (MONO, 100_000),
+    (FOUR, 768),
+    (STEREO_24, 8),
+    (STEREO_24, 12_288),
+    (MONO_24, 768),
+    (MONO_24, 100_000),
+    (EIGHT_32, 32),
+    (EIGHT_32, 12_288),
+    (MONO_32, 768),
 ];
 
 #[test]
 fn streams_what_it_reads(rt: HostRuntime) -> Result<(), Fail> {
     let alloc = rt.alloc();
-    for (mono, ring) in RINGS {
+    for (format, ring) in RINGS {
         // longer than a piece of 4,096 bytes, with bytes at the end that are no whole frame
-        let (file, whole, mut supply) = sound_of(&rt, alloc, (mono, 9_001), ring)?;
+        let (file, whole, mut supply) = sound_of(&rt, alloc, (format, 9_001), ring)?;
         assert_eq!(rt; supply.left(), whole.pcm.len() as u64);
         let all = expect_all(&rt, alloc, &mut supply, file, ring)?;
         assert!(rt; all.as_slice() == whole.pcm.as_slice());
@@ -124,22 +133,26 @@ fn expect_front(
     Ok(())
 }
 
-/// Whether a file of 9,000 bytes of sound has one channel, the call that fails, of those that each ask for a piece of
-/// 4,096 bytes, and the bytes of sound that are held then.
-const FAILING_CALLS: [(bool, u64, u64); 6] = [
-    (false, 0, 0),
-    (false, 1, 4_096),
-    (false, 2, 8_192),
-    (true, 0, 0),
-    (true, 1, 8_192),
-    (true, 2, 16_384),
+/// The chunk `fmt ` of a file of 9,000 bytes of sound, the call that fails, of those that each ask for a piece of 4,096
+/// bytes or of as many whole samples, and the bytes of sound that are held then.
+const FAILING_CALLS: [(&[u8], u64, u64); 10] = [
+    (STEREO, 0, 0),
+    (STEREO, 1, 4_096),
+    (STEREO, 2, 8_192),
+    (MONO, 0, 0),
+    (MONO, 1, 8_192),
+    (MONO, 2, 16_384),
+    (STEREO_24, 1, 5_456),
+    (STEREO_24, 2, 10_920),
+    (MONO_24, 1, 10_920),
+    (EIGHT_32, 1, 4_096),
 ];
 
 #[test]
 fn stops_reading_where_the_shelf_fails(rt: HostRuntime) -> Result<(), Fail> {
     let alloc = rt.alloc();
-    for (mono, call, held) in FAILING_CALLS {
-        let (file, whole, mut supply) = sound_of(&rt, alloc, (mono, 9_000), 100_000)?;
+    for (format, call, held) in FAILING_CALLS {
+        let (file, whole, mut supply) = sound_of(&rt, alloc, (format, 9_000), 100_000)?;
         let mut failing = MemShelf::new(named(alloc, file)?, vec![in alloc; call]?);
         assert_eq!(rt; supply.fill(alloc, &mut failing), Err(Cut::Failed));
         expect_front(&rt, alloc, &mut supply, &whole, held)?;
@@ -147,30 +160,38 @@ fn stops_reading_where_the_shelf_fails(rt: HostRuntime) -> Result<(), Fail> {
     Ok(())
 }
 
-/// Whether a file of 84 bytes has one channel, how many of these are left when its sound is read, the place at which no
+/// The chunk `fmt ` of a file of 84 bytes, how many of these are left when its sound is read, the place at which no
 /// byte more is found, and the bytes of sound that are held then.
-const FRONTS: [(bool, usize, u64, u64); 14] = [
-    (false, 0, 44, 0),
-    (false, 44, 44, 0),
-    (false, 45, 45, 0),
-    (false, 47, 47, 0),
-    (false, 48, 48, 4),
-    (false, 64, 64, 20),
-    (false, 80, 80, 36),
-    (false, 83, 83, 36),
-    (true, 20, 44, 0),
-    (true, 45, 45, 0),
-    (true, 46, 46, 4),
-    (true, 63, 63, 36),
-    (true, 64, 64, 40),
-    (true, 83, 83, 76),
+const FRONTS: [(&[u8], usize, u64, u64); 22] = [
+    (STEREO, 0, 44, 0),
+    (STEREO, 44, 44, 0),
+    (STEREO, 45, 45, 0),
+    (STEREO, 47, 47, 0),
+    (STEREO, 48, 48, 4),
+    (STEREO, 64, 64, 20),
+    (STEREO, 80, 80, 36),
+    (STEREO, 83, 83, 36),
+    (MONO, 20, 44, 0),
+    (MONO, 45, 45, 0),
+    (MONO, 46, 46, 4),
+    (MONO, 63, 63, 36),
+    (MONO, 64, 64, 40),
+    (MONO, 83, 83, 76),
+    (STEREO_24, 49, 49, 0),
+    (STEREO_24, 50, 50, 8),
+    (STEREO_24, 79, 79, 40),
+    (MONO_24, 46, 46, 0),
+    (MONO_24, 82, 82, 96),
+    (FOUR, 51, 51, 0),
+    (EIGHT_32, 75, 75, 0),
+    (MONO_32, 55, 55, 16),
 ];
 
 #[test]
 fn stops_reading_where_the_file_ends(rt: HostRuntime) -> Result<(), Fail> {
     let alloc = rt.alloc();
-    for (mono, len, place, held) in FRONTS {
-        let (mut file, whole, mut supply) = sound_of(&rt, alloc, (mono, 40), 1_000)?;
+    for (format, len, place, held) in FRONTS {
+        let (mut file, whole, mut supply) = sound_of(&rt, alloc, (format, 40), 960)?;
         file.truncate(len);
         let mut shorter = SureShelf::new(named(alloc, file)?);
         let got = supply.fill(alloc, &mut shorter);
@@ -183,10 +204,10 @@ fn stops_reading_where_the_file_ends(rt: HostRuntime) -> Result<(), Fail> {
 #[test]
 fn reads_a_longer_file_as_it_was_measured(rt: HostRuntime) -> Result<(), Fail> {
     let alloc = rt.alloc();
-    for mono in [false, true] {
-        let (mut file, whole, mut supply) = sound_of(&rt, alloc, (mono, 40), 1_000)?;
+    for format in [STEREO, MONO, STEREO_24, MONO_24] {
+        let (mut file, whole, mut supply) = sound_of(&rt, alloc, (format, 40), 960)?;
         file.extend_from_slice(b"more of it")?;
-        let all = expect_all(&rt, alloc, &mut supply, file, 1_000)?;
+        let all = expect_all(&rt, alloc, &mut supply, file, 960)?;
         assert!(rt; all.as_slice() == whole.pcm.as_slice());
     }
     Ok(())

@@ -9,6 +9,16 @@ pub const RIFF: &[u8] = b"RIFF\x2c\0\0\0WAVE";
 pub const STEREO: &[u8] = b"fmt \x10\0\0\0\x01\0\x02\0\x80\xbb\0\0\0\xee\x02\0\x04\0\x10\0";
 /// A chunk `fmt `: 48 kHz, 16 bits, 1 channel.
 pub const MONO: &[u8] = b"fmt \x10\0\0\0\x01\0\x01\0\x80\xbb\0\0\0\x77\x01\0\x02\0\x10\0";
+/// A chunk `fmt `: 48 kHz, 16 bits, 4 channels.
+pub const FOUR: &[u8] = b"fmt \x10\0\0\0\x01\0\x04\0\x80\xbb\0\0\0\xdc\x05\0\x08\0\x10\0";
+/// A chunk `fmt `: 48 kHz, 24 bits, 2 channels.
+pub const STEREO_24: &[u8] = b"fmt \x10\0\0\0\x01\0\x02\0\x80\xbb\0\0\0\x65\x04\0\x06\0\x18\0";
+/// A chunk `fmt `: 48 kHz, 24 bits, 1 channel.
+pub const MONO_24: &[u8] = b"fmt \x10\0\0\0\x01\0\x01\0\x80\xbb\0\0\x80\x32\x02\0\x03\0\x18\0";
+/// A chunk `fmt `: 48 kHz, 32 bits, 8 channels.
+pub const EIGHT_32: &[u8] = b"fmt \x10\0\0\0\x01\0\x08\0\x80\xbb\0\0\0\x70\x17\0\x20\0\x20\0";
+/// A chunk `fmt `: 48 kHz, 32 bits, 1 channel.
+pub const MONO_32: &[u8] = b"fmt \x10\0\0\0\x01\0\x01\0\x80\xbb\0\0\0\xee\x02\0\x04\0\x20\0";
 /// A chunk `data` of two frames.
 pub const SOUND: &[u8] = b"data\x08\0\0\0\x01\0\x02\0\x03\0\xff\xff";
 

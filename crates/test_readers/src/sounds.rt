@@ -17,17 +17,17 @@ fn shelf_of(alloc: Global, bytes: &[u8]) -> Result<SureShelf, AllocError> {
     Ok(SureShelf::new(files))
 }
 
-/// Puts a format, whether the file has one channel or two, and how many frames it has.
+/// Puts a format, whether its channels are of one that is doubled, and how many frames there are.
 fn push_format(
     text: &mut String,
     format: &Format,
     mono: bool,
     frames: u64,
 ) -> Result<(), AllocError> {
-    let channels = if mono { "mono" } else { "stereo" };
+    let source = if mono { " of one" } else { "" };
     write!(
         text,
-        "{:?} {:?} {} {channels}, {frames} frames",
+        "{:?} {:?} {} channels{source}, {frames} frames",
         format.rate, format.bits, format.channels
     )
 }
