@@ -3,11 +3,11 @@ use Rattle.std.proofs.Common.{◌≡◌, ◌≢◌, ◌≤◌, ◌<◌, ◌+◌,
 use Rattle.std.specs.Prelude.{◌⊎◌, min, Result, Ok, Err, OnOk, IsErr}
 use Rattle.std.proofs.lemmas.List.{length-append, length-drop}
 use Rattle.std.proofs.Math.Nat.{mul-mod_left, zero-mod, div-zero, mul-add-div_right}
-use Rattle.std.proofs.lemmas.Nat.{div-add-mod'}
+use Rattle.std.proofs.lemmas.Nat.{div-add-mod', mul-le}
 use Rattle.stream_format.specs.declared.format.Format.{Format}
 use Rattle.stream_format.specs.declared.format.Bits.{Bits}
-use Rattle.stream_format.specs.declared.format.Bits.TheVariants.{B16}
-use Rattle.stream_format.specs.Cadence.{block_bytes, bytes_of_block}
+use Rattle.stream_format.specs.declared.format.Bits.TheVariants.{B16, B24, B32}
+use Rattle.stream_format.specs.Cadence.{block_bytes, container_bytes}
 use Rattle.period_writer.specs.Rings as rings
 use Rattle.hda_outside.specs.Counts.{Rose}
 use Rattle.hda_outside.specs.Shelf.{Files}
@@ -528,14 +528,47 @@ pub fed_first : (m : Measures) (source : Source) (now : Shelves) (supply : Suppl
 fed_first m source now supply course is ring block whole =
     subst (λ (supply : Supplied). Streams m source (now source.name) (now source.name) None supply course) (sym is) (first_streams m source (now source.name) course ring block whole)
 
--- a ring of periods has whole blocks of 16 bits and 2 channels
-pub block_four : (format : Format) → format.bits ≡ B16 → format.channels ≡ 2 → block_bytes format ≡ 4
-block_four format bits channels = ap (λ (bits : Bits). bytes_of_block format.channels bits) bits ∙ ap (λ (channels : ℕ). channels * 2) channels
+-- a block of any format has some bytes
+container_some : (bits : Bits) → 2 ≤ container_bytes bits
+container_some B16 = omega arith
+container_some B24 = omega arith
+container_some B32 = omega arith
 
-pub ring_whole : (periods period : ℕ) (format : Format) → format.bits ≡ B16 → format.channels ≡ 2 → rings.ring_bytes periods period % block_bytes format ≡ 0
-ring_whole periods period format bits channels =
-    let fours : rings.ring_bytes periods period ≡ (96 * period * periods) * 4 = omega arith in
-    ap (λ (block : ℕ). rings.ring_bytes periods period % block) (block_four format bits channels) ∙ ap (λ (ring : ℕ). ring % 4) fours ∙ mul-mod_left (96 * period * periods) 4
+pub bytes_some : (format : Format) → 1 ≤ block_bytes format
+bytes_some format =
+    let four = mul-le 2 2 format.channels (container_bytes format.bits) format.some (container_some format.bits) in
+    omega (arith, four)
+
+-- and a unit of a period has whole ones
+unit_whole : (channels : ℕ) (bits : Bits) → channels % 2 ≡ 0 → 2 ≤ channels → channels ≤ 8 → 384 % (channels * container_bytes bits) ≡ 0
+unit_whole zero bits even some few = absurd (omega (arith, some))
+unit_whole (suc zero) bits even some few = absurd (omega (arith, some))
+unit_whole (suc (suc zero)) B16 even some few = refl
+unit_whole (suc (suc zero)) B24 even some few = refl
+unit_whole (suc (suc zero)) B32 even some few = refl
+unit_whole (suc (suc (suc zero))) bits even some few = absurd (omega (arith, even))
+unit_whole (suc (suc (suc (suc zero)))) B16 even some few = refl
+unit_whole (suc (suc (suc (suc zero)))) B24 even some few = refl
+unit_whole (suc (suc (suc (suc zero)))) B32 even some few = refl
+unit_whole (suc (suc (suc (suc (suc zero))))) bits even some few = absurd (omega (arith, even))
+unit_whole (suc (suc (suc (suc (suc (suc zero)))))) B16 even some few = refl
+unit_whole (suc (suc (suc (suc (suc (suc zero)))))) B24 even some few = refl
+unit_whole (suc (suc (suc (suc (suc (suc zero)))))) B32 even some few = refl
+unit_whole (suc (suc (suc (suc (suc (suc (suc zero))))))) bits even some few = absurd (omega (arith, even))
+unit_whole (suc (suc (suc (suc (suc (suc (suc (suc zero)))))))) B16 even some few = refl
+unit_whole (suc (suc (suc (suc (suc (suc (suc (suc zero)))))))) B24 even some few = refl
+unit_whole (suc (suc (suc (suc (suc (suc (suc (suc zero)))))))) B32 even some few = refl
+unit_whole (suc (suc (suc (suc (suc (suc (suc (suc (suc channels))))))))) bits even some few = absurd (omega (arith, few))
+
+pub ring_whole : (periods period : ℕ) (format : Format) → rings.ring_bytes periods period % block_bytes format ≡ 0
+ring_whole periods period format =
+    let block = block_bytes format in
+    let none = unit_whole format.channels format.bits format.even format.some format.few in
+    let split = div-add-mod' 384 (block_bytes format) in
+    let unit : 384 ≡ 384 / block_bytes format * block_bytes format = omega (arith, none, split) in
+    let units : rings.ring_bytes periods period ≡ period * periods * 384 = omega arith in
+    let turned : period * periods * (384 / block_bytes format * block_bytes format) ≡ period * periods * (384 / block_bytes format) * block_bytes format = omega arith in
+    ap (λ (ring : ℕ). ring % block) (units ∙ ap (λ (unit : ℕ). period * periods * unit) unit ∙ turned) ∙ mul-mod_left (period * periods * (384 / block)) block
 
 -- ---- one without sound
 

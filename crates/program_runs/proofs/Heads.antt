@@ -1,10 +1,11 @@
 -- What the file of a made sound says before it, and that it is not refused.
-use Rattle.std.proofs.Common.{◌≡◌, ◌/◌, ℕ, false, length, Some, Result, Ok, Err, refl, sym, ap, subst, ◌∙◌, arith}
+use Rattle.std.proofs.Common.{◌≡◌, ◌/◌, ℕ, List, false, length, Some, Result, Ok, Err, refl, sym, ap, subst, ◌∙◌, arith}
 use Rattle.hda_outside.specs.Counts.{Rose}
 use Rattle.hda_outside.specs.MemoryShelf.{fault_count}
 use Rattle.hda_outside.specs.Shelf.{Files, file_of}
 use Rattle.stream_format.specs.Layouts.{layout}
 use Rattle.stream_format.specs.declared.format.Rate.TheVariants.{R48}
+use Rattle.stream_format.specs.declared.format.Bits.TheVariants.{B16, B24}
 use Rattle.stream_format.proofs.Callers.{one_format}
 use Rattle.wav_reader.specs.declared.fault.WavFault.{WavFault}
 use Rattle.wav_reader.specs.declared.opened.WavHead.{WavHead}
@@ -15,6 +16,7 @@ use Rattle.wav_reader.specs.Heads.{Head, head_of}
 use Rattle.wav_reader.specs.Laws.{IsHeardAgain}
 use Rattle.wav_reader.specs.Opening.{head_in_file, IsOpened, IsOpenedBy}
 use Rattle.wav_reader.specs.Wavs.{Meaning, meaning_by, wav_of}
+use Rattle.wav_reader.specs.Written.{stereo}
 use Rattle.made_inputs.specs.MadeSound.{made_format, made_pcm, made_wav}
 use Rattle.made_inputs.proofs.Callers.{length_pcm, wav_short}
 use Rattle.program_runs.specs.Shelves.{IsMadeHead, sound_name, made_files}
@@ -23,11 +25,15 @@ use Rattle.program_runs.specs.Shelves.{IsMadeHead, sound_name, made_files}
 abbrev pub meant : ℕ → Meaning
 meant number = record { format = layout made_format; mono = false; frames = length (made_pcm number) / 4; pcm = made_pcm number }
 
+abbrev with_pcm : (number : ℕ) → List ℕ → Meaning
+with_pcm number pcm = record { format = layout made_format; mono = false; frames = length (made_pcm number) / 4; pcm = pcm }
+
 pub means : IsHeardAgain → (number : ℕ) → wav_of (made_wav number) ≡ Ok (meant number)
 unfolding made_wav
 means law number =
     let long = length_pcm number in
-    law R48 (made_pcm number) (omega (arith, long)) (omega (arith, long))
+    let read = law (stereo R48) (made_pcm number) (omega (arith, long)) in
+    read.plain ∙ ap (λ (pcm : List ℕ). Ok (with_pcm number pcm)) (read.stays refl (λ (same : B16 ≡ B24). cc) (omega (arith, long)))
 
 -- the file is on the shelf
 pub file_there : (number : ℕ) → file_of (made_files number) sound_name ≡ Some (made_wav number)

@@ -4,13 +4,14 @@ use Rattle.std.proofs.Math.Nat.{div-le_of_le-mul, mul-le-mul_right, add-mul-div_
 use Rattle.stream_format.specs.Cadence.{block_bytes}
 use Rattle.stream_format.specs.Layouts.{layout}
 use Rattle.stream_format.specs.declared.format.Format.{Format}
-use Rattle.stream_format.specs.declared.format.Bits.{Bits}
-use Rattle.stream_format.specs.declared.format.Bits.TheVariants.{B16}
 use Rattle.hda_outside.specs.Counts.{Rose}
 use Rattle.hda_outside.specs.declared.pieces.Cut.{Cut}
 use Rattle.hda_outside.specs.declared.pieces.Cut.TheVariants.{Failed, Short, OutOfMemory}
 use Rattle.wav_reader.specs.declared.opened.WavHead.{WavHead}
-use Rattle.wav_reader.specs.Heads.{frame_length, sample_length}
+use Rattle.wav_reader.specs.Heads.{frame_length}
+use Rattle.wav_reader.proofs.Callers as callers
+use Rattle.wav_reader.proofs.Callers.{form_of, sound_most}
+use Rattle.std.proofs.lemmas.Nat.{mul-le}
 use Rattle.wav_reader.specs.Opening.{head_in_file}
 use Rattle.wav_reader.specs.Shelves.{ShelfSeen}
 use Rattle.wav_reader.specs.Supplies.{Source, Supplied, MayGive, EndsWith, block_of}
@@ -42,7 +43,7 @@ pub fed_at_open : (name : List ℕ) (head : WavHead) (geometry : Geometry) (shel
 fed_at_open name head geometry shelf supply writer is ring format =
     subst (λ (geometry' : Geometry). IsFed (measures geometry') (Some (source_for name head (measures geometry).ring)) shelf shelf None supply writer.course) (sym ring)
     (fed_first (measures geometry) (source_for name head (measures geometry).ring) shelf supply writer.course is refl (ap block_bytes (sym format))
-    (ring_whole geometry.periods geometry.period geometry.format (ap (λ (format : Format). format.bits) format ∙ head.bits) (ap (λ (format : Format). format.channels) format ∙ head.channels)))
+    (ring_whole geometry.periods geometry.period geometry.format))
 
 -- another name is not the one of the sound
 pub beside_first : (name : List ℕ) (head : WavHead) (ring : ℕ) (supply : Supplied) (other : List ℕ) → supply ≡ first_supply (source_for name head ring) → other ≢ name → IsBeside supply.source other
@@ -80,10 +81,7 @@ frames_most None source first now bytes frames some same read = (let all = ap (�
 frames_most (Some cut) source first now bytes frames some same read = (let all = ap (λ (n : ℕ). n * frame_length source.head.mono source.head.format) same in omega (arith, some, all, read))
 
 frame_some : (head : WavHead) → 1 ≤ frame_length head.mono (layout head.format)
-frame_some head = by head.mono refl where
-  by : (mono : Bool) → head.mono ≡ mono → 1 ≤ frame_length head.mono (layout head.format)
-  by true mono = rw (mono, head.bits) (omega arith)
-  by false mono = rw (mono, head.bits, head.channels) (omega arith)
+frame_some head = callers.frame_some (head_in_file head) (form_of head)
 
 up_to : (name : List ℕ) (cut : Option Cut) (line : Option CutLine) (bytes block read frames : ℕ) → IsLineOf name cut line → read ≡ frames_read cut bytes block frames
     → ((reason : Cut) → cut ≡ Some reason → frames_read (Some reason) bytes block frames < frames) → IsReadUpTo line read frames
@@ -162,7 +160,7 @@ module _ (name : List ℕ) (head : WavHead) (m : Measures) (gave : List ℕ) (fi
         up_to = up_to name cut played.cut (last.taken + length last.held) m.block played.read head.frames line read less_if;
         told_is = λ file tells.
             sound_told gave first (source_for name head m.ring) old last took source_is none_held none_taken cut (played.read * block_bytes head.format) (sym bytes) fed.within fed.left_is
-            (record { bits = head.bits; channels = head.channels }) file tells;
+            (form_of head) file tells;
         never_short = λ file tells place. not_short name cut played.cut place line (fed.never_short file tells place);
       }
 
@@ -224,21 +222,11 @@ pub read_most : (cut : Option Cut) (bytes block frames : ℕ) → ((reason : Cut
 read_most None bytes block frames less = omega arith
 read_most (Some reason) bytes block frames less = (let few = less reason refl in omega (arith, few))
 
--- a frame has two bytes or more in the file, so a sound is no longer than twice the file
-frames_few : (mono : Bool) (format : Format) (frames from most : ℕ) → format.bits ≡ B16 → format.channels ≡ 2 → from + frames * frame_length mono (layout format) ≤ most → frames * 2 ≤ most
-frames_few true format frames from most bits channels within =
-    let long : frame_length true (layout format) ≡ 2 = ap (λ (bits : Bits). 1 * sample_length bits) bits in
-    let all = ap (λ (n : ℕ). frames * n) long in
-    omega (arith, all, within)
-frames_few false format frames from most bits channels within =
-    let long : frame_length false (layout format) ≡ 4 = ap (λ (bits : Bits). format.channels * sample_length bits) bits ∙ ap (λ (channels : ℕ). channels * 2) channels in
-    let all = ap (λ (n : ℕ). frames * n) long in
-    omega (arith, all, within)
-
-pub few_bytes : (head : WavHead) (cut : Option Cut) (bytes block : ℕ) → block ≡ 4 → head.length ≤ 67108864 → head.from + head.frames * frame_length head.mono (layout head.format) ≤ head.length
-    → ((reason : Cut) → cut ≡ Some reason → frames_read (Some reason) bytes block head.frames < head.frames) → frames_read cut bytes block head.frames * block ≤ 134217728
-few_bytes head cut bytes block four short within less =
-    let few = frames_few head.mono head.format head.frames head.from head.length head.bits head.channels within in
-    let read = read_most cut bytes block head.frames less in
-    let all = ap (λ (n : ℕ). frames_read cut bytes block head.frames * n) four in
-    omega (arith, few, read, all, short)
+-- three bytes of the file become no more than eight of the ring
+pub few_bytes : (head : WavHead) (cut : Option Cut) (bytes block : ℕ) → block_bytes head.format ≡ block → head.length ≤ 67108864 → head.from + head.frames * frame_length head.mono (layout head.format) ≤ head.length
+    → ((reason : Cut) → cut ≡ Some reason → frames_read (Some reason) bytes block head.frames < head.frames) → frames_read cut bytes block head.frames * block ≤ 178956970
+few_bytes head cut bytes block same short within less =
+    let most = sound_most (head_in_file head) (form_of head) in
+    let read = mul-le (frames_read cut bytes block head.frames) block head.frames block (read_most cut bytes block head.frames less) (omega arith) in
+    let all = ap (λ (n : ℕ). head.frames * n) same in
+    omega (arith, most, read, all, short, within)

@@ -29,7 +29,7 @@ use Rattle.program_runs.specs.Feeding.{Shelves, Streams, IsFed}
 use Rattle.program_runs.specs.FrameCounts.{written_by}
 use Rattle.program_runs.specs.Going.{HasDriven, IsDriven, parts_with, stand_of}
 use Rattle.program_runs.specs.Plays.{played_task, sound_with}
-use Rattle.program_runs.proofs.Feeds.{first_supply, block_four}
+use Rattle.program_runs.proofs.Feeds.{first_supply, bytes_some}
 use Rattle.program_runs.proofs.Goes.{Keeps}
 use Rattle.program_runs.proofs.Gone.{CanGo, Gone, gone, used_in_runs}
 use Rattle.program_runs.proofs.Played.{playing_ends, written_few}
@@ -62,9 +62,9 @@ module _ (machine : Machine) (plans : List Plan) (head : WavHead) (name : List â
 
   pub some_block : 1 â‰¤ (measures geometry).block
   some_block =
-      let four = block_four head.format head.bits head.channels in
+      let some = bytes_some head.format in
       let same = block_is in
-      omega (arith, four, same)
+      omega (arith, some, same)
 
   pub streams : Streams (measures geometry) (source_for name head (measures geometry).ring) (first name) (now name) cut driven.last driven.course
   streams =
@@ -119,7 +119,6 @@ module _ (machine : Machine) (plans : List Plan) (head : WavHead) (name : List â
   few =
       let most = written_few machine plans wav geometry blocks schedule parts closed (telling_of closed_rig).journal over in
       let all = long name head (measures geometry) driven.gave first now cut supply driven.last driven.course driven.took can.supply_is some_block streams in
-      let four = sym block_is âˆ™ block_four head.format head.bits head.channels in
-      let bytes = few_bytes head cut (driven.last.taken + length driven.last.held) (measures geometry).block four can.short can.within
+      let bytes = few_bytes head cut (driven.last.taken + length driven.last.held) (measures geometry).block block_is can.short can.within
       (less_if name head (measures geometry) driven.gave first now cut supply driven.last driven.course driven.took can.supply_is some_block streams) in
       omega (arith, most, all, bytes)

@@ -115,7 +115,7 @@ module _ (gave : List ℕ) (told : Shelves) (source : Source) (old last : Suppli
           ap (λ (bytes : ℕ). bytes % block) sum ∙ mul-mod_left (taken / block + count / block) block
 
   -- where the file is told these are its first bytes
-  pub sound_told : (cut : Option Cut) (count : ℕ) → count ≡ length (sound_of cut) → length last.held ≤ last.left → IsLeftAfter cut source last → IsRingFormat source.head.format → (file : List ℕ) → HasFile files source.name source.head file
+  pub sound_told : (cut : Option Cut) (count : ℕ) → count ≡ length (sound_of cut) → length last.held ≤ last.left → IsLeftAfter cut source last → IsRingFormat source.head.mono source.head.format → (file : List ℕ) → HasFile files source.name source.head file
       → sound_of cut ≡ take count (ring_bytes file source.head)
   sound_told cut count is within left form file tells = by cut is left where
     pcm : List ℕ

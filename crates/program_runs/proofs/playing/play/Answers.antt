@@ -1,5 +1,5 @@
 use Rattle.audio_driver.specs.States.{state_with}
-use Rattle.std.proofs.Common.{◌≡◌, ◌≤◌, ◌+◌, ℕ, true, false, List, length, map, Some, refl, sym, ap, subst, ◌∙◌, arith}
+use Rattle.std.proofs.Common.{◌≡◌, ◌≤◌, ◌+◌, ◌%◌, ℕ, true, false, List, length, map, Some, refl, sym, ap, subst, ◌∙◌, arith}
 use Rattle.stream_format.specs.Cadence.{block_bytes}
 use Rattle.route_planner.specs.declared.routes.Plan.{Plan}
 use Rattle.hda_files.specs.declared.machine.CodecFile.{CodecFile}
@@ -24,7 +24,7 @@ use Rattle.program_runs.specs.Going.{parts_with}
 use Rattle.program_runs.specs.Hearing.{lists_heard}
 use Rattle.program_runs.specs.Plays.{play_fault, played_task, sound_with}
 use Rattle.program_runs.proofs.Counting.{few_lines}
-use Rattle.program_runs.proofs.Feeds.{first_supply, block_four}
+use Rattle.program_runs.proofs.Feeds.{first_supply, bytes_some, ring_whole}
 use Rattle.program_runs.proofs.Gone.{opened_can_go}
 use Rattle.program_runs.proofs.Listed.{lists_are}
 use Rattle.program_runs.proofs.LineRecorded.{RunLaws, ring_some}
@@ -42,6 +42,10 @@ open_driver-requires g c =
 
 pub stream-requires-clause-some : goal.stream-requires-clause-some
 stream-requires-clause-some g c = subst (λ (ring : ℕ). 1 ≤ ring) (sym c.ring.ensures) (ring_some c.args.geometry)
+
+pub stream-requires-clause-blocks : goal.stream-requires-clause-blocks
+stream-requires-clause-blocks g c =
+    ap (λ (ring : ℕ). ring % block_bytes c.args.head.format) c.ring.ensures ∙ ring_whole c.args.geometry.periods c.args.geometry.period c.args.head.format
 
 pub drive-requires-clause-fed : goal.drive-requires-clause-fed
 drive-requires-clause-fed g c =
@@ -70,8 +74,8 @@ returns-in_err-cut-clause-asked g c other beside =
 
 pub frames_read-read-requires : goal.frames_read-read-requires
 frames_read-read-requires g c =
-    let four = block_four c.args.head.format c.args.head.bits c.args.head.channels in
-    omega (arith, four, c.block_bytes.ensures)
+    let some = bytes_some c.args.head.format in
+    omega (arith, some, c.block_bytes.ensures)
 
 -- how the driver was opened, at the two places where it is asked for
 can_before : (g : Over) (c : After-block_bytes-2 g) → CanPlayFrom c.args.machine c.args.plans.items c.args.head c.args.name.now c.args.geometry c.args.schedule.now c.in_ok-driver.driver.bring_up c.in_ok-driver.driver.writer c.in_ok-driver.driver.supply c.in_ok-driver.driver.play c.in_ok-rig.rig
