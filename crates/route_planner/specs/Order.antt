@@ -1,12 +1,13 @@
 -- The order of the candidate pins, and the channel pair of each. This project's own, over the configuration default's
--- association and sequence (High Definition Audio 1.0a, 7.3.3.31).
-use Rattle.std.specs.Prelude.{◌≡◌, ◌↔◌, ℕ, Bool, true, ◌==◌, ◌&&◌, ◌||◌, ◌/◌, ◌%◌, nat_lt, List, Option, Some, None}
-use Rattle.std.specs.Prelude.{AllPairs, Contains, count_by}
+-- association, sequence and default device (High Definition Audio 1.0a, 7.3.3.31).
+use Rattle.std.specs.Prelude.{◌≡◌, ◌↔◌, ℕ, Bool, true, ◌==◌, ◌&&◌, ◌||◌, ◌/◌, ◌%◌, nat_lt, not, List, Option, Some}
+use Rattle.std.specs.Prelude.{None, AllPairs, Contains, count_by, if◌then◌else◌}
 use Rattle.std.specs.List.{range_with_len}
 use Rattle.codec_graph.specs.declared.raw.RawNode.{RawNode}
 use Rattle.codec_graph.specs.declared.raw.RawCodec.{RawCodec}
 use Rattle.codec_graph.specs.Widget.{node_identifiers, node_at}
-use Rattle.codec_graph.specs.Candidates.{association, sequence, is_candidate}
+use Rattle.codec_graph.specs.Candidates.{association, sequence, device, is_candidate}
+use Rattle.route_planner.specs.Paths.{passes}
 
 abbrev pub association_of : Option RawNode → ℕ
 association_of None = 0
@@ -30,13 +31,28 @@ pub record IsOrder (codec : RawCodec) (pins : List ℕ) : Type 0 where
   pub ascending : AllPairs (λ pin other. comes_before codec pin other ≡ true) pins
   pub exactly : (nid : ℕ) → Contains pins nid ↔ (is_candidate codec nid ≡ true)
 
--- a candidate of the same association that comes before the pin
+-- the default device of a headphone: HP out (7.3.3.31)
+abbrev pub headphone_device : ℕ
+headphone_device = 2
+
+abbrev pub is_headphone_node : RawNode → Bool
+is_headphone_node node = device node == headphone_device
+
+-- whether the node identifier is that of a headphone
+abbrev pub is_headphone : RawCodec → ℕ → Bool
+is_headphone codec nid = passes is_headphone_node (node_at codec nid)
+
+-- a candidate of the same association that comes before the pin, and is no headphone
 abbrev pub is_earlier_companion : RawCodec → ℕ → ℕ → Bool
 is_earlier_companion codec pin other =
-    is_candidate codec other && association_of (node_at codec other) == association_of (node_at codec pin) &&
-    comes_before codec other pin
+    is_candidate codec other && not (is_headphone codec other)
+    && association_of (node_at codec other) == association_of (node_at codec pin) && comes_before codec other pin
 
--- the channel pair of a pin: its rank among the candidates of its association, round the stream's pairs of channels
+-- the rank of a pin, from 0, among the candidates of its association that are no headphones
+abbrev pub rank_of : RawCodec → ℕ → ℕ
+rank_of codec pin = count_by (is_earlier_companion codec pin) (range_with_len 0 node_identifiers)
+
+-- the channel pair of a pin: a headphone has the first, and every other pin has that of its rank, round the stream's
+-- pairs of channels
 abbrev pub pair_of : RawCodec → ℕ → ℕ → ℕ
-pair_of codec channels pin = count_by (is_earlier_companion codec pin)
-    (range_with_len 0 node_identifiers) % (channels / 2)
+pair_of codec channels pin = if is_headphone codec pin then 0 else rank_of codec pin % (channels / 2)
