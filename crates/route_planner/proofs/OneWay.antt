@@ -1,7 +1,7 @@
 -- Each entry of a plan with one pair of channels leaves the routes alike, and is not blocked.
-use Rattle.std.proofs.Common.{◌≡◌, ◌<◌, ◌==◌, ◌&&◌, ◌⊎◌, ◌%◌, ◌/◌, ℕ, true, not, List, [], ◌∷◌, ◌++◌, map, take, drop, length, get_or, Some, None, sym, ap, subst, ◌∙◌, inl, inr, append-nil, append_assoc, arith}
-use Rattle.std.specs.Prelude.{All, Contains, nat_le, count_by}
-use Rattle.std.specs.List.{list_all, range_with_len}
+use Rattle.std.proofs.Common.{◌≡◌, ◌<◌, ◌==◌, ◌&&◌, ◌⊎◌, ◌%◌, ◌/◌, ℕ, Bool, true, false, not, List, [], ◌∷◌, ◌++◌, map, take, drop, length, get_or, Some, None, refl, sym, ap, subst, ◌∙◌, inl, inr, append-nil, append_assoc, arith}
+use Rattle.std.specs.Prelude.{All, Contains, nat_le, if◌then◌else◌}
+use Rattle.std.specs.List.{list_all}
 use Rattle.std.proofs.Math.Nat.{mod-one}
 use Rattle.std.proofs.lemmas.Bool.{cases_order, and_parts}
 use Rattle.std.proofs.lemmas.Bool.Decides.{nat_tests}
@@ -20,7 +20,7 @@ use Rattle.route_planner.specs.declared.routes.Outcome.TheVariants as outcome
 use Rattle.route_planner.specs.declared.routes.PinPlan.{PinPlan}
 use Rattle.route_planner.specs.declared.routes.Plan.{Plan}
 use Rattle.stream_format.specs.declared.format.Format.{Format}
-use Rattle.route_planner.specs.Order.{pair_of, is_earlier_companion}
+use Rattle.route_planner.specs.Order.{pair_of, is_headphone, rank_of}
 use Rattle.route_planner.specs.Paths.{passes, IsAdmissible}
 use Rattle.route_planner.specs.Plans.{IsOutcome, HaveOutcomes, IsPlan}
 use Rattle.route_planner.specs.Laws.{IsNotBlocked, HasNoBlocked}
@@ -147,8 +147,12 @@ candidate_outer codec nid is inner =
 round_one : (rank channels : ℕ) → channels ≡ 2 → rank % (channels / 2) ≡ 0
 round_one rank channels two = rw two (mod-one rank)
 
+either : (b : Bool) {rank : ℕ} → rank ≡ 0 → (if b then 0 else rank) ≡ 0
+either true is = refl
+either false is = is
+
 one_pair : (codec : RawCodec) (channels pin : ℕ) → channels ≡ 2 → pair_of codec channels pin ≡ 0
-one_pair codec channels pin two = round_one (count_by (is_earlier_companion codec pin) (range_with_len 0 128)) channels two
+one_pair codec channels pin two = either (is_headphone codec pin) (round_one (rank_of codec pin) channels two)
 
 pin_there : (entries : List PinPlan) (k : ℕ) (d : PinPlan) → k < length entries → Contains (map (λ (entry : PinPlan). entry.pin) entries) (get_or entries k d).pin
 pin_there entries k d within =

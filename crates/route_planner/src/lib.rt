@@ -11,7 +11,7 @@ mod routes;
 mod walk;
 
 pub use laws::one_order;
-pub use pin_order::order;
+pub use pin_order::{is_headphone, order};
 pub use planner::plan;
 pub use routes::{Hop, Outcome, PinPlan, Plan, Route};
 pub use stream_format::{Bits, Format, Rate};

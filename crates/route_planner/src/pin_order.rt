@@ -1,14 +1,15 @@
 //! The order of the candidate pins, and the pair of channels of each.
-ghost use Rattle.std.specs.Prelude.{◌≡◌, ◌≤◌, ◌<◌, false, IfOk, MatchOption, count_by};
-ghost use Rattle.std.specs.List.{range_with_len};
-ghost use Rattle.codec_graph.specs.Widget.{node_identifiers};
+ghost use Rattle.std.specs.Prelude.{◌≡◌, ◌≤◌, ◌<◌, false, IfOk, MatchOption};
 ghost use Rattle.codec_graph.specs.Candidates as candidates;
 ghost use Rattle.route_planner.specs.Order as spec;
 ghost use Rattle.route_planner.specs.Places as place_words;
 ghost use Rattle.route_planner.specs.Search as search_words;
 
-use codec_graph::{Graph, NODE_IDENTIFIERS, RawCodec};
+use codec_graph::{Graph, NODE_IDENTIFIERS, RawCodec, RawNode, bits_of};
 use std::alloc::{AllocError, Global};
+
+/// The default device of a headphone: HP out (HDA 1.0a, 7.3.3.31).
+const HEADPHONE_DEVICE: u32 = 2;
 
 /// The place of a pin in the order.
 #[derive(Clone, Copy, Debug, PartialEq, Eq, PartialOrd, Ord)]
@@ -66,13 +67,21 @@ fn place_of(codec: &RawCodec, nid: u8) -> Option<Place>
     })
 }
 
-/// Whether the other node is a candidate of the pin's association that comes before the pin.
+/// Whether the pin's default device is a headphone: HP out (HDA 1.0a, 7.3.3.31).
+pub fn is_headphone(node: &RawNode) -> bool
+    ensures { result ≡ spec.is_headphone_node node.now }
+{
+    bits_of(node.default, 20, 4) == HEADPHONE_DEVICE
+}
+
+/// Whether the other node is a candidate of the pin's association that comes before the pin, and no headphone.
 fn is_earlier_companion(codec: &RawCodec, pin: u8, other: u8) -> bool
     ensures { result ≡ spec.is_earlier_companion codec.now pin other }
 {
     match (codec.node(pin), codec.node(other)) {
         (Some(p), Some(q)) => {
             q.is_candidate()
+                && !is_headphone(q)
                 && q.association() == p.association()
                 && (q.sequence() < p.sequence() || q.sequence() == p.sequence() && other < pin)
         }
@@ -80,20 +89,23 @@ fn is_earlier_companion(codec: &RawCodec, pin: u8, other: u8) -> bool
     }
 }
 
-/// How many candidates of the pin's association come before it.
+/// How many candidates of the pin's association come before it and are no headphones.
 fn rank_of(codec: &RawCodec, pin: u8) -> usize
-    ensures { result ≡ count_by (spec.is_earlier_companion codec.now pin) (range_with_len 0 node_identifiers) }
+    ensures { result ≡ spec.rank_of codec.now pin }
 {
     (0..NODE_IDENTIFIERS as u8)
         .filter(|other| is_earlier_companion(codec, pin, *other))
         .count()
 }
 
-/// The pair of channels of a pin: its rank, round the pairs of the stream.
+/// The pair of channels of a pin: 0 for a headphone, and else its rank, round the pairs of the stream.
 pub(crate) fn pair_of(codec: &RawCodec, channels: u8, pin: u8) -> u8
     requires { 2 ≤ channels }
     ensures { result ≡ spec.pair_of codec.now channels pin }
 {
     let pairs = usize::from(channels / 2);
-    (rank_of(codec, pin) % pairs) as u8
+    match codec.node(pin) {
+        Some(node) if is_headphone(node) => 0,
+        _ => (rank_of(codec, pin) % pairs) as u8,
+    }
 }
