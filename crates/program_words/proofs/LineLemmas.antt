@@ -143,7 +143,7 @@ fits_of grammar (Some parts) line defaults is =
     (λ ns e. taken_all grammar.options parts ns defaults e) is
 
 pub route_line : (ws : List (List ℕ)) (line : CommandLine) → command_line_of route_grammar ws ≡ Some line → IsLineOf route_grammar line
-route_line ws line is = fits_of route_grammar (parts_of (option_names route_grammar) ws) line (refl, (refl, tt)) is
+route_line ws line is = fits_of route_grammar (parts_of (option_names route_grammar) ws) line (refl, (refl, (refl, tt))) is
 
 pub walk_line : (ws : List (List ℕ)) (line : CommandLine) → command_line_of walk_grammar ws ≡ Some line → IsLineOf walk_grammar line
 walk_line ws line is = fits_of walk_grammar (parts_of (option_names walk_grammar) ws) line tt is

@@ -66,9 +66,11 @@ IsInRange (request.Make number) = ⊤
 abbrev pub operand_at : CommandLine → ℕ → List ℕ
 operand_at line place = unwrap_or (slice_get line.operands place) []
 
--- what a command with this line asks: `route` takes 16 bits always, and the operand of `make` is a number
+-- what a command with this line asks: the options of `route` are the rate, the channels and the bits of a sample, and the operand of
+-- `make` is a number
 abbrev pub asked_of : CommandName → CommandLine → Option Asked
-asked_of Route line = Some (route (operand_at line 0) (slice_index line.numbers 0) 16 (slice_index line.numbers 1))
+asked_of Route line =
+    Some (route (operand_at line 0) (slice_index line.numbers 0) (slice_index line.numbers 2) (slice_index line.numbers 1))
 asked_of Walk line = Some (walk (operand_at line 0) (operand_at line 1))
 asked_of Play line =
     Some (play (operand_at line 0) (operand_at line 1) (operand_at line 2) (slice_index line.numbers 0)

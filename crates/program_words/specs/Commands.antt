@@ -34,13 +34,21 @@ channels_option = record {
   default = 2;
 }
 
--- `route CODEC [--rate R] [--channels C]`
+-- the bits of a sample
+abbrev pub bits_option : OptionGrammar
+bits_option = record {
+  name = codes "bits";
+  numbers = listed (16 ∷ 24 ∷ 32 ∷ []);
+  default = 16;
+}
+
+-- `route CODEC [--rate R] [--channels C] [--bits B]`
 abbrev pub route_grammar : CommandGrammar
 route_grammar = record {
   command = Route;
   name = codes "route";
   operands = 1;
-  options = rate_option ∷ channels_option ∷ [];
+  options = rate_option ∷ channels_option ∷ bits_option ∷ [];
 }
 
 -- `walk CODEC SCHEDULE`

@@ -1,7 +1,7 @@
 //! What the words ask the program to do.
 ghost use Rattle.std.specs.Prelude.{◌≡◌, IfOk, IfSome, Some, None, Err, map, option_map, string_bytes, true};
-ghost use Rattle.program_words.specs.Asked.{asked_by, asked_of, hertz, request_of, IsInRange};
-ghost use Rattle.program_words.specs.Commands.{make_grammar, play_grammar, rate_option, route_grammar, walk_grammar};
+ghost use Rattle.program_words.specs.Asked.{asked_by, asked_of, bits_of, hertz, request_of, IsInRange};
+ghost use Rattle.program_words.specs.Commands.{bits_option, make_grammar, play_grammar, rate_option, route_grammar, walk_grammar};
 ghost use Rattle.program_words.specs.Lines.{IsLineOf};
 ghost use Rattle.program_words.specs.Numbers.{is_taken};
 ghost use Rattle.program_words.specs.Seen.{line_seen};
@@ -19,7 +19,7 @@ pub enum Request<'a> {
     Route {
         /// The name of the codec file.
         codec: &'a str,
-        /// The format of the routes: 16 bits always.
+        /// The format of the routes.
         format: Format,
     },
     /// Drives the machine of a codec file by a schedule until its codecs are set up.
@@ -89,6 +89,18 @@ fn rate_of(number: u64) -> Rate
     }
 }
 
+/// The sample size of so many bits.
+fn sample_size(number: u64) -> Bits
+    requires { is_taken bits_option.numbers number ≡ true }
+    ensures { bits_of result ≡ number }
+{
+    match number {
+        16 => Bits::B16,
+        24 => Bits::B24,
+        _ => Bits::B32,
+    }
+}
+
 /// What a line of `route` asks.
 fn route_of<'a>(line: &Line<'a>) -> Request<'a>
     requires { IsLineOf route_grammar (line_seen line.now) }
@@ -96,11 +108,12 @@ fn route_of<'a>(line: &Line<'a>) -> Request<'a>
 {
     let rate = rate_of(line.numbers[0]);
     let channels = line.numbers[1] as u8;
+    let bits = sample_size(line.numbers[2]);
     Request::Route {
         codec: line.operands[0],
         format: Format {
             rate,
-            bits: Bits::B16,
+            bits,
             channels,
         },
     }
@@ -146,9 +159,9 @@ fn make_of<'a>(line: &Line<'a>) -> Option<Request<'a>>
 
 /// Reads the words that stand after the program's name.
 ///
-/// The first is the name of a command, and those after it are its operands and options. Without `--rate` and
-/// `--channels` a route is for 48,000 blocks in a second and 2 channels, and always for 16 bits. Without `--periods`
-/// and `--period` a sound is played through a ring of 4 periods of 8 units. The operand of `make` is a number of 0 to
+/// The first is the name of a command, and those after it are its operands and options. Without `--rate`, `--channels`
+/// and `--bits` a route is for 48,000 blocks in a second, 2 channels and samples of 16 bits. Without `--periods` and
+/// `--period` a sound is played through a ring of 4 periods of 8 units. The operand of `make` is a number of 0 to
 /// 65,535.
 ///
 /// # Errors

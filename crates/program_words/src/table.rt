@@ -47,7 +47,9 @@ const RATES: [u64; 6] = [8000, 16000, 44100, 48000, 96000, 192000];
 
 const CHANNELS: [u64; 4] = [2, 4, 6, 8];
 
-const ROUTE_OPTIONS: [OptionRow; 2] = [
+const BITS: [u64; 3] = [16, 24, 32];
+
+const ROUTE_OPTIONS: [OptionRow; 3] = [
     OptionRow {
         name: "rate",
         numbers: Numbers::Listed(&RATES),
@@ -57,6 +59,11 @@ const ROUTE_OPTIONS: [OptionRow; 2] = [
         name: "channels",
         numbers: Numbers::Listed(&CHANNELS),
         default: 2,
+    },
+    OptionRow {
+        name: "bits",
+        numbers: Numbers::Listed(&BITS),
+        default: 16,
     },
 ];
 

@@ -1,6 +1,6 @@
 -- What holds of each node of a plan's routes.
-use Rattle.std.proofs.Common.{◌≡◌, ◌<◌, ◌≤◌, ◌+◌, ◌*◌, ◌/◌, ◌%◌, ◌==◌, ℕ, zero, suc, Bool, true, false, cond, List, [], ◌∷◌, map, length, get_or, Some, refl, ap, subst, ◌∙◌, arith}
-use Rattle.std.specs.Prelude.{All, Contains, slice_get}
+use Rattle.std.proofs.Common.{◌≡◌, ◌<◌, ◌≤◌, ◌+◌, ◌*◌, ◌/◌, ◌%◌, ◌==◌, ℕ, zero, suc, Bool, true, false, cond, List, [], ◌∷◌, ◌++◌, map, length, get_or, Some, refl, ap, subst, ◌∙◌, arith}
+use Rattle.std.specs.Prelude.{All, Contains, slice_get, if◌then◌else◌}
 use Rattle.std.proofs.Math.ListN.{get_or-map}
 use Rattle.std.proofs.lemmas.List.{length-map}
 use Rattle.std.proofs.lemmas.Nat.{mod_below}
@@ -15,7 +15,7 @@ use Rattle.route_planner.specs.declared.routes.Outcome.{Outcome}
 use Rattle.route_planner.specs.declared.routes.Outcome.TheVariants as outcome
 use Rattle.route_planner.specs.declared.routes.PinPlan.{PinPlan}
 use Rattle.route_planner.specs.declared.routes.Plan.{Plan}
-use Rattle.route_planner.specs.Order.{pair_of}
+use Rattle.route_planner.specs.Order.{is_headphone, pair_of, rank_of}
 use Rattle.route_planner.specs.Paths.{passes, list_of, connection, LeadsTo, nodes_of, is_analog_stereo, can_be_left}
 use Rattle.route_planner.specs.Plans.{IsPlan, IsAdmissibleOutcome}
 use Rattle.std.proofs.lemmas.Option.{none-some}
@@ -104,9 +104,14 @@ small rank channels pair even some is =
     let y : pair < channels / 2 = rw is z in
     omega (arith, y)
 
+-- so is that of a headphone
+fits : (headphone : Bool) (rank channels pair : ℕ) → channels % 2 ≡ 0 → 2 ≤ channels → pair ≡ (if headphone then 0 else rank % (channels / 2)) → 2 * pair + 1 < channels
+fits true rank channels pair even some is = omega (arith, is)
+fits false rank channels pair even some is = small rank channels pair even some is
+
 -- pairs are those of the stream's channels
 pub pair_within : (codec : RawCodec) (channels pin pair : ℕ) → channels % 2 ≡ 0 → 2 ≤ channels → pair ≡ pair_of codec channels pin → 2 * pair + 1 < channels
-pair_within codec channels pin pair even some is = small _ channels pair even some is
+pair_within codec channels pin pair even some is = fits (is_headphone codec pin) (rank_of codec pin) channels pair even some is
 
 pub entry_well : (codec : RawCodec) (format : Format) (plan : Plan) → IsPlan codec format plan → All (λ (used : ℕ × Role). IsUsedWell codec format.channels used.0 used.1) (uses_of plan.pins)
 entry_well codec format plan is =

@@ -9,7 +9,6 @@ use Rattle.codec_graph.specs.declared.raw.RawCodec.{RawCodec}
 use Rattle.codec_graph.specs.Widget.{node_identifiers, node_at, is_output_converter, is_mixer, is_selector, is_pin}
 use Rattle.codec_graph.specs.Widget.{has_power_control, has_input_amplifier, has_output_amplifier, input_amplifier_word}
 use Rattle.codec_graph.specs.Widget.{output_amplifier_word, amplifier_offset}
-use Rattle.codec_graph.specs.Candidates.{device}
 use Rattle.codec_graph.specs.Settings.{sends_unsolicited, detects_presence, has_eapd}
 use Rattle.verb_codes.specs.declared.verbs.Command.{Command}
 use Rattle.verb_codes.specs.declared.verbs.Verb.{Verb}
@@ -21,6 +20,7 @@ use Rattle.verb_codes.specs.Words.{has_bit}
 use Rattle.stream_format.specs.declared.format.Format.{Format}
 use Rattle.stream_format.specs.Words.{format_word}
 use Rattle.route_planner.specs.declared.routes.Plan.{Plan}
+use Rattle.route_planner.specs.Order.{is_headphone_node}
 use Rattle.setup_verbs.specs.declared.roles.Role.{Role}
 use Rattle.setup_verbs.specs.declared.roles.Role.TheVariants.{Unused, Passed, Source}
 use Rattle.setup_verbs.specs.Roles.{role_of, is_used, place_among}
@@ -103,9 +103,9 @@ output_verbs codec node =
     only_if (has_output_amplifier node)
     (SetAmp (setting_payload (output_setting (amplifier_offset (output_amplifier_word codec node)))))
 
--- a pin of device 2, a headphone, that has the drive for it drives it so (7.3.3.13, 7.3.3.31, 7.3.4.9)
+-- a headphone that has the drive for one is driven so (7.3.3.13, 7.3.4.9)
 abbrev pub drives_headphone : RawNode → Bool
-drives_headphone node = device node == 2 && has_bit node.pin_caps 3
+drives_headphone node = is_headphone_node node && has_bit node.pin_caps 3
 
 abbrev pub pin_control : RawNode → ℕ
 pin_control node = if drives_headphone node then 0xC0 else 0x40

@@ -8,8 +8,8 @@ ghost use Rattle.setup_verbs.specs.VerbList as spec;
 use crate::roles::Role;
 use crate::sending::{mute_input, pass_input, pass_output, send_if};
 use bitflags::Flags;
-use codec_graph::{RawCodec, RawNode, bits_of};
-use route_planner::{PinPlan, Plan};
+use codec_graph::{RawCodec, RawNode};
+use route_planner::{PinPlan, Plan, is_headphone};
 use std::alloc::AllocError;
 use stream_format::Format;
 use verb_codes::{Command, PinCapabilities, PinControl, Verb};
@@ -19,9 +19,6 @@ const EVENTS_ENABLED: u8 = 0x80;
 
 /// The control of an external amplifier that is on (HDA 1.0a, 7.3.3.16).
 const EAPD_ON: u8 = 0x02;
-
-/// The device of a headphone (HDA 1.0a, 7.3.3.31).
-const HEADPHONE_DEVICE: u32 = 2;
 
 /// The converter of a route takes the stream, from the first channel of the pair on.
 ///
@@ -223,6 +220,6 @@ fn pin_control(node: &RawNode) -> u8
 fn drives_headphone(node: &RawNode) -> bool
     ensures { result ≡ spec.drives_headphone node.now }
 {
-    bits_of(node.default, 20, 4) == HEADPHONE_DEVICE
+    is_headphone(node)
         && PinCapabilities(node.pin_caps).contains(PinCapabilities::HEADPHONE_DRIVE)
 }
