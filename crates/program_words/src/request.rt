@@ -1,7 +1,7 @@
 //! What the words ask the program to do.
 ghost use Rattle.std.specs.Prelude.{◌≡◌, IfOk, IfSome, Some, None, Err, map, option_map, string_bytes, true};
 ghost use Rattle.program_words.specs.Asked.{asked_by, asked_of, bits_of, hertz, request_of, IsInRange};
-ghost use Rattle.program_words.specs.Commands.{bits_option, make_grammar, play_grammar, rate_option, route_grammar, walk_grammar};
+ghost use Rattle.program_words.specs.Commands.{bits_option, channels_option, make_grammar, play_grammar, rate_option, route_grammar, walk_grammar};
 ghost use Rattle.program_words.specs.Lines.{IsLineOf};
 ghost use Rattle.program_words.specs.Numbers.{is_taken};
 ghost use Rattle.program_words.specs.Seen.{line_seen};
@@ -101,21 +101,30 @@ fn sample_size(number: u64) -> Bits
     }
 }
 
+/// The format of so many blocks in a second, channels, and bits of a sample.
+fn format_of(rate: u64, channels: u64, bits: u64) -> Format
+    requires rate { is_taken rate_option.numbers rate ≡ true }
+    requires channels { is_taken channels_option.numbers channels ≡ true }
+    requires bits { is_taken bits_option.numbers bits ≡ true }
+    ensures rate { hertz result.rate ≡ rate }
+    ensures channels { result.channels ≡ channels }
+    ensures bits { bits_of result.bits ≡ bits }
+{
+    Format {
+        rate: rate_of(rate),
+        bits: sample_size(bits),
+        channels: channels as u8,
+    }
+}
+
 /// What a line of `route` asks.
 fn route_of<'a>(line: &Line<'a>) -> Request<'a>
     requires { IsLineOf route_grammar (line_seen line.now) }
     ensures { asked_of CommandName.Route (line_seen line.now) ≡ Some (asked_by result) }
 {
-    let rate = rate_of(line.numbers[0]);
-    let channels = line.numbers[1] as u8;
-    let bits = sample_size(line.numbers[2]);
     Request::Route {
         codec: line.operands[0],
-        format: Format {
-            rate,
-            bits,
-            channels,
-        },
+        format: format_of(line.numbers[0], line.numbers[1], line.numbers[2]),
     }
 }
 
