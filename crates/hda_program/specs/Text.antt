@@ -23,6 +23,6 @@ nothing_routed_line = codes "nothing routed" ++ newline
 
 abbrev pub usage_line : List ℕ
 usage_line =
-    codes "usage: hda_play route CODEC [--rate R] [--channels C] | walk CODEC SCHEDULE"
+    codes "usage: hda_play route CODEC [--rate R] [--channels C] [--bits B] | walk CODEC SCHEDULE"
     ++ codes " | play CODEC WAV SCHEDULE [--periods K] [--period M] | make N"
     ++ newline

@@ -17,6 +17,15 @@ fn rate_named(name: &str) -> Rate {
     }
 }
 
+/// The sample size with this name.
+fn bits_named(name: &str) -> Bits {
+    match name {
+        "24" => Bits::B24,
+        "32" => Bits::B32,
+        _ => Bits::B16,
+    }
+}
+
 /// A line for each pin: the pin, its pair, its hops and its converter.
 fn push_plan(text: &mut String, plan: &Plan) -> Result<(), AllocError> {
     for entry in plan.pins.as_slice() {
@@ -35,9 +44,10 @@ fn push_plan(text: &mut String, plan: &Plan) -> Result<(), AllocError> {
     Ok(())
 }
 
-/// The order of the pins of a file's codec and its plan, for samples of 16 bits at a rate, with 2, 4, 6 or 8 channels.
+/// The order of the pins of a file's codec and its plan, for a rate, 2, 4, 6 or 8 channels, and samples of 16, 24 or 32
+/// bits.
 pub fn tell(alloc: Global, words: &[Vec<u8>]) -> Result<String, AllocError> {
-    let [file, rate, channels] = words else {
+    let [file, rate, channels, bits] = words else {
         return format!(in alloc; "no plan");
     };
     let Some(codec) = codec_of(alloc, file) else {
@@ -51,7 +61,7 @@ pub fn tell(alloc: Global, words: &[Vec<u8>]) -> Result<String, AllocError> {
     };
     let format = Format {
         rate: rate_named(text_of(rate)),
-        bits: Bits::B16,
+        bits: bits_named(text_of(bits)),
         channels,
     };
     let mut text = String::new(alloc);
