@@ -66,8 +66,8 @@ IsInRange (request.Make number) = ⊤
 abbrev pub operand_at : CommandLine → ℕ → List ℕ
 operand_at line place = unwrap_or (slice_get line.operands place) []
 
--- what a command with this line asks: the options of `route` are the rate, the channels and the bits of a sample, and the operand of
--- `make` is a number
+-- what a command with this line asks: `route` has the rate, the channels and the bits of a sample, and the operand of `make` is a
+-- number
 abbrev pub asked_of : CommandName → CommandLine → Option Asked
 asked_of Route line =
     Some (route (operand_at line 0) (slice_index line.numbers 0) (slice_index line.numbers 2) (slice_index line.numbers 1))
