@@ -220,6 +220,5 @@ fn pin_control(node: &RawNode) -> u8
 fn drives_headphone(node: &RawNode) -> bool
     ensures { result ≡ spec.drives_headphone node.now }
 {
-    is_headphone(node)
-        && PinCapabilities(node.pin_caps).contains(PinCapabilities::HEADPHONE_DRIVE)
+    is_headphone(node) && PinCapabilities(node.pin_caps).contains(PinCapabilities::HEADPHONE_DRIVE)
 }
