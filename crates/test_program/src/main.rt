@@ -12,7 +12,7 @@ use std::process::ExitCode;
 use test_cases::{Cases, run_cases, text_of};
 
 /// The files of cases.
-const FILES: [&str; 10] = [
+const FILES: [&str; 11] = [
     "parts.txt",
     "routes.txt",
     "keys.txt",
@@ -21,6 +21,7 @@ const FILES: [&str; 10] = [
     "walks.txt",
     "play_refusals.txt",
     "plays.txt",
+    "channels.txt",
     "cuts.txt",
     "makes.txt",
 ];
