@@ -16,25 +16,44 @@ fn rate_of(word: &[u8]) -> Rate {
     }
 }
 
-/// Two channels of so many frames in a second.
-pub fn stereo(rate: &[u8], bits: Bits) -> Format {
+/// The sample size of so many bits.
+fn bits_of(word: &[u8]) -> Bits {
+    match text_of(word) {
+        "24" => Bits::B24,
+        "32" => Bits::B32,
+        _ => Bits::B16,
+    }
+}
+
+/// So many frames in a second, of 2, 4, 6 or 8 channels, with samples of so many bits.
+pub fn format_of(rate: &[u8], channels: &[u8], bits: &[u8]) -> Format {
     Format {
         rate: rate_of(rate),
-        bits,
+        bits: bits_of(bits),
+        channels: match text_of(channels) {
+            "8" => 8,
+            "6" => 6,
+            "4" => 4,
+            _ => 2,
+        },
+    }
+}
+
+/// Two channels of 16 bits, with so many frames in a second.
+fn stereo(rate: &[u8]) -> Format {
+    Format {
+        rate: rate_of(rate),
+        bits: Bits::B16,
         channels: 2,
     }
 }
 
-/// The word of a format of two channels, and the format that the word is.
+/// The word of a format, and the format that the word is.
 pub fn tell(alloc: Global, words: &[Vec<u8>]) -> Result<String, AllocError> {
-    let [rate, bits] = words else {
+    let [rate, channels, bits] = words else {
         return format!(in alloc; "no format");
     };
-    let bits = match text_of(bits) {
-        "24" => Bits::B24,
-        _ => Bits::B16,
-    };
-    let word = stereo(rate, bits).word();
+    let word = format_of(rate, channels, bits).word();
     let back = Format::from_word(word);
     format!(in alloc; "{word:04x} {back:?}")
 }
@@ -53,7 +72,7 @@ pub fn tell_blocks(alloc: Global, words: &[Vec<u8>]) -> Result<String, AllocErro
     let [rate, first, count] = words else {
         return format!(in alloc; "no frames");
     };
-    let format = stereo(rate, Bits::B16);
+    let format = stereo(rate);
     let first = u64::from(number_of(first));
     let mut text = String::new(alloc);
     for frame in 0..number_of(count) {

@@ -1,11 +1,11 @@
 //! The verbs that set codecs up.
-use crate::formats::stereo;
+use crate::formats::format_of;
 use codec_graph::Graph;
 use route_planner::plan;
 use route_setup::{Analog, Setter, verbs};
 use std::alloc::{AllocError, Global};
 use std::fmt::Write;
-use stream_format::{Bits, Format};
+use stream_format::Format;
 use test_cases::push_hex;
 use test_codecs::codec_of;
 use verb_codes::{Command, encode};
@@ -13,15 +13,15 @@ use verb_codes::{Command, encode};
 /// The tag of the stream.
 const TAG: u8 = 1;
 
-/// The words that set the codec of a file up for two channels of 16 bits at a rate, with the tag 1.
+/// The words that set the codec of a file up for a format, with the tag 1.
 pub fn tell(alloc: Global, words: &[Vec<u8>]) -> Result<String, AllocError> {
-    let [file, rate] = words else {
+    let [file, rate, channels, bits] = words else {
         return format!(in alloc; "no codec");
     };
     let Some(codec) = codec_of(alloc, file) else {
         return format!(in alloc; "refused");
     };
-    let format = stereo(rate, Bits::B16);
+    let format = format_of(rate, channels, bits);
     let plan = plan(alloc, &codec.graph, format)?;
     let commands = verbs(alloc, &codec.graph, &plan, format, TAG)?;
     let mut asked = Vec::new(alloc);
@@ -44,15 +44,16 @@ fn commands_by<S: Setter>(
     setter.verbs(alloc, graph, &plan, format, 15)
 }
 
-/// The nodes and verbs that set the codec of a file up, by the setter.
+/// The nodes and verbs that set the codec of a file up for a format, by the setter.
 pub fn tell_setter(alloc: Global, words: &[Vec<u8>]) -> Result<String, AllocError> {
-    let [file, rate] = words else {
+    let [file, rate, channels, bits] = words else {
         return format!(in alloc; "no codec");
     };
     let Some(codec) = codec_of(alloc, file) else {
         return format!(in alloc; "refused");
     };
-    let commands = commands_by(alloc, &Analog, &codec.graph, stereo(rate, Bits::B16))?;
+    let format = format_of(rate, channels, bits);
+    let commands = commands_by(alloc, &Analog, &codec.graph, format)?;
     let mut text = String::new(alloc);
     for command in &commands {
         write!(text, "\n  {:02x} {:?}", command.nid, command.verb)?;
