@@ -43,6 +43,12 @@ def direct(count, pcm):
     return codec(0, ["nid = 0x02, caps = 0x1"] + pins(0x10, count, [2]), f"pcm = 0x{pcm:08X}\n")
 
 
+def by_pairs(count, pcm):
+    """Four converters that so many pins list, which take the pairs of eight channels in turn."""
+    nodes = [f"nid = 0x{nid:02X}, caps = 0x1" for nid in (2, 3, 4, 5)]
+    return codec(0, nodes + pins(0x10, count, (2, 3, 4, 5)), f"pcm = 0x{pcm:08X}\n")
+
+
 def layers(address, width, depth, count, length, long):
     """Selectors in layers: each lists those of the next layer again and again, the last ones the converter."""
     nodes = ["nid = 0x02, caps = 0x1"]
@@ -55,11 +61,12 @@ def layers(address, width, depth, count, length, long):
     return codec(address, nodes + pins(3 + width * depth, count, at[0]))
 
 
-def sound(rate, frames):
-    """A WAV file of two channels of 16 bits."""
-    data = random.Random(frames).getrandbits(32 * frames).to_bytes(4 * frames, "little")
+def sound(rate, frames, channels=2, bits=16):
+    """A WAV file."""
+    frame = channels * bits // 8
+    data = random.Random(frames).getrandbits(8 * frame * frames).to_bytes(frame * frames, "little")
     head = struct.pack("<4sI4s", b"RIFF", 36 + len(data), b"WAVE")
-    form = struct.pack("<4sIHHIIHH", b"fmt ", 16, 1, 2, rate, 4 * rate, 4, 16)
+    form = struct.pack("<4sIHHIIHH", b"fmt ", 16, 1, channels, rate, frame * rate, frame, bits)
     return head + form + struct.pack("<4sI", b"data", len(data)) + data
 
 
@@ -97,6 +104,14 @@ def make(folder):
         put("48.txt", playing(many, frames // 48, "fetch 1 192\nlink 48\n"))], 2.0, 4.0)
     add("play_192", ["play", wide_192, put("192.wav", sound(192_000, 4 * frames - 100)),
         put("192.txt", playing(many, frames // 12, "fetch 1 192\nlink 12\n"))], 2.0, 4.0)
+    two_32 = put("two_32.toml", "fifo = 384\n" + direct(16, 0x00120440))
+    eight_32 = put("eight_32.toml", "fifo = 1536\n" + by_pairs(16, 0x00120440))
+    add("play_32", ["play", two_32, put("two_32.wav", sound(192_000, frames - 100, 2, 32)),
+        put("two_32.txt", playing(plain_commands(two_32, folder), frames // 48, "fetch 1 384\nlink 12\n"))], 2.0, 4.0)
+    # for eight channels three converters more are on routes, and get a word more each
+    turns = playing(plain_commands(eight_32, folder) + 3, frames // 48, "fetch 1 1536\nlink 12\n")
+    add("play_wide", ["play", eight_32, put("eight_32.wav", sound(192_000, frames - 100, 8, 32)),
+        put("eight_32.txt", turns)], 2.0, 4.0)
     add("steps", ["play", one, put("steps.wav", sound(48_000, 490_000)),
         put("steps.txt", playing(few, 10_290, "fetch 1 4\nlink 1\n" * 48))], 1.3, None)
     add("runs", ["play", one, put("runs.wav", sound(48_000, 665_000)),

@@ -85,7 +85,7 @@ impl Stream {
             fetched: 0,
             fifo: VecDeque::with_capacity(fifo_size),
             fifo_size,
-            block: 2 * usize::from(format.channels),
+            block: format.block(),
             cadence: cadence(format.rate),
             frame: 0,
             sent: 0,

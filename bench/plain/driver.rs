@@ -288,7 +288,7 @@ fn setup_verbs(codec: &Codec, plan: &Plan, format: Format, verbs: &mut Vec<(u8, 
     nodes(&mut |nid, node, role| match role {
         Role::Unused => {}
         Role::Source(pair) => {
-            set(nid, wide(0x2, u32::from(format.channels) - 1 | 0x10));
+            set(nid, wide(0x2, u32::from(format.channels) - 1 | format.size_code() << 4));
             set(nid, short(0x706, 0x10 | 2 * u32::from(pair)));
             if node.has(2) {
                 set(nid, amplifier(true, 0, false, codec.amp_words(node).amp_out));

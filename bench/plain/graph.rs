@@ -231,10 +231,49 @@ pub struct Plan {
 #[derive(Clone, Copy)]
 pub struct Format {
     pub rate: u32,
+    pub bits: u32,
     pub channels: u8,
 }
 
 impl Format {
+    /// Two channels of 16 bits at 48 kHz.
+    pub const PLAIN: Format = Format {
+        rate: 48_000,
+        bits: 16,
+        channels: 2,
+    };
+
+    /// The bytes of a sample's container.
+    pub fn container(self) -> usize {
+        if self.bits == 16 {
+            2
+        } else {
+            4
+        }
+    }
+
+    pub fn block(self) -> usize {
+        self.container() * usize::from(self.channels)
+    }
+
+    /// How its word says the size of a sample.
+    pub fn size_code(self) -> u32 {
+        match self.bits {
+            16 => 1,
+            24 => 3,
+            _ => 4,
+        }
+    }
+
+    /// The bit of that size in a word of PCM sizes and rates.
+    fn size_bit(self) -> u32 {
+        match self.bits {
+            16 => 17,
+            24 => 19,
+            _ => 20,
+        }
+    }
+
     /// The bit of its rate in a word of PCM sizes and rates.
     fn rate_bit(self) -> u32 {
         match self.rate {
@@ -273,7 +312,7 @@ impl Codec {
 
     fn supports(&self, node: &Node, format: Format) -> bool {
         let words = self.words_of(node, 4);
-        words.formats & 1 == 1 && words.pcm >> format.rate_bit() & 1 == 1 && words.pcm >> 17 & 1 == 1
+        words.formats & 1 == 1 && words.pcm >> format.rate_bit() & 1 == 1 && words.pcm >> format.size_bit() & 1 == 1
     }
 
     /// Whether connections lead to widgets, and none through mixers and selectors alone leads back.
@@ -405,13 +444,22 @@ impl Codec {
         };
         let free = vec![Role::Unused; NODES];
         let pairs = format.channels / 2;
-        let mut rank = 0;
+        // how many pins of the association were passed that are no headphones
+        let mut passed = 0;
         let mut association = None;
         for pin in self.order() {
-            let of = self.node(pin).map(|node| node.default >> 4 & 15);
-            rank = if of == association { rank + 1 } else { 0 };
-            association = of;
-            let pair = rank % pairs;
+            let default = self.node(pin).map_or(0, |node| node.default);
+            let of = Some(default >> 4 & 15);
+            if of != association {
+                passed = 0;
+                association = of;
+            }
+            let pair = if default >> 20 & 15 == 2 {
+                0
+            } else {
+                passed += 1;
+                (passed - 1) % pairs
+            };
             let far = self.distances(format, pair, &plan.roles);
             let outcome = match self.route(pin, &far, &plan.roles) {
                 Some((hops, converter)) => {

@@ -42,16 +42,46 @@ fn machine(name: &str) -> Result<Machine, Fault> {
     read_machine(&read(name)?).ok_or(Fault::File)
 }
 
-/// The frames in a second and the sound of a WAV file of two channels with one chunk `fmt ` and one chunk `data`.
-fn sound(name: &str) -> Result<(u32, Vec<u8>), Fault> {
+/// What the ring gets for samples: each of 24 bits behind a byte 0, and each of one channel twice.
+fn ring_bytes(samples: Vec<u8>, mono: bool, bits: u32) -> Vec<u8> {
+    if !mono && bits != 24 {
+        return samples;
+    }
+    let size = bits as usize / 8;
+    let copies = if mono { 2 } else { 1 };
+    let mut ring = Vec::with_capacity(samples.len() / size * 4 * copies);
+    for sample in samples.chunks_exact(size) {
+        for _ in 0..copies {
+            if bits == 24 {
+                ring.push(0);
+            }
+            ring.extend_from_slice(sample);
+        }
+    }
+    ring
+}
+
+/// The format and the sound of a WAV file with one chunk `fmt ` of 16 bytes and one chunk `data`.
+fn sound(name: &str) -> Result<(Format, Vec<u8>), Fault> {
     let mut bytes = read(name)?;
     if bytes.len() < 44 || &bytes[36..40] != b"data" {
         return Err(Fault::File);
     }
     let rate = u32::from_le_bytes([bytes[24], bytes[25], bytes[26], bytes[27]]);
+    let (channels, bits) = (bytes[22], u32::from(bytes[34]));
+    let frame = usize::from(channels) * bits as usize / 8;
+    if frame == 0 {
+        return Err(Fault::File);
+    }
+    let mono = channels == 1;
+    let format = Format {
+        rate,
+        bits,
+        channels: if mono { 2 } else { channels },
+    };
     bytes.drain(..44);
-    bytes.truncate(bytes.len() / 4 * 4);
-    Ok((rate, bytes))
+    bytes.truncate(bytes.len() / frame * frame);
+    Ok((format, ring_bytes(bytes, mono, bits)))
 }
 
 fn route(name: &str, channels: u8) -> Result<u8, Fault> {
@@ -62,8 +92,8 @@ fn route(name: &str, channels: u8) -> Result<u8, Fault> {
             &mut page,
             codec.address,
             &codec.plan(Format {
-                rate: 48_000,
                 channels,
+                ..Format::PLAIN
             }),
         )?;
     }
@@ -74,16 +104,17 @@ fn route(name: &str, channels: u8) -> Result<u8, Fault> {
 /// The driver and the device once the schedule has ended.
 fn driven(machine: &Machine, format: Format, sound: Vec<u8>, plays: bool, parts: &[schedule::Part]) -> (Driver, Device) {
     let addresses: Vec<u8> = machine.codecs.iter().map(|codec| codec.address).collect();
+    let block = format.block() as u64;
     let most = match format.rate {
-        96_000 => 8,
-        192_000 => 16,
-        _ => 4,
+        96_000 => 2 * block,
+        192_000 => 4 * block,
+        _ => block,
     };
     let limit = (RING - machine.fifo) as u64 / most;
     let pace = Pace {
-        block: 4,
+        block,
         limit,
-        ahead: (machine.fifo as u64).next_multiple_of(4) + limit / 4 * most,
+        ahead: (machine.fifo as u64).next_multiple_of(block) + limit / 4 * most,
     };
     let mut device = Device::new(&machine.codecs, Stream::new(format, RING, machine.fifo));
     let mut driver = Driver::new(BringUp::new(format), sound, plays, pace);
@@ -93,25 +124,20 @@ fn driven(machine: &Machine, format: Format, sound: Vec<u8>, plays: bool, parts:
 
 fn make(number: u16) -> Result<u8, Fault> {
     let machine = read_machine(making::CODEC.as_bytes()).ok_or(Fault::File)?;
-    let format = Format {
-        rate: 48_000,
-        channels: 2,
-    };
-    let (driver, device) = driven(&machine, format, making::sound(number), true, &making::schedule(number));
+    let (driver, device) = driven(&machine, Format::PLAIN, making::sound(number), true, &making::schedule(number));
     Ok(making::write_line(&mut io::stdout().lock(), number, &driver, &device.stream)?)
 }
 
 fn drive(codec: &str, wav: Option<&str>, schedule: &str) -> Result<u8, Fault> {
     let machine = machine(codec)?;
-    let (rate, sound) = match wav {
+    let (format, sound) = match wav {
         Some(name) => sound(name)?,
-        None => (48_000, Vec::new()),
+        None => (Format::PLAIN, Vec::new()),
     };
     let text = String::from_utf8(read(schedule)?).map_err(|_| Fault::File)?;
     let parts = schedule::read(&text).ok_or(Fault::File)?;
-    let format = Format { rate, channels: 2 };
     let plans: Vec<_> = machine.codecs.iter().map(|codec| codec.plan(format)).collect();
-    let total = sound.len() as u64 / 4;
+    let total = (sound.len() / format.block()) as u64;
     let (driver, device) = driven(&machine, format, sound, wav.is_some(), &parts);
     let mut out = io::stdout().lock();
     Ok(report::write_run(
@@ -121,7 +147,7 @@ fn drive(codec: &str, wav: Option<&str>, schedule: &str) -> Result<u8, Fault> {
         &driver,
         &device.stream,
         total,
-        2,
+        format,
         wav.is_some(),
     )?)
 }

@@ -1,6 +1,6 @@
 //! The text of plans and of a run.
 use crate::device::Stream;
-use crate::graph::{Codec, Outcome, Plan};
+use crate::graph::{Codec, Format, Outcome, Plan};
 use crate::playing::{Driver, Phase};
 use std::io::{self, Write};
 
@@ -72,9 +72,10 @@ fn write_pin<W: Write>(
     out: &mut W,
     page: &mut Vec<u8>,
     stream: &Stream,
-    block: usize,
+    format: Format,
     pair: Option<u8>,
 ) -> io::Result<()> {
+    let (block, two) = (format.block(), 2 * format.container());
     let mut rest = &stream.bytes[..];
     let mut begun = Begun { blocks: 0, quiet: 0 };
     for stretch in &stream.stretches {
@@ -95,11 +96,11 @@ fn write_pin<W: Write>(
             let blocks = (LINE_BLOCKS - begun.blocks).min(heard.len() / block);
             let (line, later) = heard.split_at(blocks * block);
             heard = later;
-            if block == 4 {
+            if block == two {
                 push_hex(page, line);
             } else {
                 for one in line.chunks_exact(block) {
-                    push_hex(page, &one[4 * usize::from(pair)..][..4]);
+                    push_hex(page, &one[two * usize::from(pair)..][..two]);
                 }
             }
             begun.blocks += blocks;
@@ -147,7 +148,7 @@ pub fn write_run<W: Write>(
     driver: &Driver,
     stream: &Stream,
     total: u64,
-    channels: u8,
+    format: Format,
     plays: bool,
 ) -> io::Result<u8> {
     let mut page = Vec::with_capacity(65_536);
@@ -166,7 +167,6 @@ pub fn write_run<W: Write>(
         writeln!(page, "silence {} {}", silence.start, silence.end)?;
         turn(out, &mut page)?;
     }
-    let block = 2 * usize::from(channels);
     if plays {
         for (codec, plan) in codecs.iter().zip(plans) {
             for entry in &plan.pins {
@@ -175,7 +175,7 @@ pub fn write_run<W: Write>(
                     Outcome::Route(..) => Some(entry.pair),
                     _ => None,
                 };
-                write_pin(out, &mut page, stream, block, pair)?;
+                write_pin(out, &mut page, stream, format, pair)?;
             }
         }
     }
@@ -184,7 +184,7 @@ pub fn write_run<W: Write>(
         driver,
         driver.bring_up.sent,
         total,
-        block as u64,
+        format.block() as u64,
         plays,
     )?;
     out.write_all(&page)?;
