@@ -21,7 +21,7 @@ use Rattle.period_writer.specs.declared.course.Ran.TheVariants as ran
 use Rattle.period_writer.specs.Rings.{period_bytes, ring_bytes}
 use Rattle.period_writer.specs.Places.{line_writes, piece_write, touched}
 use Rattle.period_writer.specs.Starting.{entry_write, run_accesses, start_accesses}
-use Rattle.period_writer.specs.Playing.{run_writes, Starts, Plays, run_bytes, stop_accesses, play_accesses}
+use Rattle.period_writer.specs.Playing.{run_writes, Starts, PlaysRun, run_bytes, stop_accesses, play_accesses}
 use Rattle.period_writer.specs.Outcomes.{StartTellsOf, RunTellsOf}
 use Rattle.period_writer.specs.Runs.{Measures, RunFacts, Tally, facts_of, run_reach, run_start, run_sound, is_late, is_late_since, tally_if, tally_after, tally_opened}
 use Rattle.period_writer.specs.Writers.{WriterState, KeepsRing, tally_of, measures_of, periods_of, ring_of}
@@ -179,7 +179,7 @@ run_entries writer facts supply later none =
     ∙ none
 
 pub play_sounds : (old new : BringUp) (writer writer' : WriterState) (supply supply' : List ℕ) (budget : ℕ) (answer : Ran) (before middle after : Option Telling) → writer.course.started ≡ true → is_open writer.course.ran ≡ true
-    → Listens old new before middle → IsKept old new → Plays writer.geometry (periods_of writer) budget supply (tally_of writer) answer (tally_of writer') supply' middle after
+    → Listens old new before middle → IsKept old new → PlaysRun writer.geometry (periods_of writer) budget supply (tally_of writer) answer (tally_of writer') supply' middle after
     → ((pcm : List ℕ) → supply ≡ drop writer.course.used pcm → Between (RunTellsOf (ring_of writer) pcm budget (tally_of writer) answer (tally_of writer')) middle after) → KeepsRing writer writer'
     → PlaysSound false budget old new writer writer' supply supply' before after
 play_sounds old new writer writer' supply supply' budget answer before middle after started more listens kept plays tells same =

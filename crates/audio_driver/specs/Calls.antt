@@ -1,6 +1,6 @@
 -- What the calls of a driver do, by its setter, and whichever sound its supply may yet give. This project's own.
 use Rattle.std.specs.Prelude.{◌≡◌, ℕ, List, true, Bool, Option}
-use Rattle.route_setup.specs.Means.{Meaning}
+use Rattle.route_setup.specs.Means.{StreamMeaning}
 use Rattle.hda_world.specs.Tellings.{Telling}
 use Rattle.wav_reader.specs.Supplies.{Supplied, Suffices, MayGive, EndsWith, sound_before}
 use Rattle.period_writer.specs.Runs.{Tally}
@@ -35,7 +35,7 @@ EndsAny old ended writer tally' supply before after =
 
 -- ---- the codecs, which a setter sets up by what it means
 
-module _ {T : Type 0} (means : T → Meaning) where
+module _ {T : Type 0} (means : T → StreamMeaning) where
   -- a call that does not play
   abbrev pub LeadsBy : (irq : Bool) → (old new : DriverState T) → (before after : Option Telling) → Type 0
   LeadsBy irq old new before after =

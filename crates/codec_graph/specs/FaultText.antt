@@ -6,8 +6,8 @@ use Rattle.codec_graph.specs.declared.fault.GraphFault.TheVariants.{NoAudioGroup
 use Rattle.codec_graph.specs.declared.fault.GraphFault.TheVariants.{ListTooLong, AmpOffset, Cycle}
 
 -- a node identifier: two lower hexadecimal digits
-abbrev pub nid_text : ℕ → List ℕ
-nid_text nid = digits 16 false (nid / 16) ++ digits 16 false (nid % 16)
+abbrev pub nid_digits : ℕ → List ℕ
+nid_digits nid = digits 16 false (nid / 16) ++ digits 16 false (nid % 16)
 
 -- what is wrong, and where
 abbrev pub graph_fault_name : GraphFault → List ℕ
@@ -27,4 +27,4 @@ graph_fault_nid (AmpOffset nid) = nid
 graph_fault_nid (Cycle nid) = nid
 
 abbrev pub graph_fault_text : GraphFault → List ℕ
-graph_fault_text fault = graph_fault_name fault ++ codes " at " ++ nid_text (graph_fault_nid fault)
+graph_fault_text fault = graph_fault_name fault ++ codes " at " ++ nid_digits (graph_fault_nid fault)

@@ -16,7 +16,7 @@ use Rattle.hda_world.specs.Events.{Event, Stepped, Begin, End, Read, Write, DmaR
 use Rattle.hda_world.proofs.Callers.{beside_write}
 use Rattle.command_engine.specs.declared.ring_places.RingPlaces.{RingPlaces}
 use Rattle.command_engine.specs.Sizes.{half_of}
-use Rattle.command_engine.specs.Fetchings.{RingPart, part_of, HasRings, IsBeside, IsBesideBlock, AreBeside, Fetching, StandsBy, Stands}
+use Rattle.command_engine.specs.Fetchings.{RingPart, part_of, HasRings, IsBeside, IsBesideBlock, AreBeside, IsFetching, StandsBy, Stands}
 use Rattle.command_engine.proofs.Batches.{EachStands, same_word}
 use Rattle.command_engine.proofs.Keeping.{steps_keep_standing}
 
@@ -68,8 +68,8 @@ module _ (from read corb rirb : ℕ) (rings : RingPlaces) where
   outside_piece block size at bytes here (inl below) above within = inr (omega arith)
   outside_piece block size at bytes here (inr above) from_here within = inl (omega arith)
 
-  fetching_word : (part : RingPart) (word word' : ℕ) (gained : List _) → word' ≡ word → Fetching rings.outstanding part word gained → Fetching rings.outstanding part word' gained
-  fetching_word part word word' gained same fetching = subst (λ (w : ℕ). Fetching rings.outstanding part w gained) (sym same) fetching
+  fetching_word : (part : RingPart) (word word' : ℕ) (gained : List _) → word' ≡ word → IsFetching rings.outstanding part word gained → IsFetching rings.outstanding part word' gained
+  fetching_word part word word' gained same fetching = subst (λ (w : ℕ). IsFetching rings.outstanding part w gained) (sym same) fetching
 
   memory_beside : (world : World) (at : ℕ) (bytes : List ℕ) → IsBesideBlock corb 1024 at (length bytes) → IsBesideBlock rirb 2048 at (length bytes) → Stands from read corb rirb rings world
       → StandsBy from read corb rirb rings (part_of world.registers) (stored world.memory at bytes) world.codecs world.waiting world.commands world.written

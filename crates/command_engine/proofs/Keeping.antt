@@ -29,7 +29,7 @@ use Rattle.hda_world.proofs.Callers.{graphs-with_codec, keeps_reading, frames_af
 use Rattle.command_engine.specs.declared.ring_places.RingPlaces.{RingPlaces}
 use Rattle.command_engine.specs.declared.answers.Outstanding.{Outstanding}
 use Rattle.command_engine.specs.Blocks.{are_apart}
-use Rattle.command_engine.specs.Fetchings.{RingPart, part_of, HasRings, AscendFrom, AscendByAddress, AreOf, IsWordOf, IsOfCodec, AreOfCodecs, graphs_in, Fetching, IsOnItsWay, AreStanding, StandsBy, Stands}
+use Rattle.command_engine.specs.Fetchings.{RingPart, part_of, HasRings, AscendFrom, AscendByAddress, AreOf, IsWordOf, IsOfCodec, AreOfCodecs, graphs_in, IsFetching, IsOnItsWay, AreStanding, StandsBy, Stands}
 use Rattle.command_engine.proofs.Codecs.{graph_there}
 use Rattle.command_engine.proofs.Coming.{coming_taken, coming_sent, coming_lost, coming_plugged, coming_responded}
 use Rattle.command_engine.proofs.Batches.{EachStands, half_small, part_after, pointer_after, batch_short, size_stored, word_stays, standing_written}
@@ -116,7 +116,7 @@ module _ (from read corb rirb : ℕ) (rings : RingPlaces) where
   hands : (world : World) → Stands from read corb rirb rings world → can_fetch world.registers ≡ true → Stands from read corb rirb rings (handed (next_command world.registers world.memory) world)
   hands world holds can = by holds.fetching
     where
-      by : Fetching rings.outstanding (part_of world.registers) (word_at world.memory (corb + 4 * rings.submitted)) (drop from world.commands) → Stands from read corb rirb rings (handed (next_command world.registers world.memory) world)
+      by : IsFetching rings.outstanding (part_of world.registers) (word_at world.memory (corb + 4 * rings.submitted)) (drop from world.commands) → Stands from read corb rirb rings (handed (next_command world.registers world.memory) world)
       by (inl all) = absurd (fetch_some world.registers can all.pointers)
       by (inr next) =
           let word = next_command world.registers world.memory in
@@ -192,8 +192,8 @@ module _ (from read corb rirb : ℕ) (rings : RingPlaces) where
 
   -- ---- RIRB's engine writes a batch
 
-  fetching_stays : (part : RingPart) (word word' pointer flag : ℕ) (gained : List TakenCommand) → word' ≡ word → Fetching rings.outstanding part word gained
-      → Fetching rings.outstanding (record part { rirb_write_pointer = pointer; response_flag = flag }) word' gained
+  fetching_stays : (part : RingPart) (word word' pointer flag : ℕ) (gained : List TakenCommand) → word' ≡ word → IsFetching rings.outstanding part word gained
+      → IsFetching rings.outstanding (record part { rirb_write_pointer = pointer; response_flag = flag }) word' gained
   fetching_stays part word word' pointer flag gained same (inl all) = inl (record { pointers = all.pointers; taken = all.taken })
   fetching_stays part word word' pointer flag gained same (inr next) =
       inr (record { pointers = next.pointers; is = subst (IsWordOf rings.outstanding) (sym same) next.is; none = next.none })

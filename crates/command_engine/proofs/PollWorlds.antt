@@ -25,7 +25,7 @@ use Rattle.command_engine.specs.declared.ring_places.RingPlaces.{RingPlaces}
 use Rattle.command_engine.specs.declared.answers.Outstanding.{Outstanding}
 use Rattle.command_engine.specs.Entries.{is_from, answers_it, answer_among}
 use Rattle.command_engine.specs.Polling.{asked_of, still_outstanding}
-use Rattle.command_engine.specs.Fetchings.{RingPart, part_of, HasRings, AreOf, IsOfCodec, AreOfCodecs, graph_at, graphs_in, Fetching, CanCome, ResponseCanCome, ItemCanCome, CodecCanSend, solicited, waiting_answers, IsOnItsWay, StandsBy, Stands}
+use Rattle.command_engine.specs.Fetchings.{RingPart, part_of, HasRings, AreOf, IsOfCodec, AreOfCodecs, graph_at, graphs_in, IsFetching, CanCome, ResponseCanCome, ItemCanCome, CodecCanSend, solicited, waiting_answers, IsOnItsWay, StandsBy, Stands}
 use Rattle.command_engine.specs.Belonging.{as_held, Belongs, from_after}
 use Rattle.command_engine.proofs.Codecs.{graph_address}
 
@@ -129,7 +129,7 @@ module _ (from read corb rirb : ℕ) (rings : RingPlaces) (world : World) (holds
   none_unread = drop_all (length world.written) world.written (omega arith)
 
   cleared_stands : (from' : ℕ) (outstanding : Option Outstanding) → from' ≤ length world.commands
-      → Fetching outstanding cleared_part (word_at world.memory (corb + 4 * rings.submitted)) (drop from' world.commands)
+      → IsFetching outstanding cleared_part (word_at world.memory (corb + 4 * rings.submitted)) (drop from' world.commands)
       → AreOfCodecs world.codecs (drop from' world.commands)
       → IsOnItsWay (drop from' world.commands) [] world.waiting world.codecs
       → StandsBy from' (length world.written) corb rirb (record rings { read = place; outstanding = outstanding }) cleared_part world.memory world.codecs world.waiting world.commands world.written
@@ -161,8 +161,8 @@ module _ (from read corb rirb : ℕ) (rings : RingPlaces) (world : World) (holds
       cleared_stands from rings.outstanding holds.from_within (same_fetching holds.fetching) holds.taken_by
       (record { in_ring = All-nil (ResponseCanCome (drop from world.commands)); in_controller = way.in_controller; at_codecs = way.at_codecs; few = omega arith })
     where
-      same_fetching : Fetching rings.outstanding (part_of world.registers) (word_at world.memory (corb + 4 * rings.submitted)) (drop from world.commands)
-          → Fetching rings.outstanding cleared_part (word_at world.memory (corb + 4 * rings.submitted)) (drop from world.commands)
+      same_fetching : IsFetching rings.outstanding (part_of world.registers) (word_at world.memory (corb + 4 * rings.submitted)) (drop from world.commands)
+          → IsFetching rings.outstanding cleared_part (word_at world.memory (corb + 4 * rings.submitted)) (drop from world.commands)
       same_fetching (inl all) = inl (record { pointers = all.pointers; taken = all.taken })
       same_fetching (inr next) = inr (record { pointers = next.pointers; is = next.is; none = next.none })
 
@@ -209,7 +209,7 @@ module _ (from read corb rirb : ℕ) (rings : RingPlaces) (world : World) (holds
           )
 
       by : (gained : List TakenCommand) → drop from world.commands ≡ gained → CanCome gained address answer
-          → Fetching rings.outstanding (part_of world.registers) (word_at world.memory (corb + 4 * rings.submitted)) (drop from world.commands)
+          → IsFetching rings.outstanding (part_of world.registers) (word_at world.memory (corb + 4 * rings.submitted)) (drop from world.commands)
           → Belongs from rings.outstanding world.codecs world.commands (Some value)
           × StandsBy (length world.commands) (length world.written) corb rirb (record rings { read = place; outstanding = None }) cleared_part world.memory world.codecs world.waiting world.commands world.written
       by [] gained can fetching = absurd can

@@ -20,7 +20,7 @@ use Rattle.command_engine.specs.declared.ring_places.RingPlaces.{RingPlaces}
 use Rattle.command_engine.specs.declared.answers.Outstanding.{Outstanding}
 use Rattle.command_engine.specs.Blocks.{are_apart}
 use Rattle.command_engine.specs.Submitting.{command_place, submit_accesses, rings_submitted}
-use Rattle.command_engine.specs.Fetchings.{RingPart, part_of, AreOf, AllFetched, Fetching, StandsBy, Stands}
+use Rattle.command_engine.specs.Fetchings.{RingPart, part_of, AreOf, AllFetched, IsFetching, StandsBy, Stands}
 use Rattle.command_engine.proofs.Batches.{EachStands, word_stays}
 use Rattle.command_engine.proofs.Keeping.{keeps_standing}
 use Rattle.command_engine.proofs.Holding.{Holding, keeps_holding}
@@ -30,7 +30,7 @@ are_none [] are = refl
 are_none (taken ∷ more) are = absurd are
 
 -- where no codec is asked, none takes a command
-pub none_gained : (part : RingPart) (word : ℕ) (gained : List TakenCommand) → Fetching None part word gained → gained ≡ []
+pub none_gained : (part : RingPart) (word : ℕ) (gained : List TakenCommand) → IsFetching None part word gained → gained ≡ []
 none_gained part word gained (inl all) = are_none gained all.taken
 none_gained part word gained (inr next) = next.none
 
@@ -62,9 +62,9 @@ module _ (from read corb rirb : ℕ) (rings : RingPlaces) (stands : EachStands) 
   place_below = mod-lt (rings.submitted + 1) (some_entries rings.corb)
 
   all_fetched : (world : World) → Stands from read corb rirb rings world → AllFetched None (part_of world.registers) (drop from world.commands)
-  all_fetched world holds = by (subst (λ (outstanding : Option Outstanding). Fetching outstanding (part_of world.registers) (word_at world.memory (corb + 4 * rings.submitted)) (drop from world.commands)) idle holds.fetching)
+  all_fetched world holds = by (subst (λ (outstanding : Option Outstanding). IsFetching outstanding (part_of world.registers) (word_at world.memory (corb + 4 * rings.submitted)) (drop from world.commands)) idle holds.fetching)
     where
-      by : Fetching None (part_of world.registers) (word_at world.memory (corb + 4 * rings.submitted)) (drop from world.commands) → AllFetched None (part_of world.registers) (drop from world.commands)
+      by : IsFetching None (part_of world.registers) (word_at world.memory (corb + 4 * rings.submitted)) (drop from world.commands) → AllFetched None (part_of world.registers) (drop from world.commands)
       by (inl all) = all
       by (inr next) = absurd next.is
 
@@ -92,7 +92,7 @@ module _ (from read corb rirb : ℕ) (rings : RingPlaces) (stands : EachStands) 
             (rw long (beside_entry corb rirb at_entry (rirb + 8 * ((rings.read + (index + 1)) % entries_of rings.rirb) + byte) blocks.apart (omega arith) (omega arith) (omega arith) (omega arith)))
             ∙ holds.standing index response byte is small;
         from_within = holds.from_within;
-        fetching = let all = all_fetched world holds in subst (λ (outstanding : Option Outstanding). Fetching outstanding (part_of world.registers) (word_at (stored world.memory at_entry (little_bytes 4 command.word)) (corb + 4 * rings.submitted)) (drop from world.commands)) (sym idle) (inl all);
+        fetching = let all = all_fetched world holds in subst (λ (outstanding : Option Outstanding). IsFetching outstanding (part_of world.registers) (word_at (stored world.memory at_entry (little_bytes 4 command.word)) (corb + 4 * rings.submitted)) (drop from world.commands)) (sym idle) (inl all);
         taken_by = holds.taken_by;
         on_its_way = holds.on_its_way;
       }

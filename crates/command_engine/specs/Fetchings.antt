@@ -117,8 +117,8 @@ pub record IsNext (outstanding : Option Outstanding) (part : RingPart) (word : �
     pub is : IsWordOf outstanding word
     pub none : gained ≡ []
 
-abbrev pub Fetching : Option Outstanding → RingPart → ℕ → List TakenCommand → Type 0
-Fetching outstanding part word gained = AllFetched outstanding part gained ⊎ IsNext outstanding part word gained
+abbrev pub IsFetching : Option Outstanding → RingPart → ℕ → List TakenCommand → Type 0
+IsFetching outstanding part word gained = AllFetched outstanding part gained ⊎ IsNext outstanding part word gained
 
 -- ---- what comes of it
 
@@ -181,7 +181,7 @@ pub record StandsBy (from read corb rirb : ℕ) (rings : RingPlaces) (part : Rin
   pub pointer : part.rirb_write_pointer ≡ (rings.read + (length written - read)) % entries_of rings.rirb
   pub standing : AreStanding rirb (entries_of rings.rirb) rings.read memory (drop read written)
   pub from_within : from ≤ length commands
-  pub fetching : Fetching rings.outstanding part (word_at memory (corb + COMMAND_BYTES * rings.submitted))
+  pub fetching : IsFetching rings.outstanding part (word_at memory (corb + COMMAND_BYTES * rings.submitted))
       (drop from commands)
   pub taken_by : AreOfCodecs codecs (drop from commands)
   pub on_its_way : IsOnItsWay (drop from commands) (drop read written) waiting codecs

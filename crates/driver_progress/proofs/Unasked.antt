@@ -8,7 +8,7 @@ use Rattle.world_rings.specs.declared.entries.TheConstants.{COMMAND_BYTES}
 use Rattle.hda_world.specs.Worlds.{World}
 use Rattle.command_engine.specs.declared.ring_places.RingPlaces.{RingPlaces}
 use Rattle.command_engine.specs.declared.answers.Outstanding.{Outstanding}
-use Rattle.command_engine.specs.Fetchings.{part_of, Fetching, solicited, Stands}
+use Rattle.command_engine.specs.Fetchings.{part_of, IsFetching, solicited, Stands}
 use Rattle.command_engine.specs.Entries.{answers_it, is_from}
 use Rattle.command_engine.proofs.Callers.{none_gained}
 use Rattle.driver_progress.specs.Answers.{has_answer, AnswersAgree}
@@ -33,7 +33,7 @@ none_answers asked (response ∷ responses) none = first_none asked response res
 pub unread_none : (from read corb rirb : ℕ) (rings : RingPlaces) (world : World) (asked : Option ℕ) → Stands from read corb rirb rings world → rings.outstanding ≡ None
     → has_answer asked (drop read world.written) ≡ false
 unread_none from read corb rirb rings world asked stands free =
-    let gained = none_gained (part_of world.registers) (word_at world.memory (corb + COMMAND_BYTES * rings.submitted)) (drop from world.commands) (subst (λ (outstanding : Option Outstanding). Fetching outstanding (part_of world.registers) (word_at world.memory (corb + COMMAND_BYTES * rings.submitted)) (drop from world.commands)) free stands.fetching) in
+    let gained = none_gained (part_of world.registers) (word_at world.memory (corb + COMMAND_BYTES * rings.submitted)) (drop from world.commands) (subst (λ (outstanding : Option Outstanding). IsFetching outstanding (part_of world.registers) (word_at world.memory (corb + COMMAND_BYTES * rings.submitted)) (drop from world.commands)) free stands.fetching) in
     let few = stands.on_its_way.few in
     let long : length (drop from world.commands) ≡ 0 = ap length gained in
     none_answers asked (drop read world.written) (omega (arith, few, long))

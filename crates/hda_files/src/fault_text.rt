@@ -33,9 +33,9 @@ impl fmt::Display for Key {
 /// As `MissingKey caps at codec 0 node 1`, or `ListTooLong at 0/0c`: the codec's address and the node identifier.
 impl fmt::Display for FileFault {
     ghost use Rattle.std.specs.Prelude.{Some};
-    ghost use Rattle.hda_files.specs.FaultText.{fault_text};
+    ghost use Rattle.hda_files.specs.FaultText.{file_fault_text};
 
-    ghost output = { λ fault. Some (fault_text fault) };
+    ghost output = { λ fault. Some (file_fault_text fault) };
 
     fn fmt<W: fmt::Write>(&self, f: &mut fmt::Formatter<W>) -> fmt::Result {
         match self {

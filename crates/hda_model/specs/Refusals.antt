@@ -4,7 +4,7 @@ use Rattle.std.specs.Prelude.{Err, Option, Some, None}
 use Rattle.codec_graph.specs.CodecStates.{CodecState}
 use Rattle.world_steps.specs.declared.Step.{Step}
 use Rattle.world_steps.specs.declared.Step.TheVariants as step
-use Rattle.hda_files.specs.FaultText.{fault_text}
+use Rattle.hda_files.specs.FaultText.{file_fault_text}
 use Rattle.hda_files.specs.Machines.{Reads}
 use Rattle.hda_files.specs.declared.fault.FileFault.TheVariants as files
 use Rattle.hda_controller.specs.Controllers.{has_codec}
@@ -19,7 +19,7 @@ use Rattle.hda_model.specs.declared.faults.TheConstants.{MOST_TEXT_BYTES}
 
 abbrev pub open_fault_text : OpenFault → List ℕ
 open_fault_text TooLong = codes "TooLong"
-open_fault_text (File fault) = fault_text fault
+open_fault_text (File fault) = file_fault_text fault
 
 -- the text is too long, or else this is its first fault, or memory was wanting
 abbrev pub IsRefused : List ℕ → OpenFault → Type 0

@@ -18,7 +18,7 @@ use Rattle.codec_walk.specs.Commands.{walk_commands}
 use Rattle.setup_verbs.specs.Roles.{role_of}
 use Rattle.setup_verbs.specs.VerbList.{setup_verbs, to_all}
 use Rattle.laws_start.specs.Tasks.{HavePlans}
-use Rattle.program_runs.specs.Histories.{commands_for}
+use Rattle.program_runs.specs.Histories.{command_total}
 use Rattle.made_inputs.specs.MadeMachine.{made_codec, made_machine}
 use Rattle.made_inputs.specs.MadeSound.{made_format}
 use Rattle.program_runs.proofs.Callers.{candidate_is, outcome_is}
@@ -121,13 +121,13 @@ pins_are (entry ∷ other ∷ entries) plan =
 
 -- ---- so many commands
 
-count_with : (pair : ℕ) → commands_for made_format made_machine (record { pins = entry_with pair ∷ [] } ∷ []) ≡ 44
+count_with : (pair : ℕ) → command_total made_format made_machine (record { pins = entry_with pair ∷ [] } ∷ []) ≡ 44
 unfolding walk_commands role_of setup_verbs to_all
 count_with pair = refl
 
-pub commands_are : (plans : List Plan) → HavePlans made_format made_machine.codecs plans → commands_for made_format made_machine plans ≡ 44
+pub commands_are : (plans : List Plan) → HavePlans made_format made_machine.codecs plans → command_total made_format made_machine plans ≡ 44
 commands_are [] have = absurd have
 commands_are (plan ∷ []) have =
     let pins = pins_are plan.pins have.0 in
-    ap (λ (pins : List PinPlan). commands_for made_format made_machine (record { pins = pins } ∷ [])) pins.1 ∙ count_with pins.0
+    ap (λ (pins : List PinPlan). command_total made_format made_machine (record { pins = pins } ∷ [])) pins.1 ∙ count_with pins.0
 commands_are (plan ∷ other ∷ plans) have = absurd have.1

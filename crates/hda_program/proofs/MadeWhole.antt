@@ -18,7 +18,7 @@ use Rattle.period_writer.specs.Runs.{measures}
 use Rattle.laws_start.specs.Reading.{IsWhole}
 use Rattle.laws_start.specs.Tasks.{HavePlans}
 use Rattle.sound_report.specs.declared.played.Played.{Played}
-use Rattle.program_runs.specs.Histories.{commands_for}
+use Rattle.program_runs.specs.Histories.{command_total}
 use Rattle.program_runs.specs.Shapes.{HasShape}
 use Rattle.program_runs.specs.Plays.{IsPlayed}
 use Rattle.laws_serving.specs.Rounds.{Round}
@@ -81,10 +81,10 @@ module _ (number : ℕ) (played : Played) (is : IsMadeRun number played) where
       let base = plays_in_turns 12288 number count (omega arith) in
       let one = subst (λ (schedule : Schedule). PlaysInTurns 44 12288 4 192 lengths (all_rounds schedule).rounds) (sym is.made.is) base in
       let two = subst (λ (commands : ℕ). PlaysInTurns commands 12288 4 192 lengths (all_rounds is.schedule).rounds) (sym (commands_are is.plans is.planned)) one in
-      let three = subst (λ (ring : ℕ). PlaysInTurns (commands_for made_format made_machine is.plans) ring 4 192 lengths (all_rounds is.schedule).rounds) (sym (ring_is is.geometry is.ring)) two in
-      subst (λ (block : ℕ). PlaysInTurns (commands_for made_format made_machine is.plans) (measures is.geometry).ring block 192 lengths (all_rounds is.schedule).rounds) (sym (block_is is.geometry is.ring)) three
+      let three = subst (λ (ring : ℕ). PlaysInTurns (command_total made_format made_machine is.plans) ring 4 192 lengths (all_rounds is.schedule).rounds) (sym (ring_is is.geometry is.ring)) two in
+      subst (λ (block : ℕ). PlaysInTurns (command_total made_format made_machine is.plans) (measures is.geometry).ring block 192 lengths (all_rounds is.schedule).rounds) (sym (block_is is.geometry is.ring)) three
 
-  commands_served : ServesCommands (0 ∷ []) (commands_for made_format made_machine is.plans) (all_rounds is.schedule)
+  commands_served : ServesCommands (0 ∷ []) (command_total made_format made_machine is.plans) (all_rounds is.schedule)
   commands_served =
       subst (λ (commands : ℕ). ServesCommands (0 ∷ []) commands (all_rounds is.schedule)) (sym (commands_are is.plans is.planned))
       (subst (λ (schedule : Schedule). ServesCommands (0 ∷ []) 44 (all_rounds schedule)) (sym is.made.is) (serves number count))
@@ -92,7 +92,7 @@ module _ (number : ℕ) (played : Played) (is : IsMadeRun number played) where
   all_serves : InTimeLaw → ServesPlay made_format made_machine is.plans is.geometry is.schedule
   all_serves law = record {
     commands = commands_served;
-    sound = law (commands_for made_format made_machine is.plans) (measures is.geometry).ring (measures is.geometry).block 192 (measures is.geometry).limit (measures is.geometry).slack lengths (all_rounds is.schedule).rounds in_turns
+    sound = law (command_total made_format made_machine is.plans) (measures is.geometry).ring (measures is.geometry).block 192 (measures is.geometry).limit (measures is.geometry).slack lengths (all_rounds is.schedule).rounds in_turns
         (within (measures is.geometry).limit (limit_is is.geometry is.ring) lengths (all_short number count));
   }
 

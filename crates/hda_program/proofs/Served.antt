@@ -30,7 +30,7 @@ use Rattle.sound_report.specs.Statuses.{number_of}
 use Rattle.program_runs.specs.Shapes.{HasShape}
 use Rattle.program_runs.specs.Walks.{walk_format, IsWalked}
 use Rattle.program_runs.specs.Plays.{IsCutUnder, IsPlayed, IsReadUpTo, sound_with}
-use Rattle.program_runs.specs.Histories.{commands_for, journal_of, telling_of_run}
+use Rattle.program_runs.specs.Histories.{command_total, journal_of, telling_of_run}
 use Rattle.laws_serving.specs.ServingSchedules.{ServesSound}
 use Rattle.program_runs.specs.Served.{all_rounds, line_count, ServesBringUp, ServesPlay, ServedWalkEnds, ServedPlayEnds, IsFedWhole, PlaysAll}
 use Rattle.hda_program.specs.Answers.{HasEnded, HasEndedPlay, HasWritten}
@@ -97,19 +97,19 @@ one_measure periods period fifo format one other h k = measured periods period f
 abbrev pub WalkLaw : Type 0
 WalkLaw =
     (machine : Machine) (plans : List Plan) (schedule : Schedule) (played : Played) → IsSound machine → IsRead machine → HavePlans walk_format machine.codecs plans → IsLimited schedule → ServesBringUp walk_format machine plans schedule
-    → IsWalked machine plans schedule played → ServedWalkEnds (commands_for walk_format machine plans) (line_count schedule) played.fault
+    → IsWalked machine plans schedule played → ServedWalkEnds (command_total walk_format machine plans) (line_count schedule) played.fault
 
 abbrev pub PlayLaw : Type 0
 PlayLaw =
     (machine : Machine) (plans : List Plan) (wav : Wav) (geometry : Geometry) (schedule : Schedule) (played : Played) → IsSound machine → IsRead machine → HavePlans wav.format machine.codecs plans → IsLimited schedule
     → ServesPlay wav.format machine plans geometry schedule → IsPlayed machine plans wav geometry schedule played
-    → ServedPlayEnds (commands_for wav.format machine plans) (line_count schedule) (block_bytes wav.format) played.total played.runs played.silences played.fault
+    → ServedPlayEnds (command_total wav.format machine plans) (line_count schedule) (block_bytes wav.format) played.total played.runs played.silences played.fault
 
 abbrev pub WholeLaw : Type 0
 WholeLaw =
     (machine : Machine) (plans : List Plan) (wav : Wav) (geometry : Geometry) (schedule : Schedule) (played : Played) (frames : ℕ) → IsSound machine → IsRead machine → HavePlans wav.format machine.codecs plans → IsLimited schedule
     → ServesPlay wav.format machine plans geometry schedule → IsPlayed machine plans wav geometry schedule played → length wav.pcm ≡ frames * block_bytes geometry.format
-    → IsFedWhole (commands_for wav.format machine plans) (measures geometry).ring (length wav.pcm) (all_rounds schedule) (telling_of_run machine played).start (journal_of played) → PlaysAll (length wav.pcm) played.silences played.fault
+    → IsFedWhole (command_total wav.format machine plans) (measures geometry).ring (length wav.pcm) (all_rounds schedule) (telling_of_run machine played).start (journal_of played) → PlaysAll (length wav.pcm) played.silences played.fault
 
 -- ---- the run that is given
 
@@ -146,8 +146,8 @@ module _ (told : Option Files) (failed : List ℕ → Type 0) where
   abbrev SoundsSo : Geometry → Played → Machine → List Plan → Format → ℕ → Schedule → Type 0
   SoundsSo geometry played machine plans format frames schedule =
       ServesPlay format machine plans geometry schedule
-      → ServedPlayEnds (commands_for format machine plans) (line_count schedule) (block_bytes format) frames played.runs played.silences played.fault
-      × (IsFedWhole (commands_for format machine plans) (measures geometry).ring (frames * block_bytes format) (all_rounds schedule) (telling_of_run machine played).start (journal_of played)
+      → ServedPlayEnds (command_total format machine plans) (line_count schedule) (block_bytes format) frames played.runs played.silences played.fault
+      × (IsFedWhole (command_total format machine plans) (measures geometry).ring (frames * block_bytes format) (all_rounds schedule) (telling_of_run machine played).start (journal_of played)
       → PlaysAll (frames * block_bytes format) played.silences played.fault)
 
   sounds_so : (law : PlayLaw) (whole_law : WholeLaw) (files : Files) (emptied : List ℕ → Type 0) (gave : ℕ → Type 0) (codec wav name : List ℕ) (periods period : ℕ) (played : Played) (geometry : Geometry)
@@ -157,7 +157,7 @@ module _ (told : Option Files) (failed : List ℕ → Type 0) where
       let from = run.run in
       let sounded = from.run in
       let same : measures geometry ≡ measures run.geometry = one_measure periods period run.machine.fifo run.head.format geometry run.geometry shape run.ring in
-      let commands = commands_for run.head.format run.machine run.plans in
+      let commands = command_total run.head.format run.machine run.plans in
       let serves' : ServesPlay run.head.format run.machine run.plans run.geometry run.schedule = record {
         commands = serves.commands;
         sound = subst (λ (m : Measures). ServesSound commands m.limit m.slack (all_rounds run.schedule).rounds) same serves.sound;

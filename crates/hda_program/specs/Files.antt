@@ -103,7 +103,7 @@ pub record IsCodecFault (bytes text : List ℕ) : Type 0 where
   pub fault : FileFault
   pub known : fault ≢ OutOfMemory
   pub reads : Reads bytes (Err fault)
-  pub says : text ≡ codec_words.fault_text fault
+  pub says : text ≡ codec_words.file_fault_text fault
 
 abbrev pub IsCodecRefused : Option Files → (name text : List ℕ) → Type 0
 IsCodecRefused told name text = IsRefused most_codec_bytes IsCodecFault told name text
@@ -162,7 +162,7 @@ pub record IsWavFault (told : Option Files) (name text : List ℕ) : Type 0 wher
   pub fault : WavFault
   pub known : fault ≢ wav.OutOfMemory
   pub file : IsFaultTold told name fault
-  pub says : text ≡ wav_words.fault_text fault
+  pub says : text ≡ wav_words.wav_fault_text fault
 
 -- a WAV file is refused: it is too long, or has a fault before its sound; the text says which
 abbrev pub IsWavRefused : Option Files → (name text : List ℕ) → Type 0
@@ -193,7 +193,7 @@ pub record IsScheduleOf (told : Option Files) (name : List ℕ) (schedule : Sche
 pub record IsScheduleFault (bytes text : List ℕ) : Type 0 where
   pub fault : SchedFault
   pub reads : schedule_of bytes ≡ Err fault
-  pub says : text ≡ schedule_words.fault_text fault
+  pub says : text ≡ schedule_words.schedule_fault_text fault
 
 abbrev pub IsScheduleRefused : Option Files → (name text : List ℕ) → Type 0
 IsScheduleRefused told name text = IsRefused most_schedule_bytes IsScheduleFault told name text

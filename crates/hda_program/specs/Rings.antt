@@ -8,7 +8,7 @@ use Rattle.wav_reader.specs.declared.opened.WavHead.{WavHead}
 use Rattle.sound_report.specs.declared.status.Status.TheVariants.{GeometryRefused}
 use Rattle.program_runs.specs.Shapes.{HasShape}
 use Rattle.hda_program.specs.Meanings.{Meant, telling}
-use Rattle.period_writer.specs.FaultText.{fault_text}
+use Rattle.period_writer.specs.FaultText.{ring_fault_text}
 use Rattle.hda_program.specs.Text.{geometry_refused_line}
 
 -- the ring has the numbers of the words, and is for the machine's FIFO and the sound's format
@@ -23,4 +23,4 @@ IsBadRing periods period machine head fault = fault_of periods period machine.fi
 abbrev pub RingStops : (periods period : ℕ) → Machine → WavHead → Meant → Type 0
 RingStops periods period machine head meant =
     (fault : GeometryFault) × IsBadRing periods period machine head fault
-    × (meant ≡ telling GeometryRefused (geometry_refused_line (fault_text fault)))
+    × (meant ≡ telling GeometryRefused (geometry_refused_line (ring_fault_text fault)))

@@ -11,7 +11,7 @@ use Rattle.sound_report.specs.declared.played.Played.{Played}
 use Rattle.sound_report.specs.declared.status.Status.TheVariants.{OutOfMemory}
 use Rattle.sound_report.specs.Statuses.{number_of}
 use Rattle.program_runs.specs.Walks.{walk_format}
-use Rattle.program_runs.specs.Histories.{commands_for, journal_of, telling_of_run}
+use Rattle.program_runs.specs.Histories.{command_total, journal_of, telling_of_run}
 use Rattle.program_runs.specs.Served.{all_rounds, line_count, ServedWalkEnds, ServedPlayEnds, IsFedWhole, PlaysAll}
 use Rattle.hda_program.specs.Meanings.{fault_status}
 
@@ -24,12 +24,12 @@ pub record EndsSo (Ends : Played → Type 0) (given : Option Played) (status : �
 -- so a walk ends over a machine whose codecs have these plans, by the driver lines of a schedule
 abbrev pub WalksSo : Machine → List Plan → Schedule → Played → Type 0
 WalksSo machine plans schedule played =
-    ServedWalkEnds (commands_for walk_format machine plans) (line_count schedule) played.fault
+    ServedWalkEnds (command_total walk_format machine plans) (line_count schedule) played.fault
 
 -- and so the sound that a WAV file says
 abbrev pub PlaysSo : Machine → List Plan → WavHead → Schedule → Played → Type 0
 PlaysSo machine plans head schedule played =
-    ServedPlayEnds (commands_for head.format machine plans) (line_count schedule) (block_bytes head.format) head.frames
+    ServedPlayEnds (command_total head.format machine plans) (line_count schedule) (block_bytes head.format) head.frames
     played.runs played.silences played.fault
 
 -- how many bytes it has
@@ -39,7 +39,7 @@ sound_size head = head.frames * block_bytes head.format
 -- where it is fed through a ring it is played whole
 abbrev pub PlaysWhole : Machine → List Plan → WavHead → Geometry → Schedule → Played → Type 0
 PlaysWhole machine plans head geometry schedule played =
-    IsFedWhole (commands_for head.format machine plans) (measures geometry).ring (sound_size head)
+    IsFedWhole (command_total head.format machine plans) (measures geometry).ring (sound_size head)
     (all_rounds schedule)
     (telling_of_run machine played).start (journal_of played)
     → PlaysAll (sound_size head) played.silences played.fault

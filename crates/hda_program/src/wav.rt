@@ -39,7 +39,7 @@ pub(crate) fn open_wav_file<S: Shelf>(
 /// The WAV file has this fault before its sound.
 fn faulty(alloc: Global, fault: WavFault) -> Result<Message, AllocError>
     ensures { IfOk result (λ message.
-        message_meant message ≡ telling Status.WavRefused (wav_refused_line (wav.fault_text fault))) }
+        message_meant message ≡ telling Status.WavRefused (wav_refused_line (wav.wav_fault_text fault))) }
 {
     let text = fault.to_string(alloc)?;
     wav_refused(alloc, text.as_str())

@@ -72,7 +72,7 @@ fetched_all (Some command) part (last ∷ more) all some = record {
   word_is = all.taken.0;
 }
 
-was_fetched : (outstanding : Option Outstanding) (part : RingPart) (word : ℕ) (gained : List TakenCommand) → engine.Fetching outstanding part word gained → (gained ≡ [] → ⊥) → WasFetched outstanding part gained
+was_fetched : (outstanding : Option Outstanding) (part : RingPart) (word : ℕ) (gained : List TakenCommand) → engine.IsFetching outstanding part word gained → (gained ≡ [] → ⊥) → WasFetched outstanding part gained
 was_fetched outstanding part word gained (inl all) some = fetched_all outstanding part gained all some
 was_fetched outstanding part word gained (inr next) some = absurd (some next.none)
 

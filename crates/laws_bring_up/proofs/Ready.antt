@@ -20,7 +20,7 @@ use Rattle.world_rings.specs.declared.entries.TheConstants.{COMMAND_BYTES}
 use Rattle.world_rings.specs.Memory.{word_at}
 use Rattle.hda_world.specs.Worlds.{World, TakenCommand, codec_at}
 use Rattle.command_engine.specs.declared.answers.Outstanding.{Outstanding}
-use Rattle.command_engine.specs.Fetchings.{RingPart, part_of, Fetching, IsWordOf, AscendFrom, graphs_in, graph_at}
+use Rattle.command_engine.specs.Fetchings.{RingPart, part_of, IsFetching, IsWordOf, AscendFrom, graphs_in, graph_at}
 use Rattle.command_engine.proofs.Callers.{graph_there, none_gained}
 use Rattle.driver_agenda.specs.declared.agenda.Agenda.{Agenda}
 use Rattle.driver_agenda.specs.Following.{commands_of, FollowsBy}
@@ -58,7 +58,7 @@ none_left orders sent (Some command) last all =
     let is = last.1 in
     absurd (omega (arith, within, is, all))
 
-nothing_gained : (outstanding : Option Outstanding) (part : RingPart) (word : ℕ) (gained : List TakenCommand) → outstanding ≡ None → Fetching outstanding part word gained → gained ≡ []
+nothing_gained : (outstanding : Option Outstanding) (part : RingPart) (word : ℕ) (gained : List TakenCommand) → outstanding ≡ None → IsFetching outstanding part word gained → gained ≡ []
 nothing_gained None part word gained none trail = none_gained part word gained trail
 nothing_gained (Some command) part word gained none trail = absurd (some_none command none)
   where
@@ -66,7 +66,7 @@ nothing_gained (Some command) part word gained none trail = absurd (some_none co
     some_none command is = cc
 
 -- and all were fetched
-all_fetched : (outstanding : Option Outstanding) (part : RingPart) (word : ℕ) (gained : List TakenCommand) → outstanding ≡ None → Fetching outstanding part word gained → part.corb_read_pointer ≡ part.corb_write_pointer
+all_fetched : (outstanding : Option Outstanding) (part : RingPart) (word : ℕ) (gained : List TakenCommand) → outstanding ≡ None → IsFetching outstanding part word gained → part.corb_read_pointer ≡ part.corb_write_pointer
 all_fetched outstanding part word gained none (inl all) = all.pointers
 all_fetched outstanding part word gained none (inr next) = absurd (subst (λ (outstanding : Option Outstanding). IsWordOf outstanding word) none next.is)
 

@@ -21,7 +21,7 @@ use Rattle.hda_world.specs.Streaming.{HasPosition, HasSent}
 use Rattle.hda_world.specs.Tellings.{Telling}
 use Rattle.hda_world.proofs.Callers.{after-append, access_leaves, steps_after, events_front, events_back}
 use Rattle.command_engine.specs.declared.answers.Outstanding.{Outstanding}
-use Rattle.command_engine.specs.Fetchings.{Fetching as RingFetching, IsWordOf, RingPart}
+use Rattle.command_engine.specs.Fetchings.{IsFetching as RingFetching, IsWordOf, RingPart}
 use Rattle.laws_hearing.specs.Steady.{AreIdle, IsBesideCommands, IsSteadyFrame, LeavesCommands}
 use Rattle.laws_stream.specs.Lives.{HasNotBegun, HasStopped, sets_going, stops}
 use Rattle.period_writer.specs.declared.geometry.Geometry.{Geometry}

@@ -12,7 +12,7 @@ use Rattle.command_engine.specs.declared.ring_places.RingPlaces.{RingPlaces}
 use Rattle.command_engine.specs.declared.answers.Outstanding.{Outstanding}
 use Rattle.command_engine.specs.Belonging.{from_after}
 use Rattle.command_engine.specs.Submitting.{command_place}
-use Rattle.command_engine.specs.Fetchings.{AreOf, RingPart, Fetching, IsWordOf, part_of, solicited, waiting_answers}
+use Rattle.command_engine.specs.Fetchings.{AreOf, RingPart, IsFetching, IsWordOf, part_of, solicited, waiting_answers}
 use Rattle.std.specs.Prelude.{cond, not, ◌&&◌, map}
 use Rattle.std.specs.List.{list_any, find}
 use Rattle.std.proofs.lemmas.List.Sums.{sum_by-cons}
@@ -60,7 +60,7 @@ most_of outstanding [] are = omega arith
 most_of None (taken ∷ more) are = absurd are
 most_of (Some command) (taken ∷ more) are = let none = ap length are.1 in omega (arith, none)
 
-nothing_taken : (outstanding : Option Outstanding) (part : RingPart) (word : ℕ) (gained : List TakenCommand) → outstanding ≡ None → Fetching outstanding part word gained → length gained ≡ 0
+nothing_taken : (outstanding : Option Outstanding) (part : RingPart) (word : ℕ) (gained : List TakenCommand) → outstanding ≡ None → IsFetching outstanding part word gained → length gained ≡ 0
 nothing_taken outstanding part word gained idle (inl all) = none gained (subst (λ (outstanding : Option Outstanding). AreOf outstanding gained) idle all.taken)
   where
     none : (gained : List TakenCommand) → AreOf None gained → length gained ≡ 0
@@ -72,7 +72,7 @@ module _ (from read corb rirb : ℕ) (rings : RingPlaces) where
   taken_most : (world : World) → StandsServed from read corb rirb rings world → taken_since from world ≤ 1
   taken_most world served = by served.stands.fetching
     where
-      by : Fetching rings.outstanding (part_of world.registers) (word_at world.memory (corb + 4 * rings.submitted)) (drop from world.commands) → taken_since from world ≤ 1
+      by : IsFetching rings.outstanding (part_of world.registers) (word_at world.memory (corb + 4 * rings.submitted)) (drop from world.commands) → taken_since from world ≤ 1
       by (inl all) = most_of rings.outstanding (drop from world.commands) all.taken
       by (inr next) = let none = ap length next.none in omega (arith, none)
 
@@ -142,7 +142,7 @@ module _ (from read corb rirb : ℕ) (rings : RingPlaces) where
       word : ℕ
       word = word_at world.memory (corb + 4 * rings.submitted)
 
-      by : Fetching rings.outstanding (part_of world.registers) (word_at world.memory (corb + 4 * rings.submitted)) (drop from world.commands)
+      by : IsFetching rings.outstanding (part_of world.registers) (word_at world.memory (corb + 4 * rings.submitted)) (drop from world.commands)
           → next_place world.registers.global.corb_read_pointer (entries_of world.registers.shape.corb) ≡ command_place rings % 2 ^ 8 % entries_of world.registers.shape.corb
       by (inl all) =
           let has = served.stands.has_rings in

@@ -30,7 +30,7 @@ use Rattle.command_engine.specs.declared.ring_places.RingPlaces.{RingPlaces}
 use Rattle.command_engine.specs.declared.answers.Outstanding.{Outstanding}
 use Rattle.command_engine.specs.Sizes.{half_of}
 use Rattle.command_engine.specs.Entries.{answers_it}
-use Rattle.command_engine.specs.Fetchings.{Fetching, AreOf, ItemCanCome, CodecCanSend, ResponseCanCome, part_of, solicited, waiting_answers}
+use Rattle.command_engine.specs.Fetchings.{IsFetching, AreOf, ItemCanCome, CodecCanSend, ResponseCanCome, part_of, solicited, waiting_answers}
 use Rattle.command_engine.proofs.Callers.{changed_sum}
 use Rattle.laws_serving.specs.ServingDevices.{keeps_answers, ComeInOrder, round_trip, HasItsCodec, HasAnswersAlone, StandsServed, taken_since, unread_answers, IsComing, KeepAnswers}
 use Rattle.laws_serving.proofs.Steps.{ComesNearer, step_kept, served_on, has_after, taken_now, its_codec, fetched_word, count-append, most_solicited}
@@ -79,7 +79,7 @@ module _ (from read corb rirb : ℕ) (rings : RingPlaces) (command : Outstanding
   gained_most : (world : World) → Served world → taken_since from world ≤ 1
   gained_most world served = by served.stands.fetching
     where
-      by : Fetching rings.outstanding (part_of world.registers) (word_at world.memory (corb + 4 * rings.submitted)) (drop from world.commands) → taken_since from world ≤ 1
+      by : IsFetching rings.outstanding (part_of world.registers) (word_at world.memory (corb + 4 * rings.submitted)) (drop from world.commands) → taken_since from world ≤ 1
       by (inl all) = one_gained command (drop from world.commands) (subst (λ (outstanding : Option Outstanding). AreOf outstanding (drop from world.commands)) outstanding all.taken)
       by (inr next) = let none = ap length next.none in omega (arith, none)
 
@@ -132,7 +132,7 @@ module _ (from read corb rirb : ℕ) (rings : RingPlaces) (command : Outstanding
       apart : (world.registers.global.corb_read_pointer == world.registers.global.corb_write_pointer) ≡ false
       apart = let b = apart_by world served next (world.registers.global.corb_read_pointer == world.registers.global.corb_write_pointer) refl in b
 
-      by : Fetching rings.outstanding (part_of world.registers) (word_at world.memory (corb + 4 * rings.submitted)) (drop from world.commands) → 1 ≤ taken_since from (corb_step world)
+      by : IsFetching rings.outstanding (part_of world.registers) (word_at world.memory (corb + 4 * rings.submitted)) (drop from world.commands) → 1 ≤ taken_since from (corb_step world)
       by (inl all) = absurd (not_apart world all.pointers apart)
         where
           not_apart : (world : World) → world.registers.global.corb_read_pointer ≡ world.registers.global.corb_write_pointer → (world.registers.global.corb_read_pointer == world.registers.global.corb_write_pointer) ≡ false → ⊥
@@ -210,7 +210,7 @@ module _ (from read corb rirb : ℕ) (rings : RingPlaces) (command : Outstanding
   gained_are : (world : World) → StandsServed from read corb rirb rings world → AreOf (Some command) (drop from world.commands)
   gained_are world served = by served.stands.fetching
     where
-      by : Fetching rings.outstanding (part_of world.registers) (word_at world.memory (corb + 4 * rings.submitted)) (drop from world.commands) → AreOf (Some command) (drop from world.commands)
+      by : IsFetching rings.outstanding (part_of world.registers) (word_at world.memory (corb + 4 * rings.submitted)) (drop from world.commands) → AreOf (Some command) (drop from world.commands)
       by (inl all) = subst (λ (outstanding : Option Outstanding). AreOf outstanding (drop from world.commands)) outstanding all.taken
       by (inr next) = subst (AreOf (Some command)) (sym next.none) tt
 

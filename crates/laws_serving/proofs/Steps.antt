@@ -23,7 +23,7 @@ use Rattle.std.specs.Option.{is_some}
 use Rattle.world_rings.specs.Memory.{word_at}
 use Rattle.world_rings.proofs.Callers.{shape_responded, batch_none, batch_first}
 use Rattle.command_engine.specs.declared.answers.Outstanding.{Outstanding}
-use Rattle.command_engine.specs.Fetchings.{AscendByAddress, Stands, HasRings, Fetching, IsWordOf, part_of, solicited, waiting_answers}
+use Rattle.command_engine.specs.Fetchings.{AscendByAddress, Stands, HasRings, IsFetching, IsWordOf, part_of, solicited, waiting_answers}
 use Rattle.command_engine.proofs.Callers.{keeps_standing, responses_apart, changed_all, changed_sum}
 use Rattle.laws_serving.specs.ServingDevices.{keeps_answers, HasItsCodec, HasAnswersAlone, ServesBy, Serves, StandsServed, taken_since, unread_answers, IsComing}
 
@@ -176,7 +176,7 @@ module _ (from read corb rirb : ℕ) (rings : RingPlaces) where
         },
       )
     where
-      by : Fetching rings.outstanding (part_of world.registers) (word_at world.memory (corb + 4 * rings.submitted)) (drop from world.commands) → IsComing from world → IsComing from (handed (next_command world.registers world.memory) world)
+      by : IsFetching rings.outstanding (part_of world.registers) (word_at world.memory (corb + 4 * rings.submitted)) (drop from world.commands) → IsComing from world → IsComing from (handed (next_command world.registers world.memory) world)
       by (inl all) coming = absurd (fetch_some world.registers can all.pointers)
       by (inr next) coming =
           let word = next_command world.registers world.memory in

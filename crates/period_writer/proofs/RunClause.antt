@@ -3,7 +3,7 @@ use Rattle.std.proofs.Common.{◌≡◌, ℕ, Bool, true, false, List, [], ◌�
 use Rattle.stream_format.proofs.Callers.{some_block}
 use Rattle.hda_world.specs.Tellings.{Telling, Makes, Between, world_of}
 use Rattle.hda_world.proofs.Callers.{told_map}
-use Rattle.period_writer.specs.Playing.{Plays, Finishes}
+use Rattle.period_writer.specs.Playing.{PlaysRun, Finishes}
 use Rattle.period_writer.specs.Standing.{Ring, size_of}
 use Rattle.period_writer.specs.Outcomes.{HasNotWrapped}
 use Rattle.hda_registers.specs.declared.shapes.Width.TheVariants.{One}
@@ -97,7 +97,7 @@ module _ (ring : Ring) (pcm : List ℕ) (runs : ℕ) (tally : Tally) (facts : Ru
 
 -- so does a run of a writer, wherever its platform tells
 pub run_tells_of : (ring : Ring) (pcm : List ℕ) (runs budget : ℕ) (tally tally' : Tally) (answer : Ran) (left left' : List ℕ) (old new : Option Telling) → IsCourse (size_of ring) runs tally.course
-    → left ≡ drop tally.course.used pcm → Plays ring.geometry ring.periods budget left tally answer tally' left' old new → Between (RunTellsOf ring pcm budget tally answer tally') old new
+    → left ≡ drop tally.course.used pcm → PlaysRun ring.geometry ring.periods budget left tally answer tally' left' old new → Between (RunTellsOf ring pcm budget tally answer tally') old new
 run_tells_of ring pcm runs budget tally tally' answer left left' old new is lent plays =
     let facts = facts_of budget (length left) plays.from plays.lpib plays.to in
     told_map (λ old new made playing small.

@@ -18,7 +18,7 @@ use Rattle.period_writer.specs.Lines.{sound_and_silence}
 use Rattle.period_writer.specs.Places.{line_writes}
 use Rattle.period_writer.specs.Runs.{RunFacts, Tally, Measures, measures, facts_of, run_reach, run_room, run_start, run_sound, whole_blocks, position_from, tally_after, Stretch, taken_up, taken_up_if}
 use Rattle.period_writer.specs.Starting.{reset_accesses, entry_writes, run_accesses}
-use Rattle.period_writer.specs.Playing.{Starts, Plays, TakesTurn, Finishes, run_bytes, run_writes, writes_by, stop_accesses, turn_accesses}
+use Rattle.period_writer.specs.Playing.{Starts, PlaysRun, TakesTurn, Finishes, run_bytes, run_writes, writes_by, stop_accesses, turn_accesses}
 use Rattle.period_writer.proofs.RowsWritten.{writes_first}
 
 pub tally_same : (runs runs' : List Run) (silences silences' : List Span) (course course' : Course) → runs ≡ runs' → silences ≡ silences' → course ≡ course'
@@ -67,7 +67,7 @@ stopped_after geometry periods course facts pcm stop t0 t1 t2 turn ends =
     subst (λ (rest : List Event). Between (Makes (Read WALCLK Four facts.from ∷ Read POSITION Four facts.lpib ∷ rest)) t0 t2) (append_assoc line (Read WALCLK Four facts.to ∷ []) stop) (row_both turn ends)
 
 pub plays_so : {geometry : Geometry} {periods : List ℕ} {budget : ℕ} {pcm pcm' : List ℕ} {tally tally' : Tally} {answer : Ran} {t0 t1 t2 : Option Telling}
-    → TakesTurn geometry periods budget pcm tally answer tally' pcm' t0 t1 → Between (Makes (stop_accesses answer)) t1 t2 → Plays geometry periods budget pcm tally answer tally' pcm' t0 t2
+    → TakesTurn geometry periods budget pcm tally answer tally' pcm' t0 t1 → Between (Makes (stop_accesses answer)) t1 t2 → PlaysRun geometry periods budget pcm tally answer tally' pcm' t0 t2
 plays_so {geometry} {periods} {budget} {pcm} {pcm'} {tally} {tally'} {answer} {t0} {t1} {t2} turn stop = record {
   from = turn.from;
   lpib = turn.lpib;

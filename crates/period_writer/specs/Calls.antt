@@ -3,7 +3,7 @@ use Rattle.std.specs.Prelude.{◌≡◌, ℕ, List, drop, Option}
 use Rattle.hda_world.specs.Tellings.{Telling, Between}
 use Rattle.wav_reader.specs.Supplies.{Supplied, MayGive, EndsWith, sound_before}
 use Rattle.period_writer.specs.declared.course.Ran.{Ran}
-use Rattle.period_writer.specs.Playing.{Starts, Plays, TakesTurn, Finishes}
+use Rattle.period_writer.specs.Playing.{Starts, PlaysRun, TakesTurn, Finishes}
 use Rattle.period_writer.specs.Outcomes.{StartTellsOf, RunTellsOf, FinishTellsOf}
 use Rattle.period_writer.specs.Writers.{WriterState, tally_of, periods_of, ring_of}
 
@@ -36,7 +36,7 @@ abbrev pub PlaysAny : (budget : ℕ) → (old new : WriterState) → (supply sup
     → (before after : Option Telling) → Type 0
 PlaysAny budget old new supply supply' ran before after =
     (later : List ℕ) → MayGive supply' later → EndsWith supply (sound_before supply supply' later)
-    → Plays old.geometry (periods_of old) budget (sound_before supply supply' later) (tally_of old) ran (tally_of new)
+    → PlaysRun old.geometry (periods_of old) budget (sound_before supply supply' later) (tally_of old) ran (tally_of new)
     later before after
 
 -- and where the platform tells

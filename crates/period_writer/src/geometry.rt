@@ -24,9 +24,9 @@ pub enum GeometryFault {
 
 impl fmt::Display for GeometryFault {
     ghost use Rattle.std.specs.Prelude.{Some};
-    ghost use Rattle.period_writer.specs.FaultText.{fault_text};
+    ghost use Rattle.period_writer.specs.FaultText.{ring_fault_text};
 
-    ghost output = { λ fault. Some (fault_text fault) };
+    ghost output = { λ fault. Some (ring_fault_text fault) };
 
     fn fmt<W: fmt::Write>(&self, f: &mut fmt::Formatter<W>) -> fmt::Result {
         f.write_str(match self {

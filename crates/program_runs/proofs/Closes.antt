@@ -18,7 +18,7 @@ use Rattle.hda_world.proofs.Callers.{went_both}
 use Rattle.driver_bring_up.specs.Counted.{IsCount}
 use Rattle.driver_bring_up.specs.Jacks.{IsOfPin, Counts}
 use Rattle.driver_bring_up.specs.declared.bringing.BringUp.{BringUp}
-use Rattle.route_setup.specs.Means.{Meaning}
+use Rattle.route_setup.specs.Means.{StreamMeaning}
 use Rattle.period_writer.specs.declared.geometry.Geometry.{Geometry}
 use Rattle.period_writer.specs.Writers.{WriterState}
 use Rattle.period_writer.specs.Runs.{measures}
@@ -83,7 +83,7 @@ record Made (old ended : BringUp) (before after : Telling) : Type 0 where
   pub by : MakesBy made before after
   pub counted : (told : List told.Event) → IsCount told old.jacks → IsCount (with_told told (entries_in made)) ended.jacks
 
-module _ (means : Meaning) (format : Format) (play : Bool) where
+module _ (means : StreamMeaning) (format : Format) (play : Bool) where
   made_by : (old : Parts) (closed : Closed) (before after : Telling) → (closes : of_driver.Closes (means format TAG) play old.bring_up old.writer old.supply closed (Some before) (Some after))
       → Made old.bring_up closes.ended before after
   made_by old closed before after closes = by (plays_now play old.bring_up) refl where
@@ -161,7 +161,7 @@ module _ (means : Meaning) (format : Format) (play : Bool) where
   }
 
 -- so for a rig, where what the setter means, the format, whether it plays and the ring stayed, while so many bytes of the sound were read
-pub driven_by : (means means' : Meaning) (format : Format) (play play' : Bool) (schedule : Schedule) (old middle : Stand) (closed : Closed) (read : ℕ) (after : Rig)
+pub driven_by : (means means' : StreamMeaning) (format : Format) (play play' : Bool) (schedule : Schedule) (old middle : Stand) (closed : Closed) (read : ℕ) (after : Rig)
     → means' ≡ means → format ≡ old.player.bring_up.agenda.format → play' ≡ play → middle.player.writer.geometry ≡ old.player.writer.geometry → read ≡ middle.player.supply.taken + length middle.player.supply.held
     → Ran means format play (items_of schedule) old middle
     → ((sound : List ℕ) → MayGive middle.player.supply sound → EndsWith middle.player.supply sound → IsClosed means' middle.player.bring_up.agenda.format play' (sounded middle.player sound) closed (telling_of middle.rig) (telling_of after))
@@ -179,6 +179,6 @@ driven_by means means' format play play' schedule old middle closed read after s
 } where
   by : (sound : List ℕ) → MayGive middle.player.supply sound → EndsWith middle.player.supply sound → IsClosed means format play (sounded middle.player sound) closed (telling_of middle.rig) (telling_of after)
   by sound may ends =
-      subst (λ (m : Meaning). IsClosed m format play (sounded middle.player sound) closed (telling_of middle.rig) (telling_of after)) same
+      subst (λ (m : StreamMeaning). IsClosed m format play (sounded middle.player sound) closed (telling_of middle.rig) (telling_of after)) same
       (subst (λ (f : Format). IsClosed means' f play (sounded middle.player sound) closed (telling_of middle.rig) (telling_of after)) (ran.format_is ∙ sym is)
       (subst (λ (p : Bool). IsClosed means' middle.player.bring_up.agenda.format p (sounded middle.player sound) closed (telling_of middle.rig) (telling_of after)) plays (closes sound may ends)))

@@ -19,7 +19,7 @@ use Rattle.driver_progress.specs.Tasks.{Task, DriverLine}
 use Rattle.driver_bring_up.specs.Commanding.{entries_in, with_told}
 use Rattle.driver_bring_up.specs.Counted.{IsCount}
 use Rattle.driver_bring_up.specs.declared.bringing.BringUp.{BringUp}
-use Rattle.route_setup.specs.Means.{Meaning}
+use Rattle.route_setup.specs.Means.{StreamMeaning}
 use Rattle.audio_driver.specs.States.{plays_now}
 use Rattle.rig.specs.Follows.{FollowItems}
 use Rattle.rig.specs.Stretches.{IsStretchFrom}
@@ -36,7 +36,7 @@ pub lines_both : (first second : List Item) → lines_in (first ++ second) ≡ l
 lines_both first second = ap (map driver_line_of) (filter_map-append driver_line first second) ∙ map-append driver_line_of _ _
 
 -- progress is kept for each task
-abbrev pub Keeps : Meaning → Format → Type 0
+abbrev pub Keeps : StreamMeaning → Format → Type 0
 Keeps means format =
     (verbs : RawCodec → List Command) (graphs : List RawCodec) (task : Task) → IsTaskOfCodecs (means format TAG) verbs graphs task
     → KeepsPlaying (means format TAG) verbs graphs task
@@ -54,7 +54,7 @@ pub record Made (old new : BringUp) (before after : Telling) : Type 0 where
   pub by : MakesBy made before after
   pub counted : (told : List told.Event) → IsCount told old.jacks → IsCount (with_told told (entries_in made)) new.jacks
 
-module _ (means : Meaning) (format : Format) (play : Bool) where
+module _ (means : StreamMeaning) (format : Format) (play : Bool) where
   -- a call makes some, whether it plays or not
   made_by : (irq : Bool) (budget : ℕ) (old new : Parts) (before after : Telling) → Calls (means format TAG) play irq budget old new (Some before) (Some after)
       → Made old.bring_up new.bring_up before after

@@ -26,7 +26,7 @@ use Rattle.driver_progress.specs.Tasks.{Task, DriverLine, order_of}
 use Rattle.driver_progress.specs.Progress.{state_of}
 use Rattle.laws_start.specs.Tasks.{HavePlans, commands_of}
 use Rattle.sound_report.specs.declared.played.Played.{Played}
-use Rattle.program_runs.specs.Histories.{commands_for, journal_of, telling_of_run}
+use Rattle.program_runs.specs.Histories.{command_total, journal_of, telling_of_run}
 use Rattle.program_runs.specs.Plays.{Lived, IsPlayed, end_in_phase, play_fault, played_task}
 use Rattle.laws_serving.specs.Rounds.{rounds_of}
 use Rattle.laws_serving.specs.ServingSchedules.{IsCalmRound, ServesCommands, ServesSound, MayFillTheRing}
@@ -68,7 +68,7 @@ module _ (machine : Machine) (plans : List Plan) (wav : Wav) (geometry : Geometr
   task = played_task machine plans wav geometry is.blocks
 
   abbrev pub commands : ℕ
-  commands = commands_for wav.format machine plans
+  commands = command_total wav.format machine plans
 
   abbrev pub items : List Item
   items = items_of schedule

@@ -15,7 +15,7 @@ use Rattle.period_writer.specs.Writers.{measures_of}
 use Rattle.driver_bring_up.specs.declared.bringing.BringUp.{BringUp}
 use Rattle.std.specs.Prelude.{false, OnOk, IfOk, Result, Ok, Err}
 use Rattle.stream_format.specs.declared.format.Format.{Format}
-use Rattle.route_setup.specs.Means.{Meaning}
+use Rattle.route_setup.specs.Means.{StreamMeaning}
 use Rattle.schedule_reader.specs.declared.schedule.Item.{Item}
 use Rattle.schedule_reader.specs.declared.schedule.Item.TheVariants.{Drive}
 use Rattle.schedule_reader.specs.declared.schedule.DriverLine.{DriverLine as Line}
@@ -54,7 +54,7 @@ took_both first second told told' old middle new same one other =
     still source file tells = subst (λ (told : Option Files). HasFile told source.name source.head file) (sym (same source.name)) tells
 
 -- nothing was run
-pub ran_none : (means : Meaning) (format : Format) (play : Bool) → FollowItems [] [] → (stand : Stand) → (setting_of stand.rig).in_run ≡ false → Ran means format play [] stand stand
+pub ran_none : (means : StreamMeaning) (format : Format) (play : Bool) → FollowItems [] [] → (stand : Stand) → (setting_of stand.rig).in_run ≡ false → Ran means format play [] stand stand
 ran_none means format play none stand between = record {
   gave = [];
   took = took_none stand.shelf stand.player.supply;
@@ -67,7 +67,7 @@ ran_none means format play none stand between = record {
 }
 
 -- some items and then others, where what the setter means, the format and whether it plays stayed
-pub ran_both : (means means' : Meaning) (format : Format) (play play' : Bool) → FollowBoth → (first second : List Item) (old middle new : Stand)
+pub ran_both : (means means' : StreamMeaning) (format : Format) (play play' : Bool) → FollowBoth → (first second : List Item) (old middle new : Stand)
     → means' ≡ means → format ≡ old.player.bring_up.agenda.format → play' ≡ play → Ran means format play first old middle
     → Ran means' middle.player.bring_up.agenda.format play' second middle new → Ran means format play (first ++ second) old new
 ran_both means means' format play play' follow first second old middle new same is plays one other =
@@ -79,7 +79,7 @@ ran_both means means' format play play' follow first second old middle new same 
           (let sound = other.gave ++ later in
           let begun = one.goes sound (other.took.may later may) in
           let next : Goes means format play second (sounded middle.player sound) (sounded new.player later) (telling_of middle.rig) (telling_of new.rig) =
-          subst (λ (m : Meaning). Goes m format play second (sounded middle.player sound) (sounded new.player later) (telling_of middle.rig) (telling_of new.rig)) same
+          subst (λ (m : StreamMeaning). Goes m format play second (sounded middle.player sound) (sounded new.player later) (telling_of middle.rig) (telling_of new.rig)) same
           (subst (λ (f : Format). Goes means' f play second (sounded middle.player sound) (sounded new.player later) (telling_of middle.rig) (telling_of new.rig)) stays
           (subst (λ (p : Bool). Goes means' middle.player.bring_up.agenda.format p second (sounded middle.player sound) (sounded new.player later) (telling_of middle.rig) (telling_of new.rig)) plays (other.goes later may))) in
           subst (λ (all : List ℕ). Goes means format play (first ++ second) (sounded old.player all) (sounded new.player later) (telling_of old.rig) (telling_of new.rig)) (sym (append_assoc one.gave other.gave later))
@@ -114,7 +114,7 @@ if_ok {X} {E} {A} {B} (Ok x) leads holds = leads x holds
 if_ok {X} {E} {A} {B} (Err e) leads holds = tt
 
 -- a driver line that was run after a fill, where the fill left all but the supply
-module _ (means means' : Meaning) (format : Format) (play play' : Bool) (line : Line) (old : Stand) (middle : Player) (shelf : Shelves) (cut : Option Cut) (new : Player) (rig : Rig) where
+module _ (means means' : StreamMeaning) (format : Format) (play play' : Bool) (line : Line) (old : Stand) (middle : Player) (shelf : Shelves) (cut : Option Cut) (new : Player) (rig : Rig) where
   filled_ran : means' ≡ means → format ≡ old.player.bring_up.agenda.format → play' ≡ play → middle.bring_up ≡ old.player.bring_up → middle.writer ≡ old.player.writer
       → RanLine means' middle.bring_up.agenda.format play' line middle new old.rig rig
       → RanLine means format play line (parts_of old.player.bring_up old.player.writer middle.supply) new old.rig rig
@@ -123,7 +123,7 @@ module _ (means means' : Meaning) (format : Format) (play play' : Bool) (line : 
       (subst (λ (w : WriterState). RanLine means old.player.bring_up.agenda.format play line (parts_of old.player.bring_up w middle.supply) new old.rig rig) writer
       (subst (λ (b : BringUp). RanLine means b.agenda.format play line (parts_of b middle.writer middle.supply) new old.rig rig) bring_up
       (subst (λ (p : Bool). RanLine means middle.bring_up.agenda.format p line middle new old.rig rig) plays
-      (subst (λ (m : Meaning). RanLine m middle.bring_up.agenda.format play' line middle new old.rig rig) same ran))))
+      (subst (λ (m : StreamMeaning). RanLine m middle.bring_up.agenda.format play' line middle new old.rig rig) same ran))))
 
   pub ran_filled : means' ≡ means → format ≡ old.player.bring_up.agenda.format → play' ≡ play → middle.bring_up ≡ old.player.bring_up → middle.writer ≡ old.player.writer
       → ((source : Option Source) (first : Shelves) → IsFedFrom source first old → IsFed (measures_of old.player.writer) source first shelf cut middle.supply old.player.writer.course)

@@ -15,7 +15,7 @@ use Rattle.driver_bring_up.specs.declared.answers.TheConstants.{TAG}
 use Rattle.driver_bring_up.specs.Counted.{IsCount}
 use Rattle.driver_bring_up.specs.Jacks.{Counts}
 use Rattle.driver_bring_up.specs.declared.bringing.BringUp.{BringUp}
-use Rattle.route_setup.specs.Means.{Meaning}
+use Rattle.route_setup.specs.Means.{StreamMeaning}
 use Rattle.laws_bring_up.specs.Standing.{IsTaskOfCodecs}
 use Rattle.hda_outside.specs.declared.pieces.Cut.{Cut}
 use Rattle.wav_reader.specs.Supplies.{Source, Supplied, MayGive, EndsWith, IsTaken, sound_before}
@@ -76,20 +76,20 @@ IsFedFrom source first stand =
     IsFed (measures_of player.writer) source first stand.shelf stand.cut player.supply player.writer.course
 
 -- what is to be done for codecs with these graphs, with sound or without
-pub record IsTask (means : Meaning) (format : Format) (play : Bool) (verbs : RawCodec → List Command)
+pub record IsTask (means : StreamMeaning) (format : Format) (play : Bool) (verbs : RawCodec → List Command)
     (graphs : List RawCodec) (task : Task) : Type 0 where
   pub of_codecs : IsTaskOfCodecs (means format TAG) verbs graphs task
   pub plays_is : task.plays ≡ play
 
 -- between two calls of a driver, with these lines left
-abbrev pub UnderWay : Meaning → Format → (RawCodec → List Command) → List RawCodec → Task → (all left : List DriverLine)
+abbrev pub UnderWay : StreamMeaning → Format → (RawCodec → List Command) → List RawCodec → Task → (all left : List DriverLine)
     → Parts → Telling → Type 0
 UnderWay means format verbs graphs task all left parts telling =
     DriverGoesOn (means format TAG) verbs graphs task all left parts telling
 
 -- for each task, a driver with these lines and others left leads on to where the others are left, while the journal is
 -- short
-abbrev pub LeadsOn : Meaning → Format → (play : Bool)
+abbrev pub LeadsOn : StreamMeaning → Format → (play : Bool)
     → (lines : List DriverLine) (old new : Parts) (before after : Telling) → Type 0
 LeadsOn means format play lines old new before after =
     (verbs : RawCodec → List Command) (graphs : List RawCodec) (task : Task) (all left : List DriverLine)
@@ -98,7 +98,7 @@ LeadsOn means format play lines old new before after =
     → UnderWay means format verbs graphs task all left new after
 
 -- these items were run, one after another
-pub record Goes (means : Meaning) (format : Format) (play : Bool) (items : List Item) (old new : Parts)
+pub record Goes (means : StreamMeaning) (format : Format) (play : Bool) (items : List Item) (old new : Parts)
     (before after : Telling) : Type 0 where
   pub events : List Event
   pub went : Went before after events
@@ -112,7 +112,7 @@ pub record Goes (means : Meaning) (format : Format) (play : Bool) (items : List 
   pub silent : play ≡ false → new.writer ≡ old.writer
 
 -- a driver line was run, for which the supply was filled
-pub record RanLine (means : Meaning) (format : Format) (play : Bool) (line : Line) (old new : Player)
+pub record RanLine (means : StreamMeaning) (format : Format) (play : Bool) (line : Line) (old new : Player)
     (before after : Rig)
     : Type 0 where
   pub taken : IsTaken old.supply new.supply
@@ -125,7 +125,7 @@ pub record RanLine (means : Meaning) (format : Format) (play : Bool) (line : Lin
   pub machine : (setting_of after).machine ≡ (setting_of before).machine
 
 -- so a rig went on, from between two runs to between two runs
-pub record Ran (means : Meaning) (format : Format) (play : Bool) (items : List Item) (old new : Stand) : Type 0 where
+pub record Ran (means : StreamMeaning) (format : Format) (play : Bool) (items : List Item) (old new : Stand) : Type 0 where
   pub gave : List ℕ
   pub took : Took gave old.shelf old.player.supply new.player.supply
   -- it went on so over each sound that the supply may yet give at the end, with what was taken before it
@@ -149,7 +149,7 @@ pub record Leaves (play : Bool) (old : Parts) (ended : BringUp) (tally : Tally) 
   pub silent : play ≡ false → tally ≡ tally_in old
 
 -- the last call was made, in a run without steps
-pub record IsClosed (means : Meaning) (format : Format) (play : Bool) (old : Parts) (closed : Closed)
+pub record IsClosed (means : StreamMeaning) (format : Format) (play : Bool) (old : Parts) (closed : Closed)
     (before after : Telling) : Type 0 where
   pub accesses : List Event
   pub are : AreAccesses accesses
@@ -167,7 +167,7 @@ pub record IsClosed (means : Meaning) (format : Format) (play : Bool) (old : Par
   pub leaves : Leaves play old ended tally closed
 
 -- a whole schedule was run, and then the last call was made, with these events, in which the device made no step
-pub record IsDriven (means : Meaning) (format : Format) (play : Bool) (schedule : Schedule) (old : Parts)
+pub record IsDriven (means : StreamMeaning) (format : Format) (play : Bool) (schedule : Schedule) (old : Parts)
     (closed : Closed) (before after : Telling) : Type 0 where
   pub events : List Event
   pub went : Went before after events
@@ -187,7 +187,7 @@ pub record IsDriven (means : Meaning) (format : Format) (play : Bool) (schedule 
 -- a whole schedule was run, and then the last call was made, while so many bytes of the sound were read. The supply
 -- that was left at the last call gives one more sound, or none: over each that ends with it the run is that of what was
 -- taken, and of that sound
-pub record HasDriven (means : Meaning) (format : Format) (play : Bool) (schedule : Schedule) (old : Stand)
+pub record HasDriven (means : StreamMeaning) (format : Format) (play : Bool) (schedule : Schedule) (old : Stand)
     (closed : Closed) (read : ℕ) (shelf : Shelves) (cut : Option Cut) (after : Telling) : Type 0 where
   pub last : Supplied
   pub course : Course

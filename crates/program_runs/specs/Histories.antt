@@ -86,5 +86,5 @@ StaysOpen format machine schedule task telling =
 -- ---- commands
 
 -- the number of commands that it takes to walk over the machine's codecs and to set them up
-abbrev pub commands_for : Format → Machine → List Plan → ℕ
-commands_for format machine plans = length (commands_of format machine.codecs plans)
+abbrev pub command_total : Format → Machine → List Plan → ℕ
+command_total format machine plans = length (commands_of format machine.codecs plans)

@@ -44,7 +44,7 @@ use Rattle.program_runs.specs.FirstFits.{AreFirstFits}
 use Rattle.program_runs.specs.Ends.{play_can_end}
 use Rattle.program_runs.specs.Lines.{lines_of}
 use Rattle.program_runs.specs.Events.{told_in}
-use Rattle.program_runs.specs.Histories.{HasInput, IsHistory, MakesProgress, StaysOpen, commands_for, telling_of_run}
+use Rattle.program_runs.specs.Histories.{HasInput, IsHistory, MakesProgress, StaysOpen, command_total, telling_of_run}
 use Rattle.program_runs.specs.Stretches.{stretches_of}
 use Rattle.program_runs.specs.FrameCounts.{frames_written, frames_below, last_at, written_by}
 use Rattle.program_runs.specs.Hearing.{HasPlayedAll, HearTheirs, WasSilent, lists_heard}
@@ -115,7 +115,7 @@ pub record PlaysTask (machine : Machine) (plans : List Plan) (wav : Wav) (schedu
   pub heard : IsHeard machine plans wav state.tally (world_of telling).carried played.heard
   -- jacks count what was read of RIRB that came unasked
   pub jacks : Counts (told_in telling.journal) played.jacks
-  pub commands : played.commands ≡ commands_for wav.format machine plans
+  pub commands : played.commands ≡ command_total wav.format machine plans
   -- it ended in a phase in which a run can end, and tells why
   pub ends : play_can_end state.phase ≡ true
   pub fault : played.fault ≡ play_fault state.phase state.sent played.commands (block_bytes wav.format) played.total

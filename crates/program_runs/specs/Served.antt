@@ -23,7 +23,7 @@ use Rattle.laws_serving.specs.Coming.{sent_by}
 use Rattle.laws_serving.specs.Feeding.{HasSentBefore, IsUnbroken}
 use Rattle.laws_serving.specs.Turns.{PlaysInTurns, IsNoHole}
 use Rattle.program_runs.specs.FrameCounts.{frames_written, frames_below, last_at}
-use Rattle.program_runs.specs.Histories.{commands_for}
+use Rattle.program_runs.specs.Histories.{command_total}
 
 -- ---- schedules that serve
 
@@ -45,13 +45,13 @@ line_count schedule = length (all_rounds schedule).rounds
 -- it serves the bring-up of a machine whose codecs have these plans for this format
 abbrev pub ServesBringUp : Format → Machine → List Plan → Schedule → Type 0
 ServesBringUp format machine plans schedule =
-    ServesCommands (machine_addresses machine) (commands_for format machine plans) (all_rounds schedule)
+    ServesCommands (machine_addresses machine) (command_total format machine plans) (all_rounds schedule)
 
 -- and a sound of this format through a ring
 pub record ServesPlay (format : Format) (machine : Machine) (plans : List Plan) (geometry : Geometry)
     (schedule : Schedule) : Type 0 where
   pub commands : ServesBringUp format machine plans schedule
-  pub sound : ServesSound (commands_for format machine plans) (measures geometry).limit (measures geometry).slack
+  pub sound : ServesSound (command_total format machine plans) (measures geometry).limit (measures geometry).slack
       (all_rounds schedule).rounds
 
 -- ---- how a walk ends
@@ -93,7 +93,7 @@ pub record PlaysAll (bytes : ℕ) (silences : List Span) (fault : Option PlayFau
 -- a schedule plays in turns of so many link frames each, through a machine whose codecs have these plans, and a ring
 abbrev pub PlaysTurns : Format → Machine → List Plan → Geometry → (lengths : List ℕ) → Schedule → Type 0
 PlaysTurns format machine plans geometry lengths schedule =
-    PlaysInTurns (commands_for format machine plans) (measures geometry).ring (measures geometry).block machine.fifo
+    PlaysInTurns (command_total format machine plans) (measures geometry).ring (measures geometry).block machine.fifo
     lengths (all_rounds schedule).rounds
 
 -- no link frame missed its block

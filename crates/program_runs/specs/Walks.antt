@@ -21,7 +21,7 @@ use Rattle.laws_start.specs.Tasks.{task_of}
 use Rattle.program_runs.specs.FirstFits.{AreFirstFits}
 use Rattle.program_runs.specs.Ends.{walk_can_end}
 use Rattle.program_runs.specs.Shapes.{HasShape}
-use Rattle.program_runs.specs.Histories.{HasInput, IsHistory, MakesProgress, StaysOpen, commands_for, telling_of_run}
+use Rattle.program_runs.specs.Histories.{HasInput, IsHistory, MakesProgress, StaysOpen, command_total, telling_of_run}
 use Rattle.program_runs.specs.Events.{told_in}
 
 -- 48 kHz, 16 bits, 2 channels
@@ -60,7 +60,7 @@ pub record WalksTask (machine : Machine) (plans : List Plan) (schedule : Schedul
   pub opened : StaysOpen walk_format machine schedule task telling
   -- jacks count what was read of RIRB that came unasked
   pub jacks : Counts (told_in telling.journal) played.jacks
-  pub commands : played.commands ≡ commands_for walk_format machine plans
+  pub commands : played.commands ≡ command_total walk_format machine plans
   -- it ended in a phase in which a walk can end, and tells why
   pub ends : walk_can_end state.phase ≡ true
   pub fault : played.fault ≡ walk_fault state.phase state.sent played.commands

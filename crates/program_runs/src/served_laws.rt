@@ -14,7 +14,7 @@ ghost use Rattle.period_writer.specs.Runs.{measures};
 ghost use Rattle.laws_start.specs.Reading.{IsWhole};
 ghost use Rattle.laws_start.specs.Tasks.{HavePlans};
 ghost use Rattle.sound_report.specs.declared.played.Played.{Played};
-ghost use Rattle.program_runs.specs.Histories.{commands_for, journal_of, telling_of_run};
+ghost use Rattle.program_runs.specs.Histories.{command_total, journal_of, telling_of_run};
 ghost use Rattle.program_runs.specs.Walks.{walk_format, IsWalked};
 ghost use Rattle.program_runs.specs.Plays.{IsPlayed};
 ghost use Rattle.program_runs.specs.Served.{all_rounds, line_count, ServesBringUp, ServesPlay};
@@ -34,7 +34,7 @@ pub fn walks_end_so()
     ensures { (machine : Machine) (plans : List Plan) (schedule : Schedule) (played : Played)
         → IsSound machine → IsWhole machine → HavePlans walk_format machine.codecs plans → IsLimited schedule
         → ServesBringUp walk_format machine plans schedule → IsWalked machine plans schedule played
-        → ServedWalkEnds (commands_for walk_format machine plans) (line_count schedule) played.fault }
+        → ServedWalkEnds (command_total walk_format machine plans) (line_count schedule) played.fault }
 {
     served_drivers_come_up();
 }
@@ -47,7 +47,7 @@ pub fn plays_end_so()
         (played : Played)
         → IsSound machine → IsWhole machine → HavePlans wav.format machine.codecs plans → IsLimited schedule
         → ServesPlay wav.format machine plans geometry schedule → IsPlayed machine plans wav geometry schedule played
-        → ServedPlayEnds (commands_for wav.format machine plans) (line_count schedule) (block_bytes wav.format)
+        → ServedPlayEnds (command_total wav.format machine plans) (line_count schedule) (block_bytes wav.format)
         played.total
         played.runs played.silences played.fault }
 {
@@ -62,7 +62,7 @@ pub fn plays_all_so()
         → IsSound machine → IsWhole machine → HavePlans wav.format machine.codecs plans → IsLimited schedule
         → ServesPlay wav.format machine plans geometry schedule → IsPlayed machine plans wav geometry schedule played
         → length wav.pcm ≡ frames * block_bytes geometry.format
-        → IsFedWhole (commands_for wav.format machine plans) (measures geometry).ring (length wav.pcm)
+        → IsFedWhole (command_total wav.format machine plans) (measures geometry).ring (length wav.pcm)
         (all_rounds schedule) (telling_of_run machine played).start (journal_of played)
         → PlaysAll (length wav.pcm) played.silences played.fault }
 {

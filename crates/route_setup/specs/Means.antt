@@ -19,11 +19,11 @@ pub record Means : Type 1 where
   pub IsOpenBy : RawCodec → Entries → Plan → Type 0
 
 -- for each stream
-abbrev pub Meaning : Type 1
-Meaning = Format → (tag : ℕ) → Means
+abbrev pub StreamMeaning : Type 1
+StreamMeaning = Format → (tag : ℕ) → Means
 
 -- of analog outputs
-abbrev pub analog : Meaning
+abbrev pub analog : StreamMeaning
 analog format tag = record {
   IsPlanBy = λ graph plan. IsPlan graph format plan;
   verbs_by = λ graph plan. setup_verbs graph plan format tag;

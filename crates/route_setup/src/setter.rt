@@ -6,7 +6,7 @@ ghost use Rattle.codec_graph.specs.Settings.{Entries, IsSettingsOf};
 ghost use Rattle.stream_format.specs.declared.format.Format.{Format};
 ghost use Rattle.route_planner.specs.declared.routes.Plan.{Plan};
 ghost use Rattle.setup_verbs.specs.SetUp.{IsCommandOf, settings_after};
-ghost use Rattle.route_setup.specs.Means.{Meaning};
+ghost use Rattle.route_setup.specs.Means.{StreamMeaning};
 
 use codec_graph::Graph;
 use route_planner::Plan;
@@ -19,7 +19,7 @@ use verb_codes::Command;
 pub trait Setter {
     /// What it means for a stream format and the stream's tag: which plan is that of a graph, which verbs a graph has
     /// for its plan, and what these are for.
-    ghost means: { Self → Meaning };
+    ghost means: { Self → StreamMeaning };
 
     /// The plan of a graph for a stream format, whatever the stream's tag.
     ///

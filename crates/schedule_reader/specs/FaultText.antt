@@ -4,10 +4,10 @@ use Rattle.schedule_reader.specs.declared.fault.SchedFault.{SchedFault}
 use Rattle.schedule_reader.specs.declared.fault.SchedFault.TheVariants.{Line, Nested, Unclosed, TooManySteps}
 use Rattle.schedule_reader.specs.declared.fault.SchedFault.TheVariants.{TooManyFrames, OutOfMemory}
 
-abbrev pub fault_text : SchedFault → List ℕ
-fault_text (Line number) = codes "Line " ++ decimal number
-fault_text (Nested number) = codes "Nested " ++ decimal number
-fault_text Unclosed = codes "Unclosed"
-fault_text TooManySteps = codes "TooManySteps"
-fault_text TooManyFrames = codes "TooManyFrames"
-fault_text OutOfMemory = codes "out of memory"
+abbrev pub schedule_fault_text : SchedFault → List ℕ
+schedule_fault_text (Line number) = codes "Line " ++ decimal number
+schedule_fault_text (Nested number) = codes "Nested " ++ decimal number
+schedule_fault_text Unclosed = codes "Unclosed"
+schedule_fault_text TooManySteps = codes "TooManySteps"
+schedule_fault_text TooManyFrames = codes "TooManyFrames"
+schedule_fault_text OutOfMemory = codes "out of memory"

@@ -24,9 +24,9 @@ pub enum SchedFault {
 
 impl fmt::Display for SchedFault {
     ghost use Rattle.std.specs.Prelude.{Some};
-    ghost use Rattle.schedule_reader.specs.FaultText.{fault_text};
+    ghost use Rattle.schedule_reader.specs.FaultText.{schedule_fault_text};
 
-    ghost output = { λ fault. Some (fault_text fault) };
+    ghost output = { λ fault. Some (schedule_fault_text fault) };
 
     fn fmt<W: fmt::Write>(&self, f: &mut fmt::Formatter<W>) -> fmt::Result {
         match self {

@@ -4,14 +4,14 @@ use Rattle.wav_reader.specs.declared.fault.WavFault.{WavFault}
 use Rattle.wav_reader.specs.declared.fault.WavFault.TheVariants.{NotRiff, NoFormat, NoData, Truncated, Tag, Channels}
 use Rattle.wav_reader.specs.declared.fault.WavFault.TheVariants.{Rate, Bits, BlockAlign, OutOfMemory}
 
-abbrev pub fault_text : WavFault → List ℕ
-fault_text NotRiff = codes "NotRiff"
-fault_text NoFormat = codes "NoFormat"
-fault_text NoData = codes "NoData"
-fault_text (Truncated length) = codes "Truncated " ++ decimal length
-fault_text (Tag tag) = codes "Tag " ++ decimal tag
-fault_text (Channels channels) = codes "Channels " ++ decimal channels
-fault_text (Rate rate) = codes "Rate " ++ decimal rate
-fault_text (Bits bits) = codes "Bits " ++ decimal bits
-fault_text BlockAlign = codes "BlockAlign"
-fault_text OutOfMemory = codes "out of memory"
+abbrev pub wav_fault_text : WavFault → List ℕ
+wav_fault_text NotRiff = codes "NotRiff"
+wav_fault_text NoFormat = codes "NoFormat"
+wav_fault_text NoData = codes "NoData"
+wav_fault_text (Truncated length) = codes "Truncated " ++ decimal length
+wav_fault_text (Tag tag) = codes "Tag " ++ decimal tag
+wav_fault_text (Channels channels) = codes "Channels " ++ decimal channels
+wav_fault_text (Rate rate) = codes "Rate " ++ decimal rate
+wav_fault_text (Bits bits) = codes "Bits " ++ decimal bits
+wav_fault_text BlockAlign = codes "BlockAlign"
+wav_fault_text OutOfMemory = codes "out of memory"

@@ -34,9 +34,9 @@ pub enum WavFault {
 
 impl fmt::Display for WavFault {
     ghost use Rattle.std.specs.Prelude.{Some};
-    ghost use Rattle.wav_reader.specs.FaultText.{fault_text};
+    ghost use Rattle.wav_reader.specs.FaultText.{wav_fault_text};
 
-    ghost output = { λ fault. Some (fault_text fault) };
+    ghost output = { λ fault. Some (wav_fault_text fault) };
 
     fn fmt<W: fmt::Write>(&self, f: &mut fmt::Formatter<W>) -> fmt::Result {
         match self {

@@ -1,6 +1,6 @@
 use Rattle.std.proofs.Common.{inl, inr, refl}
 use Rattle.std.specs.Prelude.{codes}
-use Rattle.wav_reader.specs.FaultText.{fault_text}
+use Rattle.wav_reader.specs.FaultText.{wav_fault_text}
 use Rattle.hda_program.proofs.ReadLemmas.{fault_told, head_told, longer_told}
 use Rattle.hda_program.proofs.wav.open_wav_file.Goals as goal
 
@@ -21,7 +21,7 @@ returns-in_ok-wav_refused-in-Err-TooLong-clause-read g c =
 pub returns-in_ok-faulty-in-Err-Wav-clause-read : goal.returns-in_ok-faulty-in-Err-Wav-clause-read
 returns-in_ok-faulty-in-Err-Wav-clause-read g c =
     inr (
-      fault_text c.in-Err-Wav.fault,
+      wav_fault_text c.in-Err-Wav.fault,
       inr (record {
         fault = c.in-Err-Wav.fault;
         known = rw c.in-Err-Wav.field-0-is at c.in-Err-Wav.ensures.of_file;

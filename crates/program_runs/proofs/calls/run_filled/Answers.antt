@@ -8,13 +8,13 @@ use Rattle.program_runs.specs.Going.{parts_with}
 use Rattle.program_runs.proofs.Goes.{Keeps, line_goes}
 use Rattle.program_runs.proofs.Ran.{stretched_from}
 use Rattle.program_runs.proofs.calls.run_filled.Goals as goal
-use Rattle.route_setup.specs.Means.{Meaning}
+use Rattle.route_setup.specs.Means.{StreamMeaning}
 
 pub returns-clause-ran : goal.returns-clause-ran
 returns-clause-ran g c =
     let driver = c.args.driver.now in
     let format = driver.bring_up.agenda.format in
-    let means : Meaning = g.T.Setter.means driver.setter in
+    let means : StreamMeaning = g.T.Setter.means driver.setter in
     let keeps : Keeps means format = λ verbs graphs task is. c.drivers_keep_to_progress.ensures driver.setter format verbs graphs task is in
     let now = c.call.new.driver in
     let before = telling_of c.args.rig.now in

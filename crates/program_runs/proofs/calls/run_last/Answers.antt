@@ -6,13 +6,13 @@ use Rattle.program_runs.proofs.Goes.{Keeps}
 use Rattle.program_runs.proofs.Ran.{stretched_from}
 use Rattle.program_runs.proofs.Closes.{run_closes}
 use Rattle.program_runs.proofs.calls.run_last.Goals as goal
-use Rattle.route_setup.specs.Means.{Meaning}
+use Rattle.route_setup.specs.Means.{StreamMeaning}
 
 pub returns-clause-closed : goal.returns-clause-closed
 returns-clause-closed g c sound may ends =
     let driver = c.args.driver in
     let format = driver.bring_up.agenda.format in
-    let means : Meaning = g.T.Setter.means driver.setter in
+    let means : StreamMeaning = g.T.Setter.means driver.setter in
     let keeps : Keeps means format = λ verbs graphs task is. c.drivers_keep_to_progress.ensures driver.setter format verbs graphs task is in
     let before = telling_of c.args.rig.now in
     let after = telling_of c.end.new.self in

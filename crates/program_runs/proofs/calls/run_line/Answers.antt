@@ -5,7 +5,7 @@ use Rattle.period_writer.specs.Writers.{measures_of}
 use Rattle.program_runs.proofs.Feeds.{held_within}
 use Rattle.program_runs.proofs.Ran.{on_ok_both, fed_so, ran_filled}
 use Rattle.program_runs.proofs.calls.run_line.Goals as goal
-use Rattle.route_setup.specs.Means.{Meaning}
+use Rattle.route_setup.specs.Means.{StreamMeaning}
 
 pub returns-clause-ran : goal.returns-clause-ran
 returns-clause-ran g c =
@@ -13,8 +13,8 @@ returns-clause-ran g c =
     let fed = c.feed.new.driver in
     let next = c.run_filled.new.driver in
     let feeds = c.in_ok-feed.ensures in
-    let means : Meaning = g.T.Setter.means driver.setter in
-    let means' : Meaning = g.T.Setter.means fed.setter in
+    let means : StreamMeaning = g.T.Setter.means driver.setter in
+    let means' : StreamMeaning = g.T.Setter.means fed.setter in
     let same : means' ≡ means = ap (λ setter. g.T.Setter.means setter) feeds.setter in
     let shelf = shelves_of (g.S.Shelf.told c.args.shelf.now) (g.S.Shelf.faults c.args.shelf.now) (g.S.Shelf.empties c.args.shelf.now) (g.S.Shelf.given c.args.shelf.now) in
     let shelf' = shelves_of (g.S.Shelf.told c.feed.new.shelf) (g.S.Shelf.faults c.feed.new.shelf) (g.S.Shelf.empties c.feed.new.shelf) (g.S.Shelf.given c.feed.new.shelf) in

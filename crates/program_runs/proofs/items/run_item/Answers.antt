@@ -8,13 +8,13 @@ use Rattle.program_runs.proofs.Goes.{Keeps, step_goes}
 use Rattle.program_runs.specs.Feeding.{shelves_of}
 use Rattle.program_runs.proofs.Ran.{on_ok, took_none}
 use Rattle.program_runs.proofs.items.run_item.Goals as goal
-use Rattle.route_setup.specs.Means.{Meaning}
+use Rattle.route_setup.specs.Means.{StreamMeaning}
 
 pub returns-in-Device-clause-ran : goal.returns-in-Device-clause-ran
 returns-in-Device-clause-ran g c =
     let driver = c.args.driver.now in
     let format = driver.bring_up.agenda.format in
-    let means : Meaning = g.T.Setter.means driver.setter in
+    let means : StreamMeaning = g.T.Setter.means driver.setter in
     let keeps : Keeps means format = λ verbs graphs task is. c.drivers_keep_to_progress.ensures driver.setter format verbs graphs task is in
     let step = c.in-Device.step in
     let shelf = shelves_of (g.S.Shelf.told c.args.shelf.now) (g.S.Shelf.faults c.args.shelf.now) (g.S.Shelf.empties c.args.shelf.now) (g.S.Shelf.given c.args.shelf.now) in

@@ -9,7 +9,7 @@ use Rattle.period_writer.specs.Writers.{measures_of}
 use Rattle.program_runs.proofs.Ran.{ran_none, ran_both, fed_so}
 use Rattle.program_runs.proofs.Counting.{count_more, count_within, one_line}
 use Rattle.program_runs.proofs.items.run_items.Goals as goal
-use Rattle.route_setup.specs.Means.{Meaning}
+use Rattle.route_setup.specs.Means.{StreamMeaning}
 
 pub loop-item-init : goal.loop-item-init
 loop-item-init g c =
@@ -41,9 +41,9 @@ loop-item-preserved g c =
     let i = c.loop-item.item-index in
     let driver = c.args.driver.now in
     let format = driver.bring_up.agenda.format in
-    let means : Meaning = g.T.Setter.means driver.setter in
+    let means : StreamMeaning = g.T.Setter.means driver.setter in
     let now = c.loop-item.driver in
-    let means' : Meaning = g.T.Setter.means now.setter in
+    let means' : StreamMeaning = g.T.Setter.means now.setter in
     let same : means' ≡ means = ap (λ setter. g.T.Setter.means setter) c.loop-item.invariant.setter in
     let item : c.item-item.result ≡ get_or items i c.item-item.result = c.item-item.is in
     let turn : take (i + 1) items ≡ take i items ++ c.item-item.result ∷ [] = take_more items i c.item-item.result c.loop-item-test.true ∙ ap (λ (one : Item). take i items ++ one ∷ []) (sym item) in

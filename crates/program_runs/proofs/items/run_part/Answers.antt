@@ -9,7 +9,7 @@ use Rattle.period_writer.specs.Writers.{measures_of}
 use Rattle.program_runs.proofs.Ran.{ran_none, ran_both, fed_so}
 use Rattle.program_runs.proofs.Counting.{items_times, items_more, count_times, count_both, times_within, part_is}
 use Rattle.program_runs.proofs.items.run_part.Goals as goal
-use Rattle.route_setup.specs.Means.{Meaning}
+use Rattle.route_setup.specs.Means.{StreamMeaning}
 
 pub loop-init : goal.loop-init
 loop-init g c =
@@ -44,8 +44,8 @@ loop-preserved g c =
     let driver = c.args.driver.now in
     let now = c.loop.driver in
     let format = driver.bring_up.agenda.format in
-    let means : Meaning = g.T.Setter.means driver.setter in
-    let means' : Meaning = g.T.Setter.means now.setter in
+    let means : StreamMeaning = g.T.Setter.means driver.setter in
+    let means' : StreamMeaning = g.T.Setter.means now.setter in
     let same : means' ≡ means = ap (λ setter. g.T.Setter.means setter) c.loop.invariant.setter in
     let turn : items_times items (c.loop.counter + 1) ≡ items_times items c.loop.counter ++ c.as_slice.result.now =
     items_more items c.loop.counter ∙ ap (λ (back : List Item). items_times items c.loop.counter ++ back) (sym c.as_slice.ensures) in
@@ -78,7 +78,7 @@ pub returns-clause-ran : goal.returns-clause-ran
 returns-clause-ran g c =
     let items = c.args.part.now.items in
     let driver = c.args.driver.now in
-    let means : Meaning = g.T.Setter.means driver.setter in
+    let means : StreamMeaning = g.T.Setter.means driver.setter in
     let all : c.loop.counter ≡ c.args.part.now.times = omega (arith, c.loop.auto.counter-end, c.loop-test.false) in
     subst (λ (n : ℕ). Ran means driver.bring_up.agenda.format driver.play (items_times items n)
     (stand_of driver.bring_up driver.writer driver.supply (shelves_of (g.S.Shelf.told c.args.shelf.now) (g.S.Shelf.faults c.args.shelf.now) (g.S.Shelf.empties c.args.shelf.now) (g.S.Shelf.given c.args.shelf.now)) c.args.cut.now c.args.rig.now)

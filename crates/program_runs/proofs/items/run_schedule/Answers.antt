@@ -15,7 +15,7 @@ use Rattle.period_writer.specs.Writers.{measures_of}
 use Rattle.program_runs.proofs.Ran.{ran_none, ran_both, fed_so}
 use Rattle.program_runs.proofs.Counting.{part_lines, part_counts, count_both}
 use Rattle.program_runs.proofs.items.run_schedule.Goals as goal
-use Rattle.route_setup.specs.Means.{Meaning}
+use Rattle.route_setup.specs.Means.{StreamMeaning}
 
 pub loop-part-init : goal.loop-part-init
 loop-part-init g c =
@@ -53,8 +53,8 @@ loop-part-preserved g c =
     let driver = c.args.driver.now in
     let now = c.loop-part.driver in
     let format = driver.bring_up.agenda.format in
-    let means : Meaning = g.T.Setter.means driver.setter in
-    let means' : Meaning = g.T.Setter.means now.setter in
+    let means : StreamMeaning = g.T.Setter.means driver.setter in
+    let means' : StreamMeaning = g.T.Setter.means now.setter in
     let same : means' ≡ means = ap (λ setter. g.T.Setter.means setter) c.loop-part.invariant.setter in
     let front = flat_map items_in (take i parts) in
     let turn : flat_map items_in (take (i + 1) parts) ≡ front ++ items_in part =
