@@ -1,5 +1,6 @@
 -- A call while commands are sent leads where progress says.
 use Rattle.std.proofs.Common.{◌≡◌, ◌≢◌, ℕ, List, [], ◌++◌, Bool, true, false, Option, Some, None, refl, sym, ap, subst, ◌∙◌, arith}
+use Rattle.std.proofs.lemmas.Bool.{false≢true}
 use Rattle.std.specs.Prelude.{◌&&◌, not}
 use Rattle.std.specs.Option.{is_some}
 use Rattle.command_engine.specs.declared.ring_places.RingPlaces.{RingPlaces}
@@ -34,9 +35,6 @@ follows_early phase is = refl
 
 -- ---- whether an answer ended it
 
-not_true : false ≡ true → ⊥
-not_true is = cc
-
 -- one that did not leads on
 not_ended : (asking found follows goes : Bool) → asking ≡ true → found ≡ true → (asking && (found && (follows && not goes))) ≡ false → follows ≡ true → goes ≡ true
 not_ended true true true true asks some ended follow = refl
@@ -48,10 +46,10 @@ not_ended false found follows goes asks some ended follow = cc
 -- and one that did does not
 ended_by : (asking found follows goes : Bool) → (asking && (found && (follows && not goes))) ≡ true → (asking ≡ true) × (found ≡ true) × (goes ≡ false)
 ended_by true true true false ended = (refl, refl, refl)
-ended_by true true true true ended = absurd (not_true ended)
-ended_by true true false goes ended = absurd (not_true ended)
-ended_by true false follows goes ended = absurd (not_true ended)
-ended_by false found follows goes ended = absurd (not_true ended)
+ended_by true true true true ended = absurd (false≢true ended)
+ended_by true true false goes ended = absurd (false≢true ended)
+ended_by true false follows goes ended = absurd (false≢true ended)
+ended_by false found follows goes ended = absurd (false≢true ended)
 
 pub is_over : (old : Phase) (found : Bool) (new : Phase) → is_ended old found new ≡ true → (is_asking old ≡ true) × (found ≡ true) × (goes_on new ≡ false)
 is_over old found new ended = ended_by (is_asking old) found (can_follow new) (goes_on new) ended
@@ -67,7 +65,7 @@ given_up (Some command) issued noticed phase early = refl
 
 given_up_goes : (outstanding : Option Outstanding) (issued noticed : ℕ) (phase phase' : Phase) → phase' ≡ unanswered_if outstanding issued noticed phase → goes_on phase' ≡ true → phase' ≡ phase
 given_up_goes None issued noticed phase phase' is goes = is
-given_up_goes (Some command) issued noticed phase phase' is goes = absurd (not_true (sym (ap goes_on is) ∙ goes))
+given_up_goes (Some command) issued noticed phase phase' is goes = absurd (false≢true (sym (ap goes_on is) ∙ goes))
 
 pub led_stays : (poll : Poll) (outstanding : Option Outstanding) (phase phase' : Phase) (old new : Agenda) → phase ≡ phase_of old → LedTo poll outstanding phase old phase' new → goes_on phase' ≡ true → phase' ≡ phase_of new
 led_stays polls.Idle outstanding phase phase' old new at led goes = led.0 ∙ at ∙ ap phase_of (sym led.1)
@@ -82,7 +80,7 @@ led_early polls.Waiting outstanding phase phase' old new asking led = ap is_earl
 led_early (polls.Unanswered issued noticed) outstanding phase phase' old new asking led = ap is_early led.0 ∙ given_up outstanding issued noticed phase (asking_early phase asking)
 
 not_failed : (phase : Phase) → is_asking phase ≡ true → phase ≢ Failed
-not_failed phase asking failed = not_true (sym (ap is_asking failed) ∙ asking)
+not_failed phase asking failed = false≢true (sym (ap is_asking failed) ∙ asking)
 
 given_up_unfailed : (outstanding : Option Outstanding) (issued noticed : ℕ) (phase : Phase) → is_asking phase ≡ true → unanswered_if outstanding issued noticed phase ≢ Failed
 given_up_unfailed None issued noticed phase asking failed = not_failed phase asking failed
@@ -91,7 +89,7 @@ given_up_unfailed (Some command) issued noticed phase asking failed = cc
 -- the phase after a look is none of want of memory
 pub led_unfailed : (poll : Poll) (outstanding : Option Outstanding) (phase phase' : Phase) (old new : Agenda) → is_asking phase ≡ true → LedTo poll outstanding phase old phase' new → phase' ≢ Failed
 led_unfailed polls.Idle outstanding phase phase' old new asking led failed = not_failed phase asking (sym led.0 ∙ failed)
-led_unfailed (polls.Answered word) outstanding phase phase' old new asking led failed = not_true (sym (ap can_follow failed) ∙ led.0)
+led_unfailed (polls.Answered word) outstanding phase phase' old new asking led failed = false≢true (sym (ap can_follow failed) ∙ led.0)
 led_unfailed polls.Waiting outstanding phase phase' old new asking led failed = not_failed phase asking (sym led.0 ∙ failed)
 led_unfailed (polls.Unanswered issued noticed) outstanding phase phase' old new asking led failed = given_up_unfailed outstanding issued noticed phase asking (sym led.0 ∙ failed)
 
@@ -170,7 +168,7 @@ end_with task state clock reads phase' old new free rirb polled of_rirb asking a
 -- ---- where an answer ends it
 
 free_false : (outstanding : Option Outstanding) (found : Option ℕ) (clock : ℕ) (phase' : Phase) → (outstanding ≡ None → found ≡ None) → is_some found ≡ true → goes_on phase' ≡ false → leaves_free (poll_of outstanding found clock) phase' ≡ false
-free_false None found clock phase' none some goes = absurd (not_true (sym (ap (λ (found : Option ℕ). is_some found) (none refl)) ∙ some))
+free_false None found clock phase' none some goes = absurd (false≢true (sym (ap (λ (found : Option ℕ). is_some found) (none refl)) ∙ some))
 free_false (Some command) None clock phase' none some goes = cc
 free_false (Some command) (Some word) clock phase' none some goes = goes
 

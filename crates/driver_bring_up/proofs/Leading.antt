@@ -60,9 +60,6 @@ unread_none (event ∷ made) unread =
 pub answer_none : (rings : RingPlaces) (made : List Event) → entries_in made ≡ [] → answer_in rings made ≡ None
 answer_none rings made none = ap (λ (entries : List (List ℕ)). answer_among (asked_of rings.outstanding) (responses_in entries)) none
 
-pub not_true : false ≡ true → ⊥
-not_true is = cc
-
 not_some : (word : ℕ) → None ≡ Some word → ⊥
 not_some word is = cc
 

@@ -1,5 +1,6 @@
 -- Calls before the first command is sent.
 use Rattle.std.proofs.Common.{◌≡◌, ◌*◌, ◌++◌, ◌∷◌, [], ℕ, List, Bool, true, false, if◌then◌else◌, Option, refl, sym, ap, subst, ◌∙◌, inl, inr, ◌⊎◌}
+use Rattle.std.proofs.lemmas.Bool.{false≢true}
 use Rattle.std.specs.Prelude.{slice_index, not}
 use Rattle.std.specs.Option.{is_some}
 use Rattle.verb_codes.specs.Words.{has_bit, bits_of}
@@ -29,7 +30,7 @@ use Rattle.driver_bring_up.specs.declared.bringing.BringUp.{BringUp}
 use Rattle.driver_bring_up.specs.Told.{found_none, ResetsTo, SettlesTo}
 use Rattle.driver_bring_up.specs.Calls.{LeadsUnread, Leads}
 use Rattle.driver_bring_up.proofs.Asks.{is_over}
-use Rattle.driver_bring_up.proofs.Leading.{not_true, unread_none, answer_none, reads_none, same_found, interrupt_values}
+use Rattle.driver_bring_up.proofs.Leading.{unread_none, answer_none, reads_none, same_found, interrupt_values}
 
 -- one is a call
 pub leads_unread : {means : Means} {old new : BringUp} {before after : Option Telling} → is_asking old.phase ≡ false → LeadsUnread old new before after → Leads means false old new before after
@@ -38,14 +39,14 @@ leads_unread {means} {old} {new} {before} {after} asks leads =
       made = leads.made;
       by = leads.by;
       is = λ task budget of silent ended agrees. same_found (sym (answer_none old.engine.rings leads.made none)) (leads.is task budget of);
-      ended = λ task of ended. absurd (not_true (sym asks ∙ (is_over old.phase (is_some (answer_in old.engine.rings leads.made)) new.phase ended).0));
+      ended = λ task of ended. absurd (false≢true (sym asks ∙ (is_over old.phase (is_some (answer_in old.engine.rings leads.made)) new.phase ended).0));
       unread = λ asking. leads.unread;
       reads = reads_none means leads.made old new none leads.agenda leads.jacks;
       begun = leads.begun;
       resets = leads.resets;
       untaken = leads.untaken;
       settles = leads.settles;
-      stays = λ goes. absurd (not_true (sym leads.still ∙ goes));
+      stays = λ goes. absurd (false≢true (sym leads.still ∙ goes));
     }
 
 -- ---- phases
@@ -63,10 +64,10 @@ pub walks_settles : (phase : Phase) → phase ≡ Settling → phase ≡ Walking
 walks_settles phase settling walking = walking_settles (sym walking ∙ settling)
 
 pub inactive_reset : (phase : Phase) → is_active phase ≡ false → phase ≡ Reset → ⊥
-inactive_reset phase inactive is = not_true (sym inactive ∙ ap is_active is)
+inactive_reset phase inactive is = false≢true (sym inactive ∙ ap is_active is)
 
 pub inactive_settling : (phase : Phase) → is_active phase ≡ false → phase ≡ Settling → ⊥
-inactive_settling phase inactive is = not_true (sym inactive ∙ ap is_active is)
+inactive_settling phase inactive is = false≢true (sym inactive ∙ ap is_active is)
 
 -- ---- interrupts
 
@@ -114,7 +115,7 @@ pub settles_looked : (old : BringUp) (interrupts stream : ℕ) (before after : T
     → SettlesTo true old old (interrupt_accesses interrupts stream) before after
 settles_looked old interrupts stream before after is off makes settling some = record {
   stays = λ none. is;
-  late = λ found settled. absurd (not_true (sym found ∙ none_looked interrupts stream off));
+  late = λ found settled. absurd (false≢true (sym found ∙ none_looked interrupts stream off));
   early = λ still. settling_looked old.engine.corb.address old.engine.rirb.address interrupts stream before after makes settling;
   untaken = λ still. commands_looked old.engine.corb.address old.engine.rirb.address interrupts stream before after makes settling;
   codecs = λ walking. absurd (walks_settles old.phase is walking);
@@ -125,7 +126,7 @@ settles_looked old interrupts stream before after is off makes settling some = r
 resets_on : (made : List Event) (new : BringUp) (corb rirb : ℕ) (after : World) → (IsSettling corb rirb after × (new.phase ≡ Settling)) ⊎ ((found_none false made ≡ true) × CanReset corb rirb after × (new.phase ≡ Reset))
     → IsSettling corb rirb after × (new.phase ≡ Settling)
 resets_on made new corb rirb after (inl settles) = settles
-resets_on made new corb rirb after (inr none) = absurd (not_true none.0)
+resets_on made new corb rirb after (inr none) = absurd (false≢true none.0)
 
 pub resets_after : (new : BringUp) (interrupts stream : ℕ) (made : List Event) (before middle after : Telling) → Makes (interrupt_accesses interrupts stream) before middle → ResetsTo false made new middle after
     → ResetsTo true (interrupt_accesses interrupts stream ++ made) new before after
@@ -139,7 +140,7 @@ settles_after old new interrupts stream made before middle after on makes settle
     let later = settles (settling_looked old.engine.corb.address old.engine.rirb.address interrupts stream before middle makes settling) (λ none. some (sym same ∙ none)) in
     let commands = commands_looked old.engine.corb.address old.engine.rirb.address interrupts stream before middle makes settling in
     let addresses = addresses_of (world_of before).codecs in record {
-      stays = λ none. absurd (not_true (sym (some_found interrupts stream made on) ∙ none));
+      stays = λ none. absurd (false≢true (sym (some_found interrupts stream made on) ∙ none));
       late = λ found settled. later.late refl (ap (λ (clocks : List ℕ). has_settled old.kept (slice_index clocks 0)) (sym (clocks_looked interrupts stream made)) ∙ settled);
       early = later.early;
       untaken = λ still. later.untaken still ∙ commands;

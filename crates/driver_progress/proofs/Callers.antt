@@ -10,6 +10,8 @@ pub use Rattle.driver_progress.proofs.TrailRows.{ConformsTo}
 pub use Rattle.driver_progress.proofs.TrailRows.{trail_went, conforms_went}
 -- over steps and then an event
 pub use Rattle.driver_progress.proofs.TrailRows.{trail_stepped, conforms_stepped}
+-- the records of the ring are those of the journal's stretches
+pub use Rattle.driver_progress.proofs.Recorded.{recorded_is}
 -- over a row of plain accesses
 pub use Rattle.driver_progress.proofs.TrailRows.{trail_row}
 -- phases in which commands are sent, and the one before sound

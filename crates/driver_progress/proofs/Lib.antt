@@ -1,5 +1,6 @@
 pub mod TrailLaws
 pub mod TrailRows
+mod Recorded
 pub mod PhaseCases
 pub mod AccessRows
 pub mod Callers

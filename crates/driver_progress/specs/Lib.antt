@@ -6,6 +6,7 @@ pub mod Phases
 pub mod Expected
 pub mod Next
 pub mod Progress
+pub mod Stretches
 pub mod Noting
 pub mod Worked
 pub mod Resetting

@@ -103,19 +103,17 @@ abbrev pub trail_of : Task → List DriverLine → Telling → Trail
 trail_of task lines telling = trail_after task telling.journal telling.start (trail_opened lines)
 
 -- a stretch that is still open counts as one that ends with the journal
-abbrev pub ended_if : (within : Bool) → Task → Trail → Trail
-ended_if true task trail = ended task trail
-ended_if false task trail = trail
+abbrev pub ended_last : Task → Trail → Trail
+ended_last task trail = if trail.within then ended task trail else trail
 
-abbrev pub FitsIf : (within : Bool) → Task → Trail → Type 0
-FitsIf true task trail = Fits task trail
-FitsIf false task trail = Unit {0}
+abbrev pub FitsLast : Task → Trail → Type 0
+FitsLast task trail = trail.within ≡ true → Fits task trail
 
 abbrev pub state_of : Task → List DriverLine → Telling → State
-state_of task lines telling = (ended_if (trail_of task lines telling).within task (trail_of task lines telling)).state
+state_of task lines telling = (ended_last task (trail_of task lines telling)).state
 
 -- in each stretch just those accesses were made that were to be made; accesses outside of stretches are not looked at,
 -- and two closing stretches are none of a driver's
 pub record IsProgress (task : Task) (lines : List DriverLine) (telling : Telling) : Type 0 where
   pub conforms : Conforms task telling.journal telling.start (trail_opened lines)
-  pub last : FitsIf (trail_of task lines telling).within task (trail_of task lines telling)
+  pub last : FitsLast task (trail_of task lines telling)

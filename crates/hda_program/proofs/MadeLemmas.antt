@@ -1,5 +1,6 @@
 -- How the program ends for words that ask for made inputs.
 use Rattle.std.proofs.Common.{◌≡◌, ◌∙◌, ℕ, List, Bool, true, false, inl, inr, Option, Some, None, refl, sym, ap, subst}
+use Rattle.std.proofs.lemmas.Bool.{false≢true}
 use Rattle.std.specs.Prelude.{IsSome}
 use Rattle.hda_outside.specs.Shelf.{Files}
 use Rattle.program_words.specs.Asked.{Asked, bits_of, hertz, make, play, request_of, route, walk}
@@ -33,9 +34,6 @@ other_words words asked number asks makes = ap is_make (same_asked words asked (
 no_words : (words : List (List ℕ)) (number : ℕ) → request_of words ≡ None → IsMakeOf words number → ⊥
 no_words words number none makes = let bad : None ≡ Some (make number) = sym none ∙ makes in cc
 
-not_true : false ≡ true → ⊥
-not_true is = cc
-
 made_same : (words : List (List ℕ)) (other number : ℕ) (meant : Meant) → IsMakeOf words other → IsMakeOf words number → MakeAnswers other meant → MakeAnswers number meant
 made_same words other number meant asks makes answers = subst (MakeAnswersTo meant) (same_asked words (make other) (make number) asks makes) answers
 
@@ -43,10 +41,10 @@ make_of_words : (told : Option Files) (failed emptied unasked : List ℕ → Typ
     → IsMeant told failed emptied unasked gave words meant → MakeAnswers number meant
 make_of_words told failed emptied unasked gave words number meant makes (inl refused) = absurd (no_words words number refused.0 makes)
 make_of_words told failed emptied unasked gave words number meant makes (inr (inl asked)) =
-    absurd (not_true (other_words words (route asked.0 (hertz asked.1.rate) (bits_of asked.1.bits) asked.1.channels) number asked.2 makes))
-make_of_words told failed emptied unasked gave words number meant makes (inr (inr (inl asked))) = absurd (not_true (other_words words (walk asked.0 asked.1) number asked.2 makes))
+    absurd (false≢true (other_words words (route asked.0 (hertz asked.1.rate) (bits_of asked.1.bits) asked.1.channels) number asked.2 makes))
+make_of_words told failed emptied unasked gave words number meant makes (inr (inr (inl asked))) = absurd (false≢true (other_words words (walk asked.0 asked.1) number asked.2 makes))
 make_of_words told failed emptied unasked gave words number meant makes (inr (inr (inr (inl asked)))) =
-    absurd (not_true (other_words words (play asked.0 asked.1 asked.2 asked.3 asked.4) number asked.5 makes))
+    absurd (false≢true (other_words words (play asked.0 asked.1 asked.2 asked.3 asked.4) number asked.5 makes))
 make_of_words told failed emptied unasked gave words number meant makes (inr (inr (inr (inr asked)))) = made_same words asked.0 number meant asked.1 makes asked.2
 
 -- its status is that of a run that is done

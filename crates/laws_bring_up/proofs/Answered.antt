@@ -1,5 +1,6 @@
 -- Where the answer to the last command is found, all codecs are set up.
 use Rattle.std.proofs.Common.{◌≡◌, ◌+◌, ◌*◌, ◌&&◌, ◌||◌, not, ℕ, Bool, true, false, List, [], ◌∷◌, length, Option, Some, None, refl, sym, ap, subst, ◌∙◌, inl, inr, arith}
+use Rattle.std.proofs.lemmas.Bool.{false≢true}
 use Rattle.std.specs.Prelude.{All, drop}
 use Rattle.std.specs.List.{list_any}
 use Rattle.std.proofs.lemmas.List.{drop_all}
@@ -30,9 +31,6 @@ use Rattle.laws_bring_up.specs.SettingUp.{AreSetUpForGood}
 use Rattle.laws_bring_up.proofs.Noting.{Laws}
 use Rattle.laws_bring_up.proofs.Following.{AgendaLaws, Later, stage_on, taken_one}
 use Rattle.laws_bring_up.proofs.Ready.{SetterLaws, AllTaken, can_be_sent, taken_set_up}
-
-not_true : false ≡ true → ⊥
-not_true is = cc
 
 -- ---- that an answer came
 
@@ -94,7 +92,7 @@ module _ (means : Means) (verbs : RawCodec → List Command) (graphs : List RawC
       ∙ ap (λ (state : State). has_answer (asked_of state.rings.outstanding) (drop trail.written there.written)) (sym state_is)
       ∙ answered in
       let gained = drop a.from there.commands in
-      let some = λ (none : gained ≡ []). not_true (sym (none_answers asked unread (subst (λ (gained : List TakenCommand). All (ResponseCanCome gained) unread) none stands.on_its_way.in_ring)) ∙ has) in
+      let some = λ (none : gained ≡ []). false≢true (sym (none_answers asked unread (subst (λ (gained : List TakenCommand). All (ResponseCanCome gained) unread) none stands.on_its_way.in_ring)) ∙ has) in
       let fetched = was_fetched outstanding (part_of there.registers) (word_at there.memory (old.engine.corb.address + COMMAND_BYTES * old.engine.rings.submitted)) gained stands.fetching some in
       let stage = stage_on means verbs graphs task laws of.is_for of.right.well_formed old.sent outstanding old.agenda a.from begun there a.stands.from_within later (record { last = a.last; follows = a.follows; taken = a.taken }) in
       let last = subst (λ (outstanding : Option Outstanding). IsLastSent task.orders old.sent outstanding) fetched.is a.last in

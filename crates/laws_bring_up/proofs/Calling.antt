@@ -1,5 +1,6 @@
 -- A call while commands are sent keeps to progress, and stands to the world as before.
 use Rattle.std.proofs.Common.{◌≡◌, ◌≤◌, ℕ, Bool, true, false, List, length, Option, Some, None, refl, sym, ap, subst, ◌∙◌, arith, length-append, ◌⊎◌, inl, inr}
+use Rattle.std.proofs.lemmas.Bool.{false≢true}
 use Rattle.std.specs.Prelude.{◌&&◌, not}
 use Rattle.std.specs.Option.{is_some}
 use Rattle.verb_codes.specs.declared.verbs.Command.{Command}
@@ -38,11 +39,8 @@ use Rattle.laws_bring_up.proofs.Following.{AgendaLaws, Later, row_remembers, Sta
 
 -- ---- phases
 
-not_true : false ≡ true → ⊥
-not_true is = cc
-
 pub not_settles : (phase new : Phase) → goes_on phase ≡ true → phase ≡ Settling → new ≡ Walking → ⊥
-not_settles phase new goes is walking = not_true (sym (ap goes_on is) ∙ goes)
+not_settles phase new goes is walking = false≢true (sym (ap goes_on is) ∙ goes)
 
 none_ends : (asks follows : Bool) → (asks && (false && follows)) ≡ false
 none_ends true follows = refl
@@ -81,7 +79,7 @@ module _ (means : Means) (verbs : RawCodec → List Command) (graphs : List RawC
   stands_in Walking written bring_up world goes asking = asking
   stands_in SettingUp written bring_up world goes asking = asking
   stands_in Ready written bring_up world goes asking = asking
-  stands_in phase written bring_up world goes asking = absurd (not_true goes)
+  stands_in phase written bring_up world goes asking = absurd (false≢true goes)
 
   stands_then : (outstanding : Option Outstanding) (clock written : ℕ) (bring_up : BringUp) (world : World) → (goes_on bring_up.phase ≡ true) ⊎ IsGivenUp outstanding clock bring_up.phase → IsAsking means verbs graphs task written bring_up world
       → StandsIn bring_up.phase means verbs graphs task written bring_up world

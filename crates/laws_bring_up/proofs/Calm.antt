@@ -1,5 +1,6 @@
 -- Once all commands were sent a stretch that looks for the last answer, or a later one, submits none.
 use Rattle.std.proofs.Common.{◌≡◌, ◌⊎◌, inl, inr, ◌&&◌, ◌+◌, ◌*◌, ℕ, zero, suc, Bool, true, false, if◌then◌else◌, List, [], ◌∷◌, ◌++◌, length, Option, Some, None, refl, sym, subst, arith}
+use Rattle.std.proofs.lemmas.Bool.{false≢true}
 use Rattle.std.specs.Prelude.{slice_get}
 use Rattle.std.proofs.lemmas.Option.{slice_get_within}
 use Rattle.verb_codes.specs.Words.{has_bit, bits_of}
@@ -95,9 +96,6 @@ interrupted_calm true seen called calm = (tt {0}, by (has_bit seen.interrupts in
 abbrev pub IsLast : Task → State → Type 0
 IsLast task state = (state.phase ≡ Ready) ⊎ ((is_asking state.phase ≡ true) × (state.sent ≡ length task.orders))
 
-not_true : false ≡ true → ⊥
-not_true is = cc
-
 plays_none : (task : Task) (state : State) (budget : ℕ) (seen : Seen) (tally : Tally) → task.plays ≡ false → AreCalm (runs task state budget seen tally Ready)
 plays_none task state budget seen tally silent = subst (λ (plays : Bool). AreCalm (if plays then starts task state budget seen else [])) (sym silent) (tt {0})
 
@@ -109,12 +107,12 @@ asking_calm task state budget seen all =
 runs_calm : (task : Task) (state : State) (budget : ℕ) (seen : Seen) (tally : Tally) (phase : Phase) → is_asking phase ≡ true → state.sent ≡ length task.orders → AreCalm (runs task state budget seen tally phase)
 runs_calm task state budget seen tally Walking asking all = asking_calm task state budget seen all
 runs_calm task state budget seen tally SettingUp asking all = asking_calm task state budget seen all
-runs_calm task state budget seen tally phase asking all = absurd (not_true asking)
+runs_calm task state budget seen tally phase asking all = absurd (false≢true asking)
 
 closes_calm : (task : Task) (state : State) (seen : Seen) (phase : Phase) → is_asking phase ≡ true → AreCalm (closes task state seen phase)
 closes_calm task state seen Walking asking = asks_calm task state seen shuts shuts_calm
 closes_calm task state seen SettingUp asking = asks_calm task state seen shuts shuts_calm
-closes_calm task state seen phase asking = absurd (not_true asking)
+closes_calm task state seen phase asking = absurd (false≢true asking)
 
 -- a stretch of a line plays no sound once all is set up
 abbrev pub IsSilent : Task → State → Option DriverLine → Type 0

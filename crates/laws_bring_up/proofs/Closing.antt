@@ -1,5 +1,6 @@
 -- The last call of a bring-up that is told keeps to progress.
 use Rattle.std.proofs.Common.{◌≡◌, ◌≤◌, ℕ, Bool, true, false, List, [], ◌++◌, length, Option, Some, None, refl, sym, ap, subst, ◌∙◌, arith, append_assoc, length-append, ◌⊎◌, inl, inr, ◌+◌, nat_le, if◌then◌else◌}
+use Rattle.std.proofs.lemmas.Bool.{false≢true}
 use Rattle.std.specs.Option.{is_some}
 use Rattle.verb_codes.specs.declared.verbs.Command.{Command}
 use Rattle.codec_graph.specs.declared.raw.RawCodec.{RawCodec}
@@ -50,9 +51,6 @@ use Rattle.laws_bring_up.proofs.Looking.{look_noted}
 use Rattle.laws_bring_up.proofs.Noting.{Laws, answered_same}
 use Rattle.laws_bring_up.proofs.Following.{AgendaLaws, Later, row_remembers, stage_on, looks_by}
 use Rattle.laws_bring_up.proofs.Calling.{not_over, led_of}
-
-not_true : false ≡ true → ⊥
-not_true is = cc
 
 no_word : (word : ℕ) → None ≡ Some word → ⊥
 no_word word is = cc
@@ -108,9 +106,9 @@ last_noted laws task lines left old new made from read before after opened agree
 -- ---- where it leads
 
 pub closed_still : (task : Task) (state : State) (seen : Seen) (tally : Tally) (phase : Phase) → is_asking phase ≡ false → is_early phase ≡ true → closed task state seen tally phase ≡ state
-closed_still task state seen tally Walking not early = absurd (not_true (sym not))
-closed_still task state seen tally SettingUp not early = absurd (not_true (sym not))
-closed_still task state seen tally Playing not early = absurd (not_true early)
+closed_still task state seen tally Walking not early = absurd (false≢true (sym not))
+closed_still task state seen tally SettingUp not early = absurd (false≢true (sym not))
+closed_still task state seen tally Playing not early = absurd (false≢true early)
 closed_still task state seen tally phase not early = refl
 
 -- to a phase where commands may come, or one was given up
@@ -140,7 +138,7 @@ polled_ends task state clock (Some command) goes = by (nat_le (command.issued + 
 closed_ends : (task : Task) (state : State) (seen : Seen) (tally : Tally) (phase : Phase) → is_asking phase ≡ true → goes_on state.phase ≡ true → EndsIn (closed task state seen tally phase).phase
 closed_ends task state seen tally Walking asking goes = polled_ends task state (clock_of seen) (outstanding_if seen.answered state.rings.outstanding) goes
 closed_ends task state seen tally SettingUp asking goes = polled_ends task state (clock_of seen) (outstanding_if seen.answered state.rings.outstanding) goes
-closed_ends task state seen tally phase asking goes = absurd (not_true asking)
+closed_ends task state seen tally phase asking goes = absurd (false≢true asking)
 
 -- to Ready only where the outstanding command is answered, and all were sent
 pub record IsReadyBy (task : Task) (sent : ℕ) (outstanding : Option Outstanding) : Type 0 where
@@ -153,13 +151,13 @@ polled_ready task state clock (Some command) asking is = absurd (by (nat_le (com
   where
     by : (late : Bool) → (if late then Unanswered command.codec command.word command.issued clock else state.phase) ≡ Ready → ⊥
     by true is = cc
-    by false is = not_true (sym (ap is_asking is) ∙ asking)
+    by false is = false≢true (sym (ap is_asking is) ∙ asking)
 
 pub closed_ready : (task : Task) (state : State) (seen : Seen) (tally : Tally) (phase : Phase) → is_asking phase ≡ true → is_asking state.phase ≡ true → (closed task state seen tally phase).phase ≡ Ready
     → IsReadyBy task state.sent (outstanding_if seen.answered state.rings.outstanding)
 closed_ready task state seen tally Walking asking asks is = polled_ready task state (clock_of seen) (outstanding_if seen.answered state.rings.outstanding) asks is
 closed_ready task state seen tally SettingUp asking asks is = polled_ready task state (clock_of seen) (outstanding_if seen.answered state.rings.outstanding) asks is
-closed_ready task state seen tally phase asking asks is = absurd (not_true asking)
+closed_ready task state seen tally phase asking asks is = absurd (false≢true asking)
 
 -- ---- the call
 
@@ -183,7 +181,7 @@ module _ (means : Means) (verbs : RawCodec → List Command) (graphs : List RawC
       let unread = ends.unread not in
       let none = answer_none old.engine.rings ends.made (unread_none ends.made unread) in
       let stretch = subst (λ (found : Option ℕ). IsStretch task (state_of old) None ends.made (is_some found) (state_of new)) none
-      (ends.is task blocks (not_over old.phase new.phase (answer_in old.engine.rings ends.made) (λ word some. absurd (no_word word (sym none ∙ some)))) (λ asking. absurd (not_true (sym not ∙ asking)))) in
+      (ends.is task blocks (not_over old.phase new.phase (answer_in old.engine.rings ends.made) (λ word some. absurd (no_word word (sym none ∙ some)))) (λ asking. absurd (false≢true (sym not ∙ asking)))) in
       let seen = seen_by (values_of ends.made) false in
       let leads = stretch.leads in
       let still = closed_still task (state_of old) seen (tally_next task (state_of old) None seen) old.phase not old.early in

@@ -1,5 +1,6 @@
 -- What stretches find, over what is told.
 use Rattle.std.proofs.Common.{◌≡◌, ℕ, List, [], ◌∷◌, ◌++◌, map, Bool, true, false, if◌then◌else◌, Option, Some, None, refl, sym, subst, ◌∙◌}
+use Rattle.std.proofs.lemmas.Bool.{false≢true}
 use Rattle.std.specs.Option.{is_some}
 use Rattle.verb_codes.specs.Words.{has_bit}
 use Rattle.command_engine.specs.declared.ring_places.RingPlaces.{RingPlaces}
@@ -63,9 +64,6 @@ row_finds task lines (event ∷ made) old new makes are finds =
 
 -- ---- by where it leads
 
-not_true : false ≡ true → ⊥
-not_true is = cc
-
 not_settling : Reset ≡ Settling → ⊥
 not_settling is = cc
 
@@ -102,6 +100,6 @@ settle_finds task state line seen was leads some =
 
 -- and nothing is to be found later
 pub going_finds : (phase : Phase) (state : State) (seen : Seen) → goes_on phase ≡ true → FindsIn phase state seen
-going_finds Reset state seen goes = absurd (not_true goes)
-going_finds Settling state seen goes = absurd (not_true goes)
+going_finds Reset state seen goes = absurd (false≢true goes)
+going_finds Settling state seen goes = absurd (false≢true goes)
 going_finds phase state seen goes = tt {0}

@@ -1,5 +1,6 @@
 -- Rows of accesses that keep codecs set up.
 use Rattle.std.proofs.Common.{◌≡◌, ◌⊎◌, inl, inr, ◌==◌, ◌&&◌, ◌||◌, ℕ, Bool, true, false, if◌then◌else◌, List, [], ◌∷◌, length, refl, sym, ap, subst, ◌∙◌, rules, tests}
+use Rattle.std.proofs.lemmas.Bool.{false≢true}
 use Rattle.hda_registers.specs.declared.places.TheConstants.{RIRBSTS}
 use Rattle.codec_graph.specs.declared.raw.RawCodec.{RawCodec}
 use Rattle.codec_graph.specs.Settings.{Entries}
@@ -27,15 +28,12 @@ use Rattle.laws_bring_up.proofs.Always.{access_always, at_access, trail_there}
 
 -- ---- when all are answered
 
-not_true : false ≡ true → ⊥
-not_true is = cc
-
 pub ready_phase : (phase : Phase) → is_early phase ≡ true → are_set_up phase ≡ true → phase ≡ Ready
 ready_phase Ready early is = refl
-ready_phase Playing early is = absurd (not_true early)
-ready_phase Drained early is = absurd (not_true early)
-ready_phase (Late from to limit) early is = absurd (not_true early)
-ready_phase phase early is = absurd (not_true is)
+ready_phase Playing early is = absurd (false≢true early)
+ready_phase Drained early is = absurd (false≢true early)
+ready_phase (Late from to limit) early is = absurd (false≢true early)
+ready_phase phase early is = absurd (false≢true is)
 
 -- of a state that is another
 pub early_as : (state other : State) → state ≡ other → is_early other.phase ≡ true → is_early state.phase ≡ true
@@ -51,10 +49,10 @@ pub record FoundLast (asks within sent answered : Bool) : Type 0 where
 parts : (ready asks within sent answered : Bool) → (ready || (asks && (within && (sent && answered)))) ≡ true → (ready ≡ true) ⊎ FoundLast asks within sent answered
 parts true asks within sent answered is = inl refl
 parts false true true true true is = inr (record { asks_is = refl; within_is = refl; sent_is = refl; answered_is = refl })
-parts false true true true false is = absurd (not_true is)
-parts false true true false answered is = absurd (not_true is)
-parts false true false sent answered is = absurd (not_true is)
-parts false false within sent answered is = absurd (not_true is)
+parts false true true true false is = absurd (false≢true is)
+parts false true true false answered is = absurd (false≢true is)
+parts false true false sent answered is = absurd (false≢true is)
+parts false false within sent answered is = absurd (false≢true is)
 
 pub answered_parts : (task : Task) (trail : Trail) → is_early trail.state.phase ≡ true → are_answered task trail ≡ true
     → (trail.state.phase ≡ Ready) ⊎ FoundLast (is_asking trail.state.phase) trail.within (trail.state.sent == length task.orders) trail.answered
@@ -94,10 +92,10 @@ last_of task trail state same early is = subst (IsLast task) same (by (answered_
 
 -- before an answer was looked for they are not, unless they were before
 not_found : (asks within sent : Bool) (answered : Bool) → answered ≡ false → FoundLast asks within sent answered → ⊥
-not_found asks within sent answered none found = not_true (sym none ∙ found.answered_is)
+not_found asks within sent answered none found = false≢true (sym none ∙ found.answered_is)
 
 not_ready : (phase : Phase) → is_asking phase ≡ true → phase ≡ Ready → ⊥
-not_ready phase asking ready = not_true (sym (ap is_asking ready) ∙ asking)
+not_ready phase asking ready = false≢true (sym (ap is_asking ready) ∙ asking)
 
 pub unlooked : (task : Task) (trail : Trail) → is_early trail.state.phase ≡ true → trail.answered ≡ false → are_answered task trail ≡ true → trail.state.phase ≡ Ready
 unlooked task trail early none is = by (answered_parts task trail early is)

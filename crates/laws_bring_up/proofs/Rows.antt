@@ -1,5 +1,6 @@
 -- The trail of a stretch over its accesses.
 use Rattle.std.proofs.Common.{true, ◌≡◌, ◌==◌, ℕ, Bool, false, List, [], ◌∷◌, ◌++◌, map, length, Option, if◌then◌else◌, refl, sym, ap, subst, ◌∙◌, append_assoc, append-nil, arith, ◌≤◌, length-append}
+use Rattle.std.proofs.lemmas.Bool.{false≢true}
 use Rattle.std.specs.Prelude.{drop, slice_get}
 use Rattle.hda_registers.specs.declared.places.TheConstants.{CORBWP}
 use Rattle.world_rings.specs.declared.response.Response.{Response}
@@ -11,7 +12,7 @@ use Rattle.driver_progress.specs.Tasks.{Task, DriverLine}
 use Rattle.driver_progress.specs.States.{State, state_opened}
 use Rattle.driver_progress.specs.Seen.{seen_by, values_of}
 use Rattle.driver_progress.specs.Next.{next}
-use Rattle.driver_progress.specs.Progress.{Conforms, IsProgress, FitsIf, ended_if, state_of, Trail, trail_of, trail_after, trail_opened, is_answered, noted, seen_in, Fits, FitsAt}
+use Rattle.driver_progress.specs.Progress.{Conforms, IsProgress, ended, state_of, Trail, trail_of, trail_after, trail_opened, is_answered, noted, seen_in, Fits, FitsAt}
 use Rattle.driver_progress.specs.Noting.{with_accesses}
 use Rattle.driver_progress.proofs.Callers.{ConformsTo, steps_leave_trail, steps_conform, trail_went, conforms_went, trail_stepped, conforms_stepped, access_fits, unread_access}
 use Rattle.driver_progress.specs.Unread.{IsAccess, AreAccesses, IsUnread, AreUnread}
@@ -217,15 +218,15 @@ rest_stays task lines left state steps old new went rest =
 
 pub rest_progress : (task : Task) (lines left : List DriverLine) (state : State) (telling : Telling) → IsAtRest task lines left state telling → IsProgress task lines telling × (state_of task lines telling ≡ state) × HasFound task lines telling
 rest_progress task lines left state telling rest = (
-  record { conforms = rest.conforms; last = subst (λ (within : Bool). FitsIf within task (trail_of task lines telling)) (sym rest.within) (tt {0}) },
-  ap (λ (within : Bool). (ended_if within task (trail_of task lines telling)).state) rest.within ∙ rest.state_is,
+  record { conforms = rest.conforms; last = λ within. absurd (false≢true (sym rest.within ∙ within)) },
+  ap (λ (within : Bool). (if within then ended task (trail_of task lines telling) else trail_of task lines telling).state) rest.within ∙ rest.state_is,
   rest.finds,
 )
 
 pub done_progress : (task : Task) (lines left : List DriverLine) (state' : State) (telling : Telling) → IsDone task lines left state' telling → IsProgress task lines telling × (state_of task lines telling ≡ state') × HasFound task lines telling × Finds (trail_of task lines telling)
 done_progress task lines left state' telling done = (
-  record { conforms = done.conforms; last = subst (λ (within : Bool). FitsIf within task (trail_of task lines telling)) (sym done.within) done.fits },
-  ap (λ (within : Bool). (ended_if within task (trail_of task lines telling)).state) done.within ∙ done.leads,
+  record { conforms = done.conforms; last = λ within. done.fits },
+  ap (λ (within : Bool). (if within then ended task (trail_of task lines telling) else trail_of task lines telling).state) done.within ∙ done.leads,
   done.finds,
   done.found,
 )

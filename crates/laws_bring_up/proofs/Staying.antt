@@ -1,5 +1,6 @@
 -- Over every call of a bring-up codecs stay set up from the last answer on.
 use Rattle.std.proofs.Common.{◌≡◌, ◌≤◌, ◌+◌, ◌==◌, ℕ, Bool, true, false, if◌then◌else◌, List, [], ◌∷◌, ◌++◌, length, nat_le, Option, Some, None, refl, sym, ap, subst, ◌∙◌, ◌⊎◌, inl, inr, arith, rules, tests}
+use Rattle.std.proofs.lemmas.Bool.{false≢true}
 use Rattle.std.proofs.lemmas.Option.{slice_get_within}
 use Rattle.verb_codes.specs.Words.{has_bit}
 use Rattle.verb_codes.specs.declared.verbs.Command.{Command}
@@ -54,9 +55,6 @@ use Rattle.laws_bring_up.proofs.Ready.{SetterLaws, ready_for_good}
 use Rattle.laws_bring_up.proofs.Calm.{AreCalm, IsLast, IsSilent, expected_calm, calm_back}
 use Rattle.laws_bring_up.proofs.Moments.{IsNoLook, AreNoLooks, IsFine, unread_no_looks, plain_no_looks, access_fine, calm_row, last_of, unlooked, unanswered, answered_parts, are_same, same_are, FoundLast, ready_phase, ready_answered, found_answered, early_as}
 use Rattle.laws_bring_up.proofs.Answered.{answered_for_good}
-
-not_true : false ≡ true → ⊥
-not_true is = cc
 
 -- ---- the accesses of a look
 
@@ -147,7 +145,7 @@ module _ (means : Means) (verbs : RawCodec → List Command) (graphs : List RawC
   found_there old written begun there trail flag asking graphs_are a later stood state_is written_is answered = by (answered_parts task (noted task trail there (Read RIRBSTS One flag)) (early_as trail.state (state_of old) state_is old.early) answered)
     where
       by : (trail.state.phase ≡ Ready) ⊎ FoundLast (is_asking trail.state.phase) trail.within (trail.state.sent == length task.orders) (is_answered trail there) → AreSetUpForGood means graphs there
-      by (inl ready) = absurd (not_true (sym (ap is_asking (sym (ap (λ (state : State). state.phase) state_is) ∙ ready)) ∙ asking))
+      by (inl ready) = absurd (false≢true (sym (ap is_asking (sym (ap (λ (state : State). state.phase) state_is) ∙ ready)) ∙ asking))
       by (inr found) =
           let all = sym (ap (λ (state : State). state.sent) state_is) ∙ are_same trail.state.sent (length task.orders) found.sent_is in
           answered_for_good means verbs graphs task laws of setter notes old written begun there trail graphs_are a later stood all state_is written_is found.answered_is
@@ -213,7 +211,7 @@ module _ (means : Means) (verbs : RawCodec → List Command) (graphs : List RawC
   asking_in NothingRouted written bring_up world is stage = absurd stage
   asking_in (Late from to limit) written bring_up world is stage = absurd stage
   asking_in (Malformed codec fault) written bring_up world is stage = absurd stage
-  asking_in phase written bring_up world is stage = absurd (not_true is)
+  asking_in phase written bring_up world is stage = absurd (false≢true is)
 
   -- at its beginning
   pub called_fine : (left : List DriverLine) (turn : Option DriverLine) (old : BringUp) (before : Telling) → IsOpen task lines left turn (state_of old) before → IsBroughtUp means verbs graphs task (trail_of task lines before).written old (world_of before)
@@ -291,7 +289,7 @@ module _ (means : Means) (verbs : RawCodec → List Command) (graphs : List RawC
       let count = ap (λ (outstanding : Option Outstanding). answers_of old.sent outstanding) none in
       let agrees = laws.agrees old.sent old.agenda task (subst (λ (count : ℕ). Follows means verbs graphs count old.agenda) count a.follows) of.is_for in
       let ready = old.led (asking_goes_on old.phase asking) ∙ agrees.phase ∙ ap (λ (all : Bool). if all then Ready else (if nat_le task.walks old.sent then SettingUp else Walking)) (is_at_most (length task.orders) old.sent all) in
-      not_true (sym (ap is_asking ready) ∙ asking)
+      false≢true (sym (ap is_asking ready) ∙ asking)
     where
       is_at_most : (a b : ℕ) → a ≤ b → nat_le a b ≡ true
       is_at_most a b less = search (rules, tests)

@@ -1,5 +1,6 @@
 -- Every call of a bring-up that is told keeps to progress, and stands to the world as before.
 use Rattle.std.proofs.Common.{◌≡◌, ◌≢◌, ℕ, Bool, true, false, List, [], ◌∷◌, map, length, Option, Some, None, refl, sym, ap, subst, ◌∙◌, arith, ◌⊎◌, inl, inr}
+use Rattle.std.proofs.lemmas.Bool.{false≢true}
 use Rattle.std.specs.Prelude.{All, slice_index}
 use Rattle.std.specs.Option.{is_some}
 use Rattle.std.proofs.lemmas.List.{length-map}
@@ -56,9 +57,6 @@ use Rattle.laws_bring_up.proofs.Codecs.{IsAbove, above, codecs_found}
 use Rattle.laws_bring_up.proofs.Beginning.{IsSettledOn, settles_on, resets_on, over_on, over_sent, over_outstanding, unchanged}
 use Rattle.laws_bring_up.proofs.Walked.{walked_on}
 
-not_true : false ≡ true → ⊥
-not_true is = cc
-
 no_word : (word : ℕ) → None ≡ Some word → ⊥
 no_word word is = cc
 
@@ -87,7 +85,7 @@ addresses_are (codec ∷ codecs) = ap (λ (rest : List ℕ). codec.graph.address
 -- where no call for an interrupt found none, the reset was made
 settled_else : {A B C D : Type 0} (none : Bool) → none ≡ false → (A × B) ⊎ ((none ≡ true) × C × D) → B
 settled_else none some (inl settles) = settles.1
-settled_else none some (inr left) = absurd (not_true (sym some ∙ left.0))
+settled_else none some (inr left) = absurd (false≢true (sym some ∙ left.0))
 
 module _ (means : Means) (verbs : RawCodec → List Command) (graphs : List RawCodec) (task : Task) (laws : AgendaLaws means verbs graphs)
     (begins : (agenda : Agenda) → agenda.addresses.items ≡ map (λ (graph : RawCodec). graph.address) graphs → BeginsWalk agenda.addresses.items [] agenda → Follows means verbs graphs 0 agenda)
@@ -125,7 +123,7 @@ module _ (means : Means) (verbs : RawCodec → List Command) (graphs : List RawC
       (row_remembers call.leads.made before after call.leads.by.is (world_of before).codecs (length (world_of before).commands) (remembers_itself (world_of before))).graphs ∙ call.graphs_are
 
   unasked : (old new : BringUp) → is_asking old.phase ≡ false → AgreesAfter old new task
-  unasked old new not asking = absurd (not_true (sym not ∙ asking))
+  unasked old new not asking = absurd (false≢true (sym not ∙ asking))
 
   -- ---- the reset
 

@@ -1,5 +1,6 @@
 -- Which graphs are walked, by how many commands were sent.
 use Rattle.std.proofs.Common.{◌≡◌, ◌≤◌, ◌<◌, ◌+◌, map, ℕ, Bool, true, false, List, [], ◌∷◌, ◌++◌, length, nat_le, if◌then◌else◌, Option, Some, None, refl, sym, ap, subst, ◌∙◌, arith, append-nil, length-append}
+use Rattle.std.proofs.lemmas.Bool.{false≢true}
 use Rattle.std.specs.List.{flat_map}
 use Rattle.std.proofs.lemmas.List.{length-map}
 use Rattle.verb_codes.specs.declared.verbs.Command.{Command}
@@ -22,9 +23,6 @@ use Rattle.driver_bring_up.specs.Standing.{answers_of}
 use Rattle.driver_bring_up.specs.declared.bringing.BringUp.{BringUp}
 use Rattle.laws_bring_up.specs.Standing.{IsTaskOfCodecs, AreWalked, HasWalked, WalkedIn}
 use Rattle.laws_bring_up.proofs.Ready.{all_answered, at_most}
-
-not_true : false ≡ true → ⊥
-not_true is = cc
 
 -- none, before the first
 -- a walk has a command
@@ -126,4 +124,4 @@ module _ (means : Means) (verbs : RawCodec → List Command) (graphs : List RawC
       let all = at_most (length task.orders) count (all_answered (nat_le (length task.orders) count) (nat_le task.walks count) (sym is)) in
       let few = few_walks in
       walked_all count agenda agenda.walk follows.stands (omega (arith, all, few))
-  walked_in count agenda phase follows is goes = absurd (not_true goes)
+  walked_in count agenda phase follows is goes = absurd (false≢true goes)

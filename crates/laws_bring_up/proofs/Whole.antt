@@ -1,5 +1,6 @@
 -- All that is told of a bring-up.
 use Rattle.std.proofs.Common.{◌≡◌, ◌==◌, ◌⊎◌, inl, inr, ℕ, Bool, true, false, subst, List, [], map, length, Some, None, refl, sym, ap, ◌∙◌}
+use Rattle.std.proofs.lemmas.Bool.{false≢true}
 use Rattle.std.specs.Prelude.{drop, slice_get}
 use Rattle.codec_graph.specs.Settings.{Entries}
 use Rattle.hda_world.specs.Events.{Event, Stepped}
@@ -43,9 +44,6 @@ use Rattle.laws_bring_up.proofs.Told.{call_told}
 use Rattle.laws_bring_up.proofs.Closing.{end_told}
 use Rattle.laws_bring_up.proofs.Moving.{Steady, stage_stays, graphs_stay}
 
-not_true : false ≡ true → ⊥
-not_true is = cc
-
 -- a mark changes nothing but that a stretch is open
 marked : (means : Means) (verbs : RawCodec → List Command) (graphs : List RawCodec) (task : Task) (lines : List DriverLine) (bring_up : BringUp) (old new : Telling) (steps : List Step)
     → ((written : ℕ) (steps : List Step) (world : World) → IsBroughtUp means verbs graphs task written bring_up world → IsBroughtUp means verbs graphs task written bring_up (after_steps steps world))
@@ -72,7 +70,7 @@ module _ (means : Means) (verbs : RawCodec → List Command) (graphs : List RawC
     where
       by : (trail.state.phase ≡ Ready) ⊎ FoundLast (is_asking trail.state.phase) trail.within (trail.state.sent == length task.orders) trail.answered → trail.state.phase ≡ Ready
       by (inl ready) = ready
-      by (inr found) = absurd (not_true (sym outside ∙ found.within_is))
+      by (inr found) = absurd (false≢true (sym outside ∙ found.within_is))
 
   rest_set_up : (written : ℕ) (bring_up : BringUp) (world : World) (trail : Trail) → IsBroughtUp means verbs graphs task written bring_up world → trail.within ≡ false → trail.state ≡ state_of bring_up → SetUpAt means graphs task world trail
   rest_set_up written bring_up world trail stands outside state_is answered =
@@ -89,7 +87,7 @@ module _ (means : Means) (verbs : RawCodec → List Command) (graphs : List RawC
   begins_told lines bring_up telling none opened stands = record {
     rest = subst (λ (state : State). IsAtRest task lines lines state telling) (sym opened) (rests task lines [] telling none);
     stands = subst (λ (trail : Trail). IsBroughtUp means verbs graphs task trail.written bring_up (world_of telling)) (sym (ap (λ (journal : List Event). trail_after task journal telling.start (trail_opened lines)) none)) stands;
-    set_up = subst (λ (journal : List Event). Always (SetUpAt means graphs task) task journal telling.start (trail_opened lines)) (sym none) (λ answered. absurd (not_true answered));
+    set_up = subst (λ (journal : List Event). Always (SetUpAt means graphs task) task journal telling.start (trail_opened lines)) (sym none) (λ answered. absurd (false≢true answered));
   }
 
   steps_told : (lines left : List DriverLine) (bring_up : BringUp) (steps : List Step) (old new : Telling) → Went old new (map Stepped steps) → BringUpGoesOn means verbs graphs task lines left bring_up old

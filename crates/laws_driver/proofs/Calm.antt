@@ -1,5 +1,6 @@
 -- A call that plays, and the end of a driver that may play, submit no command.
 use Rattle.std.proofs.Common.{◌≡◌, ◌+◌, ◌-◌, ◌/◌, ◌&&◌, ℕ, min, sym, subst, Bool, true, false, if◌then◌else◌, List, [], ◌∷◌, ◌++◌, map, length, drop, Option, Some, None, refl, inl}
+use Rattle.std.proofs.lemmas.Bool.{false≢true}
 use Rattle.std.specs.List.{range_with_len}
 use Rattle.std.proofs.lemmas.Grind.{flat_map-append}
 use Rattle.hda_registers.specs.declared.shapes.Width.TheVariants.{Four}
@@ -24,9 +25,6 @@ use Rattle.driver_progress.specs.Tasks.{Task, DriverLine}
 use Rattle.driver_progress.specs.Expected.{polls, facts_seen, appends, starts, plays_on, stops, runs, closes}
 use Rattle.driver_progress.specs.Next.{tally_next, expected}
 use Rattle.laws_bring_up.proofs.Callers.{AreCalm, calm_both, polls_calm, shuts_calm, interrupted_calm}
-
-not_true : false ≡ true → ⊥
-not_true is = cc
 
 map_calm : (made : ℕ → Event) → ((number : ℕ) → AreCalm (requests_in (made number))) → (numbers : List ℕ) → AreCalm (requests_of (map made numbers))
 map_calm made each [] = tt {0}
@@ -114,14 +112,14 @@ runs_calm task state budget seen tally Ready up = ready_calm task state budget s
 runs_calm task state budget seen tally Playing up = plays_calm task state budget seen (stops tally) (stop_calm tally.course.ran)
 runs_calm task state budget seen tally Drained up = tt {0}
 runs_calm task state budget seen tally (Late from to limit) up = tt {0}
-runs_calm task state budget seen tally phase up = absurd (not_true up)
+runs_calm task state budget seen tally phase up = absurd (false≢true up)
 
 closes_calm : (task : Task) (state : State) (seen : Seen) (phase : Phase) → are_set_up phase ≡ true → AreCalm (closes task state seen phase)
 closes_calm task state seen Ready up = shuts_calm
 closes_calm task state seen Playing up = plays_calm task state 0 seen _ (inl (record { control = refl; pointers = refl }), shuts_calm)
 closes_calm task state seen Drained up = shuts_calm
 closes_calm task state seen (Late from to limit) up = shuts_calm
-closes_calm task state seen phase up = absurd (not_true up)
+closes_calm task state seen phase up = absurd (false≢true up)
 
 pub expected_calm : (task : Task) (state : State) (turn : Option DriverLine) (seen : Seen) → are_set_up state.phase ≡ true → AreCalm (expected task state turn seen)
 expected_calm task state None seen up = closes_calm task state seen state.phase up

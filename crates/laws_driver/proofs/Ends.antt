@@ -1,5 +1,6 @@
 -- The last call of a driver that may play.
 use Rattle.std.proofs.Common.{◌≡◌, ◌≤◌, ◌⊎◌, inl, inr, ◌&&◌, ℕ, length, true, false, List, [], ◌∷◌, ◌++◌, map, None, Some, sym, ap, subst, ◌∙◌}
+use Rattle.std.proofs.lemmas.Bool.{false≢true}
 use Rattle.std.specs.Prelude.{All}
 use Rattle.verb_codes.specs.declared.verbs.Command.{Command}
 use Rattle.codec_graph.specs.declared.raw.RawCodec.{RawCodec}
@@ -35,7 +36,7 @@ use Rattle.laws_stream.proofs.Callers.{went_same, Along-end, Along-front}
 use Rattle.laws_driver.specs.Sounding.{Parts, state_in, ring_in, tally_in, IsSounding}
 use Rattle.laws_driver.specs.Keeping.{IsSilent, IsHeard, Closes, WasNeverHeard, WasHeard, DriverHasGone}
 use Rattle.laws_driver.proofs.Given.{Given}
-use Rattle.laws_driver.proofs.States.{not_true, silent_with, silent_state, plays_then, end_silent}
+use Rattle.laws_driver.proofs.States.{silent_with, silent_state, plays_then, end_silent}
 use Rattle.laws_driver.proofs.Rest.{along_weaker, rests_stopped, begin_rest, end_rest, row_rest}
 use Rattle.laws_driver.proofs.Bringing.{made_rest, ends_accesses}
 use Rattle.laws_driver.proofs.Ready.{IsReady, ready_stands, ended_ready}
@@ -76,7 +77,7 @@ module _ (means : Means) (verbs : RawCodec → List Command) (graphs : List RawC
         finds = gone.finds;
         state_is = gone.state_is ∙ sym (silent_with ended tally fresh);
         ended_is = gone.ended;
-        ready = λ started. absurd (not_true (sym (ap (λ (tally : Tally). tally.course.started) fresh) ∙ started));
+        ready = λ started. absurd (false≢true (sym (ap (λ (tally : Tally). tally.course.started) fresh) ∙ started));
         set_up = gone.set_up;
         heard = inl (fresh, never_heard fifo after rests);
       }
@@ -132,7 +133,7 @@ module _ (means : Means) (verbs : RawCodec → List Command) (graphs : List RawC
       recorded (inl shuts) = shuts.tally_is ∙ is.silent.fresh
       recorded (inr stops) =
           let started = ap (λ (tally : Tally). tally.course.started && is_open tally.course.ran) is.silent.fresh in
-          absurd (not_true (sym started ∙ stops.plays))
+          absurd (false≢true (sym started ∙ stops.plays))
 
       pub ready_end : Gone
       ready_end =

@@ -1,5 +1,6 @@
 -- The first calls that play: each finds no interrupt, or sets the stream going.
 use Rattle.std.proofs.Common.{◌≡◌, ◌≤◌, inl, inr, ℕ, true, List, ◌∷◌, length, drop, Some, refl, sym, ap, subst, ◌∙◌}
+use Rattle.std.proofs.lemmas.Bool.{false≢true}
 use Rattle.std.specs.Option.{is_some}
 use Rattle.verb_codes.specs.declared.verbs.Command.{Command}
 use Rattle.codec_graph.specs.declared.raw.RawCodec.{RawCodec}
@@ -34,7 +35,7 @@ use Rattle.laws_stream.proofs.Callers.{Along-end}
 use Rattle.laws_driver.specs.Sounding.{Parts, state_in, ring_in, tally_in}
 use Rattle.laws_driver.specs.Keeping.{IsSilent, IsHeard, DriverGoesOn, Calls}
 use Rattle.laws_driver.proofs.Given.{Given}
-use Rattle.laws_driver.proofs.States.{not_true, silent_state, plays_then, task_on}
+use Rattle.laws_driver.proofs.States.{silent_state, plays_then, task_on}
 use Rattle.laws_driver.proofs.Rest.{along_weaker, rests_unbegun, begin_rest, end_rest, row_rest}
 use Rattle.laws_driver.proofs.Ready.{IsReady, ready_stands}
 use Rattle.laws_driver.proofs.Still.{look_all, still_stands}
@@ -144,7 +145,7 @@ module _ (means : Means) (verbs : RawCodec → List Command) (graphs : List RawC
   by_tells : sounding.SoundTells line.irq line.budget old.bring_up new.bring_up old.writer new.writer old.supply call.made begun made → DriverGoesOn means verbs graphs task lines left new after
   by_tells (inl still) = inl (still_silent still)
   by_tells (inr (inl first)) = inr (begun_heard first)
-  by_tells (inr (inr goes)) = absurd (not_true (sym (ap (λ (course : Course). course.started) course_is) ∙ goes.started))
+  by_tells (inr (inr goes)) = absurd (false≢true (sym (ap (λ (course : Course). course.started) course_is) ∙ goes.started))
 
   pub first_call : DriverGoesOn means verbs graphs task lines left new after
   first_call = by_tells call.tells.is

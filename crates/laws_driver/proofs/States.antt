@@ -1,5 +1,6 @@
 -- How far a driver has come, before its first run and after it.
 use Rattle.std.proofs.Common.{◌≡◌, ◌&&◌, ℕ, Bool, true, false, List, Option, None, Some, refl, sym, ap, ◌∙◌}
+use Rattle.std.proofs.lemmas.Bool.{false≢true}
 use Rattle.std.specs.Option.{is_some}
 use Rattle.hda_world.specs.Tellings.{Telling}
 use Rattle.command_engine.specs.declared.answers.Outstanding.{Outstanding}
@@ -19,9 +20,6 @@ use Rattle.driver_bring_up.specs.Calls as bringing
 use Rattle.audio_driver.specs.States.{played_as, phase_if, phase_with, state_with, state_of, plays_now, IsTaskOf}
 use Rattle.audio_driver.specs.Sounding.{PlaysSound}
 use Rattle.laws_stream.specs.Silent.{plays_in}
-
-pub not_true : false ≡ true → ⊥
-not_true is = cc
 
 -- ---- states
 
@@ -45,7 +43,7 @@ started_set_up bring_up tally started =
 -- ---- whether a call plays
 
 not_ready : (phase : Phase) → is_ready phase ≡ false → phase ≡ Ready → ⊥
-not_ready phase none ready = not_true (sym none ∙ ap is_ready ready)
+not_ready phase none ready = false≢true (sym none ∙ ap is_ready ready)
 
 pub plays_not : (play : Bool) (bring_up : BringUp) → plays_now play bring_up ≡ false → bring_up.phase ≡ Ready → play ≡ false
 plays_not false bring_up none ready = refl
@@ -53,7 +51,7 @@ plays_not true bring_up none ready = absurd (not_ready bring_up.phase none ready
 
 pub plays_then : (play : Bool) (bring_up : BringUp) → plays_now play bring_up ≡ true → (play ≡ true) × (bring_up.phase ≡ Ready)
 plays_then true bring_up is = (refl, ready_is bring_up.phase is)
-plays_then false bring_up is = absurd (not_true is)
+plays_then false bring_up is = absurd (false≢true is)
 
 pub plays_so : (play : Bool) (bring_up : BringUp) → play ≡ true → bring_up.phase ≡ Ready → plays_now play bring_up ≡ true
 plays_so play bring_up plays ready = ap (λ (play : Bool). play && is_ready bring_up.phase) plays ∙ ap is_ready ready
@@ -65,7 +63,7 @@ no_turn false = refl
 -- a stretch that begins early plays only in the phase `Ready`
 plays_none : (task : Task) (turn : Option DriverLine) (phase : Phase) → is_early phase ≡ true → (phase ≡ Ready → (task.plays && is_some turn) ≡ false) → plays_in task turn phase ≡ false
 plays_none task turn Ready early none = none refl
-plays_none task turn Playing early none = absurd (not_true early)
+plays_none task turn Playing early none = absurd (false≢true early)
 plays_none task turn phase early none = refl
 
 pub call_silent : (task : Task) (line : DriverLine) (bring_up : BringUp) → plays_now task.plays bring_up ≡ false → plays_in task (Some line) bring_up.phase ≡ false

@@ -1,5 +1,6 @@
 -- The trail of a stretch that begins where no command is outstanding: no answer is found in it.
 use Rattle.std.proofs.Common.{◌≡◌, ◌==◌, ◌&&◌, ◌||◌, not, ℕ, Bool, true, false, if◌then◌else◌, List, [], ◌∷◌, map, length, Option, Some, None, refl, sym, ap, subst, ◌∙◌, append_assoc, append-nil}
+use Rattle.std.proofs.lemmas.Bool.{false≢true}
 use Rattle.std.specs.Prelude.{cond, drop}
 use Rattle.std.specs.List.{find, list_any}
 use Rattle.std.specs.Option.{is_some, option_map}
@@ -25,9 +26,6 @@ use Rattle.driver_progress.specs.Phases.{are_set_up}
 use Rattle.driver_bring_up.specs.Commanding.{IsStretch, answer_in, entries_in}
 use Rattle.laws_bring_up.specs.Stretches.{FindsIn, FindsBy, IsOpen, IsDone}
 use Rattle.laws_bring_up.proofs.Callers.{trail_access, conforms_access, stretch_done}
-
-not_true : false ≡ true → ⊥
-not_true is = cc
 
 -- ---- no response answers no command
 
@@ -101,8 +99,8 @@ idle_row task lines (event ∷ made) old new makes are none unanswered =
 -- ---- a stretch
 
 finds_none : (phase : Phase) (state : State) (seen : Seen) → are_set_up phase ≡ true → FindsIn phase state seen
-finds_none Reset state seen up = absurd (not_true up)
-finds_none Settling state seen up = absurd (not_true up)
+finds_none Reset state seen up = absurd (false≢true up)
+finds_none Settling state seen up = absurd (false≢true up)
 finds_none phase state seen up = tt {0}
 
 finds_by : (turn : Option DriverLine) (state : State) (seen : Seen) → are_set_up state.phase ≡ true → FindsBy turn state seen

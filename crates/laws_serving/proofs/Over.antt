@@ -20,7 +20,7 @@ use Rattle.hda_world.specs.Tellings.{Telling}
 use Rattle.hda_world.proofs.Callers.{steps_after}
 use Rattle.driver_progress.specs.Tasks.{Task, DriverLine}
 use Rattle.driver_progress.specs.States.{State}
-use Rattle.driver_progress.specs.Progress.{Trail, begun, trail_opened, trail_after, trail_of, state_of, ended_if}
+use Rattle.driver_progress.specs.Progress.{Trail, begun, trail_opened, trail_after, trail_of, state_of, ended}
 use Rattle.driver_progress.proofs.Callers.{trail_append, steps_leave_trail}
 use Rattle.rig.specs.Stretches.{stretch}
 use Rattle.rig.specs.Follows.{Piece, laid_out}
@@ -147,7 +147,7 @@ state_is task items telling closing laid =
     ∙ ap (λ (now : World). trail_after task (rest_events laid.ran closing) now (trail_after task (map Stepped before) telling.start (trail_opened lines))) (steps_after before telling.start)
     ∙ ap (trail_after task (rest_events laid.ran closing) start) (steps_leave_trail task before telling.start (trail_opened lines)) in
     let within = ap (λ (trail : Trail). trail.within) trail ∙ within_over task closing laid.ran start (trail_opened lines) in
-    ap (λ (within : Bool). (ended_if within task (trail_of task lines telling)).state) within ∙ ap (λ (trail : Trail). trail.state) trail
+    ap (λ (within : Bool). (if within then ended task (trail_of task lines telling) else trail_of task lines telling).state) within ∙ ap (λ (trail : Trail). trail.state) trail
 
 pub come_up : (laws : Laws) (task : Task) (codecs : List ℕ) (items : List Item) (telling : Telling) (Left : ℕ → List RanRound → World → Type 0) (Ends : State → Type 0) → IsTaskTo codecs task → IsStartFor codecs task telling.start
     → (run : IsRunOf task items telling) → ServesCommands codecs (length task.orders) (rounds_of items) → Onward task (graphs_of telling.start) run.closing (length (rounds_of items).rounds) Left Ends

@@ -1,5 +1,6 @@
 -- A call that plays leads a stream that plays or has played on.
 use Rattle.std.proofs.Common.{◌≡◌, ◌⊎◌, inl, inr, ◌&&◌, ◌+◌, ◌*◌, not, ℕ, Bool, true, false, if◌then◌else◌, List, [], ◌∷◌, ◌++◌, Some, refl, sym, ap, subst, ◌∙◌}
+use Rattle.std.proofs.lemmas.Bool.{false≢true}
 use Rattle.std.specs.Prelude.{All, slice_index}
 use Rattle.std.proofs.lemmas.List.Elements.{All-append, All-cons, All-nil}
 use Rattle.verb_codes.specs.Words.{has_bit, bits_of}
@@ -42,9 +43,6 @@ use Rattle.laws_stream.specs.Sounding.{StreamIs, StreamSounds}
 use Rattle.laws_stream.proofs.Rows.{woven_all}
 use Rattle.laws_stream.proofs.Beside.{Laws, IsBeside, sounds_on}
 use Rattle.laws_stream.proofs.Runs.{run_sounds}
-
-not_true : false ≡ true → ⊥
-not_true is = cc
 
 -- ---- rows beside the sound
 
@@ -116,7 +114,7 @@ gets_beside (DmaRead at bytes ∷ made) are = absurd are
 gets_beside (DmaWrite at bytes ∷ made) are = absurd are
 
 none_called : (seen : Seen) (called : List Request) (on : Bool) → not on ≡ true → AreGets (if on then clears seen ++ called else [])
-none_called seen called true none = absurd (not_true none)
+none_called seen called true none = absurd (false≢true none)
 none_called seen called false none = tt {0}
 
 module _ (task : Task) (state : State) (budget : ℕ) (tally : Tally) (made : List Event) (found : Bool) where
@@ -126,8 +124,8 @@ module _ (task : Task) (state : State) (budget : ℕ) (tally : Tally) (made : Li
   still_by : (was : Ran) (irq : Bool) → (found_none irq made ≡ true) ⊎ (is_open was ≡ false)
       → AreGets (interrupted_if (irq && is_active (played_as was)) (seen_by (values_of made) found) (runs task state budget (seen_by (values_of made) found) tally (played_as was)))
   still_by ran.Playing true (inl none) = none_called (seen_by (values_of made) found) _ (has_bit (slice_index (values_of made INTSTS) 0) interrupts_at) none
-  still_by ran.Playing false (inl none) = absurd (not_true none)
-  still_by ran.Playing irq (inr over) = absurd (not_true (sym over))
+  still_by ran.Playing false (inl none) = absurd (false≢true none)
+  still_by ran.Playing irq (inr over) = absurd (false≢true (sym over))
   still_by ran.Drained true cause = tt {0}
   still_by ran.Drained false cause = tt {0}
   still_by (ran.Late from to limit) true cause = tt {0}
@@ -178,5 +176,5 @@ module _ (laws : Laws) (codecs : List CodecState) (pcm : List ℕ) (irq : Bool) 
       → StaysSet old new writer writer' → IsLeft pcm writer.course supply → HasNotWrapped (world_of after)
       → StreamSounds codecs (ring_of writer) pcm (tally_of writer) before → StreamSounds codecs (ring_of writer') pcm (tally_of writer') after
   call_sounds task found (inl still) makes stretch stays left small sounds = still_sounds task found still makes stretch sounds
-  call_sounds task found (inr (inl begins)) makes stretch stays left small sounds = absurd (not_true (sym begins.fresh ∙ sounds.started))
+  call_sounds task found (inr (inl begins)) makes stretch stays left small sounds = absurd (false≢true (sym begins.fresh ∙ sounds.started))
   call_sounds task found (inr (inr goes)) makes stretch stays left small sounds = goes_sounds goes stays left small sounds

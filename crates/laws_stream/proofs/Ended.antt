@@ -1,5 +1,6 @@
 -- The last run stops the stream, and pins heard the line.
 use Rattle.std.proofs.Common.{◌≡◌, inl, inr, ◌≤◌, ◌+◌, ◌-◌, ◌*◌, ◌/◌, ◌==◌, ◌&&◌, not, ℕ, min, Bool, true, false, if◌then◌else◌, List, [], ◌∷◌, ◌++◌, append_assoc, length, map, drop, Some, refl, sym, ap, subst, ◌∙◌, arith, rules}
+use Rattle.std.proofs.lemmas.Bool.{false≢true}
 use Rattle.std.specs.Prelude.{All, nat_lt}
 use Rattle.std.specs.List.{range_with_len}
 use Rattle.std.proofs.Math.Nat.{mod-eq_of_lt, div-mul-le_self}
@@ -57,9 +58,6 @@ use Rattle.laws_stream.proofs.Beside.{Laws, heard_row, drained_stopped, stopped_
 use Rattle.laws_stream.proofs.Runs.{finish_steady, finish_is, stopped_by}
 use Rattle.laws_stream.proofs.Calls.{row_sounds, poll_beside}
 
-not_true : false ≡ true → ⊥
-not_true is = cc
-
 -- ---- the laws of what is heard
 
 pub record HearLaws : Type 0 where
@@ -94,7 +92,7 @@ shut_stopped ring pcm tally old new makes was lives =
     (stopped_along ring pcm tally weaving.events (world_of old) (woven_all LeavesStopped (λ step. tt {0}) shut_accesses weaving.events weaving.woven shut_leaves) was)
 
 over_stopped : (was : Ran) (ring : Ring) (pcm : List ℕ) (tally : Tally) (world : World) → is_open was ≡ false → StreamIs was ring pcm tally world → WasStopped ring pcm tally world
-over_stopped ran.Playing ring pcm tally world over stream = absurd (not_true (sym over))
+over_stopped ran.Playing ring pcm tally world over stream = absurd (false≢true (sym over))
 over_stopped ran.Drained ring pcm tally world over stream = drained_stopped ring pcm tally world stream
 over_stopped (ran.Late from to limit) ring pcm tally world over stream = stream
 
@@ -106,7 +104,7 @@ is_drained ran.Drained = true
 is_drained (ran.Late from to limit) = false
 
 never_drained : (was : Ran) → is_drained was ≡ false → was ≡ ran.Drained → ⊥
-never_drained was not same = not_true (sym not ∙ ap is_drained same)
+never_drained was not same = false≢true (sym not ∙ ap is_drained same)
 
 more_blocks : (some many block : ℕ) → 1 ≤ block → some ≤ many → some / block ≤ many / block
 more_blocks some many block whole more = let fewer = div-mul-le_self some block in le-div (some / block) many block whole (omega (arith, fewer, more))
@@ -122,7 +120,7 @@ module _ (laws : HearLaws) (codecs : List CodecState) (ring : Ring) (pcm : List 
   over_heard : (was : Ran) → is_open was ≡ false → StreamIs was ring pcm tally world → (address pin pair : ℕ)
       → signal_with (codec_at address codecs) 1 (format_word ring.geometry.format) (Some (layout ring.geometry.format)) pin ≡ Pair pair
       → Plays was (layout ring.geometry.format) pair (line_of tally pcm) tally.course.sure (heard address pin world.carried)
-  over_heard ran.Playing over stream address pin pair is = absurd (not_true (sym over))
+  over_heard ran.Playing over stream address pin pair is = absurd (false≢true (sym over))
   over_heard ran.Drained over stream address pin pair is =
       laws.drained codecs 1 (format_word ring.geometry.format) (layout ring.geometry.format) 0 world address pin pair ring pcm tally (read_back ring.geometry.format) hears.steady hears.sent is stream
   over_heard (ran.Late from to limit) over stream address pin pair is =

@@ -1,5 +1,6 @@
 -- Steps of the device leave streams at rest.
 use Rattle.std.proofs.Common.{◌≡◌, ◌==◌, ℕ, true, false, List, [], ◌∷◌, refl, sym, ap, ◌∙◌}
+use Rattle.std.proofs.lemmas.Bool.{false≢true}
 use Rattle.hda_registers.specs.Fields.{Fields, Descriptor, Global, is_running}
 use Rattle.world_rings.specs.declared.response.Response.{Response}
 use Rattle.world_rings.specs.Entries.{after_response, after_responses}
@@ -9,9 +10,6 @@ use Rattle.hda_world.specs.Kept.{Kept}
 use Rattle.hda_world.proofs.Callers.{passed_global}
 use Rattle.driver_progress.proofs.Callers.{keeps_time}
 use Rattle.laws_stream.specs.Resting.{Rests}
-
-not_true : false ≡ true → ⊥
-not_true is = cc
 
 -- what responses leave
 record Same (old new : Fields) : Type 0 where
@@ -33,7 +31,7 @@ same_after (response ∷ responses) fields =
     }
 
 runs_not : (output : Descriptor) → is_running output ≡ false → is_running output ≡ true → ⊥
-runs_not output stopped runs = not_true (sym stopped ∙ runs)
+runs_not output stopped runs = false≢true (sym stopped ∙ runs)
 
 passed_reset : (world : World) → (passed world).registers.global.controller_reset ≡ world.registers.global.controller_reset
 passed_reset world = ap (λ (global : Global). global.controller_reset) (passed_global world)
@@ -68,7 +66,7 @@ rests_kept fifo = record {
     output_stopped = rests.output_stopped;
     no_error = rests.no_error;
     clock_is = keeps_time.passes world rests.clock_is out still;
-    held = λ held. absurd (not_true (sym held ∙ ap (λ (reset : ℕ). reset == 1) (passed_reset world) ∙ out));
+    held = λ held. absurd (false≢true (sym held ∙ ap (λ (reset : ℕ). reset == 1) (passed_reset world) ∙ out));
     none_carried = rests.none_carried;
   };
   frames = record {

@@ -1,5 +1,6 @@
 -- The accesses that are expected where no sound is played leave streams at rest.
 use Rattle.std.proofs.Common.{◌≡◌, ◌≢◌, ◌<◌, ◌⊎◌, inl, inr, ◌&&◌, ◌+◌, ◌*◌, ◌/◌, ℕ, Bool, true, false, if◌then◌else◌, List, [], ◌∷◌, ◌++◌, Option, None, Some, refl, sym, subst, arith}
+use Rattle.std.proofs.lemmas.Bool.{false≢true}
 use Rattle.std.specs.Prelude.{All}
 use Rattle.std.proofs.Common.{suc, zero}
 use Rattle.std.proofs.lemmas.List.Elements.{All-nil, All-cons}
@@ -28,9 +29,6 @@ use Rattle.driver_progress.specs.Expected.{resets, settles, sets_rings, rings_se
 use Rattle.driver_progress.specs.Next.{tally_next, expected}
 use Rattle.laws_stream.specs.Resting.{IsResetWrite, LeavesRest}
 use Rattle.laws_stream.specs.Silent.{plays_in}
-
-not_true : false ≡ true → ⊥
-not_true is = cc
 
 -- a request of this kind, and all of them
 abbrev IsRestful : Request → Type 0
@@ -151,7 +149,7 @@ interrupted_rest true seen called rest = (tt {0}, called_if seen called (has_bit
 interrupted_rest false seen called rest = rest
 
 silent_if : (task : Task) (state : State) (budget : ℕ) (seen : Seen) (plays : Bool) → (plays && true) ≡ false → AreRestful (if plays then starts task state budget seen else [])
-silent_if task state budget seen true silent = absurd (not_true (sym silent))
+silent_if task state budget seen true silent = absurd (false≢true (sym silent))
 silent_if task state budget seen false silent = tt {0}
 
 runs_rest : (task : Task) (state : State) (line : DriverLine) (seen : Seen) (tally : Tally) (phase : Phase) → plays_in task (Some line) phase ≡ false → AreRestful (runs task state line.budget seen tally phase)
@@ -162,14 +160,14 @@ runs_rest task state line seen tally Walking silent =
 runs_rest task state line seen tally SettingUp silent =
     asks_rest task state seen (submits task.blocks state.rings (next_order task state seen)) (submits_rest task.blocks state.rings (next_order task state seen))
 runs_rest task state line seen tally Ready silent = silent_if task state line.budget seen task.plays silent
-runs_rest task state line seen tally Playing silent = absurd (not_true (sym silent))
+runs_rest task state line seen tally Playing silent = absurd (false≢true (sym silent))
 runs_rest task state line seen tally phase silent = tt {0}
 
 closes_rest : (task : Task) (state : State) (seen : Seen) (phase : Phase) → plays_in task None phase ≡ false → AreRestful (closes task state seen phase)
 closes_rest task state seen Reset silent = tt {0}
 closes_rest task state seen Walking silent = asks_rest task state seen shuts shuts_rest
 closes_rest task state seen SettingUp silent = asks_rest task state seen shuts shuts_rest
-closes_rest task state seen Playing silent = absurd (not_true (sym silent))
+closes_rest task state seen Playing silent = absurd (false≢true (sym silent))
 closes_rest task state seen phase silent = shuts_rest
 
 expected_rests : (task : Task) (state : State) (turn : Option DriverLine) (seen : Seen) (tally : Tally) → plays_in task turn state.phase ≡ false → AreRestful (expected_by task state turn seen tally)

@@ -1,5 +1,6 @@
 -- Writes beside the descriptors leave streams at rest.
 use Rattle.std.proofs.Common.{◌≡◌, ◌≢◌, ◌⊎◌, inl, inr, ◌==◌, ◌&&◌, ◌/◌, not, ℕ, Bool, true, false, [], refl, sym, ap, subst, ◌∙◌, arith}
+use Rattle.std.proofs.lemmas.Bool.{false≢true}
 use Rattle.hda_registers.specs.declared.shapes.Width.{Width}
 use Rattle.hda_registers.specs.declared.shapes.Width.TheVariants.{One, Four}
 use Rattle.hda_registers.specs.Fields.{Fields, Global, Descriptor, is_running, is_out_of_reset}
@@ -14,9 +15,6 @@ use Rattle.period_writer.specs.Beside.{IsStatusWrite}
 use Rattle.period_writer.proofs.Callers.{status_error}
 use Rattle.laws_stream.specs.Resting.{Rests, IsResetWrite, LeavesRest}
 use Rattle.laws_stream.proofs.Kept.{rests_kept}
-
-not_true : false ≡ true → ⊥
-not_true is = cc
 
 -- what a write leaves of the registers
 record Same (old new : Fields) : Type 0 where
@@ -129,7 +127,7 @@ rises_by fifo world false still out is_out rests =
       output_stopped = ap (λ (f : Fields). is_running f.output) is ∙ rests.output_stopped;
       no_error = ap (λ (f : Fields). f.output.descriptor_error) is ∙ rests.no_error;
       clock_is = ap (λ (f : Fields). f.global.wall_clock) is ∙ rests.clock_is;
-      held = λ held. absurd (not_true (sym held ∙ ap (λ (f : Fields). is_out_of_reset f.global) is));
+      held = λ held. absurd (false≢true (sym held ∙ ap (λ (f : Fields). is_out_of_reset f.global) is));
       none_carried = rests.none_carried;
     })
 rises_by fifo world true left false held rests =
@@ -140,10 +138,10 @@ rises_by fifo world true left false held rests =
       output_stopped = ap (λ (f : Fields). is_running f.output) is ∙ rests.output_stopped;
       no_error = ap (λ (f : Fields). f.output.descriptor_error) is ∙ rests.no_error;
       clock_is = ap (λ (f : Fields). f.global.wall_clock) is ∙ (rests.held held).0;
-      held = λ held. absurd (not_true (sym held ∙ ap (λ (f : Fields). is_out_of_reset f.global) is));
+      held = λ held. absurd (false≢true (sym held ∙ ap (λ (f : Fields). is_out_of_reset f.global) is));
       none_carried = rests.none_carried;
     })
-rises_by fifo world true left true out rests = absurd (not_true (sym (out_left world.registers out) ∙ left))
+rises_by fifo world true left true out rests = absurd (false≢true (sym (out_left world.registers out) ∙ left))
 
 rises_rests : (fifo : ℕ) (world : World) → Rests fifo world → Rests fifo (after_write 0x08 Four 0x101 world)
 rises_rests fifo world rests = rises_by fifo world (effects_of world.registers 0x08 Four 0x101).left_reset refl (is_out_of_reset world.registers.global) refl rests

@@ -15,7 +15,6 @@ pub mod Walked
 pub mod Hearing
 pub mod Listed
 pub mod Written
-pub mod Recorded
 pub mod LineRecorded
 pub mod Played
 pub mod PlayedFrom

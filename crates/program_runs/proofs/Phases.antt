@@ -17,7 +17,7 @@ use Rattle.driver_progress.specs.Seen.{Seen, clock_of}
 use Rattle.driver_progress.specs.States.{State}
 use Rattle.driver_progress.specs.Next.{next, led, closed, tally_next, phase_polled, phase_of_answers, outstanding_if, after_poll, submitted_if, walking_if, settled_if, reset_if, phase_played, finds_none}
 use Rattle.driver_progress.specs.Expected.{next_order, has_settled, rings_seen}
-use Rattle.driver_progress.specs.Progress.{Trail, trail_after, noted, ended_if, seen_in}
+use Rattle.driver_progress.specs.Progress.{Trail, trail_after, noted, ended, seen_in}
 use Rattle.laws_bring_up.specs.Standing.{WalkedIn}
 use Rattle.program_runs.specs.Ends.{play_can_end, walk_can_end}
 
@@ -106,7 +106,7 @@ pub trail_well : (task : Task) (events : List Event) (world : World) (trail : Tr
 trail_well task [] world trail well = well
 trail_well task (event ∷ events) world trail well = trail_well task events (happens world event) (noted task trail world event) (noted_well task trail world event well)
 
-pub ended_well : (within : Bool) (task : Task) (trail : Trail) → IsWell trail.state → IsWell (ended_if within task trail).state
+pub ended_well : (within : Bool) (task : Task) (trail : Trail) → IsWell trail.state → IsWell (if within then ended task trail else trail).state
 ended_well true task trail well = next_well task trail.state trail.turn (seen_in trail) well
 ended_well false task trail well = well
 

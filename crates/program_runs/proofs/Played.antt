@@ -43,12 +43,12 @@ use Rattle.program_runs.specs.Ends.{play_can_end}
 use Rattle.program_runs.specs.Histories.{MakesProgress, StaysOpen, journal_of, telling_of_run}
 use Rattle.program_runs.specs.FrameCounts.{written_by}
 use Rattle.program_runs.specs.Hearing.{HasPlayedAll, HearTheirs, lists_heard}
-use Rattle.program_runs.specs.Stretches.{stretches_of}
+use Rattle.driver_progress.specs.Stretches.{stretches_of}
 use Rattle.program_runs.specs.Plays.{AreRecorded, IsHeard, Lived, end_in_phase, end_of_course, play_fault, played_task}
 use Rattle.program_runs.proofs.Gone.{Gone, phase_left, played_phase, unplayed_ends}
 use Rattle.program_runs.proofs.Hearing.{all_hear, none_hear}
+use Rattle.driver_progress.proofs.Callers.{recorded_is}
 use Rattle.program_runs.proofs.LineRecorded.{RunLaws, recorded_line}
-use Rattle.program_runs.proofs.Recorded.{recorded_is}
 use Rattle.program_runs.proofs.OpenRoutes.{stays_open}
 use Rattle.program_runs.proofs.Phases.{plays_too}
 use Rattle.program_runs.proofs.WalkedIn.{walked_in}

@@ -13,7 +13,7 @@ use Rattle.period_writer.specs.declared.course.Ran.TheVariants as ran
 use Rattle.period_writer.specs.declared.course.Course as played
 use Rattle.period_writer.specs.Runs.{Measures, RunFacts, Stretch, Tally, facts_of, is_late, is_late_since, run_at, run_of, run_room, run_sound, run_sound_end, tally_if, tally_opened, taken_up_if, whole_blocks}
 use Rattle.driver_progress.specs.Tasks.{Task, DriverLine}
-use Rattle.driver_progress.specs.Progress.{Trail, trail_after, trail_of, trail_opened, ended, ended_if, noted, state_of}
+use Rattle.driver_progress.specs.Progress.{Trail, trail_after, trail_of, trail_opened, ended, noted, state_of}
 use Rattle.program_runs.specs.Hearing.{HasPlayedAll}
 use Rattle.program_runs.specs.FrameCounts.{written_in, written_by}
 
@@ -100,7 +100,7 @@ within_after : (task : Task) (events : List Event) (world : World) (trail : Trai
 within_after task [] world trail within = within
 within_after task (event ∷ events) world trail within = within_after task events (happens world event) (noted task trail world event) (within_noted task trail world event within)
 
-within_if_open : (within : Bool) (task : Task) (trail : Trail) → HasWithin task trail → HasWithin task (ended_if within task trail)
+within_if_open : (within : Bool) (task : Task) (trail : Trail) → HasWithin task trail → HasWithin task (if within then ended task trail else trail)
 within_if_open true task trail within = within_ended task trail within
 within_if_open false task trail within = within
 

@@ -8,7 +8,6 @@ pub mod Ends
 pub mod Walks
 pub mod FrameCounts
 pub mod Hearing
-pub mod Stretches
 pub mod Plays
 -- what private functions promise one another
 pub mod Feeding

@@ -1,4 +1,5 @@
 use Rattle.std.proofs.Common.{◌++◌, refl, sym, ◌∙◌, true, false}
+use Rattle.std.proofs.lemmas.Bool.{false≢true}
 use Rattle.hda_world.proofs.Callers.{row_both, told_both, told_map, told_pair}
 use Rattle.driver_progress.specs.Commands.{ask_accesses}
 use Rattle.driver_progress.specs.Shutting.{shut_accesses}
@@ -6,7 +7,7 @@ use Rattle.driver_progress.proofs.Callers.{asking_goes_on}
 use Rattle.driver_bring_up.specs.Commanding.{poll_by}
 use Rattle.driver_bring_up.specs.Calls.{state_of}
 use Rattle.driver_bring_up.proofs.Asks.{led_stays, led_early, led_unfailed, end_with, end_last, ended_there}
-use Rattle.driver_bring_up.proofs.Leading.{not_true, found_in, same_found, reads_look}
+use Rattle.driver_bring_up.proofs.Leading.{found_in, same_found, reads_look}
 use Rattle.driver_bring_up.proofs.Staying.{end_looks}
 use Rattle.driver_bring_up.proofs.bringing.BringUp.end_commands.Goals as goal
 use Rattle.driver_bring_up.proofs.FailingLooks.{on_err}
@@ -41,7 +42,7 @@ returns-clause-ends g c =
           (end_with task (state_of old) answer.clock looks.reads answer.phase old.agenda c.look_for_answer-answer.new.agenda answer.is_free old.engine.rirb.address looked.rings
           of.rirb c.requires.phase (old.led (asking_goes_on old.phase c.requires.phase)) looks.new_ones looks.led looks.free looks.rings_are c.in_ok-self.ensures.idle (ended_there old.phase answer.phase _ _ false found ended) (agrees c.requires.phase));
       ended = λ task of ended. end_last task (state_of old) answer.clock looks.reads answer.phase old.engine.rirb.address looked.rings of.rirb looks.new_ones looks.rings_are (ended_there old.phase answer.phase _ _ true found ended);
-      unread = λ not. absurd (not_true (sym not ∙ c.requires.phase));
+      unread = λ not. absurd (false≢true (sym not ∙ c.requires.phase));
       reads = reads_look _ old.engine.rirb.address answer.clock looks.reads shut_accesses old _ c.requires.phase looks.new_ones refl looks.led looks.taken looks.counted c.in_ok-self.ensures.addresses;
       looks = λ asking. told_map (λ before after both. end_looks old _ answer.clock looks.reads looked.rings _ before both.0 after looks.new_ones looks.rings_are refl refl both.1.0 both.1.1 both.2)
           (told_both (told_pair looks.made looks.tells) c.shut.ensures.made);

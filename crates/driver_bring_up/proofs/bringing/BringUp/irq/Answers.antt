@@ -1,4 +1,5 @@
 use Rattle.std.proofs.Common.{◌≡◌, ◌++◌, ℕ, List, [], Bool, Some, refl, subst, sym, ◌∙◌, true, false}
+use Rattle.std.proofs.lemmas.Bool.{false≢true}
 use Rattle.std.specs.Prelude.{slice_index}
 use Rattle.std.specs.Option.{is_some}
 use Rattle.std.proofs.lemmas.Result.{on_ok_weaker, on_err_weaker}
@@ -12,7 +13,7 @@ use Rattle.hda_world.specs.Tellings.{Between, Makes}
 use Rattle.hda_world.specs.Events.{Event}
 use Rattle.driver_bring_up.specs.Calls.{state_of, Begins}
 use Rattle.driver_bring_up.proofs.Still.{irq_of, inactive_stretch, none_stretch_of, interrupted_stretch, interrupted_last}
-use Rattle.driver_bring_up.proofs.Leading.{not_true, none_found, reads_none, reads_after, found_after, same_answer, interrupt_entries, interrupt_values, no_entries_looked}
+use Rattle.driver_bring_up.proofs.Leading.{none_found, reads_none, reads_after, found_after, same_answer, interrupt_entries, interrupt_values, no_entries_looked}
 use Rattle.driver_bring_up.proofs.Asks.{is_over, ended_there}
 use Rattle.driver_bring_up.proofs.Staying.{interrupts_stay, interrupted_stays, nothing_stays}
 use Rattle.driver_bring_up.proofs.Unread.{walks_settles, inactive_reset, inactive_settling, resets_looked, settles_looked, resets_after, settles_after}
@@ -22,7 +23,7 @@ pub returns-then-not-is_active-clause-leads : goal.returns-then-not-is_active-cl
 returns-then-not-is_active-clause-leads g c =
     let old = c.args.self.now in
     let inactive = sym c.is_active.ensures ∙ c.if-not-is_active.true in
-    let idle : is_asking old.phase ≡ true → ⊥ = λ asking. not_true (sym inactive ∙ asking_active old.phase asking) in record {
+    let idle : is_asking old.phase ≡ true → ⊥ = λ asking. false≢true (sym inactive ∙ asking_active old.phase asking) in record {
       made = [];
       by = made_none (g.P.Platform.told c.args.platform.now);
       is = λ task budget of silent ended agrees. inactive_stretch task (state_of old) budget inactive;
@@ -71,7 +72,7 @@ returns-else-has_interrupt-clause-leads g c =
       by = looks.made;
       is = λ task budget of silent ended agrees. subst (λ (found : Bool). IsStretch task (state_of old) (Some (irq_of budget)) made found (state_of old)) (none_found old.engine.rings made none)
           (none_stretch_of task (state_of old) budget looks.interrupts looks.stream off (sym c.is_active.ensures ∙ c.if-not-is_active.false));
-      ended = λ task of ended. absurd (not_true (none_found old.engine.rings made none ∙ (is_over old.phase (is_some (answer_in old.engine.rings made)) old.phase ended).1));
+      ended = λ task of ended. absurd (false≢true (none_found old.engine.rings made none ∙ (is_over old.phase (is_some (answer_in old.engine.rings made)) old.phase ended).1));
       unread = λ not. interrupt_unread looks.interrupts looks.stream;
       reads = reads_none _ made old old none (λ still. refl) refl;
       begun = λ was is. absurd (walks_settles old.phase was is);

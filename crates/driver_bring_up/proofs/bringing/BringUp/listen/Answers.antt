@@ -1,8 +1,8 @@
 use Rattle.std.proofs.Common.{List, length, arith, ap, refl, sym, subst, ◌++◌, ◌∙◌}
+use Rattle.std.proofs.lemmas.Bool.{false≢true}
 use Rattle.command_engine.specs.declared.answers.Event.{Event}
 use Rattle.driver_bring_up.specs.Counted.{IsCount}
 use Rattle.driver_progress.specs.Phases.{is_asking}
-use Rattle.driver_bring_up.proofs.Leading.{not_true}
 use Rattle.driver_bring_up.proofs.bringing.BringUp.listen.Goals as goal
 use Rattle.driver_bring_up.proofs.Events.{few_events}
 use Rattle.driver_bring_up.proofs.Entries.{told_same}
@@ -42,4 +42,4 @@ invariant_of-self-clause-few_jacks g c =
     omega arith
 
 pub invariant_of-self-clause-started : goal.invariant_of-self-clause-started
-invariant_of-self-clause-started g c = λ asking. absurd (not_true (sym (ap is_asking c.requires.ready) ∙ asking))
+invariant_of-self-clause-started g c = λ asking. absurd (false≢true (sym (ap is_asking c.requires.ready) ∙ asking))

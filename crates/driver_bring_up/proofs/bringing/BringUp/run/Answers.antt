@@ -1,9 +1,10 @@
 use Rattle.std.proofs.Common.{false, [], refl, sym, ◌∙◌}
+use Rattle.std.proofs.lemmas.Bool.{false≢true}
 use Rattle.std.proofs.lemmas.Result.{on_ok_weaker}
 use Rattle.command_engine.proofs.Callers.{made_none}
 use Rattle.driver_bring_up.specs.Calls.{state_of}
 use Rattle.driver_bring_up.proofs.Still.{still_stretch, not_reset, not_settling}
-use Rattle.driver_bring_up.proofs.Leading.{reads_none, not_true}
+use Rattle.driver_bring_up.proofs.Leading.{reads_none}
 use Rattle.driver_bring_up.proofs.Asks.{is_over}
 use Rattle.driver_bring_up.proofs.Unread.{leads_unread}
 use Rattle.driver_bring_up.proofs.Staying.{nothing_stays}
@@ -19,7 +20,7 @@ returns-in_default-clause-leads g c =
       made = [];
       by = made_none (g.P.Platform.told c.args.platform.now);
       is = λ task budget of silent ended agrees. still_stretch task (state_of old) budget asks (not_reset old.phase c.in_default.not-Reset) (not_settling old.phase c.in_default.not-Settling) old.early silent;
-      ended = λ task of ended. absurd (not_true (sym asks ∙ (is_over old.phase (is_some (answer_in old.engine.rings [])) old.phase ended).0));
+      ended = λ task of ended. absurd (false≢true (sym asks ∙ (is_over old.phase (is_some (answer_in old.engine.rings [])) old.phase ended).0));
       unread = λ not. tt {0};
       reads = reads_none _ [] old old refl (λ still. refl) refl;
       begun = λ was is. absurd (c.in_default.not-Settling was);

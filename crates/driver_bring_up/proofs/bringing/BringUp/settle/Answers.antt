@@ -1,10 +1,10 @@
 use Rattle.driver_progress.specs.Phases.{goes_on}
 use Rattle.std.proofs.Common.{ℕ, refl, ap, subst, ◌∙◌}
+use Rattle.std.proofs.lemmas.Bool.{false≢true}
 use Rattle.hda_world.specs.Tellings.{world_of}
 use Rattle.hda_world.specs.Discovery.{addresses_of}
 use Rattle.hda_world.proofs.Callers.{told_map}
 use Rattle.driver_progress.specs.Announcing.{AreCodecs}
-use Rattle.driver_bring_up.proofs.Leading.{not_true}
 use Rattle.driver_bring_up.proofs.Unread.{walks_settles, walking_settles, reset_settles}
 use Rattle.driver_progress.specs.Expected.{has_settled}
 use Rattle.driver_progress.specs.Settling.{settle_accesses}
@@ -87,7 +87,7 @@ returns-in_ok-self-in-Codecs-clause-leads g c =
       resets = λ was. absurd (reset_settles old.phase was c.requires.phase);
       untaken = λ was. absurd (reset_settles old.phase was c.requires.phase);
       settles = λ was. told_map (λ before after leads settling some. record {
-        stays = λ none. absurd (not_true none);
+        stays = λ none. absurd (false≢true none);
         late = λ found settled. refl;
         early = λ still. absurd (walking_settles still);
         untaken = λ still. absurd (walking_settles still);

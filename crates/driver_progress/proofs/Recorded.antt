@@ -1,23 +1,23 @@
 -- What progress records are the runs of the journal's stretches.
-use Rattle.std.proofs.Common.{◌≡◌, Bool, true, false, List, [], ◌∷◌, length, refl}
+use Rattle.std.proofs.Common.{◌≡◌, Bool, true, false, List, [], ◌∷◌, length, refl, if◌then◌else◌}
 use Rattle.hda_world.specs.Worlds.{World}
 use Rattle.hda_world.specs.Events.{Event, Stepped, Begin, End, Read, Write, DmaRead, DmaWrite, happens}
 use Rattle.hda_world.specs.Tellings.{Telling}
 use Rattle.period_writer.specs.Runs.{Tally, measures, tally_of_stretches, tally_on}
 use Rattle.driver_progress.specs.Tasks.{Task, DriverLine}
-use Rattle.driver_progress.specs.Progress.{Trail, trail_after, trail_opened, ended_if, noted, state_of}
-use Rattle.program_runs.specs.Stretches.{stretches_in, stretches_of}
+use Rattle.driver_progress.specs.Progress.{Trail, trail_after, trail_opened, ended, ended_last, noted, state_of}
+use Rattle.driver_progress.specs.Stretches.{stretches_in, stretches_of}
 
 abbrev tally_from : Task → Trail → List Event → Tally
 tally_from task trail events =
     tally_on (measures task.geometry) (length task.pcm) trail.state.tally (stretches_in trail.within trail.turn trail.left trail.made events)
 
-at_end : (task : Task) (trail : Trail) (within : Bool) → (ended_if within task trail).state.tally ≡ tally_on (measures task.geometry) (length task.pcm) trail.state.tally (stretches_in within trail.turn trail.left trail.made [])
+at_end : (task : Task) (trail : Trail) (within : Bool) → (if within then ended task trail else trail).state.tally ≡ tally_on (measures task.geometry) (length task.pcm) trail.state.tally (stretches_in within trail.turn trail.left trail.made [])
 at_end task trail true = refl
 at_end task trail false = refl
 
 recorded_after : (task : Task) (events : List Event) (world : World) (trail : Trail)
-    → (ended_if (trail_after task events world trail).within task (trail_after task events world trail)).state.tally ≡ tally_from task trail events
+    → (ended_last task (trail_after task events world trail)).state.tally ≡ tally_from task trail events
 recorded_after task [] world trail = at_end task trail trail.within
 recorded_after task (Stepped step ∷ events) world trail = recorded_after task events (happens world (Stepped step)) trail
 recorded_after task (Begin ∷ events) world trail = recorded_after task events (happens world Begin) (noted task trail world Begin)
