@@ -5,6 +5,7 @@ use hda_outside::{MemSink, SureShelf};
 use hda_program::{Ended, hda_main};
 use std::alloc::{AllocError, Global};
 use std::fmt::Write;
+use stream_format::Bits;
 use test_cases::{number_of, text_of};
 
 /// The bytes that the sink takes in a call.
@@ -70,11 +71,16 @@ fn frame_of(digits: &[u8]) -> u32 {
         .swap_bytes()
 }
 
-/// The lines of a text, but for those of sound the stretches of frames.
-fn push_lines(text: &mut String, written: &str) -> Result<(), AllocError> {
+/// The lines of a text; where frames are asked for, in the place of those of sound the stretches of frames.
+fn push_lines(text: &mut String, written: &str, as_frames: bool) -> Result<(), AllocError> {
     let mut stretch = Stretch::NONE;
     for line in written.lines() {
-        if let Some(digits) = line.strip_prefix("sound ") {
+        let digits = if as_frames {
+            line.strip_prefix("sound ")
+        } else {
+            None
+        };
+        if let Some(digits) = digits {
             for frame in digits.as_bytes().chunks(8) {
                 stretch.take(text, frame_of(frame))?;
             }
@@ -87,14 +93,17 @@ fn push_lines(text: &mut String, written: &str) -> Result<(), AllocError> {
     stretch.push(text)
 }
 
-/// The status of a play, how many frames were read of its sound where it made a run, and the text.
+/// The status of a play, how many frames were read of its sound where it made a run, and the text, with stretches of
+/// frames where samples have 16 bits.
 fn cut_text(alloc: Global, ended: &Ended, written: &[u8]) -> Result<String, AllocError> {
     let mut text = format!(in alloc; "{}", ended.status)?;
+    let mut as_frames = false;
     if let Some(played) = &ended.play {
+        as_frames = matches!(played.format.bits, Bits::B16);
         write!(text, " with its run, {} frames read", played.read)?;
     }
     let written = String::from_utf8_lossy(alloc, written)?;
-    push_lines(&mut text, written.as_str())?;
+    push_lines(&mut text, written.as_str(), as_frames)?;
     Ok(text)
 }
 
