@@ -7,7 +7,8 @@ use Rattle.route_planner.specs.declared.routes.Plan.{Plan}
 use Rattle.hda_outside.specs.Shelf.{Files}
 use Rattle.hda_files.specs.declared.machine.Machine.{Machine}
 use Rattle.schedule_reader.specs.declared.schedule.Schedule.{Schedule}
-use Rattle.program_words.specs.Asked.{Asked, bits_of, hertz, play, request_of, route, walk}
+use Rattle.stream_format.specs.Cadence.{hertz}
+use Rattle.program_words.specs.Asked.{Asked, bits_of, play, request_of, route, walk}
 use Rattle.period_writer.specs.declared.geometry.Geometry.{Geometry}
 use Rattle.wav_reader.specs.declared.opened.WavHead.{WavHead}
 use Rattle.sound_report.specs.declared.played.Played.{Played}

@@ -11,7 +11,8 @@ use Rattle.hda_outside.specs.Shelf.{Files}
 use Rattle.stream_format.proofs.Callers.{one_format}
 use Rattle.hda_files.specs.declared.machine.Machine.{Machine}
 use Rattle.schedule_reader.specs.declared.schedule.Schedule.{Schedule}
-use Rattle.program_words.specs.Asked.{Asked, bits_of, hertz, play, route, walk, make}
+use Rattle.stream_format.specs.Cadence.{hertz}
+use Rattle.program_words.specs.Asked.{Asked, bits_of, play, route, walk, make}
 use Rattle.program_words.proofs.Callers.{bits_of-same, hertz-same}
 use Rattle.period_writer.specs.declared.geometry.Geometry.{Geometry}
 use Rattle.period_writer.specs.declared.geometry.GeometryFault.{GeometryFault}

@@ -9,7 +9,8 @@ use Rattle.period_writer.specs.declared.geometry.Geometry.{Geometry}
 use Rattle.wav_reader.specs.declared.opened.WavHead.{WavHead}
 use Rattle.stream_format.specs.declared.format.Format.{Format}
 use Rattle.hda_outside.specs.Shelf.{Files}
-use Rattle.program_words.specs.Asked.{Asked, bits_of, hertz, make, play, request_of, route, walk}
+use Rattle.stream_format.specs.Cadence.{hertz}
+use Rattle.program_words.specs.Asked.{Asked, bits_of, make, play, request_of, route, walk}
 use Rattle.sound_report.specs.declared.played.Played.{Played}
 use Rattle.sound_report.specs.declared.played.PlayFault.{PlayFault}
 use Rattle.sound_report.specs.declared.played.PlayFault.TheVariants as fault

@@ -3,7 +3,8 @@ use Rattle.std.proofs.Common.{◌≡◌, ◌∙◌, ℕ, List, Bool, true, false
 use Rattle.std.proofs.lemmas.Bool.{false≢true}
 use Rattle.std.specs.Prelude.{IsSome}
 use Rattle.hda_outside.specs.Shelf.{Files}
-use Rattle.program_words.specs.Asked.{Asked, bits_of, hertz, make, play, request_of, route, walk}
+use Rattle.stream_format.specs.Cadence.{hertz}
+use Rattle.program_words.specs.Asked.{Asked, bits_of, make, play, request_of, route, walk}
 use Rattle.sound_report.specs.declared.played.Played.{Played}
 use Rattle.sound_report.specs.declared.played.PlayFault.{PlayFault}
 use Rattle.sound_report.specs.declared.played.CutLine.{CutLine}

@@ -1,7 +1,8 @@
 -- What the words ask for, and which files they name. This project's own.
 use Rattle.std.specs.Prelude.{◌≡◌, ℕ, List, [], ◌∷◌, Option, Some, None, Contains, option_and_then}
 use Rattle.stream_format.specs.declared.format.Format.{Format}
-use Rattle.program_words.specs.Asked.{Asked, route, walk, play, make, hertz, bits_of, request_of}
+use Rattle.stream_format.specs.Cadence.{hertz}
+use Rattle.program_words.specs.Asked.{Asked, route, walk, play, make, bits_of, request_of}
 
 -- the words are those of no command
 abbrev pub IsNoCommand : List (List ℕ) → Type 0

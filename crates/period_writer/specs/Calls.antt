@@ -36,8 +36,8 @@ abbrev pub PlaysAny : (budget : ℕ) → (old new : WriterState) → (supply sup
     → (before after : Option Telling) → Type 0
 PlaysAny budget old new supply supply' ran before after =
     (later : List ℕ) → MayGive supply' later → EndsWith supply (sound_before supply supply' later)
-    → PlaysRun old.geometry (periods_of old) budget (sound_before supply supply' later) (tally_of old) ran (tally_of new)
-    later before after
+    → PlaysRun old.geometry (periods_of old) budget (sound_before supply supply' later) (tally_of old) ran
+    (tally_of new) later before after
 
 -- and where the platform tells
 abbrev pub RunTellsAny : (budget : ℕ) → (old new : WriterState) → (supply supply' : Supplied) → Ran

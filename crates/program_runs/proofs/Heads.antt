@@ -16,7 +16,7 @@ use Rattle.wav_reader.specs.Heads.{Head, head_of}
 use Rattle.wav_reader.specs.Laws.{IsHeardAgain}
 use Rattle.wav_reader.specs.Opening.{head_in_file, IsOpened, IsOpenedBy}
 use Rattle.wav_reader.specs.Wavs.{Meaning, meaning_by, wav_of}
-use Rattle.wav_reader.specs.Written.{stereo}
+use Rattle.wav_reader.specs.Written.{stereo_sound}
 use Rattle.made_inputs.specs.MadeSound.{made_format, made_pcm, made_wav}
 use Rattle.made_inputs.proofs.Callers.{length_pcm, wav_short}
 use Rattle.program_runs.specs.Shelves.{IsMadeHead, sound_name, made_files}
@@ -32,7 +32,7 @@ pub means : IsHeardAgain → (number : ℕ) → wav_of (made_wav number) ≡ Ok 
 unfolding made_wav
 means law number =
     let long = length_pcm number in
-    let read = law (stereo R48) (made_pcm number) (omega (arith, long)) in
+    let read = law (stereo_sound R48) (made_pcm number) (omega (arith, long)) in
     read.plain ∙ ap (λ (pcm : List ℕ). Ok (with_pcm number pcm)) (read.stays refl (λ (same : B16 ≡ B24). cc) (omega (arith, long)))
 
 -- the file is on the shelf

@@ -82,8 +82,8 @@ pub record IsTask (means : StreamMeaning) (format : Format) (play : Bool) (verbs
   pub plays_is : task.plays ≡ play
 
 -- between two calls of a driver, with these lines left
-abbrev pub UnderWay : StreamMeaning → Format → (RawCodec → List Command) → List RawCodec → Task → (all left : List DriverLine)
-    → Parts → Telling → Type 0
+abbrev pub UnderWay : StreamMeaning → Format → (RawCodec → List Command) → List RawCodec → Task
+    → (all left : List DriverLine) → Parts → Telling → Type 0
 UnderWay means format verbs graphs task all left parts telling =
     DriverGoesOn (means format TAG) verbs graphs task all left parts telling
 
@@ -125,7 +125,8 @@ pub record RanLine (means : StreamMeaning) (format : Format) (play : Bool) (line
   pub machine : (setting_of after).machine ≡ (setting_of before).machine
 
 -- so a rig went on, from between two runs to between two runs
-pub record Ran (means : StreamMeaning) (format : Format) (play : Bool) (items : List Item) (old new : Stand) : Type 0 where
+pub record Ran (means : StreamMeaning) (format : Format) (play : Bool) (items : List Item) (old new : Stand)
+    : Type 0 where
   pub gave : List ℕ
   pub took : Took gave old.shelf old.player.supply new.player.supply
   -- it went on so over each sound that the supply may yet give at the end, with what was taken before it

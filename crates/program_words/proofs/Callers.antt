@@ -5,7 +5,8 @@ use Rattle.stream_format.specs.declared.format.Rate.{Rate}
 use Rattle.stream_format.specs.declared.format.Rate.TheVariants.{R8, R16, R44, R48, R96, R192}
 use Rattle.stream_format.specs.declared.format.Bits.{Bits}
 use Rattle.stream_format.specs.declared.format.Bits.TheVariants.{B16, B24, B32}
-use Rattle.program_words.specs.Asked.{bits_of, hertz}
+use Rattle.stream_format.specs.Cadence.{hertz}
+use Rattle.program_words.specs.Asked.{bits_of}
 
 -- a rate by its blocks in a second, and a sample size by its bits
 abbrev rate_with : ℕ → Rate

@@ -2,8 +2,7 @@
 use Rattle.std.specs.Prelude.{⊤, ℕ, ◌≤◌, List, [], ◌∷◌, Option, Some, None, find, option_map, option_and_then}
 use Rattle.std.specs.Prelude.{slice_index, slice_get, unwrap_or}
 use Rattle.std.specs.Str.{bytes_eq}
-use Rattle.stream_format.specs.declared.format.Rate.{Rate}
-use Rattle.stream_format.specs.declared.format.Rate.TheVariants.{R8, R16, R44, R48, R96, R192}
+use Rattle.stream_format.specs.Cadence.{hertz}
 use Rattle.stream_format.specs.declared.format.Bits.{Bits}
 use Rattle.stream_format.specs.declared.format.Bits.TheVariants.{B16, B24, B32}
 use Rattle.program_words.specs.Numbers.{number_in}
@@ -25,15 +24,6 @@ pub data Asked : Type 0 where
   play : List ℕ → List ℕ → List ℕ → ℕ → ℕ → Asked
   -- `make`: the number of which the input is made
   make : ℕ → Asked
-
--- the blocks of a second
-abbrev pub hertz : Rate → ℕ
-hertz R8 = 8000
-hertz R16 = 16000
-hertz R44 = 44100
-hertz R48 = 48000
-hertz R96 = 96000
-hertz R192 = 192000
 
 -- the bits of a sample
 abbrev pub bits_of : Bits → ℕ
@@ -66,11 +56,12 @@ IsInRange (request.Make number) = ⊤
 abbrev pub operand_at : CommandLine → ℕ → List ℕ
 operand_at line place = unwrap_or (slice_get line.operands place) []
 
--- what a command with this line asks: `route` has the rate, the channels and the bits of a sample, and the operand of `make` is a
--- number
+-- what a command with this line asks: `route` has the rate, the channels and the bits of a sample, and the operand of
+-- `make` is a number
 abbrev pub asked_of : CommandName → CommandLine → Option Asked
 asked_of Route line =
-    Some (route (operand_at line 0) (slice_index line.numbers 0) (slice_index line.numbers 2) (slice_index line.numbers 1))
+    Some (route (operand_at line 0) (slice_index line.numbers 0) (slice_index line.numbers 2)
+    (slice_index line.numbers 1))
 asked_of Walk line = Some (walk (operand_at line 0) (operand_at line 1))
 asked_of Play line =
     Some (play (operand_at line 0) (operand_at line 1) (operand_at line 2) (slice_index line.numbers 0)

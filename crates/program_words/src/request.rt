@@ -1,6 +1,7 @@
 //! What the words ask the program to do.
 ghost use Rattle.std.specs.Prelude.{◌≡◌, IfOk, IfSome, Some, None, Err, map, option_map, string_bytes, true};
-ghost use Rattle.program_words.specs.Asked.{asked_by, asked_of, bits_of, hertz, request_of, IsInRange};
+ghost use Rattle.stream_format.specs.Cadence.{hertz};
+ghost use Rattle.program_words.specs.Asked.{asked_by, asked_of, bits_of, request_of, IsInRange};
 ghost use Rattle.program_words.specs.Commands.{bits_option, channels_option, make_grammar, play_grammar, rate_option};
 ghost use Rattle.program_words.specs.Commands.{route_grammar, walk_grammar};
 ghost use Rattle.program_words.specs.Lines.{IsLineOf};

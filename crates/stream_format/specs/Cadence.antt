@@ -8,6 +8,15 @@ use Rattle.stream_format.specs.declared.format.Bits.{Bits}
 use Rattle.stream_format.specs.declared.format.Bits.TheVariants.{B16, B24, B32}
 use Rattle.stream_format.specs.declared.format.Format.{Format}
 
+-- the blocks of a second, each with a sample of every channel
+abbrev pub hertz : Rate → ℕ
+hertz R8 = 8000
+hertz R16 = 16000
+hertz R44 = 44100
+hertz R48 = 48000
+hertz R96 = 96000
+hertz R192 = 192000
+
 -- so many frames with one block, and then one with none
 abbrev pub frames_to_gap : ℕ → List ℕ
 frames_to_gap frames = replicate frames 1 ++ 0 ∷ []

@@ -18,12 +18,13 @@ use Rattle.wav_reader.specs.declared.formats.ChannelCount.TheVariants.{One, Two,
 use Rattle.wav_reader.specs.declared.formats.Fields.{Fields}
 use Rattle.wav_reader.specs.declared.formats.Sound.{Sound}
 use Rattle.wav_reader.specs.Chunks.{is_cut}
-use Rattle.wav_reader.specs.Formats.{◌>>=◌, checked, hertz, rate_with, channels_in, channels_with, sample_length, bits_with, fields_of, is_pcm, sound_with, sound_of}
+use Rattle.stream_format.specs.Cadence.{hertz}
+use Rattle.wav_reader.specs.Formats.{◌>>=◌, checked, rate_with, channels_in, channels_with, sample_length, bits_with, fields_of, is_pcm, sound_with, sound_of}
 use Rattle.wav_reader.specs.Heads.{Head, is_mono, ring_channels, ring_format, frame_length, sound_at, head_by, head_of}
-use Rattle.wav_reader.specs.Laws.{heard, IsHeardBack}
+use Rattle.wav_reader.specs.Laws.{meant_by, IsHeardBack}
 use Rattle.wav_reader.specs.Readers.{are_turned}
 use Rattle.wav_reader.specs.Wavs.{Meaning, meaning_by, pieces_of, ring_block, ring_bytes, wav_of}
-use Rattle.wav_reader.specs.Written.{Part, IsPart, placed, frame_bytes, format_front, extension, plain_format, extensible_format, sound_parts, sound_file}
+use Rattle.wav_reader.specs.Written.{Part, IsPart, placed, file_frame_bytes, format_front, extension, plain_format, extensible_format, sound_parts, sound_file}
 use Rattle.wav_reader.proofs.CountLemmas.{whole-less, whole-all}
 use Rattle.wav_reader.proofs.FrontLemmas.{fields_made, fields_same, fields_so, is_pcm_part, sound_by_fields}
 use Rattle.wav_reader.proofs.HeadLemmas.{head_of-riff}
@@ -58,23 +59,23 @@ sample_small B16 = omega arith
 sample_small B24 = omega arith
 sample_small B32 = omega arith
 
-frame_small : (sound : Sound) → frame_bytes sound ≤ 32
+frame_small : (sound : Sound) → file_frame_bytes sound ≤ 32
 frame_small sound = mul-le (channels_in sound.channels) (sample_length sound.bits) 8 4 (channels_small sound.channels) (sample_small sound.bits)
 
 -- its fields are what was written
 fields_written : (tag : ℕ) (sound : Sound) (more : List ℕ) → tag < 65536
     → fields_of (format_front tag sound ++ more)
-    ≡ fields_made tag (channels_in sound.channels) (hertz sound.rate) (frame_bytes sound) (8 * sample_length sound.bits) (is_pcm_part (take 16 (drop 24 (format_front tag sound ++ more))))
+    ≡ fields_made tag (channels_in sound.channels) (hertz sound.rate) (file_frame_bytes sound) (8 * sample_length sound.bits) (is_pcm_part (take 16 (drop 24 (format_front tag sound ++ more))))
 fields_written tag sound more small =
     let channels = channels_small sound.channels in
     let frame = frame_small sound in
     let sample = sample_small sound.bits in
     fields_so (format_front tag sound ++ more)
-    ∙ fields_same _ tag _ (channels_in sound.channels) _ (hertz sound.rate) _ (frame_bytes sound) _ (8 * sample_length sound.bits) (is_pcm_part (take 16 (drop 24 (format_front tag sound ++ more)))) _
+    ∙ fields_same _ tag _ (channels_in sound.channels) _ (hertz sound.rate) _ (file_frame_bytes sound) _ (8 * sample_length sound.bits) (is_pcm_part (take 16 (drop 24 (format_front tag sound ++ more)))) _
     (little_number-reads_back 2 tag (drop 2 (format_front tag sound ++ more)) small)
     (little_number-reads_back 2 (channels_in sound.channels) (drop 4 (format_front tag sound ++ more)) (omega (arith, channels)))
     (little_number-reads_back 4 (hertz sound.rate) (drop 8 (format_front tag sound ++ more)) (hertz_small sound.rate))
-    (little_number-reads_back 2 (frame_bytes sound) (drop 14 (format_front tag sound ++ more)) (omega (arith, frame)))
+    (little_number-reads_back 2 (file_frame_bytes sound) (drop 14 (format_front tag sound ++ more)) (omega (arith, frame)))
     (little_number-reads_back 2 (8 * sample_length sound.bits) more (omega (arith, sample)))
     refl
 
@@ -96,9 +97,9 @@ sound_with-chain fields = refl
 same_test : (n : ℕ) → (n == n) ≡ true
 same_test n = eq-eqb n n refl
 
-chain-good : (sound : Sound) (tag channels hertz bits : ℕ) → chain true (Some sound.channels) (Some sound.rate) (Some sound.bits) tag channels hertz bits (frame_bytes sound) ≡ Ok sound
+chain-good : (sound : Sound) (tag channels hertz bits : ℕ) → chain true (Some sound.channels) (Some sound.rate) (Some sound.bits) tag channels hertz bits (file_frame_bytes sound) ≡ Ok sound
 unfolding chain
-chain-good sound tag channels hertz bits = ap (λ (test : Bool). checked test BlockAlign >>= (λ _. Ok sound)) (same_test (frame_bytes sound))
+chain-good sound tag channels hertz bits = ap (λ (test : Bool). checked test BlockAlign >>= (λ _. Ok sound)) (same_test (file_frame_bytes sound))
 
 channels_back : (channels : ChannelCount) → channels_with (channels_in channels) ≡ Some channels
 channels_back One = refl
@@ -121,14 +122,14 @@ bits_back B24 = refl
 bits_back B32 = refl
 
 sound_made : (tag : ℕ) (sound : Sound) (pcm : Bool) → Fields
-sound_made tag sound pcm = record { tag = tag; channels = channels_in sound.channels; hertz = hertz sound.rate; block = frame_bytes sound; bits = 8 * sample_length sound.bits; has_pcm_subformat = pcm }
+sound_made tag sound pcm = record { tag = tag; channels = channels_in sound.channels; hertz = hertz sound.rate; block = file_frame_bytes sound; bits = 8 * sample_length sound.bits; has_pcm_subformat = pcm }
 
 sound_back : (tag : ℕ) (sound : Sound) (pcm : Bool) → is_pcm (sound_made tag sound pcm) ≡ true → sound_with (sound_made tag sound pcm) ≡ Ok sound
 unfolding sound_made
 sound_back tag sound pcm is =
     let channels = channels_in sound.channels in
     let bits = 8 * sample_length sound.bits in
-    let frames = frame_bytes sound in
+    let frames = file_frame_bytes sound in
     let second = channels_with (channels_in sound.channels) in
     let rate = rate_with (hertz sound.rate) in
     let size = bits_with (8 * sample_length sound.bits) in
@@ -169,7 +170,7 @@ frame_same Four rate bits = refl
 frame_same Six rate bits = refl
 frame_same Eight rate bits = refl
 
-frame_is : (sound : Sound) → frame_length (is_mono sound.channels) (ring_format sound) ≡ frame_bytes sound
+frame_is : (sound : Sound) → frame_length (is_mono sound.channels) (ring_format sound) ≡ file_frame_bytes sound
 frame_is sound = frame_same sound.channels sound.rate sound.bits
 
 -- what stands before the sound
@@ -207,14 +208,14 @@ head_of-file format frames head short small says =
 
 -- the frames are the sound
 ring_bytes-sound : (file frames more : List ℕ) (sound : Sound) (at : ℕ) → drop at file ≡ frames ++ more
-    → ring_bytes file (sound_head sound at (length frames)) ≡ (heard sound frames).pcm
+    → ring_bytes file (sound_head sound at (length frames)) ≡ (meant_by sound frames).pcm
 unfolding ring_bytes
 ring_bytes-sound file frames more sound at behind =
-    let size = frame_bytes sound in
+    let size = file_frame_bytes sound in
     let block = ring_block (is_mono sound.channels) sound.bits in
-    let count = length frames / frame_bytes sound in
-    let inside = whole-less (length frames) (frame_bytes sound) in
-    let turned : frame_bytes sound * (length frames / frame_bytes sound) ≡ length frames / frame_bytes sound * frame_bytes sound = omega arith in
+    let count = length frames / file_frame_bytes sound in
+    let inside = whole-less (length frames) (file_frame_bytes sound) in
+    let turned : file_frame_bytes sound * (length frames / file_frame_bytes sound) ≡ length frames / file_frame_bytes sound * file_frame_bytes sound = omega arith in
     ap (λ (n : ℕ). flat_map (ring_block (is_mono sound.channels) sound.bits) (pieces_of n (drop at file) (length frames / n))) (frame_is sound)
     ∙ ap (λ (bytes : List ℕ). flat_map block (pieces_of size bytes count)) behind
     ∙ sym (pieces-front block size (frames ++ more) (length frames) count (omega (arith, inside, turned)))
@@ -224,12 +225,12 @@ with_frames : Sound → List ℕ → ℕ → Meaning
 with_frames sound pcm count = record { format = ring_format sound; mono = is_mono sound.channels; frames = count; pcm = pcm }
 
 wav_of-file : (file frames more : List ℕ) (sound : Sound) (at : ℕ) → head_of file ≡ Ok (sound_head sound at (length frames)) → drop at file ≡ frames ++ more
-    → wav_of file ≡ Ok (heard sound frames)
+    → wav_of file ≡ Ok (meant_by sound frames)
 unfolding with_frames
 wav_of-file file frames more sound at says behind =
     ap (λ (head : Result Head WavFault). head >>= (λ head. Ok (meaning_by file head))) says
     ∙ ap (λ (pcm : List ℕ). Ok (with_frames sound pcm (length frames / frame_length (is_mono sound.channels) (ring_format sound)))) (ring_bytes-sound file frames more sound at behind)
-    ∙ ap (λ (n : ℕ). Ok (with_frames sound (heard sound frames).pcm (length frames / n))) (frame_is sound)
+    ∙ ap (λ (n : ℕ). Ok (with_frames sound (meant_by sound frames).pcm (length frames / n))) (frame_is sound)
 
 -- frames that stay as they are
 one_channel : (channels : ChannelCount) → is_mono channels ≡ true → channels_in channels ≡ 1
@@ -244,15 +245,15 @@ not_turned mono B16 many other = many
 not_turned mono B24 many other = absurd (other refl)
 not_turned mono B32 many other = many
 
-pub stays : (sound : Sound) (frames : List ℕ) → is_mono sound.channels ≡ false → sound.bits ≢ B24 → length frames % frame_bytes sound ≡ 0 → (heard sound frames).pcm ≡ frames
+pub stays : (sound : Sound) (frames : List ℕ) → is_mono sound.channels ≡ false → sound.bits ≢ B24 → length frames % file_frame_bytes sound ≡ 0 → (meant_by sound frames).pcm ≡ frames
 stays sound frames many other whole =
-    let count = length frames / frame_bytes sound in
+    let count = length frames / file_frame_bytes sound in
     let size = sample_length sound.bits in
-    let all = whole-all (length frames) (frame_bytes sound) whole in
-    let turned : length frames / frame_bytes sound * (channels_in sound.channels * sample_length sound.bits)
-    ≡ channels_in sound.channels * sample_length sound.bits * (length frames / frame_bytes sound) = omega arith in
-    let turned' : sample_length sound.bits * (channels_in sound.channels * (length frames / frame_bytes sound))
-    ≡ channels_in sound.channels * sample_length sound.bits * (length frames / frame_bytes sound) = omega arith in
+    let all = whole-all (length frames) (file_frame_bytes sound) whole in
+    let turned : length frames / file_frame_bytes sound * (channels_in sound.channels * sample_length sound.bits)
+    ≡ channels_in sound.channels * sample_length sound.bits * (length frames / file_frame_bytes sound) = omega arith in
+    let turned' : sample_length sound.bits * (channels_in sound.channels * (length frames / file_frame_bytes sound))
+    ≡ channels_in sound.channels * sample_length sound.bits * (length frames / file_frame_bytes sound) = omega arith in
     blocks-slots (is_mono sound.channels) sound.bits frames (channels_in sound.channels) count (one_channel sound.channels) (omega (arith, all, turned))
     ∙ slots-same (is_mono sound.channels) sound.bits frames (channels_in sound.channels * count) (not_turned (is_mono sound.channels) sound.bits many other)
     ∙ take_all (size * (channels_in sound.channels * count)) frames (omega (arith, all, turned, turned'))

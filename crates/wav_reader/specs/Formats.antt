@@ -9,6 +9,7 @@ use Rattle.stream_format.specs.declared.format.Rate.{Rate}
 use Rattle.stream_format.specs.declared.format.Rate.TheVariants.{R8, R16, R44, R48, R96, R192}
 use Rattle.stream_format.specs.declared.format.Bits.{Bits}
 use Rattle.stream_format.specs.declared.format.Bits.TheVariants.{B16, B24, B32}
+use Rattle.stream_format.specs.Cadence.{hertz}
 use Rattle.wav_reader.specs.declared.fault.WavFault.{WavFault}
 use Rattle.wav_reader.specs.declared.fault.WavFault.TheVariants.{NoFormat, Tag, Channels, Rate as OtherRate}
 use Rattle.wav_reader.specs.declared.fault.WavFault.TheVariants.{Bits as OtherBits}
@@ -28,15 +29,6 @@ abbrev pub ◌>>=◌ : {A B : Type 0} → Result A WavFault → (A → Result B 
 abbrev pub checked : Bool → WavFault → Result Bool WavFault
 checked true fault = Ok true
 checked false fault = Err fault
-
--- how many frames a second a rate has
-abbrev pub hertz : Rate → ℕ
-hertz R8 = 8000
-hertz R16 = 16000
-hertz R44 = 44100
-hertz R48 = 48000
-hertz R96 = 96000
-hertz R192 = 192000
 
 -- the rate with so many frames a second
 abbrev pub rate_with : ℕ → Option Rate

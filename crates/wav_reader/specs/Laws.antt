@@ -5,8 +5,8 @@ use Rattle.stream_format.specs.declared.format.Bits.TheVariants.{B24}
 use Rattle.wav_reader.specs.declared.formats.Sound.{Sound}
 use Rattle.wav_reader.specs.Chunks.{is_riff, chunks_from, chunks_of, is_cut}
 use Rattle.wav_reader.specs.Heads.{is_mono, ring_format}
-use Rattle.wav_reader.specs.Written.{Part, IsPart, file_bytes, placed, frame_bytes, plain_format, extensible_format}
-use Rattle.wav_reader.specs.Written.{sound_file}
+use Rattle.wav_reader.specs.Written.{Part, IsPart, file_bytes, placed, file_frame_bytes}
+use Rattle.wav_reader.specs.Written.{plain_format, extensible_format, sound_file}
 use Rattle.wav_reader.specs.Wavs.{Meaning, pieces_of, ring_block, wav_of}
 
 -- the chunks of a file are all whole chunks that it has, up to one that is not whole, however many more are looked for
@@ -23,23 +23,23 @@ abbrev pub AreReadBack : Type 0
 AreReadBack = (size : List ℕ) (parts : List Part) → length size ≡ 4 → All IsPart parts → IsReadBack size parts
 
 -- what is read of frames that are written: those that are whole, as the ring gets them
-abbrev pub heard : Sound → List ℕ → Meaning
-heard sound frames = record {
+abbrev pub meant_by : Sound → List ℕ → Meaning
+meant_by sound frames = record {
   format = ring_format sound;
   mono = is_mono sound.channels;
-  frames = length frames / frame_bytes sound;
+  frames = length frames / file_frame_bytes sound;
   pcm = flat_map (ring_block (is_mono sound.channels) sound.bits)
-      (pieces_of (frame_bytes sound) frames (length frames / frame_bytes sound));
+      (pieces_of (file_frame_bytes sound) frames (length frames / file_frame_bytes sound));
 }
 
 -- so it is, whichever form the chunk `fmt ` has
 pub record IsHeardBack (sound : Sound) (frames : List ℕ) : Type 0 where
-  pub plain : wav_of (sound_file (plain_format sound) frames) ≡ Ok (heard sound frames)
+  pub plain : wav_of (sound_file (plain_format sound) frames) ≡ Ok (meant_by sound frames)
   pub extensible : (valid mask : ℕ) → wav_of (sound_file (extensible_format valid mask sound) frames)
-      ≡ Ok (heard sound frames)
+      ≡ Ok (meant_by sound frames)
   -- whole frames of more than one channel whose samples fill their containers stay as they are
-  pub stays : is_mono sound.channels ≡ false → sound.bits ≢ B24 → length frames % frame_bytes sound ≡ 0
-      → (heard sound frames).pcm ≡ frames
+  pub stays : is_mono sound.channels ≡ false → sound.bits ≢ B24 → length frames % file_frame_bytes sound ≡ 0
+      → (meant_by sound frames).pcm ≡ frames
 
 -- frames that are written as a WAV file are read as these
 abbrev pub IsHeardAgain : Type 0

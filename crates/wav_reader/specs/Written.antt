@@ -8,7 +8,8 @@ use Rattle.stream_format.specs.declared.format.Bits.TheVariants.{B16}
 use Rattle.wav_reader.specs.declared.formats.ChannelCount.TheVariants.{Two}
 use Rattle.wav_reader.specs.declared.formats.Sound.{Sound}
 use Rattle.wav_reader.specs.Chunks.{kind_at, end_of}
-use Rattle.wav_reader.specs.Formats.{hertz, channels_in, sample_length, pcm_tag, extensible_tag, pcm_subformat}
+use Rattle.stream_format.specs.Cadence.{hertz}
+use Rattle.wav_reader.specs.Formats.{channels_in, sample_length, pcm_tag, extensible_tag, pcm_subformat}
 
 -- a chunk that is to be written
 pub record Part : Type 0 where
@@ -38,8 +39,8 @@ placed at [] = []
 placed at (part ∷ parts) = chunk_of at part ∷ placed (end_of (chunk_of at part)) parts
 
 -- the bytes of a frame of a sound in its file
-abbrev pub frame_bytes : Sound → ℕ
-frame_bytes sound = channels_in sound.channels * sample_length sound.bits
+abbrev pub file_frame_bytes : Sound → ℕ
+file_frame_bytes sound = channels_in sound.channels * sample_length sound.bits
 
 -- the first sixteen bytes of the body of a chunk `fmt `, with some tag
 abbrev pub format_front : ℕ → Sound → List ℕ
@@ -47,8 +48,8 @@ format_front tag sound =
     little_bytes 2 tag
     ++ (little_bytes 2 (channels_in sound.channels)
     ++ (little_bytes 4 (hertz sound.rate)
-    ++ (little_bytes 4 (frame_bytes sound * hertz sound.rate)
-    ++ (little_bytes 2 (frame_bytes sound) ++ little_bytes 2 (8 * sample_length sound.bits)))))
+    ++ (little_bytes 4 (file_frame_bytes sound * hertz sound.rate)
+    ++ (little_bytes 2 (file_frame_bytes sound) ++ little_bytes 2 (8 * sample_length sound.bits)))))
 
 -- those that the extensible form has behind them: how many they are, any valid bits and any channel mask, and the
 -- subformat
@@ -72,11 +73,11 @@ sound_file format frames =
     file_bytes (little_bytes 4 (20 + length format + length frames)) (sound_parts format frames)
 
 -- two channels of 16 bits
-abbrev pub stereo : Rate → Sound
-stereo rate = record { rate = rate; bits = B16; channels = Two }
+abbrev pub stereo_sound : Rate → Sound
+stereo_sound rate = record { rate = rate; bits = B16; channels = Two }
 
 abbrev pub stereo_format : Rate → List ℕ
-stereo_format rate = plain_format (stereo rate)
+stereo_format rate = plain_format (stereo_sound rate)
 
 abbrev pub stereo_file : Rate → List ℕ → List ℕ
 stereo_file rate frames = sound_file (stereo_format rate) frames
