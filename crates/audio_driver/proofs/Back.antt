@@ -13,8 +13,8 @@ use Rattle.period_writer.specs.Blocks.{AddsAll}
 use Rattle.period_writer.specs.Rings.{period_bytes, list_bytes}
 use Rattle.audio_driver.specs.Opening.{OpensDriver}
 use Rattle.audio_driver.specs.Closing.{GivesBack}
-use Rattle.period_writer.proofs.Callers.{adds_keeps}
 use Rattle.audio_driver.proofs.Taken.{are_same, is_taken, same_run, run_same}
+use Rattle.dma_pool.proofs.Callers.{AddsRun-keeps}
 
 -- ---- the runs beside some
 
@@ -120,7 +120,7 @@ takes_fresh : (granules bytes : ℕ) (taken : List Run) (addresses : List ℕ) (
 takes_fresh granules bytes taken [] taken' run none some has = refl
 takes_fresh granules bytes taken (address ∷ addresses) taken' run (middle, first, rest) some has =
     or_none (are_same (run_at address bytes) run) (is_taken (runs_at bytes addresses) run) (fresh_one taken address bytes run first.fits.free.apart some has)
-    (takes_fresh granules bytes middle addresses taken' run rest some (adds_keeps taken (run_at address bytes) middle first.adds run has))
+    (takes_fresh granules bytes middle addresses taken' run rest some (AddsRun-keeps taken (run_at address bytes) middle first.adds run has))
 
 -- ---- all blocks of a driver
 
@@ -132,9 +132,9 @@ runs_of geometry corb rirb list periods =
 opens_fresh : (geometry : Geometry) (pool : PoolState) (corb rirb list : ℕ) (periods : List ℕ) (pool' : PoolState) (run : Run) → OpensDriver geometry pool corb rirb list periods pool' → Contains pool.taken run
     → is_taken (runs_of geometry corb rirb list periods) run ≡ false
 opens_fresh geometry pool corb rirb list periods pool' run opens has =
-    let first = adds_keeps pool.taken (run_at corb corb_bytes) opens.engine.middle opens.engine.corb_taken.adds run has in
-    let second = adds_keeps opens.engine.middle (run_at rirb rirb_bytes) opens.middle.taken opens.engine.rirb_taken.adds run first in
-    let third = adds_keeps opens.middle.taken (run_at list (list_bytes geometry.periods)) opens.writer.middle opens.writer.list_taken.adds run second in
+    let first = AddsRun-keeps pool.taken (run_at corb corb_bytes) opens.engine.middle opens.engine.corb_taken.adds run has in
+    let second = AddsRun-keeps opens.engine.middle (run_at rirb rirb_bytes) opens.middle.taken opens.engine.rirb_taken.adds run first in
+    let third = AddsRun-keeps opens.middle.taken (run_at list (list_bytes geometry.periods)) opens.writer.middle opens.writer.list_taken.adds run second in
     let some_list : 1 ≤ granules_for (list_bytes geometry.periods) = (let two = geometry.some_periods in omega (arith, two)) in
     let some : 1 ≤ granules_for (period_bytes geometry.period) = (let one = geometry.some in omega (arith, one)) in
     or_none (are_same (run_at corb corb_bytes) run) _ (fresh_one pool.taken corb corb_bytes run opens.engine.corb_taken.fits.free.apart (omega arith) has)

@@ -12,7 +12,8 @@ use Rattle.period_writer.specs.declared.geometry.Geometry.{Geometry}
 use Rattle.period_writer.specs.Rings.{period_bytes, list_bytes}
 use Rattle.period_writer.specs.Opening as of_writer
 use Rattle.period_writer.specs.Writers.{WriterState, OwnsBlocks}
-use Rattle.period_writer.proofs.Callers.{adds_keeps, adds_others, takes_keep}
+use Rattle.period_writer.proofs.Callers.{takes_keep}
+use Rattle.dma_pool.proofs.Callers.{AddsRun-keeps, AddsRun-others}
 
 -- ---- the test whether a run is taken
 
@@ -44,14 +45,14 @@ run_same one other is =
 pub opens_keep : (geometry : Geometry) (pool : PoolState) (list : ℕ) (periods : List ℕ) (pool' : PoolState) (run : Run) → of_writer.OpensWriter geometry pool list periods pool' → Contains pool.taken run → Contains pool'.taken run
 opens_keep geometry pool list periods pool' run opens has =
     takes_keep pool.granules (period_bytes geometry.period) opens.middle periods pool'.taken run opens.periods_taken
-    (adds_keeps pool.taken (run_at list (list_bytes geometry.periods)) opens.middle opens.list_taken.adds run has)
+    (AddsRun-keeps pool.taken (run_at list (list_bytes geometry.periods)) opens.middle opens.list_taken.adds run has)
 
 -- a run of another number of granules stays taken as an engine is closed
 pub engine_leaves : (pool : PoolState) (corb rirb : ℕ) (pool' : PoolState) (run : Run) → of_engine.GivesBack pool corb rirb pool' → run.count ≢ granules_for corb_bytes → run.count ≢ granules_for rirb_bytes
     → Contains pool.taken run → Contains pool'.taken run
 engine_leaves pool corb rirb pool' run gives other_corb other_rirb has =
-    adds_others pool'.taken (run_at rirb rirb_bytes) gives.middle gives.rirb_given run
-    (adds_others gives.middle (run_at corb corb_bytes) pool.taken gives.corb_given run has (λ same. other_corb (ap (λ (one : Run). one.count) same)))
+    AddsRun-others pool'.taken (run_at rirb rirb_bytes) gives.middle gives.rirb_given run
+    (AddsRun-others gives.middle (run_at corb corb_bytes) pool.taken gives.corb_given run has (λ same. other_corb (ap (λ (one : Run). one.count) same)))
     (λ same. other_rirb (ap (λ (one : Run). one.count) same))
 
 -- the blocks of an engine have 8 and 16 granules, the list of buffers 4 at most, and a period a multiple of 3

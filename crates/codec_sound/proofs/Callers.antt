@@ -12,3 +12,5 @@ pub use Rattle.codec_sound.proofs.HeardLists.{signal_by-word}
 pub use Rattle.codec_sound.proofs.HeardLists.{heard-append, heard-push, items-missed, items-empty}
 -- both channels of a pair are among the stream's
 pub use Rattle.codec_sound.proofs.Pairs.{among-signal_of}
+-- signals are renewed alike by functions that agree
+pub use Rattle.codec_sound.proofs.Renewing.{renewed-agree}

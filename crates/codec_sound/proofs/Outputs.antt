@@ -8,14 +8,15 @@ use Rattle.codec_graph.specs.declared.raw.RawCodec.{RawCodec}
 use Rattle.codec_graph.specs.Widget.{node_at, is_inner}
 use Rattle.codec_graph.specs.Cycles.{IsWellFormed, inner_list_of, inner_list}
 use Rattle.codec_graph.specs.Settings.{Entries}
-use Rattle.codec_graph.proofs.Callers.{node_below, words_at}
+use Rattle.codec_graph.proofs.Callers.{node_below, words_at, marked-set}
 use Rattle.codec_sound.specs.declared.signals.Signal.{Signal}
 use Rattle.codec_sound.specs.declared.signals.Signal.TheVariants.{Silence}
 use Rattle.codec_sound.specs.declared.streams.LinkStream.{LinkStream}
 use Rattle.codec_sound.specs.Signals.{given_at, gives, within, out}
-use Rattle.codec_sound.specs.Depths.{IsShallow, in_table, IsMarked, IsReady, AreRight}
+use Rattle.codec_graph.specs.Marks.{IsMarked}
+use Rattle.codec_sound.specs.Depths.{IsShallow, in_table, IsReady, AreRight}
 use Rattle.codec_sound.proofs.Agreeing.{gives-agree}
-use Rattle.codec_sound.proofs.Ways.{shallow, shallow_listed, not_shallow, marked-set, not_marked}
+use Rattle.codec_sound.proofs.Ways.{shallow, shallow_listed, not_shallow, not_marked}
 
 -- what comes over connections is the same from as many on as lead from the node
 within-steady : (codec : RawCodec) (settings : Entries) (stream : LinkStream) (n nid m k : ℕ) → IsShallow codec n nid → n ≤ m → n ≤ k → within codec settings stream m nid ≡ within codec settings stream k nid

@@ -6,8 +6,9 @@ use Rattle.codec_graph.specs.declared.raw.RawNode.{RawNode}
 use Rattle.codec_graph.specs.declared.raw.RawCodec.{RawCodec}
 use Rattle.codec_graph.specs.Widget.{node_at}
 use Rattle.codec_graph.specs.Cycles.{IsWellFormed, inner_list_of, inner_list, Leads, Reaches}
-use Rattle.codec_graph.proofs.Callers.{node_below}
-use Rattle.codec_sound.specs.Depths.{IsShallow, IsMarked}
+use Rattle.codec_graph.proofs.Callers.{node_below, unmarked_count, unmarked_count-set, marked-set}
+use Rattle.codec_graph.specs.Marks.{IsMarked}
+use Rattle.codec_sound.specs.Depths.{IsShallow}
 
 -- a connection more at the end of a way
 leads_on : (codec : RawCodec) (from : ℕ) (through : List ℕ) (mid to : ℕ) → Leads codec from through mid → Contains (inner_list codec mid) to → Reaches codec from to
@@ -15,31 +16,9 @@ leads_on codec from [] mid to way last = (mid ∷ [], (way, last))
 leads_on codec from (next ∷ through) mid to way last =
     let rest = leads_on codec next through mid to way.1 last in (next ∷ rest.0, (way.0, rest.1))
 
--- how many marks are missing
-unmarked_count : List Bool → ℕ
-unmarked_count [] = 0
-unmarked_count (true ∷ marks) = unmarked_count marks
-unmarked_count (false ∷ marks) = suc (unmarked_count marks)
-
--- a mark more leaves one missing less
-unmarked_count-set : (marks : List Bool) (k : ℕ) → k < length marks → get_or marks k false ≡ false → unmarked_count (set marks k true) < unmarked_count marks
-unfolding unmarked_count
-unmarked_count-set [] k within clear = absurd (omega arith)
-unmarked_count-set (true ∷ marks) zero within clear = cc
-unmarked_count-set (false ∷ marks) zero within clear = omega arith
-unmarked_count-set (true ∷ marks) (suc k) within clear = unmarked_count-set marks k (omega arith) clear
-unmarked_count-set (false ∷ marks) (suc k) within clear = let fewer = unmarked_count-set marks k (omega arith) clear in omega (arith, fewer)
-
 unmarked_count-replicate : (n : ℕ) → unmarked_count (replicate n false) ≡ n
-unfolding unmarked_count
 unmarked_count-replicate zero = refl
 unmarked_count-replicate (suc n) = rw (unmarked_count-replicate n) refl
-
--- a mark after one more was made is that one or was there
-pub marked-set : (marks : List Bool) (k node : ℕ) → IsMarked (set marks k true) node → (node ≡ k) ⊎ IsMarked marks node
-marked-set marks k node m = elim (cases_eq node k) as (λ _. (node ≡ k) ⊎ IsMarked marks node) [ inl same ↦ inl same | inr other ↦ inr (before other) ] where
-  before : node ≢ k → IsMarked marks node
-  before other = rw get_or-set_other at m
 
 -- no node is marked at first
 pub not_marked : (n nid : ℕ) → IsMarked (replicate n false) nid → ⊥

@@ -1,7 +1,8 @@
 -- How far connections lead through mixers and selectors, and how much of a table of signals is worked out.
-use Rattle.std.specs.Prelude.{◌≡◌, ℕ, zero, suc, Bool, true, false, List, Contains, slice_index_or}
+use Rattle.std.specs.Prelude.{◌≡◌, ℕ, zero, suc, Bool, List, Contains, slice_index_or}
 use Rattle.codec_graph.specs.declared.raw.RawCodec.{RawCodec}
 use Rattle.codec_graph.specs.Cycles.{inner_list}
+use Rattle.codec_graph.specs.Marks.{IsMarked}
 use Rattle.codec_graph.specs.Settings.{Entries}
 use Rattle.codec_sound.specs.declared.signals.Signal.{Signal}
 use Rattle.codec_sound.specs.declared.signals.Signal.TheVariants.{Silence}
@@ -16,9 +17,6 @@ IsShallow codec (suc nodes) nid = (to : ℕ) → Contains (inner_list codec nid)
 -- the signal at a node's place of a table
 abbrev pub in_table : List Signal → ℕ → Signal
 in_table table nid = slice_index_or table nid Silence
-
-abbrev pub IsMarked : List Bool → ℕ → Type 0
-IsMarked marks nid = slice_index_or marks nid false ≡ true
 
 -- all nodes that this one lists are marked
 abbrev pub IsReady : RawCodec → List Bool → ℕ → Type 0

@@ -2,7 +2,8 @@
 ghost use Rattle.std.specs.Prelude.{◌≡◌, ◌<◌, ◌↔◌, ℕ, IsTrue};
 ghost use Rattle.codec_graph.specs.Cycles.{IsWellFormed, inner_list};
 ghost use Rattle.codec_sound.specs.Signals as spec;
-ghost use Rattle.codec_sound.specs.Depths.{in_table, IsMarked, IsReady, AreRight};
+ghost use Rattle.codec_graph.specs.Marks.{IsMarked};
+ghost use Rattle.codec_sound.specs.Depths.{in_table, IsReady, AreRight};
 
 use crate::signals::{NAMED, Signal, Table};
 use crate::streams::LinkStream;

@@ -11,7 +11,7 @@ use Rattle.world_rings.specs.Memory.{word_at, IsOutside}
 use Rattle.world_rings.specs.Entries.{response_bytes, response_place, response_stored, responses_stored, after_response, after_responses}
 use Rattle.world_rings.specs.Engines.{can_respond, batch_of, batch}
 use Rattle.world_rings.specs.Standing.{StandsAt, IsRirbInside}
-use Rattle.world_rings.proofs.Callers.{stored_outside}
+use Rattle.world_rings.proofs.Callers.{stored_outside, length-response_bytes}
 use Rattle.command_engine.specs.Blocks.{are_apart}
 use Rattle.command_engine.specs.Sizes.{half_of}
 use Rattle.command_engine.specs.Fetchings.{part_of, AreStanding}
@@ -60,9 +60,6 @@ batch_short fields size waiting responses can are served =
     omega arith
 
 -- ---- memory
-
-length-response_bytes : (response : Response) → length (response_bytes response) ≡ 8
-length-response_bytes response = simp length-append
 
 abbrev OutsideRirb : Fields → ℕ → Type 0
 OutsideRirb fields at = (at < rirb_address fields) ⊎ (rirb_address fields + 8 * entries_of fields.shape.rirb ≤ at)

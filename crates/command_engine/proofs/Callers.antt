@@ -50,3 +50,7 @@ pub use Rattle.command_engine.proofs.Codecs.{changed_sum}
 pub use Rattle.command_engine.proofs.SubmitTellings.{none_gained}
 -- a write of CRST takes the controller out of reset
 pub use Rattle.command_engine.proofs.Quiet.{leaves_reset}
+-- a write that clears the flag of responses
+pub use Rattle.command_engine.proofs.PollWorlds.{write-response_flag}
+-- solicited responses of two rows
+pub use Rattle.command_engine.proofs.Coming.{count-append}

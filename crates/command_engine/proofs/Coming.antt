@@ -10,7 +10,7 @@ use Rattle.codec_graph.specs.declared.raw.RawNode.{RawNode}
 use Rattle.codec_graph.specs.declared.controls.Control.TheVariants.{Unsol}
 use Rattle.codec_graph.specs.Widget.{node_at, is_pin}
 use Rattle.codec_graph.specs.Settings.{setting_of}
-use Rattle.codec_graph.proofs.Callers.{answers-push, answers-cons}
+use Rattle.codec_graph.proofs.Callers.{answers-push, answers-cons, answers-drop_answer}
 use Rattle.hda_registers.specs.Fields.{Fields}
 use Rattle.world_rings.specs.declared.response.Response.{Response}
 use Rattle.hda_world.specs.Worlds.{TakenCommand, codec_at, with_codec}
@@ -57,7 +57,7 @@ coming_taken word carried running unread waiting codecs codec ascend there way =
 
 -- ---- a codec sends its first item
 
-count-append : (first second : List Response) → solicited (first ++ second) ≡ solicited first + solicited second
+pub count-append : (first second : List Response) → solicited (first ++ second) ≡ solicited first + solicited second
 count-append first second = sum_by-append (λ (response : Response). cond (not response.unsolicited) 1 0) first second
 
 one_response : (gained : List TakenCommand) (fields : Fields) (address : ℕ) (item : Waiting) → address ≤ 14 → ItemCanCome gained address item → All (ResponseCanCome gained) (responses_of fields address item)
@@ -137,19 +137,10 @@ all_left P [] all = All-nil P
 all_left P (Answer value ∷ items) all = All-tail P (Answer value) items all
 all_left P (Unsolicited value ∷ items) all = All-cons P (Unsolicited value) (drop_answer items) (All-head P (Unsolicited value) items all) (all_left P items (All-tail P (Unsolicited value) items all))
 
-fewer_left : (items : List Waiting) → answers (drop_answer items) ≤ answers items
-fewer_left [] = omega arith
-fewer_left (Answer value ∷ items) = let e = answers-cons (Answer value) items in omega arith
-fewer_left (Unsolicited value ∷ items) =
-    let e = answers-cons (Unsolicited value) items in
-    let f = answers-cons (Unsolicited value) (drop_answer items) in
-    let rest = fewer_left items in
-    omega arith
-
 pub coming_lost : (gained : List TakenCommand) (address : ℕ) (unread waiting : List Response) (codecs : List CodecState) → AscendByAddress codecs
     → IsOnItsWay gained unread waiting codecs → IsOnItsWay gained unread waiting (with_codec address without_answer codecs)
 coming_lost gained address unread waiting codecs ascend way =
-    coming_changed gained address without_answer unread waiting codecs ascend (λ codec can. all_left (ItemCanCome gained codec.graph.address) codec.waiting can) (λ codec. fewer_left codec.waiting) way
+    coming_changed gained address without_answer unread waiting codecs ascend (λ codec can. all_left (ItemCanCome gained codec.graph.address) codec.waiting can) (λ codec. answers-drop_answer codec.waiting) way
 
 -- ---- something is plugged in or out
 

@@ -158,11 +158,6 @@ keeps-with_codec address change graphs settings codecs = record {
   settings = parts-with_codec (λ codec. codec.settings) address change settings codecs;
 }
 
-pub addresses-with_codec : (address : ℕ) (change : CodecState → CodecState) → ((codec : CodecState) → (change codec).graph ≡ codec.graph) → (codecs : List CodecState)
-    → addresses_of (with_codec address change codecs) ≡ addresses_of codecs
-addresses-with_codec address change graphs codecs =
-    parts-with_codec (λ codec. codec.graph.address) address change (λ codec. ap (λ (graph : RawCodec). graph.address) (graphs codec)) codecs
-
 -- a list that was changed at one codec, put back
 pub put_back : {Z : Type 0} (address : ℕ) (change : CodecState → CodecState) (v : Vec CodecState Z) (codecs : List CodecState) → codecs ≡ with_codec address change v.items
     → (with_items v codecs).items ≡ with_codec address change v.items

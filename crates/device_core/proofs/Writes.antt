@@ -14,7 +14,7 @@ use Rattle.stream_descriptor.specs.Running.{Playing, StandsFor}
 use Rattle.stream_descriptor.proofs.Callers.{Settled}
 use Rattle.hda_world.specs.Worlds.{World}
 use Rattle.hda_world.specs.Events.{reset_if, counted_anew_if, registers_written, streams_settled, after_write}
-use Rattle.hda_world.proofs.Callers.{write_memory, write_registers, write_states}
+use Rattle.hda_world.proofs.Callers.{write_memory, write_registers, write_states, map-cleared}
 use Rattle.device_core.specs.Codecs.{KeepCodecs, addresses_of}
 use Rattle.device_core.specs.Devices.{DeviceState, AreAlike, IsWorld}
 
@@ -33,14 +33,9 @@ anew_alike : (anew : Bool) (first second : ℕ) → AreAlike first second → Ar
 anew_alike true first second alike = inl refl
 anew_alike false first second alike = alike
 
--- what a reset leaves of the codecs
-parts_cleared : {A : Type 0} (part : CodecState → A) → ((codec : CodecState) → part (cleared codec) ≡ part codec) → (codecs : List CodecState) → map part (map cleared codecs) ≡ map part codecs
-parts_cleared part same [] = refl
-parts_cleared part same (codec ∷ codecs) = ap (λ x. x ∷ map part (map cleared codecs)) (same codec) ∙ ap (λ xs. part codec ∷ xs) (parts_cleared part same codecs)
-
 parts_if : {A : Type 0} (part : CodecState → A) → ((codec : CodecState) → part (cleared codec) ≡ part codec) → (reset : Bool) (codecs : List CodecState)
     → map part (if reset then map cleared codecs else codecs) ≡ map part codecs
-parts_if part same true codecs = parts_cleared part same codecs
+parts_if part same true codecs = map-cleared part same codecs
 parts_if part same false codecs = refl
 
 pub keeps_cleared : (reset : Bool) (codecs : List CodecState) → KeepCodecs codecs (if reset then map cleared codecs else codecs)

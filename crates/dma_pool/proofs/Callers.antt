@@ -51,3 +51,9 @@ at_error (Err x) P e h = h
 pub at_success : {T E : Type 0} (r : Result T E) (P : Type 0) → false ≡ is_err r → OnOk r P → P
 at_success (Ok x) P e h = h
 at_success (Err x) P e h = cc
+-- what is taken after one run more was taken before or is that run
+pub use Rattle.dma_pool.proofs.LaidOut.{AddsRun-others}
+-- what was taken stays so
+pub use Rattle.dma_pool.proofs.LaidOut.{AddsRun-keeps}
+-- a run that was added is there
+pub use Rattle.dma_pool.proofs.LaidOut.{AddsRun-has}

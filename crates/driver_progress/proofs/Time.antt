@@ -19,18 +19,13 @@ use Rattle.hda_world.specs.Worlds.{World, with_codec}
 use Rattle.hda_world.specs.Steps.{discovered, passed}
 use Rattle.hda_world.specs.Kept.{Kept}
 use Rattle.hda_world.specs.Discovery.{addresses_of}
-use Rattle.hda_world.proofs.Callers.{frames_after, passed_global, graphs-with_codec}
+use Rattle.hda_world.proofs.Callers.{frames_after, passed_global, graphs-with_codec, addresses-with_codec}
 use Rattle.driver_progress.specs.Beginning.{AreOnly, HasOnly, KeepsTime}
 
 -- addresses are those of the graphs
 of_graphs : (codecs : List CodecState) → addresses_of codecs ≡ map (λ (graph : RawCodec). graph.address) (map (λ (codec : CodecState). codec.graph) codecs)
 of_graphs [] = refl
 of_graphs (codec ∷ codecs) = ap (λ (addresses : List ℕ). codec.graph.address ∷ addresses) (of_graphs codecs)
-
--- so a change of one codec that keeps its graph leaves them
-addresses_stay : (address : ℕ) (change : CodecState → CodecState) → ((codec : CodecState) → (change codec).graph ≡ codec.graph) → (codecs : List CodecState) → addresses_of (with_codec address change codecs) ≡ addresses_of codecs
-addresses_stay address change keeps codecs =
-    of_graphs (with_codec address change codecs) ∙ ap (map (λ (graph : RawCodec). graph.address)) (graphs-with_codec address change keeps codecs) ∙ sym (of_graphs codecs)
 
 clock_after : (responses : List Response) (fields : Fields) → (after_responses fields responses).global.wall_clock ≡ fields.global.wall_clock
 clock_after [] fields = refl
@@ -112,7 +107,7 @@ only_passes world holds out = only_if (world.frames + 1 == FRAMES_TO_DISCOVERY) 
 
 only_changed : (world : World) (address : ℕ) (change : CodecState → CodecState) → ((codec : CodecState) → (change codec).graph ≡ codec.graph) → HasOnly world
     → AreOnly world.registers.global.state_status (addresses_of (with_codec address change world.codecs))
-only_changed world address change keeps holds = subst (AreOnly world.registers.global.state_status) (sym (addresses_stay address change keeps world.codecs)) holds
+only_changed world address change keeps holds = subst (AreOnly world.registers.global.state_status) (sym (addresses-with_codec address change keeps world.codecs)) holds
 
 pub keeps_only : Kept HasOnly
 keeps_only = record {

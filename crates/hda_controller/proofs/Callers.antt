@@ -10,5 +10,3 @@ pub use Rattle.hda_controller.proofs.Listed.{heard_reserved}
 pub use Rattle.hda_controller.proofs.Listed.{heard_listed}
 -- lists that grew and grew again
 pub use Rattle.hda_controller.proofs.Growth.{grew_still, grew_on}
--- lists with room for some items have room for fewer
-pub use Rattle.hda_controller.proofs.Due.{HasRoom-fewer}

@@ -10,7 +10,7 @@ use Rattle.stream_format.specs.declared.format.Format.{Format}
 use Rattle.stream_format.specs.Cadence.{blocks_of, most_blocks, block_bytes}
 use Rattle.stream_format.specs.Layouts.{Layout, layout, layout_of}
 use Rattle.stream_format.proofs.Callers.{bounded}
-use Rattle.world_streams.proofs.Callers.{few_bytes, some_block}
+use Rattle.world_streams.proofs.Callers.{few_bytes, some_block, few_blocks}
 use Rattle.codec_sound.specs.Signals.{IsAmong}
 use Rattle.codec_sound.specs.HeardLists.{signal_with}
 use Rattle.codec_sound.proofs.Callers.{among-signal_of}
@@ -18,19 +18,7 @@ use Rattle.heard_lists.specs.Listings.{Listing, HasRoom}
 use Rattle.hda_controller.specs.Hearing.{AreDue}
 use Rattle.hda_controller.specs.Unheard.{AreWhole, block_count}
 
--- lists with room for some items have room for fewer
-pub HasRoom-fewer : (fewer items : ℕ) (lists : List Listing) → fewer ≤ items → HasRoom items lists → HasRoom fewer lists
-HasRoom-fewer fewer items lists no_more has k d within = let room = has k d within in omega (arith, no_more, room)
-
 -- ---- how many they are
-
-at_most_four : (rate : Rate) → most_blocks rate ≤ 4
-at_most_four R8 = omega arith
-at_most_four R16 = omega arith
-at_most_four R44 = omega arith
-at_most_four R48 = omega arith
-at_most_four R96 = omega arith
-at_most_four R192 = omega arith
 
 module _ (word blocks : ℕ) (format : Format) (due : AreDue word blocks) (is : Some (layout format) ≡ layout_of word) where
   same_layout : due.layout ≡ layout format
@@ -42,7 +30,7 @@ module _ (word blocks : ℕ) (format : Format) (due : AreDue word blocks) (is : 
   due_few : blocks ≤ 4
   due_few =
       let most : blocks_of format.rate due.frame ≤ most_blocks format.rate = bounded format.rate due.frame in
-      let four = at_most_four format.rate in
+      let four = few_blocks format.rate in
       omega (arith, of_format, most, four)
 
   -- their bytes

@@ -11,7 +11,7 @@ use Rattle.stream_format.specs.Words.{format_word, HasNoFormat}
 use Rattle.codec_sound.specs.declared.signals.Signal.{Signal}
 use Rattle.codec_sound.specs.HeardLists.{signal_with}
 use Rattle.codec_sound.specs.Keeping.{KeptSignals, signal_by, with_signals, renewed, counted_on}
-use Rattle.codec_sound.proofs.Callers.{AreKept-renewed, pins_of_renewed, signal_by-word}
+use Rattle.codec_sound.proofs.Callers.{AreKept-renewed, pins_of_renewed, signal_by-word, renewed-agree}
 use Rattle.hda_controller.specs.Keeping.{signal_laid, signal_set, IsKeptFor}
 use Rattle.hda_controller.specs.Renewing.{renewed_for, all_renewed, one_renewed}
 
@@ -29,11 +29,6 @@ set-with codec tag word pin = sym (laid-with codec tag word pin (layout_of word)
 pub by-set : (codec : CodecState) (tag word : ℕ) (format : Option Format) → option_map layout format ≡ layout_of word → MatchOption format (HasNoFormat word) (λ f. format_word f ≡ word)
     → (pin : ℕ) → signal_by codec.graph codec.settings tag format pin ≡ signal_set codec.graph codec.settings tag word pin
 by-set codec tag word format reading inverse pin = signal_by-word codec tag word pin format reading inverse ∙ sym (set-with codec tag word pin)
-
-renewed-agree : (f g : ℕ → Signal) (signals : List (ℕ × Signal)) → ((pin : ℕ) → f pin ≡ g pin) → renewed f signals ≡ renewed g signals
-renewed-agree f g [] same = refl
-renewed-agree f g (kept ∷ signals) same =
-    ap (λ (s : Signal). (kept.0, s) ∷ renewed f signals) (same kept.0) ∙ ap (λ (rest : List (ℕ × Signal)). (kept.0, g kept.0) ∷ rest) (renewed-agree f g signals same)
 
 pub with-agree : (f g : ℕ → Signal) (pins : List ℕ) → ((pin : ℕ) → f pin ≡ g pin) → with_signals f pins ≡ with_signals g pins
 with-agree f g [] same = refl

@@ -10,11 +10,10 @@ use Rattle.codec_sound.specs.HeardLists.{block_size}
 use Rattle.device_core.specs.Devices.{DeviceState, KeepsSound}
 use Rattle.codec_sound.specs.declared.heard.Heard.TheVariants.{Hole}
 use Rattle.heard_lists.specs.Listings.{Listing, HasRoom, with_blocks, with_items}
-use Rattle.heard_lists.proofs.Callers.{both_count, blocks-on, no-blocks}
+use Rattle.heard_lists.proofs.Callers.{both_count, blocks-on, no-blocks, HasRoom-fewer}
 use Rattle.hda_controller.specs.Controllers.{is_candidate_of}
 use Rattle.hda_controller.specs.Hearing.{AreHeard}
 use Rattle.hda_controller.specs.Unheard.{block_count, AreWhole, with_heard, layout_now, heard_now}
-use Rattle.hda_controller.proofs.Due.{HasRoom-fewer}
 use Rattle.hda_controller.proofs.Growth.{signals}
 
 -- ---- nothing waits

@@ -3,3 +3,4 @@ pub mod PieceLemmas
 pub mod TakenLemmas
 pub mod Lengths
 pub mod Parts
+pub mod Callers

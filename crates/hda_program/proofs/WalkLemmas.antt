@@ -11,10 +11,6 @@ use Rattle.hda_program.specs.Answers.{IsMeant, MachineWalks, RequestAnswers}
 use Rattle.hda_program.specs.Asks.{Names, files_asked, files_of}
 use Rattle.hda_program.specs.Meanings.{Meant}
 
--- a count that rose has risen still after more is counted
-pub Rose-longer : (first before now last : ℕ) → first ≤ before → Rose before now → now ≤ last → Rose first last
-Rose-longer first before now last earlier rose later = omega arith
-
 -- what was given in all, by what was given before and then
 pub given_longer : (first before last most : ℕ) → before ≤ first + most → (n : ℕ) → last ≤ before + n → last ≤ first + (most + n)
 given_longer first before last most few n later = omega arith

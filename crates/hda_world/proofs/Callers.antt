@@ -140,3 +140,19 @@ pub use Rattle.hda_world.proofs.Telling.{events_back}
 pub use Rattle.hda_world.proofs.Passing.{kept_frames}
 -- and one of the codecs alone where their moves keep it
 pub use Rattle.hda_world.proofs.Passing.{kept_codecs}
+-- a change of a codec's settings leaves the addresses
+pub use Rattle.hda_world.proofs.Discovery.{addresses-with_codec}
+-- what is no answer stays where answers are cleared
+pub use Rattle.hda_world.proofs.Leaving.{map-cleared}
+-- what holds at each event of two journals in a row
+pub use Rattle.hda_world.proofs.Moments.{AtEach-append}
+-- link frames out of reset count themselves
+pub use Rattle.hda_world.proofs.Discovery.{frames_count}
+-- an honest journal is honest at its back
+pub use Rattle.hda_world.proofs.Moments.{AreHonest-back}
+-- and at its front
+pub use Rattle.hda_world.proofs.Moments.{AreHonest-front}
+-- streams that stay and stay again stay
+pub use Rattle.hda_world.proofs.Streaming.{streams_both}
+-- a descriptor settles into itself
+pub use Rattle.hda_world.proofs.Writing.{settled_same}

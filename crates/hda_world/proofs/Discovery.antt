@@ -59,7 +59,7 @@ frame_by : (now : Bool) (world : World) → (world.frames + 1 == FRAMES_TO_DISCO
 frame_by true world is holds late = all_come world.codecs (framed world.registers)
 frame_by false world is holds late = holds (at_most world.frames is late)
 
-addresses-with_codec : (address : ℕ) (change : CodecState → CodecState) → ((codec : CodecState) → (change codec).graph ≡ codec.graph) → (codecs : List CodecState) → addresses_of (with_codec address change codecs) ≡ addresses_of codecs
+pub addresses-with_codec : (address : ℕ) (change : CodecState → CodecState) → ((codec : CodecState) → (change codec).graph ≡ codec.graph) → (codecs : List CodecState) → addresses_of (with_codec address change codecs) ≡ addresses_of codecs
 addresses-with_codec address change keeps [] = refl
 addresses-with_codec address change keeps (codec ∷ codecs) =
     let first : (named : Bool) → (if named then change codec else codec).graph.address ≡ codec.graph.address = λ named. elim named as (λ b. (if b then change codec else codec).graph.address ≡ codec.graph.address) [ true ↦ ap (λ graph. graph.address) (keeps codec) | false ↦ refl ] in
@@ -105,7 +105,7 @@ out_frame world out = ap (λ (out : Bool). if out then output_framed (frame_of (
 still_out : (world : World) → is_out_of_reset world.registers.global ≡ true → is_out_of_reset (frame_step world).registers.global ≡ true
 still_out world out = ap (λ (after : World). is_out_of_reset after.registers.global) (out_frame world out) ∙ passed_out world out
 
-frames_count : (n : ℕ) (world : World) → is_out_of_reset world.registers.global ≡ true → (times n frame_step world).frames ≡ world.frames + n
+pub frames_count : (n : ℕ) (world : World) → is_out_of_reset world.registers.global ≡ true → (times n frame_step world).frames ≡ world.frames + n
 frames_count zero world out = omega arith
 frames_count (suc n) world out =
     let one : (frame_step world).frames ≡ world.frames + 1 = ap (λ (after : World). after.frames) (out_frame world out) in

@@ -14,7 +14,7 @@ use Rattle.hda_registers.specs.declared.shapes.Moved.TheVariants.{CorbRp, RirbWp
 use Rattle.hda_registers.specs.declared.shapes.Shape.{Shape}
 use Rattle.codec_graph.specs.declared.raw.RawCodec.{RawCodec}
 use Rattle.world_rings.specs.Memory.{IsOutside}
-use Rattle.world_rings.proofs.Callers.{stored_outside}
+use Rattle.world_rings.proofs.Callers.{stored_outside, length-response_bytes}
 use Rattle.world_rings.specs.Entries.{response_bytes, response_stored, response_place, responses_stored, after_response, after_responses}
 use Rattle.world_steps.specs.declared.Step.{Step}
 use Rattle.world_streams.specs.Streams.{StreamState}
@@ -23,7 +23,7 @@ use Rattle.hda_world.specs.declared.step.TheConstants.{FRAMES_TO_DISCOVERY}
 use Rattle.hda_world.specs.Steps.{discovered, passed, after_steps}
 use Rattle.hda_registers.specs.declared.shapes.Width.{Width}
 use Rattle.hda_registers.specs.Laws.{IsBesideRings, LeavesRings}
-use Rattle.hda_registers.proofs.Callers.{keeps-reset, keeps-left, leaves-rings, not_control}
+use Rattle.hda_registers.proofs.Callers.{keeps-reset, keeps-left, leaves-rings, not_control, some_entries}
 use Rattle.hda_registers.specs.Access.{written, effects_of}
 use Rattle.codec_graph.proofs.Callers.{graph-plugged}
 use Rattle.hda_world.specs.Events.{reset_if, counted_anew_if, streams_settled, registers_written, after_write}
@@ -33,16 +33,8 @@ use Rattle.hda_world.proofs.Stepping.{kept_steps, frames_after}
 
 -- ---- RIRB
 
-length-response_bytes : (response : Response) → length (response_bytes response) ≡ 8
-length-response_bytes response = simp (length-append, length-bytes_low_first)
-
-has_entries : (size : RingSize) → 0 < entries_of size
-has_entries Two = lit< tt
-has_entries Sixteen = lit< tt
-has_entries Full = lit< tt
-
 place_inside : (fields : Fields) → response_place fields < entries_of fields.shape.rirb
-place_inside fields = mod-lt _ (has_entries fields.shape.rirb)
+place_inside fields = mod-lt _ (some_entries fields.shape.rirb)
 
 -- an address outside RIRB is outside the entry that is written next
 outside_entry : (fields : Fields) (response : Response) (at : ℕ) → IsOutsideRirb fields at → IsOutside (rirb_address fields + 8 * response_place fields) (length (response_bytes response)) at
@@ -274,7 +266,7 @@ steps_leave steps world = kept_steps (StepsLeave world) (leaves world) steps wor
 -- ---- accesses
 
 -- what a reset does to each codec leaves each part that it leaves at one
-map-cleared : {A : Type 0} (part : CodecState → A) → ((codec : CodecState) → part (cleared codec) ≡ part codec) → (codecs : List CodecState) → map part (map cleared codecs) ≡ map part codecs
+pub map-cleared : {A : Type 0} (part : CodecState → A) → ((codec : CodecState) → part (cleared codec) ≡ part codec) → (codecs : List CodecState) → map part (map cleared codecs) ≡ map part codecs
 map-cleared part same [] = refl
 map-cleared part same (codec ∷ codecs) = ap (λ x. x ∷ map part (map cleared codecs)) (same codec) ∙ ap (λ xs. part codec ∷ xs) (map-cleared part same codecs)
 

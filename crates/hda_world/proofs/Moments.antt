@@ -63,15 +63,15 @@ module _ (Holds : World → Event → Type 0) (Before Middle After : World → T
 
 -- ---- rows of accesses
 
-AreHonest-front : (first second : List Event) (world : World) → AreHonest (first ++ second) world → AreHonest first world
+pub AreHonest-front : (first second : List Event) (world : World) → AreHonest (first ++ second) world → AreHonest first world
 AreHonest-front [] second world honest = tt
 AreHonest-front (event ∷ first) second world honest = (honest.0, AreHonest-front first second (happens world event) honest.1)
 
-AreHonest-back : (first second : List Event) (world : World) → AreHonest (first ++ second) world → AreHonest second (after first world)
+pub AreHonest-back : (first second : List Event) (world : World) → AreHonest (first ++ second) world → AreHonest second (after first world)
 AreHonest-back [] second world honest = honest
 AreHonest-back (event ∷ first) second world honest = AreHonest-back first second (happens world event) honest.1
 
-AtEach-append : (Holds : World → Event → Type 0) (first second : List Event) (world : World) → AtEach Holds first world → AtEach Holds second (after first world) → AtEach Holds (first ++ second) world
+pub AtEach-append : (Holds : World → Event → Type 0) (first second : List Event) (world : World) → AtEach Holds first world → AtEach Holds second (after first world) → AtEach Holds (first ++ second) world
 AtEach-append Holds [] second world none more = more
 AtEach-append Holds (event ∷ first) second world before more = (before.0, AtEach-append Holds first second (happens world event) before.1 more)
 

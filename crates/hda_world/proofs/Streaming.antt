@@ -199,7 +199,7 @@ steps_leave_stopped steps world still =
 
 -- ---- steps that name no stream
 
-streams_both : (first second third : World) → StreamsStay first second → StreamsStay second third → StreamsStay first third
+pub streams_both : (first second third : World) → StreamsStay first second → StreamsStay second third → StreamsStay first third
 streams_both first second third one other = record {
   input_registers = other.input_registers ∙ one.input_registers;
   output_registers = other.output_registers ∙ one.output_registers;

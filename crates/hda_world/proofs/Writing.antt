@@ -23,7 +23,7 @@ parts true false world = (refl, refl, refl)
 parts false true world = (refl, refl, refl)
 parts false false world = (refl, refl, refl)
 
-settled_same : (d : Descriptor) → settled d d ≡ d
+pub settled_same : (d : Descriptor) → settled d d ≡ d
 settled_same d = rw (not-and_self (is_running d), and-not_self (is_running d)) refl
 
 state_same : (d : Descriptor) (state : StreamState) → settled_state d d state ≡ state

@@ -18,6 +18,7 @@ use Rattle.hda_world.proofs.Callers.{kept_step, plain_write, keeps_sent, write_k
 use Rattle.codec_sound.specs.HeardLists.{block_size}
 use Rattle.laws_hearing.specs.Steady.{settings_of, IsSteadyFrame, Steady, IsStatusOrStop, LeavesSteady}
 use Rattle.laws_hearing.proofs.Steadying.{steady_kept}
+use Rattle.period_writer.proofs.Callers.{write-ready}
 
 -- the stream's tag and its format word are the same, and RUN does not rise
 record KeepsStream (old new : Fields) : Type 0 where
@@ -39,14 +40,8 @@ same_output old new same = record {
   still = same_run old.output new.output (ap (λ (d : Descriptor). d.run) same);
 }
 
--- the stop leaves them
-write_stop : (f : Fields) → is_out_of_reset f.global ≡ true
-    → written f 0xA0 One 0 ≡ record f { output = record f.output { stream_reset = 0; run = 0; completion_interrupt = 0; fifo_interrupt = 0; descriptor_interrupt = 0 } }
-unfolding written placed stream_written
-write_stop f out = rw out refl
-
 stop_keeps : (f : Fields) (out : Bool) → is_out_of_reset f.global ≡ out → KeepsStream f (written f 0xA0 One 0)
-stop_keeps f true is = subst (KeepsStream f) (sym (write_stop f is)) (record { tag = refl; format = refl; still = not_then (is_running f.output) })
+stop_keeps f true is = subst (KeepsStream f) (sym (write-ready f is)) (record { tag = refl; format = refl; still = not_then (is_running f.output) })
 stop_keeps f false is = same_output f (written f 0xA0 One 0) (ap (λ (g : Fields). g.output) (ignored f 0xA0 One 0 is (λ e. cc)))
 
 written_keeps : (f : Fields) (at value : ℕ) (width : Width) → at / 4 ≢ 2 → IsBesideStreams at ⊎ IsStatusOrStop at width value → KeepsStream f (written f at width value)

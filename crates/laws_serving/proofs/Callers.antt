@@ -14,7 +14,7 @@ pub use Rattle.laws_serving.proofs.Notes.{gets, asks_none, trail_made, IsNoted}
 pub use Rattle.laws_serving.proofs.Asking.{leads_so, plainly_led, IsReady}
 pub use Rattle.laws_serving.proofs.Quiet.{IsNoRise}
 -- a journal by its rounds
-pub use Rattle.laws_serving.proofs.Laid.{RanRound, round_in, round_events, rest_events, rest_is, honest_front, honest_back, alone_is, stretch_is, ends_there, world_called, IsCalled}
+pub use Rattle.laws_serving.proofs.Laid.{RanRound, round_in, round_events, rest_events, rest_is, alone_is, stretch_is, ends_there, world_called, IsCalled}
 pub use Rattle.laws_serving.proofs.Whole.{Laws, Onward, IsLeft, IsNext, IsLast, next_round, last_round, line_in, state_over, world_after}
 pub use Rattle.laws_serving.proofs.Over.{IsLaidRun, laid_run, come_up}
 -- calls that play

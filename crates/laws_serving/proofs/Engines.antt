@@ -20,6 +20,7 @@ use Rattle.command_engine.specs.Polling.{PollReads, entry_reads, batch_accesses,
 use Rattle.laws_serving.specs.ServingSchedules.{IsOfStreams}
 use Rattle.laws_serving.proofs.Rows.{CalmRow, kept_row, row_split}
 use Rattle.laws_serving.proofs.Worlds.{SameLink, link_then, step_link, event_link, step_control, write_is, IsTimed, timed_step, timed_access}
+use Rattle.command_engine.proofs.Callers.{write-response_flag}
 
 -- ---- both engines run
 
@@ -44,10 +45,6 @@ engines_step place one world is run =
 pub write-flag : (f : Fields) → is_out_of_reset f.global ≡ true → written f 0x5D One 1 ≡ record f { global = record f.global { response_flag = (written f 0x5D One 1).global.response_flag } }
 unfolding written placed global_written
 write-flag f out = rw out refl
-
-pub write-flag_set : (f : Fields) → is_out_of_reset f.global ≡ true → f.global.response_flag ≡ 1 → written f 0x5D One 1 ≡ record f { global = record f.global { response_flag = 0 } }
-unfolding written placed global_written
-write-flag_set f out set = rw (out, set) refl
 
 -- ---- one access
 
@@ -137,7 +134,7 @@ module _ (start : World) (place flag least : ℕ) where
 -- RINTFL is cleared
 pub cleared_runs : (start : World) (place least : ℕ) (world : World) → RunsOn start place 1 least world → RunsOn start place 0 least (after_write 0x5D One 1 world)
 cleared_runs start place least world runs =
-    let is = write-flag_set world.registers runs.engines.out runs.flag_is in
+    let is = write-response_flag world.registers runs.engines.out runs.flag_is in
     written_runs start place 1 least world 0x5D 1 0 One (omega arith)
     (subst (λ (fields : Fields). EnginesRun place fields.global) (sym is) (record { out = runs.engines.out; corb_runs = runs.engines.corb_runs; no_reset = runs.engines.no_reset; rirb_runs = runs.engines.rirb_runs; place_is = runs.engines.place_is }))
     (ap (λ (fields : Fields). fields.global.response_flag) is) runs

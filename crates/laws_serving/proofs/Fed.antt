@@ -18,7 +18,7 @@ use Rattle.codec_sound.specs.HeardLists.{block_size}
 use Rattle.hda_world.specs.Worlds.{World, CarriedFrame}
 use Rattle.hda_world.specs.Events.{Event, Stepped, Begin, End, Read, Write, DmaRead, DmaWrite, AreHonest, after}
 use Rattle.hda_world.specs.Streaming.{bytes_of, carried_bytes}
-use Rattle.hda_world.proofs.Callers.{after-append}
+use Rattle.hda_world.proofs.Callers.{after-append, AreHonest-back}
 use Rattle.command_engine.specs.declared.ring_places.RingPlaces.{RingPlaces}
 use Rattle.command_engine.specs.Polling.{new_entries}
 use Rattle.laws_hearing.specs.Steady.{IsSteadyFrame, IsBesideCommands}
@@ -30,7 +30,7 @@ use Rattle.driver_progress.specs.Expected.{fetches, polls}
 use Rattle.rig.specs.Stretches.{is_access, accesses_of}
 use Rattle.rig.specs.Follows.{AreAccesses}
 use Rattle.rig.proofs.Callers.{event_frames}
-use Rattle.laws_serving.proofs.Callers.{IsAccess, honest_back, events_count}
+use Rattle.laws_serving.proofs.Callers.{IsAccess, events_count}
 use Rattle.laws_serving.proofs.Full.{IsWhole, whole_add}
 use Rattle.laws_serving.proofs.Moments.{split_body, IsNoStop, runs_at, by_accesses}
 use Rattle.laws_serving.proofs.Rolling.{Moves, IsBesideSound, StreamLaws, Rolls, rolls_on, events_move}
@@ -149,7 +149,7 @@ pub finds_link : (laws : StreamLaws) (codecs : List CodecState) (tag word : ℕ)
 finds_link laws codecs tag word layout ring most world body front lpib rest is most_is rolls honest are quiet =
     let split = split_body body front (Read POSITION Four lpib) rest are in
     let beside = by_accesses IsBesideSound others_beside split.before (subst (All IsBesideSound) (sym split.front_is) quiet) in
-    let there = honest_back split.before (Read POSITION Four lpib ∷ split.behind) world (subst (λ (events : List Event). AreHonest events world) split.is honest) in
+    let there = AreHonest-back split.before (Read POSITION Four lpib ∷ split.behind) world (subst (λ (events : List Event). AreHonest events world) split.is honest) in
     let counted = events_count split.before world in
     let all = ap (sum_by event_frames) split.is ∙ sum_by-append event_frames split.before (Read POSITION Four lpib ∷ split.behind) in
     record {

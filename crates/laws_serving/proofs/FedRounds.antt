@@ -14,7 +14,7 @@ use Rattle.hda_world.specs.Worlds.{World}
 use Rattle.hda_world.specs.Steps.{after_steps}
 use Rattle.hda_world.specs.Events.{Event, Stepped, Begin, End, Read, AreHonest, after}
 use Rattle.hda_world.specs.Streaming.{carried_bytes}
-use Rattle.hda_world.proofs.Callers.{after-append, steps_after}
+use Rattle.hda_world.proofs.Callers.{after-append, steps_after, AreHonest-front}
 use Rattle.laws_stream.specs.Lives.{Runs, Along, stops}
 use Rattle.period_writer.specs.declared.registers.TheConstants.{POSITION}
 use Rattle.period_writer.specs.declared.course.Ran.{Ran}
@@ -32,7 +32,7 @@ use Rattle.driver_progress.specs.Progress.{Trail, seen_in}
 use Rattle.rig.specs.Stretches.{accesses_of, stretch}
 use Rattle.rig.proofs.Callers.{event_frames}
 use Rattle.period_writer.proofs.Callers.{position_there}
-use Rattle.laws_serving.proofs.Callers.{IsTimed, call_frames, steps_count, timed_steps, frames_so, none_asked, within_call, accesses_are, trail_made, leads_so, plainly_led, RanRound, rest_events, honest_front, alone_is, stretch_is, ends_there, IsLeft, IsNext, next_round, last_round, line_in, state_over, world_after, HasPlayedOn, later_run, last_run, ArePrompt, prompt_later, PlaysOn, later_in_time}
+use Rattle.laws_serving.proofs.Callers.{IsTimed, call_frames, steps_count, timed_steps, frames_so, none_asked, within_call, accesses_are, trail_made, leads_so, plainly_led, RanRound, rest_events, alone_is, stretch_is, ends_there, IsLeft, IsNext, next_round, last_round, line_in, state_over, world_after, HasPlayedOn, later_run, last_run, ArePrompt, prompt_later, PlaysOn, later_in_time}
 use Rattle.laws_serving.proofs.Full.{IsWhole, AreWhole, IsFull, BeginsLate, le_cases, next_full, full_high, drained_high}
 use Rattle.laws_serving.proofs.Moments.{IsNoStop, by_accesses}
 use Rattle.laws_serving.proofs.Rolling.{Moves, IsBesideSound, StreamLaws, Rolls, rolls_on, events_move}
@@ -283,11 +283,11 @@ module _ (laws : StreamLaws) (task : Task) (graphs : List RawCodec) (closing : L
       let tail = map Stepped one.round.steps ++ rest_events ran closing in
       let seen = seen_in (trail_made world trail one.accesses) in
       let rest = shape.middle ++ Read WALCLK Four shape.to ∷ shape.back in
-      let whole = subst (λ (events : List Event). AreHonest events world) (stretch_is groups one.accesses) (honest_front (stretch groups one.accesses) tail world left.rest.honest) in
+      let whole = subst (λ (events : List Event). AreHonest events world) (stretch_is groups one.accesses) (AreHonest-front (stretch groups one.accesses) tail world left.rest.honest) in
       let frames = call_frames groups one.accesses next.are in
       let soon = on.soon in
       let front = clock_beside shape.front shape.from (poll_beside task.blocks.rirb trail.state.rings seen shape.front shape.front_are shape.front_asks) in
-      let looks = looks_at (one ∷ ran) trail world body (shape.front ++ Read WALCLK Four shape.from ∷ []) tail facts rest fed (honest_front body (End ∷ []) world whole.1)
+      let looks = looks_at (one ∷ ran) trail world body (shape.front ++ Read WALCLK Four shape.from ∷ []) tail facts rest fed (AreHonest-front body (End ∷ []) world whole.1)
       (accesses_are groups one.accesses next.are ∙ shape.is ∙ behind_clock shape.front rest shape.from shape.lpib) front
       (ap (λ (events : List Event). fed.so_far ++ events) (sym (append_assoc (Begin ∷ body) (End ∷ []) tail) ∙ ap (λ (events : List Event). events ++ tail) (sym (stretch_is groups one.accesses))) ∙ fed.rest_is)
       (omega (arith, frames, soon)) in

@@ -19,7 +19,7 @@ use Rattle.hda_world.specs.Steps.{after_steps}
 use Rattle.hda_world.specs.Events.{Event, Stepped, Begin, End, Read, Write, DmaRead, DmaWrite, AreHonest, happens, after, after_write}
 use Rattle.hda_world.specs.Streaming.{HasPosition, HasSent}
 use Rattle.hda_world.specs.Tellings.{Telling}
-use Rattle.hda_world.proofs.Callers.{after-append, access_leaves, steps_after, events_front, events_back}
+use Rattle.hda_world.proofs.Callers.{after-append, access_leaves, steps_after, events_front, events_back, AreHonest-front}
 use Rattle.command_engine.specs.declared.answers.Outstanding.{Outstanding}
 use Rattle.command_engine.specs.Fetchings.{IsFetching as RingFetching, IsWordOf, RingPart}
 use Rattle.laws_hearing.specs.Steady.{AreIdle, IsBesideCommands, IsSteadyFrame, LeavesCommands}
@@ -33,13 +33,14 @@ use Rattle.driver_progress.specs.Progress.{Trail, seen_in}
 use Rattle.schedule_reader.specs.declared.schedule.Group.{Group}
 use Rattle.rig.specs.Stretches.{is_access, accesses_of, stretch}
 use Rattle.rig.specs.Follows.{AreAccesses}
-use Rattle.laws_serving.proofs.Callers.{IsAccess, alone_is, IsNoRise, IsCalm, CalmRow, row_of, IsBeside, timed_row, timed_steps, steps_count, frames_so, event_frames_stay, write_is, within_call, calm_call, accesses_are, honest_front, stretch_is, trail_made, RanRound, rest_events, IsLeft, IsNext, next_round, line_in, world_after, IsReady, first_run, ArePrompt, prompt_later, state_over}
+use Rattle.laws_serving.proofs.Callers.{IsAccess, alone_is, IsNoRise, IsCalm, CalmRow, row_of, IsBeside, timed_row, timed_steps, steps_count, frames_so, event_frames_stay, write_is, within_call, calm_call, accesses_are, stretch_is, trail_made, RanRound, rest_events, IsLeft, IsNext, next_round, line_in, world_after, IsReady, first_run, ArePrompt, prompt_later, state_over}
 use Rattle.laws_serving.proofs.Full.{IsFull, first_full}
-use Rattle.laws_serving.proofs.Moments.{split_body, by_accesses, one_rise, along_end, never_begun}
+use Rattle.laws_serving.proofs.Moments.{split_body, by_accesses, one_rise, never_begun}
 use Rattle.laws_serving.proofs.Rolling.{Moves, IsBesideSound, StreamLaws, Rolls, rolls_on, events_move, position_events}
 use Rattle.laws_serving.proofs.Setting.{IsStore, SetsGoing, goes_first, goes_as, sets, RestsWith, set_up}
 use Rattle.laws_serving.proofs.Fed.{others_beside, steps_beside, all_go_on}
 use Rattle.laws_serving.proofs.FedRounds.{Ground, IsFed, IsFedSoon, AreGenerous, PlayedAll, pace_on, feeds}
+use Rattle.laws_stream.proofs.Callers.{Along-end}
 
 -- what events have, said one after another
 abbrev Each : (Event → Type 0) → List Event → Type 0
@@ -232,8 +233,8 @@ module _ (laws : StreamLaws) (rise_laws : RiseLaws) (task : Task) (graphs : List
       ∙ ap (λ (rest : List Event). Read WALCLK Four from ∷ rest) (append_assoc first (sets_going ∷ []) last) in
       let split = split_body body front sets_going last are in
       let there = after split.before world in
-      let whole = subst (λ (events : List Event). AreHonest events world) (stretch_is groups one.accesses) (honest_front (stretch groups one.accesses) tail world left.rest.honest) in
-      let honest = honest_front split.before (sets_going ∷ split.behind) world (subst (λ (events : List Event). AreHonest events world) split.is (honest_front body (End ∷ []) world whole.1)) in
+      let whole = subst (λ (events : List Event). AreHonest events world) (stretch_is groups one.accesses) (AreHonest-front (stretch groups one.accesses) tail world left.rest.honest) in
+      let honest = AreHonest-front split.before (sets_going ∷ split.behind) world (subst (λ (events : List Event). AreHonest events world) split.is (AreHonest-front body (End ∷ []) world whole.1)) in
       let calm = events_front IsCalm split.before (sets_going ∷ split.behind) (subst (All IsCalm) split.is (calm_call groups one.accesses next.calm.line.groups next.are)) in
       let row = subst (λ (accesses : List Event). CalmRow accesses world there) split.front_is (row_of split.before world calm honest) in
       let rests = set_up task.geometry task.blocks.list from going.in_reset going.ready going.stores world there going.are ready.timed.out row in
@@ -255,7 +256,7 @@ module _ (laws : StreamLaws) (rise_laws : RiseLaws) (task : Task) (graphs : List
       let start_is : start ≡ risen =
       after-append stopped.before (sets_going ∷ []) telling.start
       ∙ ap (λ (events : List Event). happens (after events telling.start) sets_going) (sym rise.front_is) ∙ ap (λ (w : World). happens w sets_going) there_is in
-      let nothing : there.carried ≡ [] = ap (λ (w : World). w.carried) (sym there_is) ∙ (along_end HasNotBegun before telling.start rise.silent).none in
+      let nothing : there.carried ≡ [] = ap (λ (w : World). w.carried) (sym there_is) ∙ (Along-end HasNotBegun before telling.start rise.silent).none in
       let carried : risen.carried ≡ [] = up.carried ∙ nothing in
       -- the rings are idle
       let pointers = idle_rings trail.state.rings.outstanding _ _ _ ready.idle ready.served.stands.fetching in

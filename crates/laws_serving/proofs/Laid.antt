@@ -11,7 +11,7 @@ use Rattle.schedule_reader.specs.Counts.{group_frames}
 use Rattle.hda_world.specs.Worlds.{World}
 use Rattle.hda_world.specs.Steps.{after_steps}
 use Rattle.hda_world.specs.Events.{Event, Stepped, Begin, End, happens, after, AreHonest}
-use Rattle.hda_world.proofs.Callers.{after-append, steps_after}
+use Rattle.hda_world.proofs.Callers.{after-append, steps_after, AreHonest-back, AreHonest-front}
 use Rattle.driver_progress.specs.Tasks.{Task}
 use Rattle.driver_progress.specs.Progress.{Trail, trail_after, noted, Conforms}
 use Rattle.driver_progress.proofs.Callers.{steps_leave_trail, conforms_back, conforms_front}
@@ -91,28 +91,20 @@ pub record IsRest (task : Task) (events : List Event) (world : World) (trail : T
   pub conforms : Conforms task events world trail
   pub finds : FindsAll task events world trail
 
-pub honest_front : (front back : List Event) (world : World) → AreHonest (front ++ back) world → AreHonest front world
-honest_front [] back world honest = tt
-honest_front (event ∷ front) back world honest = (honest.0, honest_front front back (happens world event) honest.1)
-
-pub honest_back : (front back : List Event) (world : World) → AreHonest (front ++ back) world → AreHonest back (after front world)
-honest_back [] back world honest = honest
-honest_back (event ∷ front) back world honest = honest_back front back (happens world event) honest.1
-
 finds_front : (task : Task) (front back : List Event) (world : World) (trail : Trail) → FindsAll task (front ++ back) world trail → FindsAll task front world trail
 finds_front task [] back world trail all = tt
 finds_front task (event ∷ front) back world trail all = (all.0, finds_front task front back (happens world event) (noted task trail world event) all.1)
 
 pub rest_front : (task : Task) (front back : List Event) (world : World) (trail : Trail) → IsRest task (front ++ back) world trail → IsRest task front world trail
 rest_front task front back world trail rest = record {
-  honest = honest_front front back world rest.honest;
+  honest = AreHonest-front front back world rest.honest;
   conforms = conforms_front task front back world trail rest.conforms;
   finds = finds_front task front back world trail rest.finds;
 }
 
 pub rest_back : (task : Task) (front back : List Event) (world : World) (trail : Trail) → IsRest task (front ++ back) world trail → IsRest task back (after front world) (trail_after task front world trail)
 rest_back task front back world trail rest = record {
-  honest = honest_back front back world rest.honest;
+  honest = AreHonest-back front back world rest.honest;
   conforms = conforms_back task front back world trail rest.conforms;
   finds = finds_back task front back world trail rest.finds;
 }
@@ -153,7 +145,7 @@ called task groups accesses world trail calm are rest =
     let rest' = subst (λ (events : List Event). IsRest task events world trail) same rest in
     let still = calm_call groups accesses calm are in
     let made = accesses_are groups accesses are in record {
-      row = subst (λ (accesses : List Event). CalmRow accesses world (after body world)) made (row_of body world still (honest_front body (End ∷ []) world rest'.honest.1));
+      row = subst (λ (accesses : List Event). CalmRow accesses world (after body world)) made (row_of body world still (AreHonest-front body (End ∷ []) world rest'.honest.1));
       noted = call_noted task body accesses world trail still made rest'.conforms rest'.finds;
       frames = call_counts groups accesses world are;
     }
@@ -176,4 +168,4 @@ alone_is (access ∷ accesses) = within_alone access accesses ∙ ap (λ (rest :
 pub honest_alone : (accesses : List Event) (world : World) → AreHonest (stretch [] accesses) world → AreHonest accesses world
 honest_alone accesses world honest =
     let whole = subst (λ (events : List Event). AreHonest events world) (stretch_is [] accesses) honest in
-    subst (λ (events : List Event). AreHonest events world) (alone_is accesses) (honest_front (within_call [] accesses) (End ∷ []) world whole.1)
+    subst (λ (events : List Event). AreHonest events world) (alone_is accesses) (AreHonest-front (within_call [] accesses) (End ∷ []) world whole.1)

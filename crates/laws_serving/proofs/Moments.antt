@@ -105,11 +105,6 @@ one_rise (event ∷ front) back (other ∷ before) later world is none out along
     let done = one_rise front back before later (happens world event) rest (All-tail IsNoRise event front none) out (subst (λ (event : Event). Along HasNotBegun before (happens world event)) (sym same) along.1) in
     record { front_is = ap (λ (events : List Event). event ∷ events) done.front_is ∙ ap (λ (one : Event). one ∷ before) same; back_is = done.back_is; silent = (along.0, done.silent) }
 
--- before it nothing was carried, up to its moment
-pub along_end : (P : World → Type 0) (events : List Event) (world : World) → Along P events world → P (after events world)
-along_end P [] world along = along
-along_end P (event ∷ events) world along = along_end P events (happens world event) along.1
-
 -- ---- events by their accesses
 
 -- what accesses have, events have that are no access

@@ -36,9 +36,10 @@ use Rattle.laws_serving.proofs.Rows.{CalmRow, row_split, row_of, within_call, ca
 use Rattle.laws_serving.proofs.Notes.{gets, asks_none, ReadsNone, trail_made, IsNoted, notes_stay}
 use Rattle.laws_serving.proofs.Worlds.{IsTimed, IsBeside, timed_row}
 use Rattle.laws_serving.proofs.Counting.{call_counts}
-use Rattle.laws_serving.proofs.Laid.{honest_front, alone_is}
+use Rattle.laws_serving.proofs.Laid.{alone_is}
 use Rattle.laws_serving.proofs.Asking.{fits_so, leads_so, plainly_asked, plainly_led}
 use Rattle.laws_serving.proofs.Clocks.{IsAside, AreAside, aside_accesses, entries_aside, writes_aside, poll_aside, two_clocks, values_past, IsClocked, clocked}
+use Rattle.hda_world.proofs.Callers.{AreHonest-front}
 
 -- ---- what is asked
 
@@ -391,7 +392,7 @@ last_run task least trail trail' accesses world in_time_is timed few are honest 
     let is = run.is ∙ in_front run.front run.middle run.back run.from run.lpib run.to in
     let parts = made_both front run.back (subst AreAccesses is are) in
     let alone = alone_is front in
-    let honest' : AreHonest (within_call [] front) world = subst (λ (events : List Event). AreHonest events world) (sym alone) (honest_front front run.back world (subst (λ (events : List Event). AreHonest events world) is honest)) in
+    let honest' : AreHonest (within_call [] front) world = subst (λ (events : List Event). AreHonest events world) (sym alone) (AreHonest-front front run.back world (subst (λ (events : List Event). AreHonest events world) is honest)) in
     let there = after (within_call [] front) world in
     let row : CalmRow front world there =
     subst (λ (accesses : List Event). CalmRow accesses world there) (accesses_are [] front parts) (row_of (within_call [] front) world (calm_call [] front (All-nil HasStreamsAlone) parts) honest') in

@@ -31,9 +31,9 @@ use Rattle.command_engine.specs.declared.answers.Outstanding.{Outstanding}
 use Rattle.command_engine.specs.Sizes.{half_of}
 use Rattle.command_engine.specs.Entries.{answers_it}
 use Rattle.command_engine.specs.Fetchings.{IsFetching, AreOf, ItemCanCome, CodecCanSend, ResponseCanCome, part_of, solicited, waiting_answers}
-use Rattle.command_engine.proofs.Callers.{changed_sum}
+use Rattle.command_engine.proofs.Callers.{changed_sum, count-append}
 use Rattle.laws_serving.specs.ServingDevices.{keeps_answers, ComeInOrder, round_trip, HasItsCodec, HasAnswersAlone, StandsServed, taken_since, unread_answers, IsComing, KeepAnswers}
-use Rattle.laws_serving.proofs.Steps.{ComesNearer, step_kept, served_on, has_after, taken_now, its_codec, fetched_word, count-append, most_solicited}
+use Rattle.laws_serving.proofs.Steps.{ComesNearer, step_kept, served_on, has_after, taken_now, its_codec, fetched_word, most_solicited}
 
 -- ---- numbers
 

@@ -9,7 +9,7 @@ use Rattle.hda_world.specs.Worlds.{World}
 use Rattle.hda_world.specs.Steps.{after_step}
 use Rattle.hda_world.specs.Events.{Event, Stepped, Begin, End, Read, Write, DmaRead, DmaWrite, happens, after}
 use Rattle.hda_world.specs.Leaving.{StepsLeave, StreamsStay}
-use Rattle.hda_world.proofs.Callers.{steps_leave, beside_streams, access_leaves, write_registers, after-append, streams_same}
+use Rattle.hda_world.proofs.Callers.{steps_leave, beside_streams, access_leaves, write_registers, after-append, streams_same, streams_both}
 use Rattle.rig.specs.Stretches.{is_access, stretch}
 use Rattle.rig.specs.Follows.{AreAccesses}
 use Rattle.laws_serving.proofs.Callers.{IsAccess, RanRound, rest_events, world_after, alone_is, stretch_is, ends_there, within_call}
@@ -17,13 +17,6 @@ use Rattle.laws_serving.proofs.SoundCallers.{IsBesideSound, rest_splits, body_le
 
 -- ---- the stream
 
-streams_then : (old middle new : World) → StreamsStay old middle → StreamsStay middle new → StreamsStay old new
-streams_then old middle new first second = record {
-  input_registers = second.input_registers ∙ first.input_registers;
-  output_registers = second.output_registers ∙ first.output_registers;
-  input = second.input ∙ first.input;
-  output = second.output ∙ first.output;
-  carried = second.carried ∙ first.carried;
 }
 
 access_stands : (event : Event) (world : World) → is_access event ≡ true → IsBesideSound event → StreamsStay world (happens world event)
@@ -39,7 +32,7 @@ access_stands (DmaWrite at bytes) world is beside = record { input_registers = r
 pub accesses_stand : (accesses : List Event) (world : World) → AreAccesses accesses → All IsBesideSound accesses → StreamsStay world (after accesses world)
 accesses_stand [] world are beside = streams_same world
 accesses_stand (event ∷ accesses) world are beside =
-    streams_then world (happens world event) (after accesses (happens world event))
+    streams_both world (happens world event) (after accesses (happens world event))
     (access_stands event world (All-head IsAccess event accesses are) (All-head IsBesideSound event accesses beside))
     (accesses_stand accesses (happens world event) (All-tail IsAccess event accesses are) (All-tail IsBesideSound event accesses beside))
 

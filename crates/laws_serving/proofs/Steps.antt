@@ -24,7 +24,7 @@ use Rattle.world_rings.specs.Memory.{word_at}
 use Rattle.world_rings.proofs.Callers.{shape_responded, batch_none, batch_first}
 use Rattle.command_engine.specs.declared.answers.Outstanding.{Outstanding}
 use Rattle.command_engine.specs.Fetchings.{AscendByAddress, Stands, HasRings, IsFetching, IsWordOf, part_of, solicited, waiting_answers}
-use Rattle.command_engine.proofs.Callers.{keeps_standing, responses_apart, changed_all, changed_sum}
+use Rattle.command_engine.proofs.Callers.{keeps_standing, responses_apart, changed_all, changed_sum, count-append}
 use Rattle.laws_serving.specs.ServingDevices.{keeps_answers, HasItsCodec, HasAnswersAlone, ServesBy, Serves, StandsServed, taken_since, unread_answers, IsComing}
 
 -- the outstanding command comes nearer to its answer, or stays where it is, and the codecs stay on the link
@@ -213,9 +213,6 @@ first_asked item rest asked = by item asked
 one_sent : (fields : Fields) (address : ℕ) (item : Waiting) → answer_count item ≡ 1 → (length (responses_of fields address item) ≡ 1) × (solicited (responses_of fields address item) ≡ 1)
 one_sent fields address (Answer value) is = (refl, refl)
 one_sent fields address (Unsolicited value) is = absurd (omega (arith, is))
-
-pub count-append : (first second : List Response) → solicited (first ++ second) ≡ solicited first + solicited second
-count-append first second = sum_by-append (λ (response : Response). cond (not response.unsolicited) 1 0) first second
 
 sent_serves : (from read : ℕ) (world : World) (address : ℕ) (item : Waiting) (rest : List Waiting) (codec : CodecState) → codec_at address world.codecs ≡ Some codec → codec.waiting ≡ item ∷ rest → AscendByAddress world.codecs → Serves from read world
     → Kept from read world (sent address item world)

@@ -12,7 +12,7 @@ use Rattle.schedule_reader.specs.Counts.{step_frames}
 use Rattle.hda_world.specs.Worlds.{World, output_of}
 use Rattle.hda_world.specs.Steps.{after_step, frame_step, output_fetched, output_framed, passed, times}
 use Rattle.hda_world.specs.Events.{Event, Stepped, Begin, End, Read, Write, DmaRead, DmaWrite, IsNoStep, happens, after_write, registers_written}
-use Rattle.hda_world.proofs.Callers.{passed_global, plain_write, kept_step}
+use Rattle.hda_world.proofs.Callers.{passed_global, plain_write, kept_step, frames_count}
 use Rattle.driver_progress.specs.Beginning.{KeepsTime}
 use Rattle.driver_progress.proofs.Callers.{keeps_time}
 use Rattle.laws_serving.specs.ServingSchedules.{IsOfStreams}
@@ -173,13 +173,6 @@ frame_counted : (b : Bool) (world : World) → b ≡ true → (if b then output_
 frame_counted true world is = refl
 frame_counted false world is = cc
 
-frames_counted : (count : ℕ) (world : World) → is_out_of_reset world.registers.global ≡ true → (times count frame_step world).frames ≡ world.frames + count
-frames_counted zero world out = omega arith
-frames_counted (suc count) world out =
-    let one : (frame_step world).frames ≡ world.frames + 1 = frame_counted (is_out_of_reset world.registers.global) world out in
-    let rest = frames_counted count (frame_step world) (out_kept world.registers.global (frame_step world).registers.global (frame_control (is_out_of_reset world.registers.global) world).global out) in
-    omega (arith, one, rest)
-
 fetch_counted : (b : Bool) (most : ℕ) (world : World) → (if b then output_fetched most world else world).frames ≡ world.frames + 0
 fetch_counted true most world = omega arith
 fetch_counted false most world = omega arith
@@ -190,7 +183,7 @@ step_counted (step.Answer codec) world is out = absurd is
 step_counted (step.Lose codec) world is out = absurd is
 step_counted step.Rirb world is out = absurd is
 step_counted (step.Fetch stream most) world is out = fetch_counted _ most world
-step_counted (step.Link count) world is out = frames_counted count world out
+step_counted (step.Link count) world is out = frames_count count world out
 step_counted (step.Plug codec nid) world is out = absurd is
 step_counted (step.Unplug codec nid) world is out = absurd is
 

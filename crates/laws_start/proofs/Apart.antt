@@ -11,10 +11,10 @@ use Rattle.period_writer.specs.declared.geometry.Geometry.{Geometry}
 use Rattle.period_writer.specs.Blocks.{addresses_of}
 use Rattle.period_writer.specs.Rings.{period_bytes, list_bytes}
 use Rattle.period_writer.specs.Writers.{WriterState, periods_of, ring_of}
-use Rattle.period_writer.proofs.Callers.{adds_keeps, adds_has}
 use Rattle.driver_bring_up.specs.declared.bringing.BringUp.{BringUp}
 use Rattle.audio_driver.specs.Opening.{OpensDriver}
 use Rattle.laws_stream.specs.Resting.{IsApartFrom, AreApartFrom}
+use Rattle.dma_pool.proofs.Callers.{AddsRun-keeps, AddsRun-has}
 
 -- a block whose run is apart from RIRB's has none of its bytes
 runs_apart : (rirb address bytes : ℕ) → rirb % 128 ≡ 0 → address % 128 ≡ 0 → IsApart (address / 128) (granules_for bytes) (run_at rirb rirb_bytes) → IsApartFrom rirb address bytes
@@ -28,7 +28,7 @@ periods_apart granules bytes rirb taken [] taken' aligned has takes index within
 periods_apart granules bytes rirb taken (period ∷ periods) taken' aligned has (middle, first, rest) zero within =
     runs_apart rirb period.address bytes aligned period.aligned (subst (IsApart (period.address / 128) (granules_for bytes)) has.2 (first.fits.free.apart has.0 (run_at rirb rirb_bytes) has.1))
 periods_apart granules bytes rirb taken (period ∷ periods) taken' aligned has (middle, first, rest) (suc index) within =
-    periods_apart granules bytes rirb middle periods taken' aligned (adds_keeps taken (run_at period.address bytes) middle first.adds (run_at rirb rirb_bytes) has) rest index (omega (arith, within))
+    periods_apart granules bytes rirb middle periods taken' aligned (AddsRun-keeps taken (run_at period.address bytes) middle first.adds (run_at rirb rirb_bytes) has) rest index (omega (arith, within))
 
 -- of blocks that were taken in this order
 taken_apart : (geometry : Geometry) (pool pool' : PoolState) (corb rirb list : ℕ) (periods : List Lent) → rirb % 128 ≡ 0 → list % 128 ≡ 0 → OpensDriver geometry pool corb rirb list (addresses_of periods) pool'
@@ -41,10 +41,10 @@ taken_apart geometry pool pool' corb rirb list periods aligned aligned' opens = 
       (let number = opens.writer.number in omega (arith, number, within)));
 } where
   first : Contains opens.middle.taken (run_at rirb rirb_bytes)
-  first = adds_has opens.engine.middle (run_at rirb rirb_bytes) opens.middle.taken opens.engine.rirb_taken.adds
+  first = AddsRun-has opens.engine.middle (run_at rirb rirb_bytes) opens.middle.taken opens.engine.rirb_taken.adds
 
   later : Contains opens.writer.middle (run_at rirb rirb_bytes)
-  later = adds_keeps opens.middle.taken (run_at list (list_bytes geometry.periods)) opens.writer.middle opens.writer.list_taken.adds (run_at rirb rirb_bytes) first
+  later = AddsRun-keeps opens.middle.taken (run_at list (list_bytes geometry.periods)) opens.writer.middle opens.writer.list_taken.adds (run_at rirb rirb_bytes) first
 
 pub opened_apart : (geometry : Geometry) (pool pool' : PoolState) (bring_up : BringUp) (writer : WriterState) → writer.geometry ≡ geometry
     → OpensDriver geometry pool bring_up.engine.corb.address bring_up.engine.rirb.address writer.list.address (periods_of writer) pool' → AreApartFrom (ring_of writer) bring_up.engine.rirb.address

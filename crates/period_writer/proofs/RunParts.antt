@@ -9,7 +9,7 @@ use Rattle.stream_format.specs.Cadence.{block_bytes}
 use Rattle.hda_world.specs.Worlds.{World}
 use Rattle.hda_world.specs.Events.{Event, Stepped, Read, happens, after, AreHonest}
 use Rattle.hda_world.specs.Moments.{AreWoven, AtEach}
-use Rattle.hda_world.proofs.Callers.{Lead, lead_none, lead_more, lead_both, lead_some, woven_split}
+use Rattle.hda_world.proofs.Callers.{Lead, lead_none, lead_more, lead_both, lead_some, woven_split, AreHonest-back, AreHonest-front}
 use Rattle.period_writer.specs.declared.registers.TheConstants.{POSITION}
 use Rattle.period_writer.specs.Standing.{Ring, limit_in, bytes_in, size_of}
 use Rattle.period_writer.specs.Runs.{RunFacts, Tally, run_sound}
@@ -21,18 +21,6 @@ use Rattle.period_writer.specs.Owning.{GoesOn}
 use Rattle.period_writer.proofs.RunMoments as moments
 
 -- ---- rows and their events
-
-AreHonest-front : (first second : List Event) (world : World) → AreHonest (first ++ second) world → AreHonest first world
-AreHonest-front [] second world honest = tt
-AreHonest-front (event ∷ first) second world honest = (honest.0, AreHonest-front first second (happens world event) honest.1)
-
-AreHonest-back : (first second : List Event) (world : World) → AreHonest (first ++ second) world → AreHonest second (after first world)
-AreHonest-back [] second world honest = honest
-AreHonest-back (event ∷ first) second world honest = AreHonest-back first second (happens world event) honest.1
-
-pub AtEach-append : (Holds : World → Event → Type 0) (first second : List Event) (world : World) → AtEach Holds first world → AtEach Holds second (after first world) → AtEach Holds (first ++ second) world
-AtEach-append Holds [] second world none more = more
-AtEach-append Holds (event ∷ first) second world before more = (before.0, AtEach-append Holds first second (happens world event) before.1 more)
 
 pub AtEach-map : (Holds Weaker : World → Event → Type 0) → ((world : World) (event : Event) → Holds world event → Weaker world event) → (events : List Event) (world : World) → AtEach Holds events world → AtEach Weaker events world
 AtEach-map Holds Weaker weaker [] world all = tt

@@ -10,7 +10,7 @@ use Rattle.hda_world.specs.Events.{Event, Stepped, Read, Write, happens, after}
 use Rattle.hda_world.specs.Tellings.{Telling, Makes, world_of}
 use Rattle.hda_world.specs.Kept.{Kept}
 use Rattle.hda_world.specs.Moments.{AtEach}
-use Rattle.hda_world.proofs.Callers.{after-append, kept_both, world_of-went, Weaving, woven, Lead, lead_none, lead_more}
+use Rattle.hda_world.proofs.Callers.{after-append, kept_both, world_of-went, Weaving, woven, Lead, lead_none, lead_more, AtEach-append}
 use Rattle.period_writer.specs.declared.registers.TheConstants.{CONTROL, POSITION}
 use Rattle.period_writer.specs.Standing.{Ring, Stands, limit_in, size_of, extent_of}
 use Rattle.period_writer.specs.Outcomes.{HasNotWrapped}
@@ -31,7 +31,7 @@ use Rattle.period_writer.specs.Owning.{IsApart, Agrees, GoesOn, IsPlaying}
 use Rattle.period_writer.specs.Outcomes.{HasDrained, WasStopped, TurnTells}
 use Rattle.period_writer.proofs.RunMoments as moments
 use Rattle.period_writer.proofs.RunParts as parts_of
-use Rattle.period_writer.proofs.RunParts.{AtEach-append, AtEach-map, frames_up, fetched_up}
+use Rattle.period_writer.proofs.RunParts.{AtEach-map, frames_up, fetched_up}
 use Rattle.period_writer.proofs.RingExtents.{with_extent}
 
 small_clock : (clock frames : ℕ) → clock ≡ (500 * frames) % 2 ^ 32 → 500 * frames < 2 ^ 32 → clock ≡ 500 * frames

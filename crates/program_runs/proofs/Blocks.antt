@@ -9,9 +9,9 @@ use Rattle.command_engine.specs.Blocks.{corb_bytes, rirb_bytes, are_apart}
 use Rattle.command_engine.specs.Fetchings.{HasBlocks}
 use Rattle.command_engine.specs.Quiet.{IsBlockAddress}
 use Rattle.period_writer.specs.declared.geometry.Geometry.{Geometry}
-use Rattle.period_writer.proofs.Callers.{adds_has}
 use Rattle.driver_progress.specs.Tasks.{Blocks}
 use Rattle.program_runs.specs.FirstFits.{AreFirstFits}
+use Rattle.dma_pool.proofs.Callers.{AddsRun-has}
 
 lie_apart : (corb rirb : ℕ) → corb % 128 ≡ 0 → rirb % 128 ≡ 0 → IsApart (rirb / 128) (granules_for rirb_bytes) (run_at corb corb_bytes) → are_apart corb rirb ≡ true
 lie_apart corb rirb aligned aligned' (inl before) =
@@ -40,7 +40,7 @@ lie_well geometry blocks fits =
     let whole = fits.all_free.granules in
     let below : corb + corb_bytes ≤ REGION_BYTES = inside corb corb_bytes (granules_for corb_bytes) fits.free.granules fits.corb_aligned first.fits.free.within refl whole in
     let above : rirb + rirb_bytes ≤ REGION_BYTES = inside rirb rirb_bytes (granules_for rirb_bytes) fits.free.granules fits.rirb_aligned second.fits.free.within refl whole in
-    let beside = All-contains (IsApart (rirb / 128) (granules_for rirb_bytes)) fits.opens.engine.middle (run_at corb corb_bytes) second.fits.free.apart (adds_has fits.free.taken (run_at corb corb_bytes) fits.opens.engine.middle first.adds) in
+    let beside = All-contains (IsApart (rirb / 128) (granules_for rirb_bytes)) fits.opens.engine.middle (run_at corb corb_bytes) second.fits.free.apart (AddsRun-has fits.free.taken (run_at corb corb_bytes) fits.opens.engine.middle first.adds) in
     record {
       blocks_are = record { corb_inside = below; rirb_inside = above; apart = lie_apart corb rirb fits.corb_aligned fits.rirb_aligned beside };
       corb = record { aligned = fits.corb_aligned; narrow = omega (arith, below) };

@@ -3,7 +3,7 @@ use Rattle.std.proofs.Common.{◌≡◌, ◌≢◌, ◌≤◌, ◌<◌, ◌+◌,
 use Rattle.std.specs.Prelude.{◌⊎◌, min, Result, Ok, Err, OnOk, IsErr}
 use Rattle.std.proofs.lemmas.List.{length-append, length-drop}
 use Rattle.std.proofs.Math.Nat.{mul-mod_left, zero-mod, div-zero, mul-add-div_right}
-use Rattle.std.proofs.lemmas.Nat.{div-add-mod', mul-le}
+use Rattle.std.proofs.lemmas.Nat.{div-add-mod'}
 use Rattle.stream_format.specs.declared.format.Format.{Format}
 use Rattle.stream_format.specs.declared.format.Bits.{Bits}
 use Rattle.stream_format.specs.declared.format.Bits.TheVariants.{B16, B24, B32}
@@ -528,18 +528,7 @@ pub fed_first : (m : Measures) (source : Source) (now : Shelves) (supply : Suppl
 fed_first m source now supply course is ring block whole =
     subst (λ (supply : Supplied). Streams m source (now source.name) (now source.name) None supply course) (sym is) (first_streams m source (now source.name) course ring block whole)
 
--- a block of any format has some bytes
-container_some : (bits : Bits) → 2 ≤ container_bytes bits
-container_some B16 = omega arith
-container_some B24 = omega arith
-container_some B32 = omega arith
-
-pub bytes_some : (format : Format) → 1 ≤ block_bytes format
-bytes_some format =
-    let four = mul-le 2 2 format.channels (container_bytes format.bits) format.some (container_some format.bits) in
-    omega (arith, four)
-
--- and a unit of a period has whole ones
+-- a unit of a period has whole blocks
 unit_whole : (channels : ℕ) (bits : Bits) → channels % 2 ≡ 0 → 2 ≤ channels → channels ≤ 8 → 384 % (channels * container_bytes bits) ≡ 0
 unit_whole zero bits even some few = absurd (omega (arith, some))
 unit_whole (suc zero) bits even some few = absurd (omega (arith, some))

@@ -37,18 +37,13 @@ use Rattle.period_writer.specs.declared.course.Ran.TheVariants as ran
 use Rattle.laws_bring_up.specs.SettingUp.{IsThere}
 use Rattle.laws_stream.specs.Ending.{HearTheLine}
 use Rattle.program_runs.specs.Hearing.{HearsBy, HearTheirs}
+use Rattle.setup_verbs.proofs.Callers.{candidate_is_pin}
 
 -- ---- candidate pins
 
 first_of : (a b c d e f g : Bool) → (a && b && c && d && e && f && g) ≡ true → a ≡ true
 first_of true b c d e f g is = refl
 first_of false b c d e f g is = is
-
--- a candidate is a pin widget
-pin_of : (node : Option RawNode) → is_candidate_at node ≡ true → passes is_pin node ≡ true
-pin_of None is = is
-pin_of (Some node) is =
-    first_of (is_pin node) (is_stereo node) (not (is_digital node)) (has_bit node.pin_caps 4) (not (connectivity node == 1)) (nat_le (device node) 2) (not (association node == 0)) is
 
 -- ---- a plan has one entry for each pin
 
@@ -94,7 +89,7 @@ module _ (format : Format) (pcm : List ℕ) (tally : Tally) (carried : List Carr
       let pin = (get_or plan.pins k d).pin in
       let long = length-map plan.pins pin_in in
       let candidate = (is.pins.in_order.exactly pin).0 (k, omega (arith, long, within), get_or-map pin_in plan.pins k d pin within) in
-      let signal = there codec now pin at graph ∙ set_up.others pin (pin_of (node_at codec pin) candidate) (none_of codec format plan k d is within none) in hear.silent codec.address pin signal
+      let signal = there codec now pin at graph ∙ set_up.others pin (candidate_is_pin (node_at codec pin) candidate) (none_of codec format plan k d is within none) in hear.silent codec.address pin signal
 
   entry_hears : (codec : RawCodec) (now : CodecState) (plan : Plan) (k : ℕ) (d : PinPlan) (found : Outcome) → codec_at codec.address codecs ≡ Some now → now.graph ≡ codec → IsPlan codec format plan → IsSetUp codec now.settings plan format 1
       → k < length plan.pins → (get_or plan.pins k d).outcome ≡ found → Hears codec.address (get_or plan.pins k d).pin (get_or plan.pins k d).pair found

@@ -29,11 +29,12 @@ use Rattle.program_runs.specs.Feeding.{Shelves, Streams, IsFed}
 use Rattle.program_runs.specs.FrameCounts.{written_by}
 use Rattle.program_runs.specs.Going.{HasDriven, IsDriven, parts_with, stand_of}
 use Rattle.program_runs.specs.Plays.{played_task, sound_with}
-use Rattle.program_runs.proofs.Feeds.{first_supply, bytes_some}
+use Rattle.program_runs.proofs.Feeds.{first_supply}
 use Rattle.program_runs.proofs.Goes.{Keeps}
 use Rattle.program_runs.proofs.Gone.{CanGo, Gone, gone, used_in_runs}
 use Rattle.program_runs.proofs.Played.{playing_ends, written_few}
 use Rattle.program_runs.proofs.PlayedFrom.{source_for, fed_at_open, later, may, ends, long, less_if, few_bytes}
+use Rattle.stream_format.proofs.Callers.{some_block as some_bytes}
 
 -- a driver that was opened for a sound of which no byte was read yet, over a machine at rest
 pub record CanPlayFrom (machine : Machine) (plans : List Plan) (head : WavHead) (name : List ℕ) (geometry : Geometry) (schedule : Schedule)
@@ -62,7 +63,7 @@ module _ (machine : Machine) (plans : List Plan) (head : WavHead) (name : List �
 
   pub some_block : 1 ≤ (measures geometry).block
   some_block =
-      let some = bytes_some head.format in
+      let some = some_bytes head.format in
       let same = block_is in
       omega (arith, some, same)
 

@@ -137,7 +137,7 @@ outcomes_alike codec format pin pair outcome.NoPath pin' pair' o' a a' is is' ag
 
 -- ---- the entries of a plan
 
-candidate_is_pin : (o : Option RawNode) → is_candidate_at o ≡ true → passes is_pin o ≡ true
+pub candidate_is_pin : (o : Option RawNode) → is_candidate_at o ≡ true → passes is_pin o ≡ true
 candidate_is_pin None e = absurd (true≢false (sym e))
 candidate_is_pin (Some node) e = by (is_pin node) _ _ _ _ _ _ e
   where

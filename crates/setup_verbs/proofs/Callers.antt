@@ -13,3 +13,5 @@ pub use Rattle.setup_verbs.proofs.Ranged.{all_commands_of}
 -- a graph has one plan for a format
 pub one_plan_of : (codec : RawCodec) (format : Format) (plan other : Plan) → IsPlan codec format plan → IsPlan codec format other → other ≡ plan
 one_plan_of codec format plan other is twin = only_plan codec format plan is other twin
+-- a candidate is a pin widget
+pub use Rattle.setup_verbs.proofs.Agreeing.{candidate_is_pin}

@@ -8,11 +8,7 @@ use Rattle.std.proofs.Math.Seq.{take-append-add, take-append_seam}
 use Rattle.hda_outside.specs.declared.fault.Fault.{Fault}
 use Rattle.hda_outside.specs.Sink.{taken_with, TookFront}
 use Rattle.sound_report.specs.Pages.{TookAllBut, Writes}
-
--- two pieces taken are both in one
-taken_with-append : (taken : Option (List ℕ)) (xs ys : List ℕ) → taken_with (taken_with taken xs) ys ≡ taken_with taken (xs ++ ys)
-taken_with-append None xs ys = refl
-taken_with-append (Some before) xs ys = ap Some (append_assoc before xs ys)
+use Rattle.hda_outside.proofs.Callers.{taken_with-append}
 
 -- a front of the first bytes is a front of all
 pub front_longer : (before now : Option (List ℕ)) (xs ys : List ℕ) → TookFront before now xs → TookFront before now (xs ++ ys)

@@ -22,3 +22,5 @@ pub use Rattle.world_rings.proofs.EngineMoves.{batch_none}
 pub use Rattle.world_rings.proofs.EngineMoves.{batch_first}
 -- an idle CORB has nothing to fetch
 pub use Rattle.world_rings.proofs.EngineMoves.{none_fetched}
+-- a response has eight bytes
+pub use Rattle.world_rings.proofs.Standing.{length-response_bytes}

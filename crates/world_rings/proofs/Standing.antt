@@ -11,6 +11,7 @@ use Rattle.world_rings.specs.Memory.{IsOutside}
 use Rattle.world_rings.specs.Entries.{response_bytes, response_place, response_stored, responses_stored, after_response}
 use Rattle.world_rings.proofs.Pieces.{stored_outside, piece_is_stored}
 use Rattle.world_rings.specs.Standing.{StandsAt, IsRirbInside}
+use Rattle.hda_registers.proofs.Callers.{some_entries}
 
 apart_within : (at more size : ℕ) → at < size → 0 < more → more < size → (at + more < size) ⊎ (size ≤ at + more) → (at + more) % size ≡ at → ⊥
 apart_within at more size below some few (inr over) same =
@@ -29,17 +30,12 @@ places_apart at more size some few same =
 next_then : (at places size : ℕ) → ((at + 1) % size + places) % size ≡ (at + (places + 1)) % size
 next_then at places size = mod-add-mod (at + 1) size places ∙ ap (λ n. n % size) (omega arith)
 
-has_entries : (size : RingSize) → 0 < entries_of size
-has_entries Two = lit< tt
-has_entries Sixteen = lit< tt
-has_entries Full = lit< tt
-
 -- a byte of one entry is outside another
 entry_apart : (base here there byte : ℕ) → byte < 8 → there ≢ here → IsOutside (base + 8 * there) 8 (base + 8 * here + byte)
 entry_apart base here there byte small apart =
     elim (cases_order here there) [ inl same ↦ absurd (apart (sym same)) | inr either ↦ elim either [ inl below ↦ inl (omega arith) | inr above ↦ inr (omega arith) ] ]
 
-length-response_bytes : (response : Response) → length (response_bytes response) ≡ 8
+pub length-response_bytes : (response : Response) → length (response_bytes response) ≡ 8
 length-response_bytes response = simp (length-append, length-bytes_low_first)
 
 -- a response stored in another entry leaves an entry alone
@@ -63,7 +59,7 @@ untouched (response ∷ responses) fields memory place byte small apart =
 stored_here : (fields : Fields) (memory : List ℕ) (response : Response) (byte : ℕ) → byte < 8 → IsRirbInside fields memory
     → slice_index (response_stored fields memory response) (rirb_address fields + 8 * response_place fields + byte) ≡ slice_index (response_bytes response) byte
 stored_here fields memory response byte small within =
-    let place : response_place fields < entries_of fields.shape.rirb = mod-lt _ (has_entries fields.shape.rirb) in
+    let place : response_place fields < entries_of fields.shape.rirb = mod-lt _ (some_entries fields.shape.rirb) in
     let eight = length-response_bytes response in
     (piece_is_stored (rirb_address fields + 8 * response_place fields) (response_bytes response) memory (rw eight (omega arith))).inside byte (rw eight small)
 

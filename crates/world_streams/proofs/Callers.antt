@@ -28,3 +28,5 @@ pub use Rattle.world_streams.proofs.Writing.{write_plays, same_play}
 pub use Rattle.world_streams.proofs.Writing.{write_ready}
 -- an empty FIFO is not ready
 pub use Rattle.world_streams.proofs.Writing.{not_ready}
+-- a link frame has four blocks at most
+pub use Rattle.world_streams.proofs.Formats.{few_blocks}

@@ -77,7 +77,7 @@ some_most word layout is = mul-lt 0 0 _ _ (some_blocks layout.rate) (some_block 
 
 -- ---- no frame has more than 128 bytes
 
-few_blocks : (rate : Rate) → most_blocks rate ≤ 4
+pub few_blocks : (rate : Rate) → most_blocks rate ≤ 4
 few_blocks R8 = omega arith
 few_blocks R16 = omega arith
 few_blocks R44 = omega arith

@@ -1,5 +1,6 @@
 use Rattle.std.proofs.Common.{ℕ, ◌<◌}
-use Rattle.codec_sound.specs.Depths.{IsMarked, IsReady, AreRight}
+use Rattle.codec_graph.specs.Marks.{IsMarked}
+use Rattle.codec_sound.specs.Depths.{IsReady, AreRight}
 use Rattle.codec_sound.proofs.table.work_out_ready.Given as goal
 
 abbrev pub invariant-loop-nid : goal.invariant-loop-nid

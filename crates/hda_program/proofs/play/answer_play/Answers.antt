@@ -12,8 +12,9 @@ use Rattle.hda_program.specs.Files.{IsCodecRead}
 use Rattle.hda_program.specs.Meanings.{answer_meant}
 use Rattle.hda_program.proofs.PlayLemmas.{MachinePlays-both}
 use Rattle.hda_program.proofs.PlayWays.{of_machine}
-use Rattle.hda_program.proofs.WalkLemmas.{Rose-longer, given_longer}
+use Rattle.hda_program.proofs.WalkLemmas.{given_longer}
 use Rattle.hda_program.proofs.play.answer_play.Goals as goal
+use Rattle.hda_outside.proofs.Callers.{Rose-longer}
 
 -- the codec file was read, and then the other two
 pub returns-in-Ok-clause-answers : goal.returns-in-Ok-clause-answers

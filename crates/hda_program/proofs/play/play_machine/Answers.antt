@@ -10,8 +10,9 @@ use Rattle.hda_program.specs.declared.message.Message.{Message}
 use Rattle.hda_program.specs.Files.{IsHeadOf, IsWavOpened, bytes_before}
 use Rattle.hda_program.specs.Meanings.{answer_meant}
 use Rattle.hda_program.proofs.PlayLemmas.{SoundPlays-both}
-use Rattle.hda_program.proofs.WalkLemmas.{Rose-longer, given_longer}
+use Rattle.hda_program.proofs.WalkLemmas.{given_longer}
 use Rattle.hda_program.proofs.play.play_machine.Goals as goal
+use Rattle.hda_outside.proofs.Callers.{Rose-longer}
 
 -- it says this of the shelf as it is then, too
 pub play_sound-requires-clause-file : goal.play_sound-requires-clause-file

@@ -10,8 +10,9 @@ use Rattle.hda_program.specs.declared.message.Message.{Message}
 use Rattle.hda_program.specs.Files.{IsHeadOf, IsScheduleRead}
 use Rattle.hda_program.specs.Meanings.{answer_meant}
 use Rattle.hda_program.proofs.PlayLemmas.{SchedulePlays-both}
-use Rattle.hda_program.proofs.WalkLemmas.{Rose-longer, given_longer}
+use Rattle.hda_program.proofs.WalkLemmas.{given_longer}
 use Rattle.hda_program.proofs.play.play_sound.Goals as goal
+use Rattle.hda_outside.proofs.Callers.{Rose-longer}
 
 -- the WAV file is the same then
 pub play_schedule-requires-clause-file : goal.play_schedule-requires-clause-file

@@ -7,8 +7,9 @@ use Rattle.hda_files.specs.declared.machine.Machine.{Machine}
 use Rattle.hda_program.specs.declared.message.Message.{Message}
 use Rattle.hda_program.specs.Files.{IsCodecRead}
 use Rattle.hda_program.specs.Meanings.{answer_meant}
-use Rattle.hda_program.proofs.WalkLemmas.{MachineWalks-both, Rose-longer}
+use Rattle.hda_program.proofs.WalkLemmas.{MachineWalks-both}
 use Rattle.hda_program.proofs.walk.answer_walk.Goals as goal
+use Rattle.hda_outside.proofs.Callers.{Rose-longer}
 
 -- the codec file was read, and then the schedule
 pub returns-in-Ok-clause-answers : goal.returns-in-Ok-clause-answers

@@ -24,7 +24,7 @@ use Rattle.program_runs.specs.Going.{parts_with}
 use Rattle.program_runs.specs.Hearing.{lists_heard}
 use Rattle.program_runs.specs.Plays.{play_fault, played_task, sound_with}
 use Rattle.program_runs.proofs.Counting.{few_lines}
-use Rattle.program_runs.proofs.Feeds.{first_supply, bytes_some, ring_whole}
+use Rattle.program_runs.proofs.Feeds.{first_supply, ring_whole}
 use Rattle.program_runs.proofs.Gone.{opened_can_go}
 use Rattle.program_runs.proofs.Listed.{lists_are}
 use Rattle.program_runs.proofs.LineRecorded.{RunLaws, ring_some}
@@ -34,6 +34,7 @@ use Rattle.program_runs.proofs.PlayedOver.{CanPlayFrom, sound, streams, some_blo
 use Rattle.program_runs.proofs.playing.play.Given.{Over}
 use Rattle.program_runs.proofs.playing.play.Goals.{After-block_bytes-2, After-drop-closed-3}
 use Rattle.program_runs.proofs.playing.play.Goals as goal
+use Rattle.stream_format.proofs.Callers.{some_block as some_bytes}
 
 pub open_driver-requires : goal.open_driver-requires
 open_driver-requires g c =
@@ -74,7 +75,7 @@ returns-in_err-cut-clause-asked g c other beside =
 
 pub frames_read-read-requires : goal.frames_read-read-requires
 frames_read-read-requires g c =
-    let some = bytes_some c.args.head.format in
+    let some = some_bytes c.args.head.format in
     omega (arith, some, c.block_bytes.ensures)
 
 -- how the driver was opened, at the two places where it is asked for

@@ -9,8 +9,9 @@ use Rattle.hda_world.specs.Steps.{waiting_of, answer_step}
 use Rattle.device_core.specs.Codecs.{KeepCodecs, addresses_of}
 use Rattle.device_core.specs.Devices.{DeviceState, IsWorld}
 use Rattle.device_core.proofs.Moves.{keeps_queues, answer_none, answer_sent}
-use Rattle.device_core.proofs.Places.{keeps-with_codec, addresses-with_codec, put_back, put_same}
+use Rattle.device_core.proofs.Places.{keeps-with_codec, put_back, put_same}
 use Rattle.device_core.proofs.device.Device.answer.Goals as goal
+use Rattle.hda_world.proofs.Callers.{addresses-with_codec}
 
 pub invariant_of-self : goal.invariant_of-self
 invariant_of-self c =

@@ -8,11 +8,12 @@ use Rattle.hda_world.specs.Steps.{address_of, is_busy, corb_step}
 use Rattle.device_core.specs.Codecs.{addresses_of, handed_by, handed_now}
 use Rattle.device_core.specs.Devices.{DeviceState, IsWorld}
 use Rattle.device_core.specs.Keeping.{IsDevice}
-use Rattle.device_core.proofs.Places.{addresses-with_codec, put_back}
+use Rattle.device_core.proofs.Places.{put_back}
 use Rattle.device_core.proofs.Handing.{handed_within, length-with_codec}
 use Rattle.device_core.proofs.Standing.{shown_world, shown_is}
 use Rattle.device_core.proofs.Steps.{step_keeps, corb_handed, corb_still, busy_hands_none}
 use Rattle.device_core.proofs.device.Device.corb.Goals as goal
+use Rattle.hda_world.proofs.Callers.{addresses-with_codec}
 
 pub returns-then-is_busy-clause-handed : goal.returns-then-is_busy-clause-handed
 returns-then-is_busy-clause-handed c =

@@ -6,8 +6,9 @@ use Rattle.hda_world.specs.Worlds.{with_codec}
 use Rattle.device_core.specs.Codecs.{KeepCodecs, addresses_of}
 use Rattle.device_core.specs.Devices.{DeviceState, IsWorld}
 use Rattle.device_core.proofs.Moves.{keeps_queues, plug_plugged}
-use Rattle.device_core.proofs.Places.{keeps-with_codec, addresses-with_codec, put_back}
+use Rattle.device_core.proofs.Places.{keeps-with_codec, put_back}
 use Rattle.device_core.proofs.device.Device.plug.Goals as goal
+use Rattle.hda_world.proofs.Callers.{addresses-with_codec}
 
 pub invariant_of-self : goal.invariant_of-self
 invariant_of-self c =

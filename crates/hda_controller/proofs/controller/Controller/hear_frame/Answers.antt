@@ -4,8 +4,9 @@ use Rattle.stream_format.specs.Layouts.{Layout}
 use Rattle.hda_world.specs.Worlds.{codec_at}
 use Rattle.heard_lists.specs.Listings.{Listing, with_blocks}
 use Rattle.hda_controller.specs.Controllers.{signal_now}
-use Rattle.hda_controller.proofs.Due.{HasRoom-fewer, among, due_fit, few_items, due_layout}
+use Rattle.hda_controller.proofs.Due.{among, due_fit, few_items, due_layout}
 use Rattle.hda_controller.proofs.controller.Controller.hear_frame.Goals as goal
+use Rattle.heard_lists.proofs.Callers.{HasRoom-fewer}
 
 pub overflow_mul-size : goal.overflow_mul-size
 overflow_mul-size c =

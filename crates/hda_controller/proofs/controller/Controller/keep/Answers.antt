@@ -4,8 +4,9 @@ use Rattle.stream_format.specs.Layouts.{Layout}
 use Rattle.heard_lists.specs.Listings.{Listing, with_blocks}
 use Rattle.hda_controller.specs.Controllers.{signal_now}
 use Rattle.hda_controller.specs.Unheard.{block_count, heard_now, layout_now, with_heard}
-use Rattle.hda_controller.proofs.Due.{HasRoom-fewer, due_fit, due_whole, due_items, due_layout}
+use Rattle.hda_controller.proofs.Due.{due_fit, due_whole, due_items, due_layout}
 use Rattle.hda_controller.proofs.controller.Controller.keep.Goals as goal
+use Rattle.heard_lists.proofs.Callers.{HasRoom-fewer}
 
 pub overflow_mul-size : goal.overflow_mul-size
 overflow_mul-size c =

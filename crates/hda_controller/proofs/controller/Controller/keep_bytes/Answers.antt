@@ -2,9 +2,9 @@ use Rattle.std.proofs.Common.{◌≡◌, ◌+◌, ℕ, List, refl, sym, ap, subs
 use Rattle.heard_lists.specs.Listings.{HasRoom}
 use Rattle.hda_controller.specs.Controllers.{signal_now}
 use Rattle.hda_controller.specs.Unheard.{AreWhole, block_count, heard_now, layout_now}
-use Rattle.hda_controller.proofs.Due.{HasRoom-fewer}
 use Rattle.hda_controller.proofs.Unheard.{count-on, whole-on, heard-on}
 use Rattle.hda_controller.proofs.controller.Controller.keep_bytes.Goals as goal
+use Rattle.heard_lists.proofs.Callers.{HasRoom-fewer}
 
 -- ---- there is room
 

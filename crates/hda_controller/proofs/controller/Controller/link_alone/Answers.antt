@@ -5,9 +5,8 @@ use Rattle.world_streams.specs.Output.{Missed, Sent}
 use Rattle.hda_world.specs.Worlds.{output_of}
 use Rattle.hda_world.specs.Steps.{frame_carried}
 use Rattle.device_core.specs.Devices.{IsWorld}
-use Rattle.heard_lists.proofs.Callers.{hole-grows, gap-grows}
+use Rattle.heard_lists.proofs.Callers.{hole-grows, gap-grows, HasRoom-fewer}
 use Rattle.hda_controller.specs.Controllers.{ControllerState}
-use Rattle.hda_controller.proofs.Due.{HasRoom-fewer}
 use Rattle.hda_controller.proofs.Growth.{grew_idle, grew_gap, grew_hole, blocks_heard, due_here}
 use Rattle.hda_controller.proofs.Unheard.{listed-moved}
 use Rattle.hda_controller.proofs.controller.Controller.link_alone.Goals as goal

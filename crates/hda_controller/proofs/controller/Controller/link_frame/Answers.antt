@@ -7,11 +7,10 @@ use Rattle.hda_world.specs.Worlds.{output_of}
 use Rattle.hda_world.specs.Steps.{frame_carried, frame_step}
 use Rattle.device_core.specs.Devices.{DeviceState, IsWorld}
 use Rattle.heard_lists.specs.Listings.{Listing, with_items}
-use Rattle.heard_lists.proofs.Callers.{hole-grows, gap-grows}
+use Rattle.heard_lists.proofs.Callers.{hole-grows, gap-grows, HasRoom-fewer}
 use Rattle.hda_controller.specs.Controllers.{ControllerState, signal_now}
 use Rattle.hda_controller.specs.Hearing.{Grew}
 use Rattle.hda_controller.specs.Unheard.{AreWhole, block_count, heard_now, layout_now}
-use Rattle.hda_controller.proofs.Due.{HasRoom-fewer}
 use Rattle.hda_controller.proofs.Growth.{grew_idle, grew_gap, grew_hole, blocks_heard, due_here}
 use Rattle.hda_controller.proofs.Unheard.{count-none, heard-none, heard-same, listed-moved, room-moved, whole-moved, whole-none}
 use Rattle.hda_controller.proofs.controller.Controller.link_frame.Goals as goal

@@ -5,10 +5,10 @@ use Rattle.heard_lists.specs.Listings.{Listing, HasRoom}
 use Rattle.hda_controller.specs.Controllers.{StandsFor, signal_now}
 use Rattle.hda_controller.specs.Hearing.{Grew}
 use Rattle.hda_controller.specs.Unheard.{AreWhole, block_count, heard_now, layout_now}
-use Rattle.hda_controller.proofs.Due.{HasRoom-fewer}
 use Rattle.hda_controller.proofs.Growth.{grew_still, grew_on, times-one_more}
 use Rattle.hda_controller.proofs.Unheard.{count-none, heard-none, whole-none}
 use Rattle.hda_controller.proofs.controller.Controller.link_together.Goals as goal
+use Rattle.heard_lists.proofs.Callers.{HasRoom-fewer}
 
 pub loop-passed-init : goal.loop-passed-init
 loop-passed-init c =

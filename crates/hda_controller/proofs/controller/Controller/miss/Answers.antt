@@ -3,9 +3,9 @@ use Rattle.codec_sound.specs.declared.heard.Heard.TheVariants.{Hole}
 use Rattle.heard_lists.specs.Listings.{Listing, HasRoom, with_items}
 use Rattle.hda_controller.specs.Hearing.{AreHeard}
 use Rattle.hda_controller.specs.Unheard.{block_count, heard_now, layout_now}
-use Rattle.hda_controller.proofs.Due.{HasRoom-fewer}
 use Rattle.hda_controller.proofs.Unheard.{listed-missed}
 use Rattle.hda_controller.proofs.controller.Controller.miss.Goals as goal
+use Rattle.heard_lists.proofs.Callers.{HasRoom-fewer}
 
 pub hear-requires-clause-room : goal.hear-requires-clause-room
 hear-requires-clause-room c =
