@@ -42,6 +42,12 @@ pub use Rattle.codec_graph.proofs.Defaults.{found-opening}
 pub use Rattle.codec_graph.proofs.Defaults.{has_default}
 -- a value that is found is that one
 pub use Rattle.codec_graph.proofs.Defaults.{value_of}
+-- how many marks are missing, and that a mark more leaves one missing less
+pub use Rattle.codec_graph.proofs.Reaching.{unmarked_count, unmarked_count-set}
+-- a mark after one more was made is that one or was there
+pub use Rattle.codec_graph.proofs.Reaching.{marked-set}
+-- fewer answers wait once one is dropped
+pub use Rattle.codec_graph.proofs.Sound.{answers-drop_answer}
 
 -- a widget of a well-formed graph has a node identifier of seven bits
 pub node_below : (codec : RawCodec) (nid : ℕ) (node : RawNode) → IsWellFormed codec → node_at codec nid ≡ Some node → nid < node_identifiers
@@ -90,9 +96,3 @@ readable_listed node has none = readable.readable_listed node has none
 -- and so are those of a codec
 pub readable_codec : (codec : RawCodec) → All HasEntries codec.nodes → ((nid : ℕ) → codec_list_fault codec nid ≡ None) → All HasReadableList (listed codec).nodes
 readable_codec codec has none = readable.readable_codec codec has none
--- how many marks are missing, and that a mark more leaves one missing less
-pub use Rattle.codec_graph.proofs.Reaching.{unmarked_count, unmarked_count-set}
--- a mark after one more was made is that one or was there
-pub use Rattle.codec_graph.proofs.Reaching.{marked-set}
--- fewer answers wait once one is dropped
-pub use Rattle.codec_graph.proofs.Sound.{answers-drop_answer}

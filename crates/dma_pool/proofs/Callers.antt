@@ -6,6 +6,12 @@ use Rattle.std.proofs.lemmas.List.Elements.{Contains-append_right}
 use Rattle.dma_pool.specs.declared.runs.Run.{Run}
 use Rattle.dma_pool.specs.Pools.{PoolState, AddsRun}
 use Rattle.dma_pool.specs.Blocks.{run_at}
+-- what is taken after one run more was taken before or is that run
+pub use Rattle.dma_pool.proofs.LaidOut.{AddsRun-others}
+-- what was taken stays so
+pub use Rattle.dma_pool.proofs.LaidOut.{AddsRun-keeps}
+-- a run that was added is there
+pub use Rattle.dma_pool.proofs.LaidOut.{AddsRun-has}
 
 first_one : (run : Run) (runs : List Run) → Contains (run ∷ runs) run
 first_one run runs = (0, search rules, refl)
@@ -51,9 +57,3 @@ at_error (Err x) P e h = h
 pub at_success : {T E : Type 0} (r : Result T E) (P : Type 0) → false ≡ is_err r → OnOk r P → P
 at_success (Ok x) P e h = h
 at_success (Err x) P e h = cc
--- what is taken after one run more was taken before or is that run
-pub use Rattle.dma_pool.proofs.LaidOut.{AddsRun-others}
--- what was taken stays so
-pub use Rattle.dma_pool.proofs.LaidOut.{AddsRun-keeps}
--- a run that was added is there
-pub use Rattle.dma_pool.proofs.LaidOut.{AddsRun-has}

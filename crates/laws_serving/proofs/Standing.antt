@@ -17,8 +17,6 @@ use Rattle.laws_serving.proofs.SoundCallers.{IsBesideSound, rest_splits, body_le
 
 -- ---- the stream
 
-}
-
 access_stands : (event : Event) (world : World) → is_access event ≡ true → IsBesideSound event → StreamsStay world (happens world event)
 access_stands (Stepped step) world is beside = cc
 access_stands Begin world is beside = cc

@@ -9,9 +9,9 @@ use Rattle.route_planner.proofs.Callers.{only_plan}
 pub use Rattle.setup_verbs.proofs.Final.{lead_to_set_up}
 -- each goes to the codec, and can be encoded where that is one of 0 to 14
 pub use Rattle.setup_verbs.proofs.Ranged.{all_commands_of}
+-- a candidate is a pin widget
+pub use Rattle.setup_verbs.proofs.Agreeing.{candidate_is_pin}
 
 -- a graph has one plan for a format
 pub one_plan_of : (codec : RawCodec) (format : Format) (plan other : Plan) → IsPlan codec format plan → IsPlan codec format other → other ≡ plan
 one_plan_of codec format plan other is twin = only_plan codec format plan is other twin
--- a candidate is a pin widget
-pub use Rattle.setup_verbs.proofs.Agreeing.{candidate_is_pin}
