@@ -1,5 +1,6 @@
 use Rattle.std.proofs.Common.{◌≡◌, ℕ, ◌<◌, length}
-use Rattle.codec_sound.specs.Depths.{IsShallow, IsMarked, AreRight}
+use Rattle.codec_graph.specs.Marks.{IsMarked}
+use Rattle.codec_sound.specs.Depths.{IsShallow, AreRight}
 use Rattle.codec_sound.proofs.table.outputs.Given as goal
 
 -- what is known is right, and after so many rounds it is known of each node from which connections lead over fewer
