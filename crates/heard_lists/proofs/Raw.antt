@@ -8,7 +8,7 @@ use Rattle.std.proofs.Math.Seq.{take-add}
 use Rattle.std.proofs.lemmas.Bool.{cases_lt}
 use Rattle.std.proofs.lemmas.Int.{of_z-to_z}
 use Rattle.std.proofs.lemmas.Nat.{le_bytes_4}
-use Rattle.std.proofs.lemmas.List.{append-nil, length-drop, length-take-le, take_all, take-append-drop}
+use Rattle.std.proofs.lemmas.List.{append-nil, length-drop, length-take-le, take_all, take-append-drop, drop-drop}
 use Rattle.std.proofs.lemmas.Grind.{flat_map-append}
 use Rattle.byteorder.specs.Endian.{little_number}
 use Rattle.stream_format.specs.declared.format.Bits.{Bits}
@@ -122,6 +122,48 @@ block_raw : (bits : Bits) (block : List ℕ) → AreSmall block → length block
 block_raw B16 block small long = both_raw B16 block small 2 refl long
 block_raw B24 block small long = both_raw B24 block small 4 refl long
 block_raw B32 block small long = both_raw B32 block small 4 refl long
+
+-- a sample and the next, from a place on
+next_raw : (bits : Bits) (size first : ℕ) (block : List ℕ) → size ≡ container_bytes bits → AreSmall block → first + 2 * size ≤ length block
+    → sample_bytes bits (container_number bits (drop first block)) ++ sample_bytes bits (container_number bits (drop (first + size) block)) ≡ take (2 * size) (drop first block)
+next_raw bits size first block is small long =
+    let rest = length-drop first block in
+    let later = length-drop (first + size) block in
+    let left : sample_bytes bits (container_number bits (drop first block)) ≡ take size (drop first block) =
+    sample_raw bits (drop first block) (small-drop first block small) (omega (arith, is, long, rest)) ∙ ap (λ (n : ℕ). take n (drop first block)) (sym is) in
+    let right : sample_bytes bits (container_number bits (drop (first + size) block)) ≡ take size (drop size (drop first block)) =
+    sample_raw bits (drop (first + size) block) (small-drop (first + size) block small) (omega (arith, is, long, later))
+    ∙ (ap (λ (n : ℕ). take n (drop (first + size) block)) (sym is) ∙ ap (take size) (sym (drop-drop size first block))) in
+    let both : 2 * size ≡ size + size = omega arith in
+    ap (λ (front : List ℕ). front ++ sample_bytes bits (container_number bits (drop (first + size) block))) left
+    ∙ (ap (λ (back : List ℕ). take size (drop first block) ++ back) right
+    ∙ (sym (take-add size size (drop first block)) ∙ ap (λ (n : ℕ). take n (drop first block)) (sym both)))
+
+-- those of a pair of channels
+channels_raw : (bits : Bits) (pair : ℕ) (block : List ℕ) → AreSmall block → 2 * pair * container_bytes bits + 2 * container_bytes bits ≤ length block
+    → sample_bytes bits (container_number bits (drop (2 * pair * container_bytes bits) block)) ++ sample_bytes bits (container_number bits (drop ((2 * pair + 1) * container_bytes bits) block))
+    ≡ take (2 * container_bytes bits) (drop (2 * pair * container_bytes bits) block)
+channels_raw B16 pair block small long =
+    let next : (2 * pair + 1) * 2 ≡ 2 * pair * 2 + 2 = omega arith in
+    ap (λ (n : ℕ). sample_bytes B16 (container_number B16 (drop (2 * pair * 2) block)) ++ sample_bytes B16 (container_number B16 (drop n block))) next
+    ∙ next_raw B16 2 (2 * pair * 2) block refl small long
+channels_raw B24 pair block small long =
+    let next : (2 * pair + 1) * 4 ≡ 2 * pair * 4 + 4 = omega arith in
+    ap (λ (n : ℕ). sample_bytes B24 (container_number B24 (drop (2 * pair * 4) block)) ++ sample_bytes B24 (container_number B24 (drop n block))) next
+    ∙ next_raw B24 4 (2 * pair * 4) block refl small long
+channels_raw B32 pair block small long =
+    let next : (2 * pair + 1) * 4 ≡ 2 * pair * 4 + 4 = omega arith in
+    ap (λ (n : ℕ). sample_bytes B32 (container_number B32 (drop (2 * pair * 4) block)) ++ sample_bytes B32 (container_number B32 (drop n block))) next
+    ∙ next_raw B32 4 (2 * pair * 4) block refl small long
+
+-- what a pin hears of a block by a pair of channels, as bytes
+pub pair_raw : (format : Format) (pair : ℕ) (block : List ℕ) → AreSmall block → 2 * pair * container_bytes format.bits + 2 * container_bytes format.bits ≤ length block
+    → sound_bytes format.bits (item_of (layout format) (Pair pair) block) ≡ take (2 * container_bytes format.bits) (drop (2 * pair * container_bytes format.bits) block)
+pair_raw format pair block small long = channels_raw format.bits pair block small long
+
+-- a block of a list of small bytes has small bytes
+pub small_block : (size place : ℕ) (bytes : List ℕ) → AreSmall bytes → AreSmall (block_at size bytes place)
+small_block size place bytes small = small-take size (drop (place * size) bytes) (small-drop (place * size) bytes small)
 
 pub whole_raw : (format : Format) → format.channels ≡ 2 → (bytes : List ℕ) → AreSmall bytes → (count : ℕ) → count * block_bytes format ≤ length bytes
     → flat_map (sound_bytes format.bits) (items_before (layout format) (Pair 0) bytes count) ≡ take (count * block_bytes format) bytes

@@ -2,7 +2,7 @@
 ghost use Rattle.std.specs.Prelude.{◌≡◌, ◌≤◌, ◌<◌, ◌+◌, ◌*◌, ◌++◌, [], ◌∷◌, List, OnOk, IsTrue, false, length};
 ghost use Rattle.std.specs.Prelude.{replicate, take};
 ghost use Rattle.std.specs.List.{AllZip, flat_map};
-ghost use Rattle.stream_format.specs.Cadence.{block_bytes};
+ghost use Rattle.stream_format.specs.Cadence.{block_bytes, container_bytes};
 ghost use Rattle.stream_format.specs.Layouts.{layout};
 ghost use Rattle.codec_sound.specs.declared.heard.Heard.TheVariants as heard;
 ghost use Rattle.codec_sound.specs.declared.signals.Signal.TheVariants as variant;
@@ -156,8 +156,8 @@ fn push_sound(
     }
 }
 
-/// Appends the samples of a pair of channels of so many blocks. Where they are all that the blocks have, these are
-/// taken as they are.
+/// Appends the samples of a pair of channels of so many blocks. Where they keep their size, their bytes are taken as they
+/// stand in the blocks.
 fn push_pair(
     sound: &mut Vec<u8>,
     bits: Bits,
@@ -171,10 +171,13 @@ fn push_pair(
     ensures { OnOk result (sound.new.items ≡ sound.old.items
         ++ flat_map (spec.sound_bytes bits) (items_before (layout format) (variant.Pair pair) bytes.now blocks)) }
 {
-    if pair == 0 && format.channels == 2 && format.bits == bits {
+    if format.bits != bits {
+        return push_samples(sound, bits, pair, format, bytes, blocks);
+    }
+    if pair == 0 && format.channels == 2 {
         return push_whole(sound, format, bytes, blocks);
     }
-    push_pairs(sound, bits, pair, format, bytes, blocks)
+    push_parts(sound, pair, format, bytes, blocks)
 }
 
 /// Appends so many blocks of one pair of channels.
@@ -202,8 +205,50 @@ fn front(bytes: &[u8], format: Format, blocks: usize) -> &[u8]
     &bytes[..blocks * size]
 }
 
+/// The bytes of a sample of each of two channels.
+fn pair_len(bits: Bits) -> usize
+    ensures { result ≡ 2 * container_bytes bits }
+{
+    match bits {
+        Bits::B16 => 4,
+        Bits::B24 | Bits::B32 => 8,
+    }
+}
+
+/// The place of a pair of channels in a block.
+fn place_of(pair: u8, format: Format) -> usize
+    requires { IsAmong format.channels (variant.Pair pair) }
+    ensures place { result ≡ 2 * pair * container_bytes format.bits }
+    ensures inside { result + 2 * container_bytes format.bits ≤ block_bytes format }
+{
+    usize::from(pair) * pair_len(format.bits)
+}
+
+/// Appends the bytes of a pair of channels of so many blocks.
+fn push_parts(
+    sound: &mut Vec<u8>,
+    pair: u8,
+    format: Format,
+    bytes: &[u8],
+    blocks: usize,
+) -> Result<(), AllocError>
+    requires pair { IsAmong format.channels (variant.Pair pair) }
+    requires whole { blocks * block_bytes format ≤ length bytes.now }
+    ensures { OnOk result (sound.new.items ≡ sound.old.items ++ flat_map (spec.sound_bytes format.bits)
+        (items_before (layout format) (variant.Pair pair) bytes.now blocks)) }
+{
+    let size = format.block_bytes() as usize;
+    let both = pair_len(format.bits);
+    let first = place_of(pair, format);
+    for place in 0..blocks {
+        let block = &bytes[place * size..(place + 1) * size];
+        sound.extend_from_slice(&block[first..first + both])?;
+    }
+    Ok(())
+}
+
 /// Appends the samples of a pair of channels of so many blocks, one by one.
-fn push_pairs(
+fn push_samples(
     sound: &mut Vec<u8>,
     bits: Bits,
     pair: u8,

@@ -12,7 +12,7 @@ use Rattle.codec_sound.specs.HeardLists.{block_at, item_of, sample_in}
 use Rattle.heard_lists.specs.Listings.{items_before}
 use Rattle.heard_lists.specs.Stretches.{sample_bytes, sound_bytes}
 use Rattle.heard_lists.proofs.Growing.{before-more, piece_of}
-use Rattle.heard_lists.proofs.stretches.push_pairs.Goals as goal
+use Rattle.heard_lists.proofs.stretches.push_samples.Goals as goal
 
 pub loop-place-preserved : goal.loop-place-preserved
 loop-place-preserved c =
