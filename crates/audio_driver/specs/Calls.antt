@@ -8,6 +8,7 @@ use Rattle.period_writer.specs.Writers.{WriterState, ring_size}
 use Rattle.driver_bring_up.specs.declared.answers.TheConstants.{TAG}
 use Rattle.driver_bring_up.specs.declared.bringing.BringUp.{BringUp}
 use Rattle.driver_bring_up.specs.Calls.{Leads, Ends}
+use Rattle.driver_bring_up.specs.Failing.{Fails, FailsLast, FailsWith}
 use Rattle.audio_driver.specs.declared.driver.closing.Closed.{Closed}
 use Rattle.audio_driver.specs.States.{is_open, EndsWhilePlaying}
 use Rattle.audio_driver.specs.Sounding.{PlaysSound, EndsSound}
@@ -45,6 +46,18 @@ module _ {T : Type 0} (means : T → StreamMeaning) where
   abbrev pub FinishesBy : T → (old new : BringUp) → (before after : Option Telling) → Type 0
   FinishesBy setter old new before after =
       Ends (means setter old.agenda.format TAG) old new before after
+
+  -- a call where memory was wanting, and the last one
+  abbrev pub FailsBy : (irq : Bool) → (old new : DriverState T) → (before after : Option Telling) → Type 0
+  FailsBy irq old new before after =
+      Fails (means old.setter old.bring_up.agenda.format TAG) irq old.bring_up new.bring_up before after
+
+  abbrev pub FailsLastBy : T → (old new : BringUp) → (before after : Option Telling) → Type 0
+  FailsLastBy setter old new before after = FailsLast (means setter old.agenda.format TAG) old new before after
+
+  abbrev pub FailsWithBy : DriverState T → (before after : Option Telling) → Type 0
+  FailsWithBy driver before after =
+      FailsWith (means driver.setter driver.bring_up.agenda.format TAG) driver.bring_up before after
 
   -- what is left after the last call of a driver, with this sound to come
   abbrev pub ClosesBy : DriverState T → (sound : List ℕ) → Closed → (before after : Option Telling) → Type 0

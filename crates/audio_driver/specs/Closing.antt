@@ -1,8 +1,5 @@
 -- How a driver is closed: the blocks that it gives back, and what is left of it. This project's own.
 use Rattle.std.specs.Prelude.{◌≡◌, ◌≤◌, true, false, ℕ, Bool, List, All, Option}
-use Rattle.verb_codes.specs.declared.verbs.Command.{Command}
-use Rattle.codec_graph.specs.declared.raw.RawCodec.{RawCodec}
-use Rattle.route_planner.specs.declared.routes.Plan.{Plan}
 use Rattle.route_setup.specs.Means.{Means}
 use Rattle.dma_pool.specs.Pools.{PoolState}
 use Rattle.hda_world.specs.Tellings.{Telling}

@@ -3,11 +3,13 @@
 #![tactic(auto)]
 
 mod driver;
+mod laws;
 mod room;
 
 pub use driver::{Closed, Driver};
 pub use driver_progress::{Jack, Phase};
 pub use hda_platform::OpenFault;
+pub use laws::drivers_are_answered;
 pub use room::{
     CALL_BYTES, PLAY_ACCESSES, PLAY_END_ACCESSES, PLAY_INTERRUPT_ACCESSES, ROOM_ACCESSES,
     ROOM_BYTES, driver_room_is_fixed,

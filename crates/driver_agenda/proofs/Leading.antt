@@ -2,9 +2,7 @@
 use Rattle.std.proofs.Common.{ℕ, List, [], ◌∷◌, ◌++◌, Bool, true, false, if◌then◌else◌, sym, subst}
 use Rattle.std.specs.Prelude.{IsSome, All}
 use Rattle.std.proofs.lemmas.List.Elements.{All-append, All-cons, All-nil}
-use Rattle.verb_codes.specs.declared.verbs.Command.{Command}
 use Rattle.codec_graph.specs.declared.raw.RawCodec.{RawCodec}
-use Rattle.route_planner.specs.declared.routes.Plan.{Plan}
 use Rattle.route_setup.specs.Means.{Means}
 use Rattle.codec_walk.specs.Dialogues.{Dialogue, Ask, Told, question}
 use Rattle.codec_walk.specs.Walks.{unknown}

@@ -1,5 +1,5 @@
 //! The agenda.
-ghost use Rattle.std.specs.Prelude.{◌≡◌, ◌≤◌, All, length};
+ghost use Rattle.std.specs.Prelude.{◌≡◌, ◌≤◌, [], All, length};
 ghost use Rattle.std.specs.Option.{ForSome};
 ghost use Rattle.std.proofs.Props.{props};
 ghost use Rattle.verb_codes.specs.Verbs.{IsInRange};
@@ -35,6 +35,7 @@ pub struct Agenda {
     pub ghost few: { All (λ address. address ≤ 14) addresses.items } by { Prim.hlevel props },
     pub ghost under_way: { ForSome walk (λ walk. WalkGoesOn addresses.items (length graphs.items) walk) },
     pub ghost fresh: { ForSome walk (λ _. answered ≡ 0) },
+    pub ghost unplanned: { ForSome walk (λ _. plans.items ≡ []) },
     pub ghost of_them: { All (λ graph. graph.address ≤ 14) graphs.items } by { Prim.hlevel props },
     pub ghost in_range: { All IsInRange verbs.items } by { Prim.hlevel props },
     pub ghost within: { answered ≤ length verbs.items },

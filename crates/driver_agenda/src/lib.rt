@@ -9,5 +9,8 @@ mod plans;
 
 pub use agenda::Agenda;
 pub use fault::AgendaFault;
-pub use laws::{agendas_ask_in_order, agendas_follow};
+pub use laws::{
+    agendas_are_answered, agendas_ask_in_order, agendas_follow, answers_come_to_one,
+    words_come_to_one,
+};
 pub use plans::have_route;

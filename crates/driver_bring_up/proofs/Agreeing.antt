@@ -9,7 +9,6 @@ use Rattle.std.proofs.lemmas.List.{length-append, length-map}
 use Rattle.std.proofs.lemmas.Grind.{flat_map-append}
 use Rattle.verb_codes.specs.declared.verbs.Command.{Command}
 use Rattle.codec_graph.specs.declared.raw.RawCodec.{RawCodec}
-use Rattle.route_planner.specs.declared.routes.Plan.{Plan}
 use Rattle.route_setup.specs.Means.{Means}
 use Rattle.codec_walk.specs.declared.walk.Walk.{Walk}
 use Rattle.codec_walk.specs.Commands.{walk_commands}

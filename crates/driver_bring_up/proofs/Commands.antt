@@ -18,7 +18,7 @@ use Rattle.driver_progress.specs.Tasks.{Task, Order, DriverLine}
 use Rattle.driver_progress.specs.Seen.{Seen, seen_by, values_of}
 use Rattle.driver_progress.specs.Phases.{is_asking}
 use Rattle.driver_progress.specs.States.{State}
-use Rattle.driver_progress.specs.Expected.{submits, asks, runs, is_free, next_order}
+use Rattle.driver_progress.specs.Expected.{submits, asks, is_free}
 use Rattle.driver_progress.specs.Next.{outstanding_if, polled, phase_polled, phase_of_answers, after_poll, submitted_if, after_commands, led, tally_next}
 use Rattle.driver_bring_up.specs.Standing.{next_on, phase_of, Agrees}
 use Rattle.hda_registers.specs.declared.places.TheConstants.{WALCLK}
@@ -27,8 +27,6 @@ use Rattle.driver_progress.specs.Shutting.{shut_accesses}
 use Rattle.driver_bring_up.specs.Commanding.{submit_made}
 use Rattle.driver_bring_up.proofs.Asked.{call_made, none_submitted, one_clock, pointer_seen, submit_fits, call_fits}
 use Rattle.hda_world.specs.Events.{Event}
-use Rattle.driver_progress.specs.Expected.{closes, shuts}
-use Rattle.driver_progress.specs.Next.{closed}
 use Rattle.driver_progress.specs.Seen.{values_of}
 use Rattle.driver_progress.specs.Requests.{Request, requests_of}
 use Rattle.driver_progress.proofs.Callers.{asking_runs, asking_led, asking_closes, asking_closed}

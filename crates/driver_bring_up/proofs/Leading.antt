@@ -5,9 +5,6 @@ use Rattle.std.specs.List.{find}
 use Rattle.std.specs.Option.{option_map}
 use Rattle.std.specs.Option.{is_some}
 use Rattle.verb_codes.specs.Words.{has_bit, bits_of}
-use Rattle.verb_codes.specs.declared.verbs.Command.{Command}
-use Rattle.codec_graph.specs.declared.raw.RawCodec.{RawCodec}
-use Rattle.route_planner.specs.declared.routes.Plan.{Plan}
 use Rattle.route_setup.specs.Means.{Means}
 use Rattle.hda_registers.specs.declared.shapes.Width.TheVariants.{One, Four}
 use Rattle.hda_registers.specs.declared.places.TheConstants.{INTSTS, STATESTS}
@@ -65,10 +62,11 @@ not_some word is = cc
 
 -- a call that reads no entry, and leaves the agenda but where the first walk begins
 pub reads_none : (means : Means) (made : List Event) (old new : BringUp) → entries_in made ≡ [] → ((old.phase ≡ Settling → new.phase ≡ Walking → ⊥) → new.agenda ≡ old.agenda) → new.jacks ≡ old.jacks
-    → ReadsOn means made old new
-reads_none means made old new none agenda jacks = record {
+    → (is_asking old.phase ≡ true → new.phase ≡ old.phase) → ReadsOn means made old new
+reads_none means made old new none agenda jacks same = record {
   taken = λ word is. absurd (not_some word (sym (answer_none old.engine.rings made none) ∙ is));
   left = λ answered still. agenda still;
+  waits = λ asking answered. inl (same asking);
   addresses = λ still. ap (λ (agenda : Agenda). agenda.addresses) (agenda still);
   counted = λ events counts. subst (λ (jacks : Jacks). IsCount (with_told events (entries_in made)) jacks) (sym jacks) (subst (λ (entries : List (List ℕ)). IsCount (with_told events entries) old.jacks) (sym none) counts);
 }
@@ -122,6 +120,12 @@ pub submits_none : (corb : ℕ) (rings : RingPlaces) (order : Option Order) → 
 submits_none corb rings None = refl
 submits_none corb rings (Some order) = refl
 
+-- it stays, or the command is given up at some clock
+gives_up : (outstanding : Option Outstanding) (clock : ℕ) (phase phase' : Phase) → (phase' ≡ phase) ⊎ IsGivenUp outstanding clock phase'
+    → (phase' ≡ phase) ⊎ ((clock : ℕ) × IsGivenUp outstanding clock phase')
+gives_up outstanding clock phase phase' (inl same) = inl same
+gives_up outstanding clock phase phase' (inr up) = inr (clock, up)
+
 pub reads_look : (means : Means) (rirb clock : ℕ) (reads : PollReads) (rest : List Event) (old new : BringUp) → is_asking old.phase ≡ true → AreNew old.engine.rings reads → entries_in rest ≡ []
     → LedTo (poll_by old.engine.rings reads clock) old.engine.rings.outstanding old.phase old.agenda new.phase new.agenda
     → Taken means (poll_by old.engine.rings reads clock) old.agenda new.phase new.agenda
@@ -131,6 +135,8 @@ reads_look means rirb clock reads rest old new asking fresh none led taken count
     let found = found_in rirb clock old.engine.rings reads rest fresh none in record {
       taken = λ word is. taken_by means old.engine.rings.outstanding (found_by old.engine.rings reads) clock word old.agenda new.agenda new.phase (outstanding_none old.engine.rings reads) taken (found ∙ is);
       left = λ answered still. left_by old.engine.rings.outstanding (found_by old.engine.rings reads) clock old.phase new.phase old.agenda new.agenda led (found ∙ answered asking);
+      waits = λ asks answered. gives_up old.engine.rings.outstanding clock old.phase new.phase
+          (waits_by old.engine.rings.outstanding (found_by old.engine.rings reads) clock old.phase new.phase old.agenda new.agenda led (found ∙ answered));
       addresses = λ still. addresses;
       counted = λ events counts. subst (λ (entries : List (List ℕ)). IsCount (with_told events entries) new.jacks) (sym (asked_entries rirb clock old.engine.rings reads rest fresh none)) (counted events counts);
     }
@@ -164,6 +170,7 @@ reads_after means made made' old new same reads =
       taken = λ word is. reads.taken word (found ∙ is);
       addresses = reads.addresses;
       left = λ answered still. reads.left (λ asking. found ∙ answered asking) still;
+      waits = λ asking answered. reads.waits asking (found ∙ answered);
       counted = λ events counts. subst (λ (entries : List (List ℕ)). IsCount (with_told events entries) new.jacks) (sym same) (reads.counted events counts);
     }
 

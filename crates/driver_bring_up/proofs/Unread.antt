@@ -4,9 +4,6 @@ use Rattle.std.proofs.lemmas.Bool.{false≢true}
 use Rattle.std.specs.Prelude.{slice_index, not}
 use Rattle.std.specs.Option.{is_some}
 use Rattle.verb_codes.specs.Words.{has_bit, bits_of}
-use Rattle.verb_codes.specs.declared.verbs.Command.{Command}
-use Rattle.codec_graph.specs.declared.raw.RawCodec.{RawCodec}
-use Rattle.route_planner.specs.declared.routes.Plan.{Plan}
 use Rattle.route_setup.specs.Means.{Means}
 use Rattle.hda_registers.specs.declared.places.TheConstants.{STATESTS, INTSTS, WALCLK}
 use Rattle.hda_registers.specs.declared.shapes.Width.TheVariants.{One, Four}
@@ -28,7 +25,7 @@ use Rattle.driver_progress.proofs.Callers.{can_reset_looked, settling_looked, ad
 use Rattle.driver_bring_up.specs.Commanding.{answer_in}
 use Rattle.driver_bring_up.specs.declared.bringing.BringUp.{BringUp}
 use Rattle.driver_bring_up.specs.Told.{found_none, ResetsTo, SettlesTo}
-use Rattle.driver_bring_up.specs.Calls.{LeadsUnread, Leads}
+use Rattle.driver_bring_up.specs.Calls.{CanMove, LeadsUnread, Leads}
 use Rattle.driver_bring_up.proofs.Asks.{is_over}
 use Rattle.driver_bring_up.proofs.Leading.{unread_none, answer_none, reads_none, same_found, interrupt_values}
 
@@ -41,7 +38,8 @@ leads_unread {means} {old} {new} {before} {after} asks leads =
       is = λ task budget of silent ended agrees. same_found (sym (answer_none old.engine.rings leads.made none)) (leads.is task budget of);
       ended = λ task of ended. absurd (false≢true (sym asks ∙ (is_over old.phase (is_some (answer_in old.engine.rings leads.made)) new.phase ended).0));
       unread = λ asking. leads.unread;
-      reads = reads_none means leads.made old new none leads.agenda leads.jacks;
+      moves = λ asking. leads.moves;
+      reads = reads_none means leads.made old new none leads.agenda leads.jacks (λ asking. absurd (false≢true (sym asks ∙ asking)));
       begun = leads.begun;
       resets = leads.resets;
       untaken = leads.untaken;
@@ -50,6 +48,14 @@ leads_unread {means} {old} {new} {before} {after} asks leads =
     }
 
 -- ---- phases
+
+pub can_stay : (phase : Phase) → CanMove phase phase
+can_stay Reset = inl refl
+can_stay Settling = inl refl
+can_stay phase = refl
+
+pub settles_on : (phase : Phase) → phase ≡ Settling → CanMove phase Walking
+settles_on phase is = subst (λ (phase : Phase). CanMove phase Walking) (sym is) (inr refl)
 
 not_settling : Reset ≡ Settling → ⊥
 not_settling is = cc

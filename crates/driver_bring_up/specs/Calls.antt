@@ -1,10 +1,7 @@
 -- What a call of a bring-up does, against what is to be done. This project's own.
-use Rattle.std.specs.Prelude.{◌≡◌, ◌≤◌, ℕ, ◌+◌, Bool, true, false, ◌&&◌, ◌||◌, not, List, Option, Some, None}
+use Rattle.std.specs.Prelude.{◌≡◌, ◌≤◌, ◌⊎◌, ℕ, ◌+◌, Bool, true, false, ◌&&◌, ◌||◌, not, List, Option, Some, None}
 use Rattle.std.specs.Prelude.{slice_index, []}
 use Rattle.std.specs.Option.{is_some}
-use Rattle.verb_codes.specs.declared.verbs.Command.{Command}
-use Rattle.codec_graph.specs.declared.raw.RawCodec.{RawCodec}
-use Rattle.route_planner.specs.declared.routes.Plan.{Plan}
 use Rattle.route_setup.specs.Means.{Means}
 use Rattle.hda_registers.specs.declared.places.TheConstants.{STATESTS}
 use Rattle.hda_world.specs.Events.{Event}
@@ -29,7 +26,7 @@ use Rattle.driver_bring_up.specs.Addresses.{addresses_in}
 use Rattle.driver_bring_up.specs.Standing.{Agrees, answers_of, LeadsOn, EndsBy}
 use Rattle.driver_bring_up.specs.Commanding.{IsStretch, IsLastLook, entries_in, answer_in, with_told}
 use Rattle.driver_bring_up.specs.declared.bringing.BringUp.{BringUp}
-use Rattle.driver_bring_up.specs.Told.{ResetsTo, SettlesTo, Stays, EndLooks}
+use Rattle.driver_bring_up.specs.Told.{ResetsTo, SettlesTo, IsGivenUp, Stays, EndLooks}
 
 -- how many commands were sent, where one more was or none
 abbrev pub sent_if : (submits : Bool) → (sent : ℕ) → ℕ
@@ -65,6 +62,13 @@ AgreesAfter old new task = is_asking old.phase ≡ true → goes_on new.phase �
 abbrev pub takes_memory : Phase → Bool
 takes_memory phase = is_settling phase || is_asking phase
 
+-- where a call leads that looks for no answer: the reset leads to the time in which codecs announce themselves, and
+-- that to the walk; else the phase stays
+abbrev pub CanMove : (old new : Phase) → Type 0
+CanMove Reset new = (new ≡ Reset) ⊎ (new ≡ Settling)
+CanMove Settling new = (new ≡ Settling) ⊎ (new ≡ Walking)
+CanMove old new = new ≡ old
+
 -- the walk over the first codec begins: of those that the state change status names
 pub record Begins (status : ℕ) (agenda : Agenda) : Type 0 where
   pub addresses : agenda.addresses.items ≡ addresses_in (codecs_in status)
@@ -78,6 +82,9 @@ pub record ReadsOn (means : Means) (made : List Event) (old new : BringUp) : Typ
   -- and without one it stays, but where the first walk begins
   pub left : (is_asking old.phase ≡ true → answer_in old.engine.rings made ≡ None)
       → (old.phase ≡ Settling → new.phase ≡ Walking → ⊥) → new.agenda ≡ old.agenda
+  -- nor does the phase change then while commands are sent, but where the outstanding command is given up
+  pub waits : is_asking old.phase ≡ true → answer_in old.engine.rings made ≡ None
+      → (new.phase ≡ old.phase) ⊎ ((clock : ℕ) × IsGivenUp old.engine.rings.outstanding clock new.phase)
   pub addresses : (old.phase ≡ Settling → new.phase ≡ Walking → ⊥) → new.agenda.addresses ≡ old.agenda.addresses
   -- of all that was told unasked until now
   pub counted : (events : List told.Event) → IsCount events old.jacks
@@ -90,6 +97,7 @@ pub record LeadsUnread (old new : BringUp) (before after : Option Telling) : Typ
   pub is : (task : Task) (budget : ℕ) → IsTaskOf old task
       → IsStretch task (state_of old) (Some (record { irq = false; budget = budget })) made false (state_of new)
   pub still : goes_on old.phase ≡ false
+  pub moves : CanMove old.phase new.phase
   pub unread : AreUnread made
   pub jacks : new.jacks ≡ old.jacks
   pub agenda : (old.phase ≡ Settling → new.phase ≡ Walking → ⊥) → new.agenda ≡ old.agenda
@@ -114,6 +122,7 @@ pub record Leads (means : Means) (irq : Bool) (old new : BringUp) (before after 
       → IsLastLook task (state_of old) irq [] made (state_of new)
   -- before commands are sent, and after them, no answer is looked for
   pub unread : is_asking old.phase ≡ false → AreUnread made
+  pub moves : is_asking old.phase ≡ false → CanMove old.phase new.phase
   pub reads : ReadsOn means made old new
   pub begun : old.phase ≡ Settling → new.phase ≡ Walking → Begins (slice_index (values_of made STATESTS) 0) new.agenda
   -- and on a platform that tells: from a world that can be reset, to the rings that run, and on from there
@@ -140,6 +149,7 @@ pub record Ends (means : Means) (old new : BringUp) (before after : Option Telli
       new.phase ≡ true
       → IsLastLook task (state_of old) false shuts made (state_of new)
   pub unread : is_asking old.phase ≡ false → AreUnread made
+  pub stays : is_asking old.phase ≡ false → new.phase ≡ old.phase
   pub reads : ReadsOn means made old new
   pub looks : is_asking old.phase ≡ true → Between (EndLooks old new made) before after
 

@@ -3,8 +3,6 @@ use Rattle.std.specs.Prelude.{◌≡◌, ℕ, ◌+◌, Bool, true, false, List, 
 use Rattle.verb_codes.specs.declared.verbs.Command.{Command}
 use Rattle.std.specs.List.{flat_map}
 use Rattle.std.specs.Option.{is_some}
-use Rattle.codec_graph.specs.declared.raw.RawCodec.{RawCodec}
-use Rattle.route_planner.specs.declared.routes.Plan.{Plan}
 use Rattle.route_setup.specs.Means.{Means}
 use Rattle.hda_world.specs.Events.{Event, Stepped, Begin, End, Read, Write, DmaRead, DmaWrite}
 use Rattle.hda_world.specs.Tellings.{Telling, Between, Makes}
@@ -20,6 +18,7 @@ use Rattle.command_engine.specs.Told.{PollTellsOf}
 use Rattle.command_engine.specs.Polling.{PollReads, AreNew, asked_of, poll_of, found_by, rings_polled}
 use Rattle.command_engine.specs.Submitting.{submit_accesses, rings_submitted}
 use Rattle.driver_agenda.specs.declared.agenda.Agenda.{Agenda}
+use Rattle.driver_agenda.specs.AnswerWords.{WasLeft}
 use Rattle.driver_progress.specs.declared.phase.Phase.{Phase}
 use Rattle.driver_progress.specs.declared.phase.Phase.TheVariants.{Unanswered}
 use Rattle.driver_progress.specs.Phases.{goes_on, can_follow}
@@ -114,10 +113,17 @@ pub record Looks (means : Means) (corb rirb : ℕ) (rings : RingPlaces) (phase :
     pub taken : Taken means (poll_by rings reads answer.clock) old answer.phase new
     pub free : answer.is_free ≡ leaves_free (poll_by rings reads answer.clock) answer.phase
 
+-- what a look that found this leaves of the agenda where memory was wanting
+abbrev pub LeavesOf : Means → Poll → (old new : Agenda) → Type 0
+LeavesOf means polls.Idle old new = ⊥
+LeavesOf means (polls.Answered word) old new = WasLeft means old.walk word old new
+LeavesOf means polls.Waiting old new = ⊥
+LeavesOf means (polls.Unanswered issued noticed) old new = ⊥
+
 -- a look that found an answer which memory was wanting to take: RIRB was read and what was told unasked counted, and
--- nothing else was done
-pub record FindsAnswer (rirb : ℕ) (rings : RingPlaces) (jacks : Jacks) (rings' : RingPlaces) (jacks' : Jacks)
-    (made : List Event) : Type 0 where
+-- nothing else was done. The graphs and plans that were made stay
+pub record FindsAnswer (means : Means) (rirb : ℕ) (rings : RingPlaces) (jacks : Jacks) (old : Agenda)
+    (rings' : RingPlaces) (jacks' : Jacks) (new : Agenda) (made : List Event) : Type 0 where
   pub clock : ℕ
   pub reads : PollReads
   pub made_is : made ≡ ask_accesses rirb clock rings reads
@@ -125,12 +131,14 @@ pub record FindsAnswer (rirb : ℕ) (rings : RingPlaces) (jacks : Jacks) (rings'
   pub found : is_some (found_by rings reads) ≡ true
   pub rings_are : rings' ≡ rings_polled rings reads
   pub counted : (events : List told.Event) → IsCount events jacks → IsCount (with_told events reads.entries) jacks'
+  pub left : (word : ℕ) → found_by rings reads ≡ Some word → WasLeft means old.walk word old new
+  pub addresses : new.addresses ≡ old.addresses
 
-pub record FindsAlone (rirb : ℕ) (rings : RingPlaces) (jacks : Jacks) (rings' : RingPlaces) (jacks' : Jacks)
-    (before after : Option Telling) : Type 0 where
+pub record FindsAlone (means : Means) (rirb : ℕ) (rings : RingPlaces) (jacks : Jacks) (old : Agenda)
+    (rings' : RingPlaces) (jacks' : Jacks) (new : Agenda) (before after : Option Telling) : Type 0 where
   pub made : List Event
   pub by : Between (Makes made) before after
-  pub is : FindsAnswer rirb rings jacks rings' jacks' made
+  pub is : FindsAnswer means rirb rings jacks old rings' jacks' new made
 
 -- ---- and the next command
 

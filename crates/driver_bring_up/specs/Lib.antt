@@ -7,3 +7,4 @@ pub mod Commanding
 pub mod Jacks
 pub mod Listed
 pub mod Counted
+pub mod AnsweredWords

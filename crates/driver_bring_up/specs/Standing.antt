@@ -1,9 +1,7 @@
 -- Where a driver stands, by what comes next on its agenda. This project's own.
-use Rattle.std.specs.Prelude.{◌≡◌, ℕ, ◌-◌, Bool, true, false, List, slice_get, slice_index, length, Option, Some, None}
+use Rattle.std.specs.Prelude.{◌≡◌, ℕ, ◌-◌, Bool, true, false, slice_get, slice_index, length, Option, Some, None}
 use Rattle.std.specs.Option.{is_some}
 use Rattle.verb_codes.specs.declared.verbs.Command.{Command}
-use Rattle.codec_graph.specs.declared.raw.RawCodec.{RawCodec}
-use Rattle.route_planner.specs.declared.routes.Plan.{Plan}
 use Rattle.route_setup.specs.Means.{Means}
 use Rattle.command_engine.specs.declared.answers.Outstanding.{Outstanding}
 use Rattle.driver_progress.specs.declared.phase.Phase.{Phase}

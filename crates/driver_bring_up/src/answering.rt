@@ -31,7 +31,8 @@ pub struct Answer {
 /// agenda. An answer leads the agenda on. What codecs told unasked is counted.
 ///
 /// # Errors
-/// Want of memory, where an answer was found. The look was made then, and what was told unasked is counted.
+/// Want of memory, where an answer was found. The look was made then, and what was told unasked is counted; the graphs
+/// and plans that were made stay.
 pub fn look_for_answer<P: Platform, T: Setter>(
     platform: &mut P,
     engine: &mut Engine,
@@ -48,8 +49,9 @@ pub fn look_for_answer<P: Platform, T: Setter>(
     ensures looks { IfOk result (λ answer. spec.Looks (T.means setter.now agenda.old.format TAG) engine.old.corb.address
         engine.old.rirb.address engine.old.rings phase agenda.old jacks.old answer engine.new.rings agenda.new jacks.new
         (P.told platform.old) (P.told platform.new)) }
-    ensures wanting { OnErr result (spec.FindsAlone engine.old.rirb.address engine.old.rings jacks.old engine.new.rings
-        jacks.new (P.told platform.old) (P.told platform.new)) }
+    ensures wanting { OnErr result (spec.FindsAlone (T.means setter.now agenda.old.format TAG) engine.old.rirb.address
+        engine.old.rings jacks.old agenda.old engine.new.rings jacks.new agenda.new (P.told platform.old)
+        (P.told platform.new)) }
     ensures idle { IfOk result (λ answer. answer.is_free ≡ true → engine.new.rings.outstanding ≡ None) }
     ensures started { engine.new.rings.started ≡ engine.old.rings.started }
     ensures events { engine.new.events.items ≡ [] }
@@ -85,6 +87,7 @@ fn phase_after<T: Setter>(
 ) -> Result<Phase, AllocError>
     requires asks { IsSome (standing.next_on agenda.old) }
     ensures wanting { OnErr result (spec.is_answer poll ≡ true) }
+    ensures left { OnErr result (spec.LeavesOf (T.means setter.now agenda.old.format TAG) poll agenda.old agenda.new) }
     ensures led { IfOk result (λ after. spec.LedTo poll outstanding phase agenda.old after agenda.new) }
     ensures taken { IfOk result (λ after. spec.Taken (T.means setter.now agenda.old.format TAG) poll agenda.old after
         agenda.new) }

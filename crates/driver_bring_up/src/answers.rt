@@ -1,5 +1,6 @@
 //! Where answers lead.
-ghost use Rattle.std.specs.Prelude.{◌≡◌, true, IfOk, IsSome};
+ghost use Rattle.std.specs.Prelude.{◌≡◌, true, IfOk, OnErr, IsSome};
+ghost use Rattle.driver_agenda.specs.AnswerWords.{WasLeft};
 ghost use Rattle.driver_progress.specs.Phases.{can_follow};
 ghost use Rattle.driver_bring_up.specs.Standing as spec;
 
@@ -27,7 +28,7 @@ pub(crate) fn phase_of(agenda: &Agenda) -> Phase
 /// Takes the answer to the command that comes next, and gives the phase that it leads to.
 ///
 /// # Errors
-/// Want of memory.
+/// Want of memory. The graphs and plans that were made stay.
 pub(crate) fn take_answer<T: Setter>(
     agenda: &mut Agenda,
     setter: &T,
@@ -38,6 +39,8 @@ pub(crate) fn take_answer<T: Setter>(
         agenda.new) }
     ensures follows { IfOk result (λ phase. can_follow phase ≡ true) }
     ensures ends { IfOk result (spec.EndsBy (T.means setter.now agenda.old.format TAG) word agenda.old
+        agenda.new) }
+    ensures wanting { OnErr result (WasLeft (T.means setter.now agenda.old.format TAG) agenda.old.walk word agenda.old
         agenda.new) }
     ensures addresses { agenda.new.addresses ≡ agenda.old.addresses }
     ensures format { agenda.new.format ≡ agenda.old.format }

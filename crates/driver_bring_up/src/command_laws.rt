@@ -1,11 +1,16 @@
 //! Laws of a driver's calls while commands are sent, each the contract of a function that does nothing.
-ghost use Rattle.std.specs.Prelude.{◌≡◌, ℕ, ◌+◌, Bool, true, false, ◌++◌, Some, None, List, All};
+ghost use Rattle.std.specs.Prelude.{◌≡◌, ℕ, ◌+◌, Bool, true, false, ◌++◌, Some, None, List, [], All, Option};
+ghost use Rattle.std.specs.Prelude.{length, slice_index};
 ghost use Rattle.std.specs.Option.{is_some};
 ghost use Rattle.command_engine.specs.Polling.{PollReads, AreNew, found_by, rings_polled};
 ghost use Rattle.verb_codes.specs.declared.verbs.Command.{Command};
 ghost use Rattle.codec_graph.specs.declared.raw.RawCodec.{RawCodec};
 ghost use Rattle.codec_graph.specs.Cycles.{IsWellFormed};
 ghost use Rattle.stream_format.specs.declared.format.Format.{Format};
+ghost use Rattle.codec_walk.specs.declared.fault.WalkFault.{WalkFault};
+ghost use Rattle.route_planner.specs.declared.routes.Plan.{Plan};
+ghost use Rattle.driver_agenda.specs.Agendas.{TellsFault};
+ghost use Rattle.driver_agenda.specs.AnswerWords.{AnswersNoRoute};
 ghost use Rattle.driver_agenda.specs.Following.{Follows};
 ghost use Rattle.driver_agenda.specs.declared.agenda.Agenda.{Agenda};
 ghost use Rattle.driver_progress.specs.declared.phase.Phase.{Phase};
@@ -13,15 +18,21 @@ ghost use Rattle.driver_progress.specs.Tasks.{Task, IsTaskFor};
 ghost use Rattle.driver_progress.specs.Phases.{is_asking};
 ghost use Rattle.driver_progress.specs.Requests.{requests_of};
 ghost use Rattle.driver_progress.specs.States.{State};
+ghost use Rattle.driver_progress.specs.declared.phase.Phase.TheVariants as phases;
 ghost use Rattle.hda_world.specs.Events.{Event};
+ghost use Rattle.hda_world.specs.Tellings.{Telling};
 ghost use Rattle.driver_progress.specs.Commands.{ask_accesses};
 ghost use Rattle.driver_progress.specs.Shutting.{shut_accesses};
-ghost use Rattle.driver_bring_up.specs.Standing.{Agrees, phase_of, next_on};
+ghost use Rattle.driver_bring_up.specs.AnsweredWords.{with_answer, WereAnswered};
+ghost use Rattle.driver_bring_up.specs.Calls.{Leads, Ends};
+ghost use Rattle.driver_bring_up.specs.Failing.{Fails};
+ghost use Rattle.driver_bring_up.specs.declared.bringing.BringUp.{BringUp};
+ghost use Rattle.driver_bring_up.specs.Standing.{Agrees, phase_of, next_on, LeadsOn, EndsBy};
 ghost use Rattle.driver_bring_up.specs.Commanding.{LedTo, poll_by, leaves_free, order_if, submit_made, IsStretch};
-ghost use Rattle.driver_bring_up.specs.Commanding.{IsLastLook, state_with, run_of};
+ghost use Rattle.driver_bring_up.specs.Commanding.{IsLastLook, state_with, run_of, answer_in};
 
 use crate::answers::TAG;
-use driver_agenda::agendas_ask_in_order;
+use driver_agenda::{agendas_ask_in_order, answers_come_to_one};
 use route_setup::Setter;
 
 /// The accesses of a look for an answer and of the submission after it are those that are expected of a call, and where
@@ -67,4 +78,42 @@ pub fn agendas_agree<T: Setter>()
         → Agrees task count agenda }
 {
     agendas_ask_in_order::<T>();
+}
+
+/// On every platform, also where what is answered is a lie: the words that were answered until now lead to the phase,
+/// and each call leads them on by the answer that it read, if it read one. So `Malformed` names the codec whose words
+/// have this fault, and the graphs of those before it; at `NothingRouted` all codecs told the graphs, of which no plan
+/// has a route; and where memory was wanting the graphs are those that the first words told.
+pub fn bring_ups_are_answered<T: Setter>()
+    ensures begins { (setter : T) (format : Format) (bring_up : BringUp) → bring_up.phase ≡ phases.Reset
+        → bring_up.agenda.graphs.items ≡ [] → bring_up.agenda.plans.items ≡ []
+        → WereAnswered (T.means setter format TAG) [] bring_up }
+    ensures leads { (setter : T) (format : Format) (irq : Bool) (words : List ℕ) (old new : BringUp)
+        (before after : Option Telling) (leads : Leads (T.means setter format TAG) irq old new before after)
+        → WereAnswered (T.means setter format TAG) words old
+        → WereAnswered (T.means setter format TAG) (with_answer words (answer_in old.engine.rings leads.made)) new }
+    ensures ends { (setter : T) (format : Format) (words : List ℕ) (old new : BringUp) (before after : Option Telling)
+        (ends : Ends (T.means setter format TAG) old new before after)
+        → WereAnswered (T.means setter format TAG) words old
+        → WereAnswered (T.means setter format TAG) (with_answer words (answer_in old.engine.rings ends.made)) new }
+    ensures fails { (setter : T) (format : Format) (irq : Bool) (words : List ℕ) (old new : BringUp)
+        (before after : Option Telling) (fails : Fails (T.means setter format TAG) irq old new before after)
+        → new.phase ≡ phases.Failed → WereAnswered (T.means setter format TAG) words old
+        → WereAnswered (T.means setter format TAG) (with_answer words (answer_in old.engine.rings fails.made)) new }
+{}
+
+/// Where an answer leads is exact: to `Malformed` where it tells a fault, with this fault and the codec that was asked;
+/// to `NothingRouted` where it tells the last graph, and no plan of the graphs has a route; and else on.
+pub fn ends_are_exact<T: Setter>()
+    ensures malformed { (setter : T) (format : Format) (answer : ℕ) (old new : Agenda) (phase : Phase)
+        (fault : WalkFault) → LeadsOn (T.means setter format TAG) answer old new phase
+        → EndsBy (T.means setter format TAG) answer old new phase → TellsFault old.walk answer fault
+        → phase ≡ phases.Malformed (slice_index old.addresses.items (length old.graphs.items)) fault }
+    ensures nothing { (setter : T) (format : Format) (answer : ℕ) (old new : Agenda) (phase : Phase)
+        (plans : List Plan) → LeadsOn (T.means setter format TAG) answer old new phase
+        → EndsBy (T.means setter format TAG) answer old new phase
+        → AnswersNoRoute (T.means setter format TAG) old.walk answer old.addresses.items old.graphs.items plans
+        → phase ≡ phases.NothingRouted }
+{
+    answers_come_to_one::<T>();
 }

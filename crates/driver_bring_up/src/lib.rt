@@ -18,7 +18,9 @@ pub use addresses::addresses_in;
 pub use answering::{Answer, look_for_answer};
 pub use answers::TAG;
 pub use bringing::{BringUp, BroughtUp};
-pub use command_laws::{agendas_agree, commands_are_expected};
+pub use command_laws::{
+    agendas_agree, bring_ups_are_answered, commands_are_expected, ends_are_exact,
+};
 pub use jack_laws::events_are_of_pins;
 pub use jacks::{CODECS, Jacks, TAGS};
 pub use room::{

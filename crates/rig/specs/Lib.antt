@@ -2,6 +2,9 @@ pub mod Replays
 pub mod Stretches
 pub mod Follows
 pub mod Rigs
+pub mod Lies
+pub mod Liars
+pub mod Lending
 -- what private functions promise one another
 pub mod Honesty
 pub mod Recordings

@@ -4,11 +4,13 @@
 
 mod groups;
 mod laws;
+mod liar;
 mod recording;
 mod rig;
 mod rooms;
 mod setting;
 
 pub use laws::{pieces_follow, rigs_replay, runs_follow};
+pub use liar::Liar;
 pub use rig::Rig;
 pub use setting::Setting;

@@ -5,6 +5,7 @@
 mod drivers;
 mod engine;
 mod formats;
+mod liars;
 mod scripted;
 mod setups;
 mod signals;
@@ -18,7 +19,7 @@ use std::process::ExitCode;
 use test_cases::{Cases, run_cases, text_of};
 
 /// The files of cases.
-const FILES: [&str; 7] = [
+const FILES: [&str; 8] = [
     "codecs.txt",
     "formats.txt",
     "walks.txt",
@@ -26,6 +27,7 @@ const FILES: [&str; 7] = [
     "signals.txt",
     "polls.txt",
     "streams.txt",
+    "lies.txt",
 ];
 
 /// The calls that cases name.
@@ -57,6 +59,7 @@ impl Cases for Calls {
             "start" => engine::tell_start(alloc, rest),
             "open" => engine::tell_open(alloc, rest),
             "driver" => drivers::tell(alloc, rest),
+            "lied" => liars::tell(alloc, rest),
             "poll" => engine::tell_poll(alloc, rest),
             "standing" => engine::tell_standing(alloc, rest),
             _ => format!(in alloc; "no call"),

@@ -40,6 +40,7 @@ impl Cases for Ways {
             "unread" => runs::tell_unread(alloc, rest),
             "unwritten" => runs::tell_unwritten(alloc, rest),
             "fronts" => runs::tell_fronts(alloc, rest),
+            "prefixes" => runs::tell_prefixes(alloc, rest),
             "over" => cuts::tell(alloc, rest),
             "calls" => cuts::tell_calls(alloc, rest),
             "files" => runs::tell_files(alloc, rest),

@@ -149,6 +149,45 @@ pub fn tell_fronts(alloc: Global, words: &[Vec<u8>]) -> Result<String, AllocErro
     Ok(text)
 }
 
+/// The status of a run and the last line of its text, where the last file has these bytes.
+fn ending(alloc: Global, words: &[Vec<u8>], bytes: &[u8]) -> Result<String, AllocError> {
+    let mut words = copied(alloc, words)?;
+    words.push(Vec::from_slice(alloc, bytes)?)?;
+    let run = run_of(alloc, words.as_slice())?;
+    let mut shelf = ChangingShelf::new(run.files, Plan::Nothing);
+    let mut out = whole_sink(alloc);
+    let ended = hda_main(alloc, run.words.as_slice(), &mut shelf, &mut out);
+    let written = String::from_utf8_lossy(alloc, out.bytes())?;
+    let mut last = "";
+    for line in written.lines() {
+        last = line;
+    }
+    format!(in alloc; "{} {last}", ended.status)
+}
+
+/// How the program ends where the last file has none of its bytes, the first, the first two, and so on up to all: a
+/// line for each stretch of lengths that end alike.
+pub fn tell_prefixes(alloc: Global, words: &[Vec<u8>]) -> Result<String, AllocError> {
+    let [words @ .., file] = words else {
+        return format!(in alloc; "no file");
+    };
+    let mut text = String::new(alloc);
+    let mut first: usize = 0;
+    let mut last: usize = 0;
+    let mut said = ending(alloc, words, &[])?;
+    for len in 1..=file.len() {
+        let next = ending(alloc, words, file.get(..len).unwrap_or(&[]))?;
+        if next.as_str() != said.as_str() {
+            write!(text, "\n  {first} to {last}: {said}")?;
+            first = len;
+            said = next;
+        }
+        last = len;
+    }
+    write!(text, "\n  {first} to {last}: {said}")?;
+    Ok(text)
+}
+
 /// How a play ends that is called without words, by three names and the numbers of a ring, and whether its report is
 /// what was written.
 pub fn tell_files(alloc: Global, words: &[Vec<u8>]) -> Result<String, AllocError> {

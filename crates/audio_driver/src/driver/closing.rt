@@ -7,13 +7,12 @@ ghost use Rattle.command_engine.specs.Blocks.{corb_bytes, rirb_bytes};
 ghost use Rattle.period_writer.specs.Writers.{OwnsBlocks, periods_of, ring_size};
 ghost use Rattle.driver_progress.specs.Phases.{is_asking};
 ghost use Rattle.driver_bring_up.specs.Told.{IsShut};
-ghost use Rattle.driver_bring_up.specs.Failing.{FailsWith};
 ghost use Rattle.command_engine.specs.declared.room.TheConstants.{POLL_BYTES};
 ghost use Rattle.audio_driver.specs.declared.room.TheConstants.{PLAY_END_ACCESSES, ROOM_ACCESSES, ROOM_BYTES};
 ghost use Rattle.audio_driver.specs.States as states;
 ghost use Rattle.audio_driver.specs.Closing as spec;
 ghost use Rattle.audio_driver.specs.Drivers.{TakesBlocks, GivesBlocks};
-ghost use Rattle.audio_driver.specs.Calls.{ClosesBy};
+ghost use Rattle.audio_driver.specs.Calls.{ClosesBy, FailsWithBy};
 
 use super::Driver;
 use super::ending::end_call;
@@ -83,7 +82,7 @@ impl<T: Setter + Drop> Driver<T> {
             → TakesBlocks self.writer.geometry before self → closed.pool ≡ before) }
         ensures cause { OnErr result (is_asking (states.phase_of self.bring_up self.writer) ≡ true) }
         ensures shut { OnErr result (IsShut (P.told platform.new)) }
-        ensures wanting { OnErr result (FailsWith self.bring_up (P.told platform.old) (P.told platform.new)) }
+        ensures wanting { OnErr result (FailsWithBy T.means self (P.told platform.old) (P.told platform.new)) }
         ensures fixed { P.fixed platform.new ≡ P.fixed platform.old }
         ensures accesses { P.spare_accesses platform.old ≤ P.spare_accesses platform.new + PLAY_END_ACCESSES }
         ensures bytes { P.spare_bytes platform.old ≤ P.spare_bytes platform.new + (ring_size self.writer + POLL_BYTES) }

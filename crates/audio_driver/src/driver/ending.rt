@@ -4,11 +4,10 @@ ghost use Rattle.driver_progress.specs.Phases.{is_asking, is_ready};
 ghost use Rattle.period_writer.specs.Writers.{KeepsRing, tally_of, ring_size};
 ghost use Rattle.driver_bring_up.specs.Calls.{IsKept};
 ghost use Rattle.driver_bring_up.specs.Told.{IsShut};
-ghost use Rattle.driver_bring_up.specs.Failing.{FailsLast};
 ghost use Rattle.command_engine.specs.declared.room.TheConstants.{POLL_BYTES};
 ghost use Rattle.audio_driver.specs.declared.room.TheConstants.{PLAY_END_ACCESSES};
 ghost use Rattle.audio_driver.specs.States as states;
-ghost use Rattle.audio_driver.specs.Calls.{EndsAny, FinishesBy};
+ghost use Rattle.audio_driver.specs.Calls.{EndsAny, FinishesBy, FailsLastBy};
 
 use super::sounding::{is_open, plays_now};
 use driver_bring_up::BringUp;
@@ -45,7 +44,8 @@ pub(super) fn end_call<P: Platform, T: Setter>(
     ensures keeps { KeepsRing writer.old writer.new }
     ensures cause { OnErr result (is_asking bring_up.old.phase ≡ true) }
     ensures shut { OnErr result (IsShut (P.told platform.new)) }
-    ensures wanting { OnErr result (FailsLast bring_up.old bring_up.new (P.told platform.old) (P.told platform.new)) }
+    ensures wanting { OnErr result (FailsLastBy T.means setter.now bring_up.old bring_up.new (P.told platform.old)
+        (P.told platform.new)) }
     ensures fixed { P.fixed platform.new ≡ P.fixed platform.old }
     ensures accesses { P.spare_accesses platform.old ≤ P.spare_accesses platform.new + PLAY_END_ACCESSES }
     ensures bytes { P.spare_bytes platform.old ≤ P.spare_bytes platform.new + (ring_size writer.old + POLL_BYTES) }

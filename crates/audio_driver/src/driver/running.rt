@@ -5,12 +5,11 @@ ghost use Rattle.wav_reader.specs.Supplies.{IsTaken};
 ghost use Rattle.period_writer.specs.Accounts.{Accounts};
 ghost use Rattle.period_writer.specs.Writers.{measures_of, ring_size};
 ghost use Rattle.driver_bring_up.specs.Calls as calls;
-ghost use Rattle.driver_bring_up.specs.Failing.{Fails};
 ghost use Rattle.audio_driver.specs.declared.room.TheConstants.{CALL_BYTES, PLAY_ACCESSES, PLAY_INTERRUPT_ACCESSES};
 ghost use Rattle.audio_driver.specs.declared.room.TheConstants.{ROOM_ACCESSES, ROOM_BYTES};
 ghost use Rattle.audio_driver.specs.States as states;
 ghost use Rattle.audio_driver.specs.Drivers.{IsDriver, KeepsTerms};
-ghost use Rattle.audio_driver.specs.Calls.{SufficesIfOpen, SoundsAny, LeadsBy};
+ghost use Rattle.audio_driver.specs.Calls.{SufficesIfOpen, SoundsAny, LeadsBy, FailsBy};
 
 use super::Driver;
 use super::sounding::{phase_of, play_if_interrupted, play_on, plays_now};
@@ -48,7 +47,7 @@ impl<T: Setter> Driver<T> {
         ensures failed { OnErr result (self.new.bring_up.phase ≡ phases.Failed) }
         ensures unfailed { OnOk result (self.old.bring_up.phase ≢ phases.Failed
             → self.new.bring_up.phase ≢ phases.Failed) }
-        ensures wanting { OnErr result (Fails false self.old.bring_up self.new.bring_up (P.told platform.old)
+        ensures wanting { OnErr result (FailsBy T.means false self.old self.new (P.told platform.old)
             (P.told platform.new)) }
         ensures cause { OnErr result (calls.takes_memory (states.phase_of self.old.bring_up self.old.writer) ≡ true) }
         ensures writer { states.plays_now self.old.play self.old.bring_up ≡ false
@@ -103,7 +102,7 @@ impl<T: Setter> Driver<T> {
         ensures failed { OnErr result (self.new.bring_up.phase ≡ phases.Failed) }
         ensures unfailed { OnOk result (self.old.bring_up.phase ≢ phases.Failed
             → self.new.bring_up.phase ≢ phases.Failed) }
-        ensures wanting { OnErr result (Fails true self.old.bring_up self.new.bring_up (P.told platform.old)
+        ensures wanting { OnErr result (FailsBy T.means true self.old self.new (P.told platform.old)
             (P.told platform.new)) }
         ensures cause { OnErr result (calls.takes_memory (states.phase_of self.old.bring_up self.old.writer) ≡ true) }
         ensures writer { states.plays_now self.old.play self.old.bring_up ≡ false

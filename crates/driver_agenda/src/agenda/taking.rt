@@ -12,6 +12,7 @@ ghost use Rattle.codec_walk.specs.declared.fault.WalkFault.{WalkFault};
 ghost use Rattle.driver_agenda.specs.Sound.{WalkGoesOn, TellsOf};
 ghost use Rattle.driver_agenda.specs.Agendas as spec;
 ghost use Rattle.driver_agenda.specs.Agendas.{GivesGraph};
+ghost use Rattle.driver_agenda.specs.AnswerWords as words;
 
 use super::Agenda;
 use crate::fault::AgendaFault;
@@ -101,7 +102,10 @@ impl Agenda {
     fn begin_walk(&mut self) -> Result<(), AllocError>
         requires left { length self.old.graphs.items < length self.old.addresses.items }
         requires fresh { self.old.answered ≡ 0 }
+        requires unplanned { self.old.plans.items ≡ [] }
         ensures begins { OnOk result (spec.BeginsWalk self.old.addresses.items self.old.graphs.items self.new) }
+        ensures graphs { self.new.graphs ≡ self.old.graphs }
+        ensures plans { self.new.plans ≡ self.old.plans }
         ensures addresses { self.new.addresses ≡ self.old.addresses }
         ensures format { self.new.format ≡ self.old.format }
     {
@@ -117,7 +121,7 @@ impl Agenda {
     /// # Errors
     /// `Malformed` exactly where a codec's answers, all of them now, are not those of a well-formed graph.
     /// `NothingRouted` exactly where this was the last walk's last answer and no plan of the graphs has a route. Or
-    /// want of memory. After an error no command comes.
+    /// want of memory. After an error no command comes. The graphs and plans that were made stay.
     pub fn take<T: Setter>(&mut self, setter: &T, answer: u32) -> Result<(), AgendaFault>
         requires { IsSome (spec.next_of self.old.walk self.old.verbs.items self.old.answered) }
         ensures leads { OnOk result (spec.LedBy (T.means setter.now self.old.format TAG) self.old.walk answer self.old
@@ -130,6 +134,8 @@ impl Agenda {
         ensures nothing { result ≡ Err AgendaFault.NothingRouted
             → spec.TellsNoRoute (T.means setter.now self.old.format TAG) self.old.walk answer
             self.old.addresses.items self.old.graphs.items self.new }
+        ensures wanting { result ≡ Err AgendaFault.OutOfMemory
+            → words.WasLeft (T.means setter.now self.old.format TAG) self.old.walk answer self.old self.new }
         ensures addresses { self.new.addresses ≡ self.old.addresses }
         ensures format { self.new.format ≡ self.old.format }
     {
@@ -155,6 +161,7 @@ impl Agenda {
         requires none { self.old.walk ≡ None }
         requires under_way { WalkGoesOn self.old.addresses.items (length self.old.graphs.items) walk }
         requires fresh { self.old.answered ≡ 0 }
+        requires unplanned { self.old.plans.items ≡ [] }
         ensures leads { OnOk result (spec.LedByDialogue (T.means setter.now self.old.format TAG)
             (answered (remaining walk) answer)
             self.old.addresses.items self.old.graphs.items self.new) }
@@ -166,6 +173,9 @@ impl Agenda {
         ensures nothing { result ≡ Err AgendaFault.NothingRouted
             → spec.EndsLast (T.means setter.now self.old.format TAG) (answered (remaining walk) answer)
             self.old.addresses.items self.old.graphs.items self.new }
+        ensures wanting { result ≡ Err AgendaFault.OutOfMemory
+            → words.WasLeftBy (T.means setter.now self.old.format TAG) (answered (remaining walk) answer) self.old
+            self.new }
         ensures addresses { self.new.addresses ≡ self.old.addresses }
         ensures format { self.new.format ≡ self.old.format }
     {
@@ -188,6 +198,7 @@ impl Agenda {
         requires tells { TellsOf (slice_index self.old.addresses.items (length self.old.graphs.items))
             (remaining walk) }
         requires fresh { self.old.answered ≡ 0 }
+        requires unplanned { self.old.plans.items ≡ [] }
         ensures leads { OnOk result (spec.LedByDialogue (T.means setter.now self.old.format TAG) (remaining walk)
             self.old.addresses.items self.old.graphs.items self.new) }
         ensures malformed { (codec : ℕ) (fault : WalkFault) → result ≡ Err (AgendaFault.Malformed codec fault)
@@ -198,6 +209,8 @@ impl Agenda {
         ensures nothing { result ≡ Err AgendaFault.NothingRouted
             → spec.EndsLast (T.means setter.now self.old.format TAG) (remaining walk)
             self.old.addresses.items self.old.graphs.items self.new }
+        ensures wanting { result ≡ Err AgendaFault.OutOfMemory
+            → words.WasLeftBy (T.means setter.now self.old.format TAG) (remaining walk) self.old self.new }
         ensures addresses { self.new.addresses ≡ self.old.addresses }
         ensures format { self.new.format ≡ self.old.format }
     {
@@ -214,12 +227,16 @@ impl Agenda {
     fn go_on<T: Setter>(&mut self, setter: &T) -> Result<(), AgendaFault>
         requires none { self.old.walk ≡ None }
         requires fresh { self.old.answered ≡ 0 }
+        requires unplanned { self.old.plans.items ≡ [] }
         ensures leads { OnOk result (spec.GoesOn (T.means setter.now self.old.format TAG) self.old.addresses.items
             self.old.graphs.items self.new) }
         ensures malformed { (codec : ℕ) (fault : WalkFault) → result ≡ Err (AgendaFault.Malformed codec fault) → ⊥ }
         ensures nothing { result ≡ Err AgendaFault.NothingRouted
             → (length self.old.addresses.items ≤ length self.old.graphs.items)
             × spec.RoutesNothing (T.means setter.now self.old.format TAG) self.old.graphs.items self.new }
+        ensures wanting { result ≡ Err AgendaFault.OutOfMemory
+            → words.HasPlansLast (T.means setter.now self.old.format TAG) self.new }
+        ensures graphs { self.new.graphs ≡ self.old.graphs }
         ensures addresses { self.new.addresses ≡ self.old.addresses }
         ensures format { self.new.format ≡ self.old.format }
     {
@@ -236,11 +253,15 @@ impl Agenda {
     fn set_up<T: Setter>(&mut self, setter: &T) -> Result<(), AgendaFault>
         requires none { self.old.walk ≡ None }
         requires fresh { self.old.answered ≡ 0 }
+        requires unplanned { self.old.plans.items ≡ [] }
         ensures begins { OnOk result (spec.BeginsVerbs (T.means setter.now self.old.format TAG) self.old.graphs.items
             self.new) }
         ensures malformed { (codec : ℕ) (fault : WalkFault) → result ≡ Err (AgendaFault.Malformed codec fault) → ⊥ }
         ensures nothing { result ≡ Err AgendaFault.NothingRouted
             → spec.RoutesNothing (T.means setter.now self.old.format TAG) self.old.graphs.items self.new }
+        ensures wanting { result ≡ Err AgendaFault.OutOfMemory
+            → words.HasPlansOrNone (T.means setter.now self.old.format TAG) self.new }
+        ensures graphs { self.new.graphs ≡ self.old.graphs }
         ensures addresses { self.new.addresses ≡ self.old.addresses }
         ensures format { self.new.format ≡ self.old.format }
     {

@@ -8,7 +8,7 @@ ghost use Rattle.driver_bring_up.specs.declared.room.TheConstants.{BRING_UP_ACCE
 ghost use Rattle.driver_bring_up.specs.declared.room.TheConstants.{BRING_UP_END_ACCESSES};
 ghost use Rattle.driver_bring_up.specs.Calls as spec;
 ghost use Rattle.driver_bring_up.specs.Told.{IsShut};
-ghost use Rattle.driver_bring_up.specs.Failing.{Fails, FailsLast};
+ghost use Rattle.driver_bring_up.specs.Failing.{FailsToSettle, Fails, FailsLast};
 
 use super::BringUp;
 use crate::addresses::addresses_in;
@@ -50,7 +50,7 @@ impl BringUp {
         ensures kept { spec.IsKept self.old self.new }
         ensures failed { OnErr result (self.new.phase ≡ phases.Failed) }
         ensures unfailed { OnOk result (self.old.phase ≢ phases.Failed → self.new.phase ≢ phases.Failed) }
-        ensures wanting { OnErr result (Fails false self.old self.new (P.told platform.old) (P.told platform.new)) }
+        ensures wanting { OnErr result (FailsToSettle self.old self.new (P.told platform.old) (P.told platform.new)) }
         ensures fixed { P.fixed platform.new ≡ P.fixed platform.old }
         ensures accesses { P.spare_accesses platform.old ≤ P.spare_accesses platform.new + SETTLE_ACCESSES }
         ensures bytes { P.spare_bytes platform.new ≡ P.spare_bytes platform.old }
@@ -86,7 +86,8 @@ impl BringUp {
         ensures kept { spec.IsKept self.old self.new }
         ensures failed { OnErr result (self.new.phase ≡ phases.Failed) }
         ensures unfailed { OnOk result (self.old.phase ≢ phases.Failed → self.new.phase ≢ phases.Failed) }
-        ensures wanting { OnErr result (Fails false self.old self.new (P.told platform.old) (P.told platform.new)) }
+        ensures wanting { OnErr result (Fails (T.means setter.now self.old.agenda.format TAG) false self.old self.new
+            (P.told platform.old) (P.told platform.new)) }
         ensures fixed { P.fixed platform.new ≡ P.fixed platform.old }
         ensures accesses { P.spare_accesses platform.old ≤ P.spare_accesses platform.new + BRING_UP_ACCESSES }
         ensures bytes { P.spare_bytes platform.old ≤ P.spare_bytes platform.new + BRING_UP_BYTES }
@@ -132,7 +133,8 @@ impl BringUp {
         ensures kept { spec.IsKept self.old self.new }
         ensures failed { OnErr result (self.new.phase ≡ phases.Failed) }
         ensures unfailed { OnOk result (self.old.phase ≢ phases.Failed → self.new.phase ≢ phases.Failed) }
-        ensures wanting { OnErr result (FailsLast self.old self.new (P.told platform.old) (P.told platform.new)) }
+        ensures wanting { OnErr result (FailsLast (T.means setter.now self.old.agenda.format TAG) self.old self.new
+            (P.told platform.old) (P.told platform.new)) }
         ensures shut { OnErr result (IsShut (P.told platform.new)) }
         ensures fixed { P.fixed platform.new ≡ P.fixed platform.old }
         ensures accesses { P.spare_accesses platform.old ≤ P.spare_accesses platform.new + BRING_UP_END_ACCESSES }

@@ -38,7 +38,8 @@ impl BringUp {
         ensures kept { spec.IsKept self.old self.new }
         ensures failed { OnErr result (self.new.phase ≡ phases.Failed) }
         ensures unfailed { OnOk result (self.old.phase ≢ phases.Failed → self.new.phase ≢ phases.Failed) }
-        ensures wanting { OnErr result (Fails false self.old self.new (P.told platform.old) (P.told platform.new)) }
+        ensures wanting { OnErr result (Fails (T.means setter.now self.old.agenda.format TAG) false self.old self.new
+            (P.told platform.old) (P.told platform.new)) }
         ensures cause { OnErr result (spec.takes_memory self.old.phase ≡ true) }
         ensures fixed { P.fixed platform.new ≡ P.fixed platform.old }
         ensures accesses { P.spare_accesses platform.old ≤ P.spare_accesses platform.new + BRING_UP_ACCESSES }
@@ -76,7 +77,8 @@ impl BringUp {
         ensures kept { spec.IsKept self.old self.new }
         ensures failed { OnErr result (self.new.phase ≡ phases.Failed) }
         ensures unfailed { OnOk result (self.old.phase ≢ phases.Failed → self.new.phase ≢ phases.Failed) }
-        ensures wanting { OnErr result (Fails true self.old self.new (P.told platform.old) (P.told platform.new)) }
+        ensures wanting { OnErr result (Fails (T.means setter.now self.old.agenda.format TAG) true self.old self.new
+            (P.told platform.old) (P.told platform.new)) }
         ensures cause { OnErr result (spec.takes_memory self.old.phase ≡ true) }
         ensures fixed { P.fixed platform.new ≡ P.fixed platform.old }
         ensures accesses { P.spare_accesses platform.old ≤ P.spare_accesses platform.new + BRING_UP_INTERRUPT_ACCESSES }
@@ -129,7 +131,8 @@ impl BringUp {
         ensures kept { spec.IsKept self.old self.new }
         ensures failed { OnErr result (self.new.phase ≡ phases.Failed) }
         ensures unfailed { OnOk result (self.old.phase ≢ phases.Failed → self.new.phase ≢ phases.Failed) }
-        ensures wanting { OnErr result (FailsLast self.old self.new (P.told platform.old) (P.told platform.new)) }
+        ensures wanting { OnErr result (FailsLast (T.means setter.now self.old.agenda.format TAG) self.old self.new
+            (P.told platform.old) (P.told platform.new)) }
         ensures cause { OnErr result (progress.is_asking self.old.phase ≡ true) }
         ensures shut { OnErr result (IsShut (P.told platform.new)) }
         ensures fixed { P.fixed platform.new ≡ P.fixed platform.old }

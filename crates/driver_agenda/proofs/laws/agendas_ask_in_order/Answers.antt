@@ -1,4 +1,3 @@
-use Rattle.codec_graph.specs.declared.raw.RawCodec.{RawCodec}
 use Rattle.driver_agenda.specs.declared.plans.TheConstants.{TAG}
 use Rattle.driver_agenda.proofs.Following.{next_follows}
 use Rattle.driver_agenda.proofs.laws.agendas_ask_in_order.Goals as goal

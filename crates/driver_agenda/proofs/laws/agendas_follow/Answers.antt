@@ -1,5 +1,3 @@
-use Rattle.codec_graph.specs.declared.raw.RawCodec.{RawCodec}
-use Rattle.route_planner.specs.declared.routes.Plan.{Plan}
 use Rattle.driver_agenda.specs.declared.plans.TheConstants.{TAG}
 use Rattle.driver_agenda.proofs.Following.{begins_follow, leads_follow, fault_never, route_there}
 use Rattle.driver_agenda.proofs.laws.agendas_follow.Goals as goal

@@ -1,11 +1,15 @@
-use Rattle.std.proofs.Common.{◌≡◌, ◌+◌, ℕ, Bool, true, false, nat_le, if◌then◌else◌, List, length, Option, None, Some, arith, rules, refl, sym, ap, ◌∙◌}
+use Rattle.std.proofs.Common.{◌≡◌, ◌+◌, ℕ, Bool, true, false, nat_le, if◌then◌else◌, List, length, Option, None, Some, arith, rules, refl, sym, ap, subst, ◌∙◌}
 use Rattle.std.specs.Option.{is_some}
 use Rattle.command_engine.specs.declared.answers.Outstanding.{Outstanding}
 use Rattle.command_engine.specs.declared.answers.Poll.{Poll}
 use Rattle.command_engine.specs.declared.answers.Poll.TheVariants as polls
 use Rattle.command_engine.specs.Polling.{answer_limit, found_by, poll_of}
 use Rattle.driver_progress.specs.Commands.{ask_accesses}
-use Rattle.driver_bring_up.specs.Commanding.{is_answer}
+use Rattle.route_setup.specs.Means.{Means}
+use Rattle.driver_agenda.specs.declared.agenda.Agenda.{Agenda}
+use Rattle.driver_agenda.specs.AnswerWords.{WasLeft}
+use Rattle.driver_bring_up.specs.declared.answers.TheConstants.{TAG}
+use Rattle.driver_bring_up.specs.Commanding.{is_answer, LeavesOf}
 use Rattle.command_engine.specs.declared.answers.Event.{Event}
 use Rattle.driver_bring_up.proofs.Events.{few_events}
 use Rattle.driver_bring_up.proofs.answering.look_for_answer.Goals as goal
@@ -36,10 +40,22 @@ answer_found None found clock is = cc
 answer_found (Some command) (Some word) clock is = refl
 answer_found (Some command) None clock is = by_limit (nat_le (command.issued + answer_limit) clock) command.issued clock _ is
 
+no_word : (word : ℕ) → None ≡ Some word → ⊥
+no_word word is = cc
+
+left_found : (means : Means) (outstanding : Option Outstanding) (found : Option ℕ) (clock : ℕ) (old new : Agenda) (word : ℕ) → LeavesOf means (poll_of outstanding found clock) old new → found ≡ Some word
+    → WasLeft means old.walk word old new
+left_found means None found clock old new word leaves is = absurd leaves
+left_found means (Some command) None clock old new word leaves is = absurd (no_word word is)
+left_found means (Some command) (Some value) clock old new word leaves is =
+    subst (λ (value : ℕ). WasLeft means old.walk value old new) (let same : value ≡ word = cc in same) leaves
+
 pub returns-in_err-phase-clause-wanting : goal.returns-in_err-phase-clause-wanting
 returns-in_err-phase-clause-wanting g c =
     let asks = c.ask-clock.ensures.asks in
     let rings = c.args.engine.now.rings in
+    let means = g.T.Setter.means c.args.setter.now c.args.agenda.now.format TAG in
+    let left = c.phase_after.new.agenda in
     on_err c.from_residual.result (record {
       made = ask_accesses c.args.engine.now.rirb.address c.ask-clock.result.clock rings asks.reads;
       by = asks.made;
@@ -51,6 +67,9 @@ returns-in_err-phase-clause-wanting g c =
         found = answer_found rings.outstanding (found_by rings asks.reads) c.ask-clock.result.clock (ap (λ (poll : Poll). is_answer poll) (sym asks.answer_is) ∙ c.in_err-phase.ensures.wanting);
         rings_are = search rules;
         counted = λ events count. search rules;
+        left = λ word is. left_found means rings.outstanding (found_by rings asks.reads) c.ask-clock.result.clock c.args.agenda.now left word
+            (subst (λ (poll : Poll). LeavesOf means poll c.args.agenda.now left) asks.answer_is c.in_err-phase.ensures.left) is;
+        addresses = c.in_err-phase.ensures.addresses;
       };
     })
 

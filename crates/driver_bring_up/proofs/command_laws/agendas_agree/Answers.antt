@@ -1,4 +1,3 @@
-use Rattle.codec_graph.specs.declared.raw.RawCodec.{RawCodec}
 use Rattle.driver_bring_up.specs.declared.answers.TheConstants.{TAG}
 use Rattle.driver_bring_up.proofs.Agreeing.{agree}
 use Rattle.driver_bring_up.proofs.command_laws.agendas_agree.Goals as goal

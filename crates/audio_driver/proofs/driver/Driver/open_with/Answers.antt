@@ -1,4 +1,4 @@
-use Rattle.std.proofs.Common.{◌≡◌, false, ◌∙◌, subst, sym}
+use Rattle.std.proofs.Common.{subst}
 use Rattle.dma_pool.specs.Pools.{PoolState}
 use Rattle.dma_pool.proofs.Callers.{at_success}
 use Rattle.audio_driver.specs.Opening.{HasRuns, HasNoRuns}

@@ -1,8 +1,7 @@
-use Rattle.std.proofs.Common.{◌≡◌, ◌≤◌, List, sym, subst, get_or, length, arith, rules}
+use Rattle.std.proofs.Common.{◌≡◌, ◌≤◌, List, inr, sym, ap, subst, ◌∙◌, get_or, length, arith, rules}
 use Rattle.std.specs.Prelude.{All}
 use Rattle.std.specs.Result.{is_ok}
 use Rattle.codec_graph.specs.declared.raw.RawCodec.{RawCodec}
-use Rattle.route_planner.specs.declared.routes.Plan.{Plan}
 use Rattle.std.proofs.lemmas.Result.{on_ok_weaker}
 use Rattle.codec_walk.specs.Remaining.{remaining}
 use Rattle.driver_agenda.specs.declared.plans.TheConstants.{TAG}
@@ -40,3 +39,9 @@ returns-clause-nothing g c = λ is.
       last = subst (λ (graphs : List RawCodec). length c.args.self.now.addresses.items ≤ length graphs) c.in-Ok.ensures.items routes.0;
       nothing = subst (λ (graphs : List RawCodec). RoutesNothing means graphs c.go_on.new.self) c.in-Ok.ensures.items routes.1;
     }
+
+pub returns-clause-wanting : goal.returns-clause-wanting
+returns-clause-wanting g c = λ is. record {
+  graphs = inr (c.in_ok-graph.graph, c.in_ok-graph.ensures.good, ap (λ graphs. graphs.items) c.go_on.ensures.graphs ∙ c.in-Ok.ensures.items);
+  plans = c.go_on.ensures.wanting is;
+}

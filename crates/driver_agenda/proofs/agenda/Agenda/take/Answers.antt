@@ -1,6 +1,4 @@
 use Rattle.std.proofs.Common.{◌≡◌, Some, Option, subst}
-use Rattle.codec_graph.specs.declared.raw.RawCodec.{RawCodec}
-use Rattle.route_planner.specs.declared.routes.Plan.{Plan}
 use Rattle.codec_walk.specs.declared.walk.Walk.{Walk}
 use Rattle.driver_agenda.specs.declared.plans.TheConstants.{TAG}
 use Rattle.driver_agenda.specs.Agendas.{LedBy}

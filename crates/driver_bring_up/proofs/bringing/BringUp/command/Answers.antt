@@ -70,6 +70,7 @@ returns-clause-leads g c =
           command_last task (state_of old) answer.clock looks.reads answer.phase agenda answer.is_free c.submit_next-submits.result old.engine.corb.address old.engine.rirb.address c.sent_after-self.result polled c.submit_next-submits.new.engine.rings
           of.rirb looks.new_ones looks.free refl submitted.submitted c.sent_after-self.ensures rings (ended_there old.phase answer.phase _ _ true found ended);
       unread = λ not. absurd (no_asking (sym not ∙ c.requires.phase));
+      moves = λ not. absurd (no_asking (sym not ∙ c.requires.phase));
       reads = reads_look _ old.engine.rirb.address answer.clock looks.reads rest old _ c.requires.phase looks.new_ones none looks.led looks.taken looks.counted c.in_ok-answer.ensures.addresses;
       begun = λ was is. absurd (not_asking old.phase was c.requires.phase);
       resets = λ was. absurd (no_asking (sym (ap is_asking was) ∙ c.requires.phase));

@@ -19,7 +19,8 @@ returns-then-is_reset-clause-ends g c =
       is = λ task of ended agrees. none_stretch task (state_of old) (sym c.is_reset.ensures ∙ c.if-is_reset.true);
       ended = λ task of ended. absurd (false≢true (sym asks ∙ (is_over old.phase (is_some (answer_in old.engine.rings [])) old.phase ended).0));
       unread = λ not. tt {0};
-      reads = reads_none _ [] old old refl (λ still. refl) refl;
+      stays = λ asking. refl;
+      reads = reads_none _ [] old old refl (λ still. refl) refl (λ asking. refl);
       looks = λ asking. absurd (false≢true (sym asks ∙ asking));
     }
 
@@ -32,6 +33,7 @@ returns-clause-ends g c =
       is = λ task of ended agrees. shut_stretch task (state_of old) asks (sym c.is_reset.ensures ∙ c.if-is_reset.false) old.early;
       ended = λ task of ended. absurd (false≢true (sym asks ∙ (is_over old.phase (is_some (answer_in old.engine.rings shut_accesses)) old.phase ended).0));
       unread = λ not. (tt {0}, (tt {0}, (tt {0}, tt {0})));
-      reads = reads_none _ shut_accesses old old refl (λ still. refl) refl;
+      stays = λ asking. refl;
+      reads = reads_none _ shut_accesses old old refl (λ still. refl) refl (λ asking. refl);
       looks = λ asking. absurd (false≢true (sym asks ∙ asking));
     }

@@ -43,6 +43,7 @@ returns-clause-ends g c =
           of.rirb c.requires.phase (old.led (asking_goes_on old.phase c.requires.phase)) looks.new_ones looks.led looks.free looks.rings_are c.in_ok-self.ensures.idle (ended_there old.phase answer.phase _ _ false found ended) (agrees c.requires.phase));
       ended = λ task of ended. end_last task (state_of old) answer.clock looks.reads answer.phase old.engine.rirb.address looked.rings of.rirb looks.new_ones looks.rings_are (ended_there old.phase answer.phase _ _ true found ended);
       unread = λ not. absurd (false≢true (sym not ∙ c.requires.phase));
+      stays = λ not. absurd (false≢true (sym not ∙ c.requires.phase));
       reads = reads_look _ old.engine.rirb.address answer.clock looks.reads shut_accesses old _ c.requires.phase looks.new_ones refl looks.led looks.taken looks.counted c.in_ok-self.ensures.addresses;
       looks = λ asking. told_map (λ before after both. end_looks old _ answer.clock looks.reads looked.rings _ before both.0 after looks.new_ones looks.rings_are refl refl both.1.0 both.1.1 both.2)
           (told_both (told_pair looks.made looks.tells) c.shut.ensures.made);

@@ -16,7 +16,7 @@ use Rattle.driver_bring_up.proofs.Still.{irq_of, inactive_stretch, none_stretch_
 use Rattle.driver_bring_up.proofs.Leading.{none_found, reads_none, reads_after, found_after, same_answer, interrupt_entries, interrupt_values, no_entries_looked}
 use Rattle.driver_bring_up.proofs.Asks.{is_over, ended_there}
 use Rattle.driver_bring_up.proofs.Staying.{interrupts_stay, interrupted_stays, nothing_stays}
-use Rattle.driver_bring_up.proofs.Unread.{walks_settles, inactive_reset, inactive_settling, resets_looked, settles_looked, resets_after, settles_after}
+use Rattle.driver_bring_up.proofs.Unread.{can_stay, walks_settles, inactive_reset, inactive_settling, resets_looked, settles_looked, resets_after, settles_after}
 use Rattle.driver_bring_up.proofs.bringing.BringUp.irq.Goals as goal
 
 pub returns-then-not-is_active-clause-leads : goal.returns-then-not-is_active-clause-leads
@@ -29,7 +29,8 @@ returns-then-not-is_active-clause-leads g c =
       is = λ task budget of silent ended agrees. inactive_stretch task (state_of old) budget inactive;
       ended = λ task of ended. absurd (idle (is_over old.phase (is_some (answer_in old.engine.rings [])) old.phase ended).0);
       unread = λ not. tt {0};
-      reads = reads_none _ [] old old refl (λ still. refl) refl;
+      moves = λ asking. can_stay old.phase;
+      reads = reads_none _ [] old old refl (λ still. refl) refl (λ asking. refl);
       begun = λ was is. absurd (walks_settles old.phase was is);
       resets = λ was. absurd (inactive_reset old.phase inactive was);
       untaken = λ was. absurd (inactive_reset old.phase inactive was);
@@ -53,6 +54,7 @@ returns-then-has_interrupt-clause-leads g c =
           (interrupted_stretch task (state_of old) budget leads.made _ (state_of new) looks.interrupts looks.stream on (sym c.is_active.ensures ∙ c.if-not-is_active.false) (leads.is task budget of silent (ended_there old.phase new.phase _ _ false same ended) agrees));
       ended = λ task of ended. interrupted_last task (state_of old) [] leads.made (state_of new) looks.interrupts looks.stream on (leads.ended task of (ended_there old.phase new.phase _ _ true same ended));
       unread = λ not. unread_both (interrupt_accesses looks.interrupts looks.stream) leads.made (interrupt_unread looks.interrupts looks.stream) (leads.unread not);
+      moves = leads.moves;
       reads = reads_after _ leads.made made old new entries leads.reads;
       begun = λ was is. subst (λ (values : List ℕ). Begins (slice_index values 0) new.agenda) (sym (interrupt_values looks.interrupts looks.stream leads.made)) (leads.begun was is);
       resets = λ was. told_map (λ before after both. resets_after new looks.interrupts looks.stream leads.made before both.0 after both.1 both.2) (told_both looks.made (leads.resets was));
@@ -74,7 +76,8 @@ returns-else-has_interrupt-clause-leads g c =
           (none_stretch_of task (state_of old) budget looks.interrupts looks.stream off (sym c.is_active.ensures ∙ c.if-not-is_active.false));
       ended = λ task of ended. absurd (false≢true (none_found old.engine.rings made none ∙ (is_over old.phase (is_some (answer_in old.engine.rings made)) old.phase ended).1));
       unread = λ not. interrupt_unread looks.interrupts looks.stream;
-      reads = reads_none _ made old old none (λ still. refl) refl;
+      moves = λ asking. can_stay old.phase;
+      reads = reads_none _ made old old none (λ still. refl) refl (λ asking. refl);
       begun = λ was is. absurd (walks_settles old.phase was is);
       resets = λ was. told_map (λ before after makes. resets_looked old looks.interrupts looks.stream before after was off makes) looks.made;
       untaken = λ was. told_map (λ before after makes. looked_untaken looks.interrupts looks.stream before after makes) looks.made;

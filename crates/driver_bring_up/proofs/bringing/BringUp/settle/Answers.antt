@@ -5,7 +5,7 @@ use Rattle.hda_world.specs.Tellings.{world_of}
 use Rattle.hda_world.specs.Discovery.{addresses_of}
 use Rattle.hda_world.proofs.Callers.{told_map}
 use Rattle.driver_progress.specs.Announcing.{AreCodecs}
-use Rattle.driver_bring_up.proofs.Unread.{walks_settles, walking_settles, reset_settles}
+use Rattle.driver_bring_up.proofs.Unread.{can_stay, settles_on, walks_settles, walking_settles, reset_settles}
 use Rattle.driver_progress.specs.Expected.{has_settled}
 use Rattle.driver_progress.specs.Settling.{settle_accesses}
 use Rattle.driver_progress.specs.declared.settling.Settled.TheVariants.{TooEarly, NoCodec, Codecs}
@@ -39,6 +39,7 @@ returns-in-TooEarly-clause-leads g c =
       by = settles.made;
       is = λ task budget of. settle_with task (state_of old) budget settles.clock settles.reads TooEarly c.settle.new.engine.rings old.engine.corb.address old.engine.rirb.address of.corb of.rirb c.requires.phase settles.answer_is settles.rings_are;
       still = ap goes_on c.requires.phase;
+      moves = can_stay old.phase;
       unread = settle_unread old.kept settles.clock old.engine.corb.address old.engine.rirb.address settles.reads;
       jacks = refl;
       agenda = λ still. refl;
@@ -63,6 +64,7 @@ returns-in-NoCodec-clause-leads g c =
       by = settles.made;
       is = λ task budget of. settle_with task (state_of old) budget settles.clock settles.reads NoCodec c.settle.new.engine.rings old.engine.corb.address old.engine.rirb.address of.corb of.rirb c.requires.phase settles.answer_is settles.rings_are;
       still = ap goes_on c.requires.phase;
+      moves = can_stay old.phase;
       unread = settle_unread old.kept settles.clock old.engine.corb.address old.engine.rirb.address settles.reads;
       jacks = refl;
       agenda = λ still. refl;
@@ -80,6 +82,7 @@ returns-in_ok-self-in-Codecs-clause-leads g c =
       by = settles.made;
       is = λ task budget of. settle_with task (state_of old) budget settles.clock settles.reads (Codecs c.in-Codecs.codecs) c.settle.new.engine.rings old.engine.corb.address old.engine.rirb.address of.corb of.rirb c.requires.phase settles.answer_is settles.rings_are;
       still = ap goes_on c.requires.phase;
+      moves = settles_on old.phase c.requires.phase;
       unread = settle_unread old.kept settles.clock old.engine.corb.address old.engine.rirb.address settles.reads;
       jacks = refl;
       agenda = λ still. absurd (still c.requires.phase refl);

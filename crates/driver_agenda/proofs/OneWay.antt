@@ -1,0 +1,274 @@
+-- Words that codecs answered are cut into walks in one way, and so come to one thing.
+use Rattle.std.proofs.Common.{◌≡◌, ◌<◌, ◌⊎◌, ◌+◌, ℕ, suc, List, [], ◌∷◌, ◌++◌, length, inl, inr, refl, sym, ap, subst, ◌∙◌, append_assoc, append-nil, arith}
+use Rattle.std.specs.Prelude.{slice_index, IsSome}
+use Rattle.std.proofs.lemmas.List.{length-append}
+use Rattle.verb_codes.specs.declared.verbs.Command.{Command}
+use Rattle.codec_graph.specs.declared.raw.RawCodec.{RawCodec}
+use Rattle.route_planner.specs.declared.routes.Plan.{Plan}
+use Rattle.route_setup.specs.Means.{Means}
+use Rattle.codec_walk.specs.declared.fault.WalkFault.{WalkFault}
+use Rattle.codec_walk.specs.Dialogues.{Dialogue, Ask, Told, question, asked, after}
+use Rattle.codec_walk.specs.Walks.{walk}
+use Rattle.driver_agenda.specs.Agendas.{GivesFault, GivesGraph}
+use Rattle.driver_agenda.specs.Planned.{ArePlansBy, have_route}
+use Rattle.driver_agenda.specs.AnswerWords.{AreAsked, TellsGraph, TellGraphs, all_words, WalkAfter, AllWalked, AreFaulty, AreUnrouted, AreRouted}
+use Rattle.driver_agenda.proofs.Following.{AreOne}
+use Rattle.driver_agenda.proofs.Answering.{one_fault, good_or_faulty, one_graph, HasOnePlan, plans_alike, routes_or_not}
+
+-- ---- once a codec was told nothing is asked
+
+asked_told : (codec : RawCodec) (words : List ℕ) → length (asked (Told codec) words) ≡ 0
+asked_told codec [] = refl
+asked_told codec (word ∷ words) = asked_told codec words
+
+never_told : (command : Command) (rest : ℕ → Dialogue) (codec : RawCodec) → Ask command rest ≡ Told codec → ⊥
+never_told command rest codec is = cc
+
+asked_no_more : (dialogue : Dialogue) (words more : List ℕ) (codec : RawCodec) → after dialogue words ≡ Told codec → length (asked dialogue (words ++ more)) ≡ length (asked dialogue words)
+asked_no_more (Told other) [] more codec told = asked_told other more
+asked_no_more (Ask command rest) [] more codec told = absurd (never_told command rest codec told)
+asked_no_more (Told other) (word ∷ words) more codec told = asked_no_more (Told other) words more codec told
+asked_no_more (Ask command rest) (word ∷ words) more codec told = ap suc (asked_no_more (rest word) words more codec told)
+
+none_long : (more : List ℕ) → length more ≡ 0 → more ≡ []
+none_long [] is = refl
+none_long (word ∷ more) is = absurd (omega (arith, is))
+
+-- words of which each is asked for, of which the first tell a codec, are these first ones
+front : (address : ℕ) (words more : List ℕ) (graph : RawCodec) → TellsGraph address words graph → AreAsked address (words ++ more) → more ≡ []
+front address words more graph tells asked_for =
+    let (codec, told, good) = tells.gives in
+    let none = asked_no_more (walk address) words more codec told in
+    let long = length-append words more in
+    let all = tells.asked_for in
+    none_long more (omega (arith, none, long, asked_for, all))
+
+-- ---- two ways to put words together
+
+prefix : (xs ys xs' ys' : List ℕ) → xs ++ ys ≡ xs' ++ ys' → ((more : List ℕ) × (xs' ≡ xs ++ more) × (ys ≡ more ++ ys')) ⊎ ((more : List ℕ) × (xs ≡ xs' ++ more) × (ys' ≡ more ++ ys))
+prefix [] ys xs' ys' is = inl (xs', refl, is)
+prefix (x ∷ xs) ys [] ys' is = inr (x ∷ xs, refl, sym is)
+prefix (x ∷ xs) ys (x' ∷ xs') ys' is = by (prefix xs ys xs' ys' rest)
+  where
+    same : x ≡ x'
+    same = cc
+
+    rest : xs ++ ys ≡ xs' ++ ys'
+    rest = cc
+
+    by : ((more : List ℕ) × (xs' ≡ xs ++ more) × (ys ≡ more ++ ys')) ⊎ ((more : List ℕ) × (xs ≡ xs' ++ more) × (ys' ≡ more ++ ys))
+        → ((more : List ℕ) × (x' ∷ xs' ≡ (x ∷ xs) ++ more) × (ys ≡ more ++ ys')) ⊎ ((more : List ℕ) × (x ∷ xs ≡ (x' ∷ xs') ++ more) × (ys' ≡ more ++ ys))
+    by (inl (more, first, second)) = inl (more, ap (λ (all : List ℕ). x' ∷ all) first ∙ ap (λ (word : ℕ). word ∷ (xs ++ more)) (sym same), second)
+    by (inr (more, first, second)) = inr (more, ap (λ (all : List ℕ). x ∷ all) first ∙ ap (λ (word : ℕ). word ∷ (xs' ++ more)) same, second)
+
+-- the first walks of both are the same, and so is what follows
+first_same : (address : ℕ) (words words' rest rest' : List ℕ) (graph graph' : RawCodec) → TellsGraph address words graph → TellsGraph address words' graph' → words ++ rest ≡ words' ++ rest'
+    → (words ≡ words') × (rest ≡ rest')
+first_same address words words' rest rest' graph graph' tells tells' is = by (prefix words rest words' rest' is)
+  where
+    by : ((more : List ℕ) × (words' ≡ words ++ more) × (rest ≡ more ++ rest')) ⊎ ((more : List ℕ) × (words ≡ words' ++ more) × (rest' ≡ more ++ rest)) → (words ≡ words') × (rest ≡ rest')
+    by (inl (more, first, second)) =
+        let none = front address words more graph tells (subst (AreAsked address) first tells'.asked_for) in
+        (sym (first ∙ ap (λ (more : List ℕ). words ++ more) none ∙ append-nil words), second ∙ ap (λ (more : List ℕ). more ++ rest') none)
+    by (inr (more, first, second)) =
+        let none = front address words' more graph' tells' (subst (AreAsked address) first tells.asked_for) in
+        (first ∙ ap (λ (more : List ℕ). words' ++ more) none ∙ append-nil words', sym (second ∙ ap (λ (more : List ℕ). more ++ rest) none))
+
+-- ---- the walks
+
+-- a dialogue that does not tell a well-formed graph: it asks on, or tells a fault
+abbrev pub NeverGives : Dialogue → Type 0
+NeverGives dialogue = (graph : RawCodec) → GivesGraph dialogue graph → ⊥
+
+-- words that begin with those of a whole walk are not those of a walk that is under way, or that told a fault
+not_whole : (address : ℕ) (words rest more : List ℕ) (graph : RawCodec) → TellsGraph address words graph → AreAsked address rest → rest ≡ words ++ more → NeverGives (after (walk address) rest) → ⊥
+not_whole address words rest more graph tells asked_for is never =
+    let none = front address words more graph tells (subst (AreAsked address) is asked_for) in
+    let same : rest ≡ words = is ∙ ap (λ (more : List ℕ). words ++ more) none ∙ append-nil words in
+    never graph (subst (λ (words : List ℕ). GivesGraph (after (walk address) words) graph) (sym same) tells.gives)
+
+at_nothing : (addresses : List ℕ) (place : ℕ) (P : ℕ → Type 0) → P (slice_index addresses (place + 0)) → P (slice_index addresses place)
+at_nothing addresses place P is = subst (λ (at : ℕ). P (slice_index addresses at)) (let same : place + 0 ≡ place = omega arith in same) is
+
+at_next : (addresses : List ℕ) (place long : ℕ) (P : ℕ → Type 0) → P (slice_index addresses (place + suc long)) → P (slice_index addresses (place + 1 + long))
+at_next addresses place long P is = subst (λ (at : ℕ). P (slice_index addresses at)) (let same : place + suc long ≡ place + 1 + long = omega arith in same) is
+
+pub one_way : (addresses : List ℕ) (place : ℕ) (walks walks' : List (List ℕ)) (graphs graphs' : List RawCodec) (rest rest' : List ℕ) → TellGraphs addresses place walks graphs → TellGraphs addresses place walks' graphs'
+    → AreAsked (slice_index addresses (place + length graphs)) rest → AreAsked (slice_index addresses (place + length graphs')) rest'
+    → NeverGives (after (walk (slice_index addresses (place + length graphs))) rest) → NeverGives (after (walk (slice_index addresses (place + length graphs'))) rest')
+    → all_words walks ++ rest ≡ all_words walks' ++ rest' → (graphs ≡ graphs') × (rest ≡ rest')
+one_way addresses place [] [] [] [] rest rest' walked walked' asked_for asked_for' never never' is = (refl, is)
+one_way addresses place [] walks' (graph ∷ graphs) graphs' rest rest' walked walked' asked_for asked_for' never never' is = absurd walked
+one_way addresses place (words ∷ walks) walks' [] graphs' rest rest' walked walked' asked_for asked_for' never never' is = absurd walked
+one_way addresses place [] [] [] (graph' ∷ graphs') rest rest' walked walked' asked_for asked_for' never never' is = absurd walked'
+one_way addresses place [] (words' ∷ walks') [] [] rest rest' walked walked' asked_for asked_for' never never' is = absurd walked'
+one_way addresses place [] (words' ∷ walks') [] (graph' ∷ graphs') rest rest' walked walked' asked_for asked_for' never never' is =
+    absurd (not_whole (slice_index addresses place) words' rest (all_words walks' ++ rest') graph' walked'.0 (at_nothing addresses place (λ (address : ℕ). AreAsked address rest) asked_for)
+    (is ∙ append_assoc words' (all_words walks') rest') (at_nothing addresses place (λ (address : ℕ). NeverGives (after (walk address) rest)) never))
+one_way addresses place (words ∷ walks) [] (graph ∷ graphs) (graph' ∷ graphs') rest rest' walked walked' asked_for asked_for' never never' is = absurd walked'
+one_way addresses place (words ∷ walks) (words' ∷ walks') (graph ∷ graphs) [] rest rest' walked walked' asked_for asked_for' never never' is = absurd walked'
+one_way addresses place (words ∷ walks) [] (graph ∷ graphs) [] rest rest' walked walked' asked_for asked_for' never never' is =
+    absurd (not_whole (slice_index addresses place) words rest' (all_words walks ++ rest) graph walked.0 (at_nothing addresses place (λ (address : ℕ). AreAsked address rest') asked_for')
+    (sym is ∙ append_assoc words (all_words walks) rest) (at_nothing addresses place (λ (address : ℕ). NeverGives (after (walk address) rest')) never'))
+one_way addresses place (words ∷ walks) (words' ∷ walks') (graph ∷ graphs) (graph' ∷ graphs') rest rest' walked walked' asked_for asked_for' never never' is =
+    let address = slice_index addresses place in
+    let (first, later) = first_same address words words' (all_words walks ++ rest) (all_words walks' ++ rest') graph graph' walked.0 walked'.0
+    (sym (append_assoc words (all_words walks) rest) ∙ is ∙ append_assoc words' (all_words walks') rest') in
+    let same : graph ≡ graph' = one_graph (after (walk address) words) graph graph' walked.0.gives
+    (subst (λ (words : List ℕ). GivesGraph (after (walk address) words) graph') (sym first) walked'.0.gives) in
+    let (graphs_same, rest_same) = one_way addresses (place + 1) walks walks' graphs graphs' rest rest' walked.1 walked'.1
+    (at_next addresses place (length graphs) (λ (address : ℕ). AreAsked address rest) asked_for)
+    (at_next addresses place (length graphs') (λ (address : ℕ). AreAsked address rest') asked_for')
+    (at_next addresses place (length graphs) (λ (address : ℕ). NeverGives (after (walk address) rest)) never)
+    (at_next addresses place (length graphs') (λ (address : ℕ). NeverGives (after (walk address) rest')) never') later in
+    (ap (λ (graph : RawCodec). graph ∷ graphs) same ∙ ap (λ (graphs : List RawCodec). graph' ∷ graphs) graphs_same, rest_same)
+
+-- from the first codec on
+from_first : (addresses : List ℕ) (long : ℕ) (P : ℕ → Type 0) → P (slice_index addresses long) → P (slice_index addresses (0 + long))
+from_first addresses long P is = subst (λ (at : ℕ). P (slice_index addresses at)) (let same : long ≡ 0 + long = omega arith in same) is
+
+one_way_first : (addresses : List ℕ) (walks walks' : List (List ℕ)) (graphs graphs' : List RawCodec) (rest rest' : List ℕ) → TellGraphs addresses 0 walks graphs → TellGraphs addresses 0 walks' graphs'
+    → AreAsked (slice_index addresses (length graphs)) rest → AreAsked (slice_index addresses (length graphs')) rest'
+    → NeverGives (after (walk (slice_index addresses (length graphs))) rest) → NeverGives (after (walk (slice_index addresses (length graphs'))) rest')
+    → all_words walks ++ rest ≡ all_words walks' ++ rest' → (graphs ≡ graphs') × (rest ≡ rest')
+one_way_first addresses walks walks' graphs graphs' rest rest' walked walked' asked_for asked_for' never never' is =
+    one_way addresses 0 walks walks' graphs graphs' rest rest' walked walked'
+    (from_first addresses (length graphs) (λ (address : ℕ). AreAsked address rest) asked_for)
+    (from_first addresses (length graphs') (λ (address : ℕ). AreAsked address rest') asked_for')
+    (from_first addresses (length graphs) (λ (address : ℕ). NeverGives (after (walk address) rest)) never)
+    (from_first addresses (length graphs') (λ (address : ℕ). NeverGives (after (walk address) rest')) never') is
+
+-- as many walks of both: they are the same, and so is what follows
+same_walks : (addresses : List ℕ) (place : ℕ) (walks walks' : List (List ℕ)) (graphs graphs' : List RawCodec) (rest rest' : List ℕ) → TellGraphs addresses place walks graphs → TellGraphs addresses place walks' graphs'
+    → length graphs ≡ length graphs' → all_words walks ++ rest ≡ all_words walks' ++ rest' → (graphs ≡ graphs') × (walks ≡ walks')
+same_walks addresses place [] [] [] [] rest rest' walked walked' long is = (refl, refl)
+same_walks addresses place [] walks' (graph ∷ graphs) graphs' rest rest' walked walked' long is = absurd walked
+same_walks addresses place (words ∷ walks) walks' [] graphs' rest rest' walked walked' long is = absurd walked
+same_walks addresses place [] [] [] (graph' ∷ graphs') rest rest' walked walked' long is = absurd walked'
+same_walks addresses place [] (words' ∷ walks') [] [] rest rest' walked walked' long is = absurd walked'
+same_walks addresses place [] (words' ∷ walks') [] (graph' ∷ graphs') rest rest' walked walked' long is = absurd (omega (arith, long))
+same_walks addresses place (words ∷ walks) [] (graph ∷ graphs) (graph' ∷ graphs') rest rest' walked walked' long is = absurd walked'
+same_walks addresses place (words ∷ walks) (words' ∷ walks') (graph ∷ graphs) [] rest rest' walked walked' long is = absurd walked'
+same_walks addresses place (words ∷ walks) [] (graph ∷ graphs) [] rest rest' walked walked' long is = absurd (omega (arith, long))
+same_walks addresses place (words ∷ walks) (words' ∷ walks') (graph ∷ graphs) (graph' ∷ graphs') rest rest' walked walked' long is =
+    let address = slice_index addresses place in
+    let (first, later) = first_same address words words' (all_words walks ++ rest) (all_words walks' ++ rest') graph graph' walked.0 walked'.0
+    (sym (append_assoc words (all_words walks) rest) ∙ is ∙ append_assoc words' (all_words walks') rest') in
+    let same : graph ≡ graph' = one_graph (after (walk address) words) graph graph' walked.0.gives
+    (subst (λ (words : List ℕ). GivesGraph (after (walk address) words) graph') (sym first) walked'.0.gives) in
+    let count : length graphs ≡ length graphs' = omega (arith, long) in
+    let (graphs_same, walks_same) = same_walks addresses (place + 1) walks walks' graphs graphs' rest rest' walked.1 walked'.1 count later in (
+      ap (λ (graph : RawCodec). graph ∷ graphs) same ∙ ap (λ (graphs : List RawCodec). graph' ∷ graphs) graphs_same,
+      ap (λ (words : List ℕ). words ∷ walks) first ∙ ap (λ (walks : List (List ℕ)). words' ∷ walks) walks_same,
+    )
+
+-- words that begin with those of more walks are not those of fewer, and of one that told no well-formed graph
+outlasts : (addresses : List ℕ) (place : ℕ) (walks walks' : List (List ℕ)) (graphs graphs' : List RawCodec) (rest rest' : List ℕ) → TellGraphs addresses place walks graphs → TellGraphs addresses place walks' graphs'
+    → length graphs' < length graphs → AreAsked (slice_index addresses (place + length graphs')) rest' → NeverGives (after (walk (slice_index addresses (place + length graphs'))) rest')
+    → all_words walks ++ rest ≡ all_words walks' ++ rest' → ⊥
+outlasts addresses place walks walks' [] graphs' rest rest' walked walked' more asked_for' never' is = absurd (omega (arith, more))
+outlasts addresses place [] walks' (graph ∷ graphs) graphs' rest rest' walked walked' more asked_for' never' is = walked
+outlasts addresses place (words ∷ walks) [] (graph ∷ graphs) [] rest rest' walked walked' more asked_for' never' is =
+    not_whole (slice_index addresses place) words rest' (all_words walks ++ rest) graph walked.0 (at_nothing addresses place (λ (address : ℕ). AreAsked address rest') asked_for')
+    (sym is ∙ append_assoc words (all_words walks) rest) (at_nothing addresses place (λ (address : ℕ). NeverGives (after (walk address) rest')) never')
+outlasts addresses place (words ∷ walks) [] (graph ∷ graphs) (graph' ∷ graphs') rest rest' walked walked' more asked_for' never' is = walked'
+outlasts addresses place (words ∷ walks) (words' ∷ walks') (graph ∷ graphs) [] rest rest' walked walked' more asked_for' never' is = walked'
+outlasts addresses place (words ∷ walks) (words' ∷ walks') (graph ∷ graphs) (graph' ∷ graphs') rest rest' walked walked' more asked_for' never' is =
+    let (first, later) = first_same (slice_index addresses place) words words' (all_words walks ++ rest) (all_words walks' ++ rest') graph graph' walked.0 walked'.0
+    (sym (append_assoc words (all_words walks) rest) ∙ is ∙ append_assoc words' (all_words walks') rest') in
+    let fewer : length graphs' < length graphs = omega (arith, more) in
+    outlasts addresses (place + 1) walks walks' graphs graphs' rest rest' walked.1 walked'.1 fewer
+    (at_next addresses place (length graphs') (λ (address : ℕ). AreAsked address rest') asked_for')
+    (at_next addresses place (length graphs') (λ (address : ℕ). NeverGives (after (walk address) rest')) never') later
+
+-- ---- what the words come to
+
+no_question : (codec : RawCodec) → IsSome (question (Told codec)) → ⊥
+no_question codec asks = cc
+
+asks_never : (dialogue : Dialogue) → IsSome (question dialogue) → NeverGives dialogue
+asks_never dialogue asks graph (codec, told, good) = no_question codec (subst (λ (dialogue : Dialogue). IsSome (question dialogue)) told asks)
+
+-- a walk that told no well-formed graph, and walks over all codecs
+not_all_walked : (addresses words before rest : List ℕ) (graphs graphs' : List RawCodec) (dialogue : Dialogue) (is : WalkAfter addresses words graphs dialogue) → NeverGives dialogue → words ≡ before ++ rest
+    → AllWalked addresses before graphs' → ⊥
+not_all_walked addresses words before rest graphs graphs' dialogue is never split all =
+    let there = is.there in
+    let whole = all.all in
+    outlasts addresses 0 all.walks is.walks graphs' graphs rest is.rest all.walked is.walked (omega (arith, there, whole))
+    (from_first addresses (length graphs) (λ (address : ℕ). AreAsked address is.rest) is.asked_for)
+    (from_first addresses (length graphs) (λ (address : ℕ). NeverGives (after (walk address) is.rest)) (subst NeverGives is.at never))
+    (ap (λ (before : List ℕ). before ++ rest) (sym all.split) ∙ sym split ∙ is.split)
+
+module _ (law : AreOne) (addresses words : List ℕ) (graphs : List RawCodec) (codec : ℕ) (fault : WalkFault) (faulty : AreFaulty addresses words graphs codec fault) where
+  told_fault : GivesFault (after (walk (slice_index addresses (length graphs))) faulty.walk_after.rest) fault
+  told_fault = subst (λ (dialogue : Dialogue). GivesFault dialogue fault) faulty.walk_after.at faulty.gives
+
+  never_good : NeverGives (after (walk (slice_index addresses (length graphs))) faulty.walk_after.rest)
+  never_good graph gives = good_or_faulty law _ graph fault gives told_fault
+
+  -- one fault, of one codec, behind the same graphs
+  pub one_faulty : (graphs' : List RawCodec) (codec' : ℕ) (fault' : WalkFault) (faulty' : AreFaulty addresses words graphs' codec' fault')
+      → NeverGives (after (walk (slice_index addresses (length graphs'))) faulty'.walk_after.rest)
+      → GivesFault (after (walk (slice_index addresses (length graphs'))) faulty'.walk_after.rest) fault' → (graphs ≡ graphs') × (codec ≡ codec') × (fault ≡ fault')
+  one_faulty graphs' codec' fault' faulty' never' told' =
+      let (same, rest_same) = one_way_first addresses faulty.walk_after.walks faulty'.walk_after.walks graphs graphs' faulty.walk_after.rest faulty'.walk_after.rest
+      faulty.walk_after.walked faulty'.walk_after.walked faulty.walk_after.asked_for faulty'.walk_after.asked_for never_good never' (sym faulty.walk_after.split ∙ faulty'.walk_after.split) in
+      let at : slice_index addresses (length graphs) ≡ slice_index addresses (length graphs') = ap (λ (graphs : List RawCodec). slice_index addresses (length graphs)) same in
+      let moved : GivesFault (after (walk (slice_index addresses (length graphs))) faulty.walk_after.rest) fault' =
+      subst (λ (address : ℕ). GivesFault (after (walk address) faulty.walk_after.rest) fault') (sym at)
+      (subst (λ (words : List ℕ). GivesFault (after (walk (slice_index addresses (length graphs'))) words) fault') (sym rest_same) told') in
+      (same, faulty.codec_is ∙ at ∙ sym faulty'.codec_is, one_fault law _ fault fault' told_fault moved)
+
+pub one_faulty_way : AreOne → (addresses words : List ℕ) (one other : List RawCodec) (codec codec' : ℕ) (fault fault' : WalkFault) → AreFaulty addresses words one codec fault
+    → AreFaulty addresses words other codec' fault' → (one ≡ other) × (codec ≡ codec') × (fault ≡ fault')
+one_faulty_way law addresses words one other codec codec' fault fault' first second =
+    one_faulty law addresses words one codec fault first other codec' fault' second (never_good law addresses words other codec' fault' second) (told_fault law addresses words other codec' fault' second)
+
+module _ (law : AreOne) (addresses words : List ℕ) (graphs : List RawCodec) (codec : ℕ) (fault : WalkFault) (faulty : AreFaulty addresses words graphs codec fault) where
+  -- then not all codecs were walked
+  pub faulty_or_whole : (before rest : List ℕ) (graphs' : List RawCodec) → words ≡ before ++ rest → AllWalked addresses before graphs' → ⊥
+  faulty_or_whole before rest graphs' split all =
+      not_all_walked addresses words before rest graphs graphs' faulty.dialogue faulty.walk_after (λ graph gives. good_or_faulty law faulty.dialogue graph fault gives faulty.gives) split all
+
+  -- and no walk goes on
+  pub faulty_or_under_way : (graphs' : List RawCodec) (dialogue : Dialogue) → WalkAfter addresses words graphs' dialogue → IsSome (question dialogue) → ⊥
+  faulty_or_under_way graphs' dialogue is asks =
+      let asks_on = subst (λ (dialogue : Dialogue). IsSome (question dialogue)) is.at asks in
+      let (same, rest_same) = one_way_first addresses faulty.walk_after.walks is.walks graphs graphs' faulty.walk_after.rest is.rest
+      faulty.walk_after.walked is.walked faulty.walk_after.asked_for is.asked_for
+      (never_good law addresses words graphs codec fault faulty) (asks_never (after (walk (slice_index addresses (length graphs'))) is.rest) asks_on)
+      (sym faulty.walk_after.split ∙ is.split) in
+      let (codec, told, bad) = told_fault law addresses words graphs codec fault faulty in
+      let there : after (walk (slice_index addresses (length graphs))) faulty.walk_after.rest ≡ after (walk (slice_index addresses (length graphs'))) is.rest =
+      ap (λ (graphs : List RawCodec). after (walk (slice_index addresses (length graphs))) faulty.walk_after.rest) same
+      ∙ ap (λ (rest : List ℕ). after (walk (slice_index addresses (length graphs'))) rest) rest_same in
+      no_question codec (subst (λ (dialogue : Dialogue). IsSome (question dialogue)) (sym there ∙ told) asks_on)
+
+-- a walk goes on, or all codecs were walked
+pub under_way_or_whole : (addresses words before rest : List ℕ) (graphs graphs' : List RawCodec) (dialogue : Dialogue) → WalkAfter addresses words graphs dialogue → IsSome (question dialogue)
+    → words ≡ before ++ rest → AllWalked addresses before graphs' → ⊥
+under_way_or_whole addresses words before rest graphs graphs' dialogue is asks split all =
+    not_all_walked addresses words before rest graphs graphs' dialogue is (asks_never dialogue asks) split all
+
+-- all codecs tell one list of graphs
+pub one_whole : (addresses before before' rest rest' : List ℕ) (graphs graphs' : List RawCodec) → AllWalked addresses before graphs → AllWalked addresses before' graphs' → before ++ rest ≡ before' ++ rest'
+    → (graphs ≡ graphs') × (before ≡ before')
+one_whole addresses before before' rest rest' graphs graphs' all all' is =
+    let (same, walks_same) = same_walks addresses 0 all.walks all'.walks graphs graphs' rest rest' all.walked all'.walked (all.all ∙ sym all'.all)
+    (ap (λ (before : List ℕ). before ++ rest) (sym all.split) ∙ is ∙ ap (λ (before : List ℕ). before ++ rest') all'.split) in
+    (same, all.split ∙ ap all_words walks_same ∙ sym all'.split)
+
+-- of which the plans are one list, so that some pin has a route or none has
+pub routed_or_unrouted : (means : Means) → HasOnePlan means → (addresses words : List ℕ) (graphs graphs' : List RawCodec) (plans plans' : List Plan) (verbs : ℕ) → AreUnrouted means addresses words graphs plans
+    → AreRouted means addresses words graphs' plans' verbs → ⊥
+routed_or_unrouted means law addresses words graphs graphs' plans plans' verbs unrouted routed =
+    let (same, words_same) = one_whole addresses words routed.before [] routed.rest graphs graphs' unrouted.walked routed.walked (append-nil words ∙ routed.split) in
+    let alike : plans ≡ plans' = plans_alike means law graphs' plans plans' (subst (λ (graphs : List RawCodec). ArePlansBy means.IsPlanBy graphs plans) same unrouted.plans_are) routed.plans_are in
+    routes_or_not plans' routed.routed (ap have_route (sym alike) ∙ unrouted.none)
+
+pub one_unrouted : (means : Means) → HasOnePlan means → (addresses words : List ℕ) (graphs graphs' : List RawCodec) (plans plans' : List Plan) → AreUnrouted means addresses words graphs plans
+    → AreUnrouted means addresses words graphs' plans' → (graphs ≡ graphs') × (plans ≡ plans')
+one_unrouted means law addresses words graphs graphs' plans plans' first second =
+    let (same, words_same) = one_whole addresses words words [] [] graphs graphs' first.walked second.walked refl in
+    (same, plans_alike means law graphs' plans plans' (subst (λ (graphs : List RawCodec). ArePlansBy means.IsPlanBy graphs plans) same first.plans_are) second.plans_are)

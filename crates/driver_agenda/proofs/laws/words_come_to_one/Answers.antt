@@ -1,0 +1,33 @@
+use Rattle.driver_agenda.specs.declared.plans.TheConstants.{TAG}
+use Rattle.driver_agenda.proofs.OneWay.{one_faulty_way, faulty_or_under_way, faulty_or_whole, under_way_or_whole, one_whole, one_unrouted, routed_or_unrouted}
+use Rattle.driver_agenda.proofs.laws.words_come_to_one.Goals as goal
+
+pub returns-clause-faulty : goal.returns-clause-faulty
+returns-clause-faulty g c = λ addresses words one other codec codec' fault fault' first second.
+    one_faulty_way c.outcomes_are_one.ensures addresses words one other codec codec' fault fault' first second
+
+pub returns-clause-faulty_or_under_way : goal.returns-clause-faulty_or_under_way
+returns-clause-faulty_or_under_way g c = λ addresses words one other codec fault dialogue faulty stands asks.
+    faulty_or_under_way c.outcomes_are_one.ensures addresses words one codec fault faulty other dialogue stands asks
+
+pub returns-clause-faulty_or_whole : goal.returns-clause-faulty_or_whole
+returns-clause-faulty_or_whole g c = λ addresses words before rest one other codec fault faulty split all.
+    faulty_or_whole c.outcomes_are_one.ensures addresses words one codec fault faulty before rest other split all
+
+pub returns-clause-under_way_or_whole : goal.returns-clause-under_way_or_whole
+returns-clause-under_way_or_whole g c = λ addresses words before rest one other dialogue stands asks split all.
+    under_way_or_whole addresses words before rest one other dialogue stands asks split all
+
+pub returns-clause-whole : goal.returns-clause-whole
+returns-clause-whole g c = λ addresses before before' rest rest' one other all all' is.
+    one_whole addresses before before' rest rest' one other all all' is
+
+pub returns-clause-unrouted : goal.returns-clause-unrouted
+returns-clause-unrouted g c = λ setter format addresses words one other plans plans' first second.
+    one_unrouted (g.T.Setter.means setter format TAG) (λ graph plan plan'. g.met.T.Setter.one_plan setter graph format TAG plan plan')
+    addresses words one other plans plans' first second
+
+pub returns-clause-unrouted_or_routed : goal.returns-clause-unrouted_or_routed
+returns-clause-unrouted_or_routed g c = λ setter format addresses words one other plans plans' verbs unrouted routed.
+    routed_or_unrouted (g.T.Setter.means setter format TAG) (λ graph plan plan'. g.met.T.Setter.one_plan setter graph format TAG plan plan')
+    addresses words one other plans plans' verbs unrouted routed
