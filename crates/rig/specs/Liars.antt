@@ -16,11 +16,11 @@ abbrev pub reads_of : Liar → ℕ
 reads_of liar = liar.reads
 
 -- how many accesses and how many bytes of pieces of memory its rig has room to note
-abbrev pub accesses_left : Liar → ℕ
-accesses_left liar = liar.rig.spare_accesses
+abbrev pub spare_accesses_of : Liar → ℕ
+spare_accesses_of liar = liar.rig.spare_accesses
 
-abbrev pub bytes_left : Liar → ℕ
-bytes_left liar = liar.rig.spare_bytes
+abbrev pub spare_bytes_of : Liar → ℕ
+spare_bytes_of liar = liar.rig.spare_bytes
 
 -- it tells nothing of its world
 abbrev pub told_nothing : Liar → Option Telling

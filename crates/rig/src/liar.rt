@@ -58,7 +58,7 @@ fn lie_for(lies: &[(u32, u32)], number: u64) -> Option<&(u32, u32)>
 
 /// Puts bytes in the place of the first ones of a piece, as many as it has.
 fn put_first(bytes: &[u8], piece: &mut [u8])
-    ensures { piece.new ≡ spec.with_first bytes.now piece.old }
+    ensures { piece.new ≡ spec.overwritten bytes.now piece.old }
 {
     let most = bytes.len().min(piece.len());
     piece[..most].copy_from_slice(&bytes[..most]);

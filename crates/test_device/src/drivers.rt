@@ -31,8 +31,10 @@ fn no_sound(alloc: Global) -> Supply {
     })
 }
 
-/// How many blocks the pool of a driver has that plays nothing, and how many calls it may have.
+/// How many blocks the pool of a driver has that plays nothing.
 const BLOCKS: u32 = 64;
+
+/// How many calls such a driver may have.
 const CALLS: u32 = 1_000;
 
 /// A driver that plays nothing, with a ring of two periods of one unit. `None` where it is not opened, which does not

@@ -117,7 +117,7 @@ fn rig_of_machine(alloc: Global, machine: Machine) -> Result<Rig, AllocError>
 }
 
 /// Lies, of which each has the number of a piece of memory that is read, and what is told of it.
-fn lies_of(alloc: Global, words: &[Vec<u8>]) -> Result<Vec<(u32, u32)>, AllocError> {
+fn read_lies(alloc: Global, words: &[Vec<u8>]) -> Result<Vec<(u32, u32)>, AllocError> {
     let mut lies = Vec::new(alloc);
     for lie in words.chunks(2) {
         if let [number, told] = lie {
@@ -125,6 +125,35 @@ fn lies_of(alloc: Global, words: &[Vec<u8>]) -> Result<Vec<(u32, u32)>, AllocErr
         }
     }
     Ok(lies)
+}
+
+/// What is left of a driver that is served for so many turns over this machine, of whose memory these lies are told.
+/// `None` where the driver is not opened.
+fn closed_over(
+    alloc: Global,
+    machine: Machine,
+    lies: Vec<(u32, u32)>,
+    turns: u32,
+) -> Result<Option<Closed>, AllocError>
+    requires { IsSound machine }
+{
+    let mut liar = Liar::new(rig_of_machine(alloc, machine)?, lies);
+    match silent_driver(alloc)? {
+        Some(driver) => Ok(Some(closed_after(&mut liar, driver, turns)?)),
+        None => Ok(None),
+    }
+}
+
+/// What is printed of it.
+fn shown(alloc: Global, closed: &Closed) -> Result<String, AllocError> {
+    format!(in alloc;
+        "{:?}, {} graphs, {} plans, {} commands, {} free",
+        closed.phase,
+        closed.graphs.len(),
+        closed.plans.len(),
+        closed.sent,
+        closed.pool.free()
+    )
 }
 
 /// How a driver ends over the machine of a codec file, after so many turns, where these lies are told of what it reads
@@ -136,17 +165,9 @@ pub fn tell(alloc: Global, words: &[Vec<u8>]) -> Result<String, AllocError> {
     let Ok(machine) = read_machine(alloc, file) else {
         return format!(in alloc; "refused");
     };
-    let mut liar = Liar::new(rig_of_machine(alloc, machine)?, lies_of(alloc, lies)?);
-    let Some(driver) = silent_driver(alloc)? else {
-        return format!(in alloc; "not opened");
-    };
-    let closed = closed_after(&mut liar, driver, number_of(turns))?;
-    format!(in alloc;
-        "{:?}, {} graphs, {} plans, {} commands, {} free",
-        closed.phase,
-        closed.graphs.len(),
-        closed.plans.len(),
-        closed.sent,
-        closed.pool.free()
-    )
+    let lies = read_lies(alloc, lies)?;
+    match closed_over(alloc, machine, lies, number_of(turns))? {
+        Some(closed) => shown(alloc, &closed),
+        None => format!(in alloc; "not opened"),
+    }
 }

@@ -3,8 +3,8 @@ ghost use Rattle.std.specs.Prelude.{◌≡◌, ◌≤◌, ◌+◌, ◌-◌, leng
 ghost use Rattle.hda_world.specs.Events.{Read, Write, DmaRead, DmaWrite};
 ghost use Rattle.hda_world.specs.Tellings.{Accessed, Between};
 ghost use Rattle.rig.specs.Rigs.{telling_of, setting_of};
-ghost use Rattle.rig.specs.Lies.{one_more};
-ghost use Rattle.rig.specs.Liars.{rig_of, lies_of, reads_of, told_nothing, accesses_left, bytes_left};
+ghost use Rattle.rig.specs.Lies.{one_piece_more};
+ghost use Rattle.rig.specs.Liars.{rig_of, lies_of, reads_of, told_nothing, spare_accesses_of, spare_bytes_of};
 ghost use Rattle.rig.specs.Liars.{IsLied, KeepsLies};
 
 use super::{Liar, tell_lie};
@@ -20,17 +20,17 @@ impl Platform for Liar {
 
     ghost fixed = { λ liar. setting_of (rig_of liar) };
 
-    ghost spare_accesses = { accesses_left };
+    ghost spare_accesses = { spare_accesses_of };
 
-    ghost spare_bytes = { bytes_left };
+    ghost spare_bytes = { spare_bytes_of };
 
     fn read(&mut self, at: u16, width: Width) -> u32
-        requires room { 1 ≤ accesses_left self.old }
+        requires room { 1 ≤ spare_accesses_of self.old }
         ensures told { Between (λ old new. Accessed old new (Read at width result)) (told_nothing self.old)
             (told_nothing self.new) }
         ensures fixed { setting_of (rig_of self.new) ≡ setting_of (rig_of self.old) }
-        ensures accesses { accesses_left self.new + 1 ≡ accesses_left self.old }
-        ensures bytes { bytes_left self.new ≡ bytes_left self.old }
+        ensures accesses { spare_accesses_of self.new + 1 ≡ spare_accesses_of self.old }
+        ensures bytes { spare_bytes_of self.new ≡ spare_bytes_of self.old }
 
         // The rig's answer is handed on as it is.
         ensures rig { Accessed (telling_of (rig_of self.old)) (telling_of (rig_of self.new)) (Read at width result) }
@@ -40,12 +40,12 @@ impl Platform for Liar {
     }
 
     fn write(&mut self, at: u16, width: Width, value: u32)
-        requires room { 1 ≤ accesses_left self.old }
+        requires room { 1 ≤ spare_accesses_of self.old }
         ensures told { Between (λ old new. Accessed old new (Write at width value)) (told_nothing self.old)
             (told_nothing self.new) }
         ensures fixed { setting_of (rig_of self.new) ≡ setting_of (rig_of self.old) }
-        ensures accesses { accesses_left self.new + 1 ≡ accesses_left self.old }
-        ensures bytes { bytes_left self.new ≡ bytes_left self.old }
+        ensures accesses { spare_accesses_of self.new + 1 ≡ spare_accesses_of self.old }
+        ensures bytes { spare_bytes_of self.new ≡ spare_bytes_of self.old }
 
         // The rig's register is written.
         ensures rig { Accessed (telling_of (rig_of self.old)) (telling_of (rig_of self.new)) (Write at width value) }
@@ -55,20 +55,20 @@ impl Platform for Liar {
     }
 
     fn dma_read(&mut self, from: &Lent, at: u64, into: &mut [u8])
-        requires room { 1 ≤ accesses_left self.old }
-        requires bytes_room { length into.old ≤ bytes_left self.old }
+        requires room { 1 ≤ spare_accesses_of self.old }
+        requires bytes_room { length into.old ≤ spare_bytes_of self.old }
         requires within { at + length into.old ≤ from.now.bytes }
         ensures told { Between (λ old new. Accessed old new (DmaRead (from.now.address + at) into.new))
             (told_nothing self.old) (told_nothing self.new) }
         ensures fixed { setting_of (rig_of self.new) ≡ setting_of (rig_of self.old) }
-        ensures accesses { accesses_left self.new + 1 ≡ accesses_left self.old }
-        ensures bytes { bytes_left self.new + length into.new ≡ bytes_left self.old }
+        ensures accesses { spare_accesses_of self.new + 1 ≡ spare_accesses_of self.old }
+        ensures bytes { spare_bytes_of self.new + length into.new ≡ spare_bytes_of self.old }
 
         // The rig's memory is read, and told with the lie for a piece of this number.
         ensures rig { IsLied (lies_of self.old) (reads_of self.old) (from.now.address + at)
             (telling_of (rig_of self.old)) (telling_of (rig_of self.new)) into.new }
         ensures lies { lies_of self.new ≡ lies_of self.old }
-        ensures reads { reads_of self.new ≡ one_more (reads_of self.old) }
+        ensures reads { reads_of self.new ≡ one_piece_more (reads_of self.old) }
     {
         self.rig.dma_read(from, at, into);
         tell_lie(self.lies.as_slice(), self.reads, into);
@@ -76,15 +76,15 @@ impl Platform for Liar {
     }
 
     fn dma_write(&mut self, to: &mut Window<'_>, at: u64, bytes: &[u8])
-        requires room { 1 ≤ accesses_left self.old }
-        requires bytes_room { length bytes.now ≤ bytes_left self.old }
+        requires room { 1 ≤ spare_accesses_of self.old }
+        requires bytes_room { length bytes.now ≤ spare_bytes_of self.old }
         requires begins { to.old.from ≤ at }
         requires ends { at + length bytes.now ≤ to.old.to }
         ensures told { Between (λ old new. Accessed old new (DmaWrite (to.old.lent.now.address + (at - to.old.base))
             bytes.now)) (told_nothing self.old) (told_nothing self.new) }
         ensures fixed { setting_of (rig_of self.new) ≡ setting_of (rig_of self.old) }
-        ensures accesses { accesses_left self.new + 1 ≡ accesses_left self.old }
-        ensures bytes { bytes_left self.new + length bytes.now ≡ bytes_left self.old }
+        ensures accesses { spare_accesses_of self.new + 1 ≡ spare_accesses_of self.old }
+        ensures bytes { spare_bytes_of self.new + length bytes.now ≡ spare_bytes_of self.old }
         ensures same_reference { to.new.lent.ghost_name ≡ to.old.lent.ghost_name }
         ensures same_block { to.new.lent.now ≡ to.old.lent.now }
         ensures same_base { to.new.base ≡ to.old.base }

@@ -5,5 +5,5 @@ use Rattle.rig.specs.Liars.{rig_of}
 use Rattle.test_device.proofs.liars.serve.Given as goal
 
 -- no run is open, nothing is played, and the ring stays
-abbrev pub invariant-loop-_turn : goal.invariant-loop-_turn
-invariant-loop-_turn l = ((setting_of (rig_of l.liar)).in_run ≡ false) × (l.driver.play ≡ false) × (ring_size l.driver.writer ≡ 768)
+abbrev pub invariant-loop-turn : goal.invariant-loop-turn
+invariant-loop-turn l = ((setting_of (rig_of l.liar)).in_run ≡ false) × (l.driver.play ≡ false) × (ring_size l.driver.writer ≡ 768)
