@@ -1,6 +1,6 @@
 //! What a pin heard, in stretches of one kind.
 ghost use Rattle.std.specs.Prelude.{◌≡◌, ◌≤◌, ◌<◌, ◌+◌, ◌*◌, ◌++◌, [], ◌∷◌, List, OnOk, IsTrue, false, length};
-ghost use Rattle.std.specs.Prelude.{replicate, take};
+ghost use Rattle.std.specs.Prelude.{drop, replicate, take};
 ghost use Rattle.std.specs.List.{AllZip, flat_map};
 ghost use Rattle.stream_format.specs.Cadence.{block_bytes, container_bytes};
 ghost use Rattle.stream_format.specs.Layouts.{layout};
@@ -205,23 +205,29 @@ fn front(bytes: &[u8], format: Format, blocks: usize) -> &[u8]
     &bytes[..blocks * size]
 }
 
-/// The bytes of a sample of each of two channels.
-fn pair_len(bits: Bits) -> usize
-    ensures { result ≡ 2 * container_bytes bits }
-{
-    match bits {
-        Bits::B16 => 4,
-        Bits::B24 | Bits::B32 => 8,
-    }
-}
-
 /// The place of a pair of channels in a block.
 fn place_of(pair: u8, format: Format) -> usize
     requires { IsAmong format.channels (variant.Pair pair) }
     ensures place { result ≡ 2 * pair * container_bytes format.bits }
     ensures inside { result + 2 * container_bytes format.bits ≤ block_bytes format }
 {
-    usize::from(pair) * pair_len(format.bits)
+    match format.bits {
+        Bits::B16 => usize::from(pair) * 4,
+        Bits::B24 | Bits::B32 => usize::from(pair) * 8,
+    }
+}
+
+/// Appends the bytes of two samples that stand behind one another in a block. How many they are stands in the code, so
+/// that they are moved and not copied one by one.
+fn push_part(sound: &mut Vec<u8>, bits: Bits, block: &[u8], first: usize) -> Result<(), AllocError>
+    requires { first + 2 * container_bytes bits ≤ length block.now }
+    ensures { OnOk result (sound.new.items
+        ≡ sound.old.items ++ take (2 * container_bytes bits) (drop first block.now)) }
+{
+    match bits {
+        Bits::B16 => sound.extend_from_slice(&block[first..first + 4]),
+        Bits::B24 | Bits::B32 => sound.extend_from_slice(&block[first..first + 8]),
+    }
 }
 
 /// Appends the bytes of a pair of channels of so many blocks.
@@ -238,11 +244,10 @@ fn push_parts(
         (items_before (layout format) (variant.Pair pair) bytes.now blocks)) }
 {
     let size = format.block_bytes() as usize;
-    let both = pair_len(format.bits);
     let first = place_of(pair, format);
     for place in 0..blocks {
         let block = &bytes[place * size..(place + 1) * size];
-        sound.extend_from_slice(&block[first..first + both])?;
+        push_part(sound, format.bits, block, first)?;
     }
     Ok(())
 }

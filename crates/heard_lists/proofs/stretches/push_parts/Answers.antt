@@ -18,7 +18,6 @@ pub loop-place-preserved : goal.loop-place-preserved
 loop-place-preserved c =
     let format = c.args.format in
     let size : ℕ = c.block_bytes-size.result in
-    let both : ℕ = c.pair_len-both.result in
     let first : ℕ = c.place_of-first.result in
     let place : ℕ = c.loop-place.place in
     let bytes : List ℕ = c.args.bytes.now in
@@ -28,8 +27,8 @@ loop-place-preserved c =
     let item : Heard = item_of (layout format) (Pair c.args.pair) block in
     let there : take ((place + 1) * size - place * size) (drop (place * size) bytes) ≡ block =
     ap (λ (n : ℕ). take n (drop (place * size) bytes)) (piece_of place size) ∙ ap (λ (n : ℕ). block_at n bytes place) c.block_bytes-size.ensures in
-    let one : take (first + both - first) (drop first (take ((place + 1) * size - place * size) (drop (place * size) bytes))) ≡ sounds item =
-    let width : first + both - first ≡ 2 * container_bytes format.bits = let is = c.pair_len-both.ensures in omega (arith, is) in
+    let two : ℕ = 2 * container_bytes format.bits in
+    let one : take two (drop first (take ((place + 1) * size - place * size) (drop (place * size) bytes))) ≡ sounds item =
     let less : place < c.args.blocks = c.loop-place-test.true in
     let fits : (place + 1) * block_bytes format ≤ c.args.blocks * block_bytes format = mul-le-mul_right (block_bytes format) (omega (arith, less)) in
     let ends = piece_of place (block_bytes format) in
@@ -38,11 +37,10 @@ loop-place-preserved c =
     let long : length block ≡ block_bytes format = length-take-le (block_bytes format) (drop (place * block_bytes format) bytes) (omega (arith, fits, ends, rest, whole)) in
     let inside = c.place_of-first.ensures.inside in
     let at = c.place_of-first.ensures.place in
-    ap (λ (n : ℕ). take n (drop first (take ((place + 1) * size - place * size) (drop (place * size) bytes)))) width
-    ∙ (ap (λ (b : List ℕ). take (2 * container_bytes format.bits) (drop first b)) there
-    ∙ (ap (λ (n : ℕ). take (2 * container_bytes format.bits) (drop n block)) at
-    ∙ sym (pair_raw format c.args.pair block (small_block (block_bytes format) place bytes (λ i. (c.type_inv.bytes i).fits)) (omega (arith, long, inside, at))))) in
-    c.in_ok-extend_from_slice.ensures.items
+    ap (λ (b : List ℕ). take two (drop first b)) there
+    ∙ (ap (λ (n : ℕ). take two (drop n block)) at
+    ∙ sym (pair_raw format c.args.pair block (small_block (block_bytes format) place bytes (λ i. (c.type_inv.bytes i).fits)) (omega (arith, long, inside, at)))) in
+    c.in_ok-push_part.ensures
     ∙ (ap (λ (l : List ℕ). c.loop-place.sound.items ++ l) one
     ∙ (ap (λ (l : List ℕ). l ++ sounds item) c.loop-place.invariant
     ∙ (append_assoc c.args.sound.now.items (flat_map sounds items) (sounds item)
