@@ -77,6 +77,18 @@ pub asking_in : (play : Bool) (bring_up : BringUp) (writer : WriterState) → (w
 asking_in play bring_up writer begun asks =
     asking_if writer.course.started bring_up.phase writer.course.ran (λ started. plays_ready play bring_up (begun started)) asks
 
+-- ---- the last call
+
+-- runs were made only where all codecs are set up
+pub closed_ready : (play : Bool) (old ended : BringUp) (writer : WriterState) (tally : Tally) → (writer.course.started ≡ true → plays_now play old ≡ true)
+    → (plays_now play old ≡ false → tally ≡ tally_of writer) → (plays_now play old ≡ true → ended.phase ≡ old.phase) → tally.course.started ≡ true → is_ready ended.phase ≡ true
+closed_ready play old ended writer tally begun recorded same started = by (plays_now play old) refl
+  where
+    by : (plays : Bool) → plays_now play old ≡ plays → is_ready ended.phase ≡ true
+    by true plays = ap is_ready (same plays) ∙ plays_ready play old plays
+    by false silent =
+        absurd (not_both (plays_now play old) silent (begun (ap (λ (tally : Tally). tally.course.started) (sym (recorded silent)) ∙ started)))
+
 -- ---- what is true of every driver
 
 -- it stays so over a call that plays

@@ -12,6 +12,7 @@ use Rattle.driver_bring_up.specs.Jacks.{IsOfPin, Counts}
 use Rattle.driver_bring_up.specs.declared.bringing.BringUp.{BringUp}
 use Rattle.driver_bring_up.specs.Calls.{Ends}
 use Rattle.period_writer.specs.Runs.{Tally}
+use Rattle.driver_progress.specs.Phases.{is_ready}
 use Rattle.period_writer.specs.Writers.{WriterState, tally_of}
 use Rattle.audio_driver.specs.States.{plays_now, phase_with}
 use Rattle.audio_driver.specs.Sounding.{EndsSound}
@@ -34,6 +35,8 @@ pub record Closes (means : Means) (play : Bool) (bring_up : BringUp) (writer : W
   pub recorded : plays_now play bring_up ≡ false → tally ≡ tally_of writer
   pub sounds : plays_now play bring_up ≡ true → EndsSound bring_up ended writer tally supply before after
   pub grows : writer.course.used ≤ tally.course.used
+  -- runs were made only where all codecs are set up
+  pub ready : tally.course.started ≡ true → is_ready ended.phase ≡ true
   pub phase : closed.phase ≡ phase_with ended tally
   pub sent : closed.sent ≡ ended.sent
   pub graphs : closed.graphs ≡ ended.agenda.graphs

@@ -8,12 +8,12 @@ ghost use Rattle.driver_bring_up.specs.Commanding.{answer_in};
 ghost use Rattle.driver_bring_up.specs.AnsweredWords.{with_answer, WereAnsweredIn, WereAnswered};
 ghost use Rattle.driver_bring_up.specs.declared.bringing.BringUp.{BringUp};
 ghost use Rattle.audio_driver.specs.declared.driver.closing.Closed.{Closed};
-ghost use Rattle.audio_driver.specs.States.{plays_now};
+ghost use Rattle.audio_driver.specs.States.{plays_now, phase_of};
 ghost use Rattle.audio_driver.specs.Opening.{IsOpened};
 ghost use Rattle.audio_driver.specs.Sounding.{StaysSet};
 ghost use Rattle.audio_driver.specs.Closing.{Closes};
 ghost use Rattle.audio_driver.specs.Calls.{LeadsBy, FailsBy};
-ghost use Rattle.audio_driver.specs.Drivers.{DriverState};
+ghost use Rattle.audio_driver.specs.Drivers.{DriverState, IsDriver};
 
 use driver_bring_up::{TAG, bring_ups_are_answered};
 use route_setup::Setter;
@@ -21,7 +21,7 @@ use route_setup::Setter;
 /// On every platform, also where what is answered is a lie: no word was answered when a driver is opened, its calls and
 /// its last call are led by the words as those of its bring-up are, and once it plays none is answered any more. So
 /// `Malformed` names the codec whose words have this fault, and what is left of a closed driver are the graphs that the
-/// words told.
+/// words told, and the plans of these, also where it played.
 pub fn drivers_are_answered<T: Setter>()
     ensures opened { (setter : T) (geometry : Geometry) (most : ℕ) (bring_up : BringUp) (writer : WriterState)
         → IsOpened geometry most bring_up writer
@@ -58,6 +58,11 @@ pub fn drivers_are_answered<T: Setter>()
         → WereAnswered (T.means setter bring_up.agenda.format TAG) words closes.ended
         → (closed.graphs ≡ closes.ended.agenda.graphs) × (closed.plans ≡ closes.ended.agenda.plans)
         × WereAnsweredIn (T.means setter bring_up.agenda.format TAG) words closes.ended.agenda closed.phase }
+    ensures phase { (words : List ℕ) (driver : DriverState T)
+        → IsDriver driver.bring_up driver.writer driver.pool driver.play driver.runs driver.calls
+        → WereAnswered (T.means driver.setter driver.bring_up.agenda.format TAG) words driver.bring_up
+        → WereAnsweredIn (T.means driver.setter driver.bring_up.agenda.format TAG) words driver.bring_up.agenda
+        (phase_of driver.bring_up driver.writer) }
 {
     bring_ups_are_answered::<T>();
 }

@@ -64,9 +64,9 @@ answer_leads means words word old new (Malformed codec fault) stands same leads 
 answer_leads means words word old new Reset stands same leads ends = absurd (false≢true ends)
 answer_leads means words word old new Settling stands same leads ends = absurd (false≢true ends)
 answer_leads means words word old new (Unanswered codec command issued noticed) stands same leads ends = absurd (false≢true ends)
-answer_leads means words word old new Playing stands same leads ends = tt
-answer_leads means words word old new Drained stands same leads ends = tt
-answer_leads means words word old new (Late from to limit) stands same leads ends = tt
+answer_leads means words word old new Playing stands same leads ends = absurd (false≢true ends)
+answer_leads means words word old new Drained stands same leads ends = absurd (false≢true ends)
+answer_leads means words word old new (Late from to limit) stands same leads ends = absurd (false≢true ends)
 answer_leads means words word old new Failed stands same leads ends = absurd (false≢true ends)
 
 -- ---- a look while commands are sent
@@ -209,7 +209,7 @@ fails_answered means irq words old new before after fails failed stands = record
         (inr (take_failed means words old.agenda new.agenda (found_by old.engine.rings take.finds.reads) take.finds.found
         (asking_answered means words old.agenda old.phase take.asking stands.is) take.finds.addresses take.finds.left))
 
--- ---- an answer comes to one thing
+-- ---- an answer comes to one thing at most
 
 abbrev pub OneFault : Type 0
 OneFault = (answer : ℕ) (one other : WalkFault) (old : Agenda) → TellsFault old.walk answer one → TellsFault old.walk answer other → one ≡ other

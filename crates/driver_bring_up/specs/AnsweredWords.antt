@@ -1,12 +1,13 @@
 -- The words that codecs answered to a bring-up until now, and what they came to: on every platform, also where what is
 -- answered is a lie. This project's own.
-use Rattle.std.specs.Prelude.{◌≡◌, ◌⊎◌, ℕ, List, [], ◌∷◌, ◌++◌, Option, Some, None, ⊤}
+use Rattle.std.specs.Prelude.{◌≡◌, ◌⊎◌, ℕ, List, [], ◌∷◌, ◌++◌, Option, Some, None}
 use Rattle.route_setup.specs.Means.{Means}
 use Rattle.driver_agenda.specs.declared.agenda.Agenda.{Agenda}
 use Rattle.driver_agenda.specs.AnswerWords.{WasAnswered, AreFaulty, AreUnrouted, AreLeft}
 use Rattle.driver_progress.specs.declared.phase.Phase.{Phase}
-use Rattle.driver_progress.specs.declared.phase.Phase.TheVariants.{Reset, Settling, Walking, SettingUp, Ready}
-use Rattle.driver_progress.specs.declared.phase.Phase.TheVariants.{NothingRouted, Malformed, Unanswered, Failed}
+use Rattle.driver_progress.specs.declared.phase.Phase.TheVariants.{Reset, Settling, Walking, SettingUp, Ready, Playing}
+use Rattle.driver_progress.specs.declared.phase.Phase.TheVariants.{Drained, NothingRouted, Unanswered, Late, Malformed}
+use Rattle.driver_progress.specs.declared.phase.Phase.TheVariants.{Failed}
 use Rattle.driver_bring_up.specs.declared.bringing.BringUp.{BringUp}
 
 -- with one more, if one was answered
@@ -20,23 +21,26 @@ pub record IsUnasked (words : List ℕ) (agenda : Agenda) : Type 0 where
   pub graphs : agenda.graphs.items ≡ []
   pub plans : agenda.plans.items ≡ []
 
--- The words led to this phase, with the graphs and plans of this agenda. `Malformed`: those of this codec have this
--- fault, and those of the codecs before it told the graphs; there are no plans. `NothingRouted`: those of all codecs
--- told the graphs, and no plan of them has a route. `Failed`: the first of them told the graphs, and there are no plans,
--- or all codecs told theirs and the plans are those of the graphs.
+-- The words led to this phase, with the graphs and plans of this agenda. From `Walking` to `Ready`, while sound plays and
+-- once it is over, also where a command had no answer, they led the agenda to where it stands. `Malformed`: those of
+-- this codec have this fault, and those of the codecs before it told the graphs; there are no plans. `NothingRouted`:
+-- those of all codecs told the graphs, and no plan of them has a route. `Failed`: the first of them told the graphs, and
+-- there are no plans, or all codecs told theirs and the plans are those of the graphs.
 abbrev pub WereAnsweredIn : Means → (words : List ℕ) → Agenda → Phase → Type 0
 WereAnsweredIn means words agenda Reset = IsUnasked words agenda
 WereAnsweredIn means words agenda Settling = IsUnasked words agenda
 WereAnsweredIn means words agenda Walking = WasAnswered means words agenda
 WereAnsweredIn means words agenda SettingUp = WasAnswered means words agenda
 WereAnsweredIn means words agenda Ready = WasAnswered means words agenda
+WereAnsweredIn means words agenda Playing = WasAnswered means words agenda
+WereAnsweredIn means words agenda Drained = WasAnswered means words agenda
+WereAnsweredIn means words agenda (Late from to limit) = WasAnswered means words agenda
 WereAnsweredIn means words agenda (Unanswered codec command issued noticed) = WasAnswered means words agenda
 WereAnsweredIn means words agenda NothingRouted =
     AreUnrouted means agenda.addresses.items words agenda.graphs.items agenda.plans.items
 WereAnsweredIn means words agenda (Malformed codec fault) =
     AreFaulty agenda.addresses.items words agenda.graphs.items codec fault × (agenda.plans.items ≡ [])
 WereAnsweredIn means words agenda Failed = IsUnasked words agenda ⊎ AreLeft means words agenda
-WereAnsweredIn means words agenda phase = ⊤
 
 -- the words that were answered to a bring-up until now are these
 pub record WereAnswered (means : Means) (words : List ℕ) (bring_up : BringUp) : Type 0 where

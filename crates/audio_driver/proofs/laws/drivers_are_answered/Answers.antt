@@ -1,12 +1,17 @@
-use Rattle.std.proofs.Common.{◌≡◌, ℕ, List, Bool, true, false, sym, subst}
+use Rattle.std.proofs.Common.{◌≡◌, ℕ, List, Bool, true, false, refl, sym, subst}
 use Rattle.route_setup.specs.Means.{Means}
 use Rattle.period_writer.specs.declared.course.Ran.{Ran}
 use Rattle.period_writer.specs.declared.course.Ran.TheVariants as ran
 use Rattle.driver_progress.specs.declared.phase.Phase.{Phase}
+use Rattle.driver_progress.specs.Phases.{is_ready}
+use Rattle.driver_progress.proofs.Callers.{ready_is}
+use Rattle.driver_agenda.specs.declared.agenda.Agenda.{Agenda}
+use Rattle.driver_agenda.specs.AnswerWords.{WasAnswered}
 use Rattle.driver_bring_up.specs.declared.bringing.BringUp.{BringUp}
 use Rattle.driver_bring_up.specs.declared.answers.TheConstants.{TAG}
 use Rattle.driver_bring_up.specs.AnsweredWords.{WereAnsweredIn, WereAnswered}
-use Rattle.audio_driver.specs.States.{phase_if}
+use Rattle.audio_driver.specs.States.{played_as, phase_if}
+use Rattle.audio_driver.proofs.Kept.{plays_ready}
 use Rattle.audio_driver.proofs.laws.drivers_are_answered.Goals as goal
 
 -- the phase and the agenda stay
@@ -16,12 +21,16 @@ stay means words old new phase agenda stands = record {
       (subst (WereAnsweredIn means words old.agenda) (sym phase) stands.is);
 }
 
--- once it plays nothing is said of the words any more
-played_in : (means : Means) (words : List ℕ) (there : BringUp) (phase : Phase) (started : Bool) (last : Ran) → WereAnsweredIn means words there.agenda phase → WereAnsweredIn means words there.agenda (phase_if started phase last)
-played_in means words there phase false last is = is
-played_in means words there phase true ran.Playing is = tt
-played_in means words there phase true ran.Drained is = tt
-played_in means words there phase true (ran.Late from to limit) is = tt
+-- the words that led to the phase `Ready` lead on while it plays, and once it is over
+sounding : (means : Means) (words : List ℕ) (agenda : Agenda) (last : Ran) → WasAnswered means words agenda → WereAnsweredIn means words agenda (played_as last)
+sounding means words agenda ran.Playing is = is
+sounding means words agenda ran.Drained is = is
+sounding means words agenda (ran.Late from to limit) is = is
+
+played_in : (means : Means) (words : List ℕ) (agenda : Agenda) (phase : Phase) (started : Bool) (last : Ran) → (started ≡ true → is_ready phase ≡ true) → WereAnsweredIn means words agenda phase
+    → WereAnsweredIn means words agenda (phase_if started phase last)
+played_in means words agenda phase false last ready is = is
+played_in means words agenda phase true last ready is = sounding means words agenda last (subst (WereAnsweredIn means words agenda) (ready_is phase (ready refl)) is)
 
 pub returns-clause-opened : goal.returns-clause-opened
 returns-clause-opened g c = λ setter geometry most bring_up writer opened.
@@ -54,5 +63,10 @@ returns-clause-closed g c = λ setter words supply play bring_up writer closed b
       closes.graphs,
       closes.plans,
       subst (WereAnsweredIn means words closes.ended.agenda) (sym closes.phase)
-          (played_in means words closes.ended closes.ended.phase closes.tally.course.started closes.tally.course.ran stands.is),
+          (played_in means words closes.ended.agenda closes.ended.phase closes.tally.course.started closes.tally.course.ran closes.ready stands.is),
     )
+
+pub returns-clause-phase : goal.returns-clause-phase
+returns-clause-phase g c = λ words driver is stands.
+    played_in (g.T.Setter.means driver.setter driver.bring_up.agenda.format TAG) words driver.bring_up.agenda driver.bring_up.phase driver.writer.course.started driver.writer.course.ran
+    (λ started. plays_ready driver.play driver.bring_up (is.begun started)) stands.is

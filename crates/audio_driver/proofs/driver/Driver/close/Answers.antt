@@ -7,7 +7,7 @@ use Rattle.command_engine.specs.Blocks.{corb_bytes, rirb_bytes}
 use Rattle.period_writer.specs.Blocks.{addresses_of}
 use Rattle.period_writer.specs.Writers.{tally_of, periods_of}
 use Rattle.period_writer.proofs.Callers.{owns_on}
-use Rattle.audio_driver.proofs.Kept.{asking_in}
+use Rattle.audio_driver.proofs.Kept.{asking_in, closed_ready}
 use Rattle.audio_driver.proofs.Back.{as_before, gives_at}
 use Rattle.audio_driver.proofs.driver.Driver.close.Goals as goal
 
@@ -53,6 +53,8 @@ returns-in-Ok-clause-closes g c = rw (← c.self.view_is) (λ sound may last.
       recorded = c.end_call-ended.ensures.recorded;
       sounds = λ plays. c.end_call-ended.ensures.sounds plays sound may last;
       grows = c.end_call-ended.ensures.grows;
+      ready = closed_ready c.self.inside.play c.self.inside.bring_up ended c.self.inside.writer (tally_of after) c.self.invariant.begun c.end_call-ended.ensures.recorded
+          (λ plays. (c.end_call-ended.ensures.sounds plays sound may last).phase);
       phase = c.phase_of-phase.ensures;
       sent = c.sent-sent.ensures;
       graphs = c.parts-engine.ensures.graphs;
