@@ -1,4 +1,4 @@
--- Whatever codecs answer: where their words lead an agenda, and that they come to one thing.
+-- Whatever codecs answer: where their words lead an agenda, and that an answer comes to one thing at most.
 use Rattle.std.proofs.Common.{◌≡◌, ◌<◌, ◌≤◌, ◌⊎◌, ◌+◌, ℕ, suc, List, [], ◌∷◌, ◌++◌, length, Option, Some, None, Result, Ok, Err, true, false, inl, inr, refl, sym, ap, subst, ◌∙◌, append_assoc, append-nil, arith}
 use Rattle.std.specs.Prelude.{slice_index, IsSome}
 use Rattle.std.proofs.lemmas.Grind.{flat_map-append}
@@ -243,6 +243,7 @@ unrouted_by means words answer old new (Some under_way) is stands ends =
     let after_it = walk_more old.addresses.items words old.graphs.items (remaining under_way) answer (asks_by old under_way is) stands in
     subst (λ (graphs : List RawCodec). AreUnrouted means old.addresses.items (words ++ answer ∷ []) graphs new.plans.items) (sym ends.nothing.graphs_are)
     (record {
+      some = (let there = after_it.there in omega (arith, there));
       walked = all_walked old.addresses.items (words ++ answer ∷ []) old.graphs.items (answered (remaining under_way) answer) ends.graph after_it ends.gives ends.last;
       plans_are = ends.nothing.plans;
       none = ends.nothing.none;
@@ -331,7 +332,7 @@ pub no_route_answered : (means : Means) (answer : ℕ) (old new : Agenda) → Te
     → AnswersNoRoute means old.walk answer old.addresses.items old.graphs.items new.plans.items
 no_route_answered means answer old new ends = no_route_by means answer old.addresses.items old.graphs.items new old.walk ends
 
--- ---- an answer comes to one thing
+-- ---- an answer comes to one thing at most
 
 told_one : (one other : RawCodec) → Told one ≡ Told other → one ≡ other
 told_one one other is = cc

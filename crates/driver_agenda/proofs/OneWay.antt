@@ -1,5 +1,5 @@
--- Words that codecs answered are cut into walks in one way, and so come to one thing.
-use Rattle.std.proofs.Common.{◌≡◌, ◌<◌, ◌⊎◌, ◌+◌, ℕ, suc, List, [], ◌∷◌, ◌++◌, length, inl, inr, refl, sym, ap, subst, ◌∙◌, append_assoc, append-nil, arith}
+-- Words that codecs answered are cut into walks in one way, and so come to one thing at most.
+use Rattle.std.proofs.Common.{◌≡◌, ◌<◌, ◌⊎◌, ◌+◌, ℕ, suc, List, [], ◌∷◌, ◌++◌, length, Option, Some, None, inl, inr, refl, sym, ap, subst, ◌∙◌, append_assoc, append-nil, arith}
 use Rattle.std.specs.Prelude.{slice_index, IsSome}
 use Rattle.std.proofs.lemmas.List.{length-append}
 use Rattle.verb_codes.specs.declared.verbs.Command.{Command}
@@ -9,11 +9,15 @@ use Rattle.route_setup.specs.Means.{Means}
 use Rattle.codec_walk.specs.declared.fault.WalkFault.{WalkFault}
 use Rattle.codec_walk.specs.Dialogues.{Dialogue, Ask, Told, question, asked, after}
 use Rattle.codec_walk.specs.Walks.{walk}
+use Rattle.codec_walk.specs.declared.walk.Walk.{Walk}
+use Rattle.codec_walk.specs.Remaining.{remaining}
 use Rattle.driver_agenda.specs.Agendas.{GivesFault, GivesGraph}
 use Rattle.driver_agenda.specs.Planned.{ArePlansBy, have_route}
-use Rattle.driver_agenda.specs.AnswerWords.{AreAsked, TellsGraph, TellGraphs, all_words, WalkAfter, AllWalked, AreFaulty, AreUnrouted, AreRouted}
+use Rattle.driver_agenda.specs.declared.agenda.Agenda.{Agenda}
+use Rattle.driver_agenda.specs.AnswerWords.{AreAsked, TellsGraph, TellGraphs, all_words, WalkAfter, AllWalked, AreFaulty, AreUnrouted, AreRouted, WasAnsweredBy, WasAnswered}
 use Rattle.driver_agenda.proofs.Following.{AreOne}
 use Rattle.driver_agenda.proofs.Answering.{one_fault, good_or_faulty, one_graph, HasOnePlan, plans_alike, routes_or_not}
+use Rattle.driver_agenda.proofs.Telling.{asks_first}
 
 -- ---- once a codec was told nothing is asked
 
@@ -272,3 +276,94 @@ pub one_unrouted : (means : Means) → HasOnePlan means → (addresses words : L
 one_unrouted means law addresses words graphs graphs' plans plans' first second =
     let (same, words_same) = one_whole addresses words words [] [] graphs graphs' first.walked second.walked refl in
     (same, plans_alike means law graphs' plans plans' (subst (λ (graphs : List RawCodec). ArePlansBy means.IsPlanBy graphs plans) same first.plans_are) second.plans_are)
+
+pub one_routed : (means : Means) → HasOnePlan means → (addresses words : List ℕ) (graphs graphs' : List RawCodec) (plans plans' : List Plan) (verbs verbs' : ℕ) → AreRouted means addresses words graphs plans verbs
+    → AreRouted means addresses words graphs' plans' verbs' → (graphs ≡ graphs') × (plans ≡ plans') × (verbs ≡ verbs')
+one_routed means law addresses words graphs graphs' plans plans' verbs verbs' first second =
+    let (same, before_same) = one_whole addresses first.before second.before first.rest second.rest graphs graphs' first.walked second.walked (sym first.split ∙ second.split) in
+    let long : length first.before + length first.rest ≡ length second.before + length second.rest =
+    sym (length-append first.before first.rest) ∙ ap length (sym first.split ∙ second.split) ∙ length-append second.before second.rest in
+    let front : length first.before ≡ length second.before = ap length before_same in
+    let count = first.count in
+    let count' = second.count in
+    let alike : verbs ≡ verbs' = omega (arith, long, front, count, count') in
+    (same, plans_alike means law graphs' plans plans' (subst (λ (graphs : List RawCodec). ArePlansBy means.IsPlanBy graphs plans) same first.plans_are) second.plans_are, alike)
+
+-- walks that go on are behind the same graphs, and have the same still to come
+pub one_under_way : (addresses words : List ℕ) (graphs graphs' : List RawCodec) (dialogue dialogue' : Dialogue) → WalkAfter addresses words graphs dialogue → IsSome (question dialogue)
+    → WalkAfter addresses words graphs' dialogue' → IsSome (question dialogue') → (graphs ≡ graphs') × (dialogue ≡ dialogue')
+one_under_way addresses words graphs graphs' dialogue dialogue' is asks is' asks' =
+    let on = subst (λ (dialogue : Dialogue). IsSome (question dialogue)) is.at asks in
+    let on' = subst (λ (dialogue : Dialogue). IsSome (question dialogue)) is'.at asks' in
+    let (same, rest_same) = one_way_first addresses is.walks is'.walks graphs graphs' is.rest is'.rest is.walked is'.walked is.asked_for is'.asked_for
+    (asks_never (after (walk (slice_index addresses (length graphs))) is.rest) on) (asks_never (after (walk (slice_index addresses (length graphs'))) is'.rest) on')
+    (sym is.split ∙ is'.split) in (
+      same,
+      is.at ∙ ap (λ (graphs : List RawCodec). after (walk (slice_index addresses (length graphs))) is.rest) same
+          ∙ ap (λ (rest : List ℕ). after (walk (slice_index addresses (length graphs'))) rest) rest_same ∙ sym is'.at,
+    )
+
+-- ---- where nothing was answered
+
+none_front : (front back : List ℕ) → [] ≡ front ++ back → front ≡ []
+none_front [] back is = refl
+none_front (word ∷ front) back is = cc
+
+none_back : (front back : List ℕ) → [] ≡ front ++ back → back ≡ []
+none_back [] back is = sym is
+none_back (word ∷ front) back is = cc
+
+-- a walk tells nothing before its first answer
+tells_first : (address : ℕ) (words : List ℕ) (codec : RawCodec) → words ≡ [] → after (walk address) words ≡ Told codec → ⊥
+tells_first address words codec none told =
+    let at : walk address ≡ Told codec = sym (ap (λ (words : List ℕ). after (walk address) words) none) ∙ told in
+    no_question codec (subst (λ (dialogue : Dialogue). IsSome (question dialogue)) at (asks_first address))
+
+walks_none : (addresses : List ℕ) (place : ℕ) (walks : List (List ℕ)) (graphs : List RawCodec) → 0 < length graphs → [] ≡ all_words walks → TellGraphs addresses place walks graphs → ⊥
+walks_none addresses place [] [] some none walked = absurd (omega (arith, some))
+walks_none addresses place [] (graph ∷ graphs) some none walked = walked
+walks_none addresses place (words ∷ walks) [] some none walked = walked
+walks_none addresses place (words ∷ walks) (graph ∷ graphs) some none walked =
+    let (codec, told, good) = walked.0.gives in
+    tells_first (slice_index addresses place) words codec (none_front words (all_words walks) none) told
+
+-- no codec has a fault then
+pub none_faulty : (addresses : List ℕ) (graphs : List RawCodec) (codec : ℕ) (fault : WalkFault) → AreFaulty addresses [] graphs codec fault → ⊥
+none_faulty addresses graphs codec fault faulty =
+    let is = faulty.walk_after in
+    let (raw, told, bad) = faulty.gives in
+    tells_first (slice_index addresses (length graphs)) is.rest raw (none_back (all_words is.walks) is.rest is.split) (sym is.at ∙ told)
+
+-- and not all of them told their graphs
+pub none_unrouted : (means : Means) (addresses : List ℕ) (graphs : List RawCodec) (plans : List Plan) → AreUnrouted means addresses [] graphs plans → ⊥
+none_unrouted means addresses graphs plans unrouted =
+    let all = unrouted.walked in
+    let some = unrouted.some in
+    let long = all.all in
+    walks_none addresses 0 all.walks graphs (omega (arith, some, long)) all.split all.walked
+
+-- ---- what words came to that led an agenda on
+
+led_faulty_by : AreOne → (means : Means) (words : List ℕ) (agenda : Agenda) (graphs : List RawCodec) (codec : ℕ) (fault : WalkFault) (walks : Option Walk) → agenda.walk ≡ walks
+    → WasAnsweredBy means words agenda walks → AreFaulty agenda.addresses.items words graphs codec fault → ⊥
+led_faulty_by law means words agenda graphs codec fault (Some under_way) is stands faulty =
+    faulty_or_under_way law agenda.addresses.items words graphs codec fault faulty agenda.graphs.items (remaining under_way) stands (agenda.under_way under_way is).asks
+led_faulty_by law means words agenda graphs codec fault None is stands faulty =
+    faulty_or_whole law agenda.addresses.items words graphs codec fault faulty stands.before stands.rest agenda.graphs.items stands.split stands.walked
+
+-- they tell no fault
+pub led_faulty : AreOne → (means : Means) (words : List ℕ) (agenda : Agenda) (graphs : List RawCodec) (codec : ℕ) (fault : WalkFault) → WasAnswered means words agenda
+    → AreFaulty agenda.addresses.items words graphs codec fault → ⊥
+led_faulty law means words agenda graphs codec fault stands faulty = led_faulty_by law means words agenda graphs codec fault agenda.walk refl stands.is faulty
+
+led_unrouted_by : (means : Means) → HasOnePlan means → (words : List ℕ) (agenda : Agenda) (graphs : List RawCodec) (plans : List Plan) (walks : Option Walk) → agenda.walk ≡ walks
+    → WasAnsweredBy means words agenda walks → AreUnrouted means agenda.addresses.items words graphs plans → ⊥
+led_unrouted_by means law words agenda graphs plans (Some under_way) is stands unrouted =
+    under_way_or_whole agenda.addresses.items words words [] agenda.graphs.items graphs (remaining under_way) stands (agenda.under_way under_way is).asks (sym (append-nil words)) unrouted.walked
+led_unrouted_by means law words agenda graphs plans None is stands unrouted =
+    routed_or_unrouted means law agenda.addresses.items words graphs agenda.graphs.items plans agenda.plans.items agenda.answered unrouted stands
+
+-- and leave some pin a route, once all codecs told their graphs
+pub led_unrouted : (means : Means) → HasOnePlan means → (words : List ℕ) (agenda : Agenda) (graphs : List RawCodec) (plans : List Plan) → WasAnswered means words agenda
+    → AreUnrouted means agenda.addresses.items words graphs plans → ⊥
+led_unrouted means law words agenda graphs plans stands unrouted = led_unrouted_by means law words agenda graphs plans agenda.walk refl stands.is unrouted

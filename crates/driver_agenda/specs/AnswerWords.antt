@@ -65,9 +65,10 @@ pub record AreFaulty (addresses words : List ℕ) (graphs : List RawCodec) (code
   pub codec_is : codec ≡ slice_index addresses (length graphs)
   pub gives : GivesFault dialogue fault
 
--- all codecs told well-formed graphs, and no pin of their plans has a route
+-- all codecs told well-formed graphs, of which there is at least one, and no pin of their plans has a route
 pub record AreUnrouted (means : Means) (addresses words : List ℕ) (graphs : List RawCodec) (plans : List Plan) : Type 0
   where
+    pub some : 0 < length addresses
     pub walked : AllWalked addresses words graphs
     pub plans_are : ArePlansBy means.IsPlanBy graphs plans
     pub none : have_route plans ≡ false

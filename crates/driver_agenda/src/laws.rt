@@ -102,7 +102,8 @@ pub fn agendas_are_answered<T: Setter>()
         → AreLeft (T.means setter format TAG) (words ++ answer ∷ []) new }
 {}
 
-/// An answer comes to one thing: it leads on, or it tells one fault, or that no pin has a route.
+/// An answer comes to one thing at most: it leads on, or it tells one fault, or that no pin has a route. That it comes
+/// to one of them where memory is not wanting is `Agenda::take`'s.
 pub fn answers_come_to_one<T: Setter>()
     ensures one_fault { (answer : ℕ) (one other : WalkFault) (old : Agenda) → TellsFault old.walk answer one
         → TellsFault old.walk answer other → one ≡ other }
@@ -118,14 +119,20 @@ pub fn answers_come_to_one<T: Setter>()
     outcomes_are_one();
 }
 
-/// Words come to one thing. They are those of walks of which the last goes on; or they tell one fault, of one codec,
-/// behind the same graphs; or the first of them are those of the walks over all codecs, of which the graphs are one
-/// list, and so are their plans: some pin has a route, or none has.
+/// Words come to one thing at most. They are those of walks of which the last goes on, behind one list of graphs and
+/// with one dialogue still to come; or they tell one fault, of one codec, behind the same graphs; or the first of them
+/// are those of the walks over all codecs, of which the graphs are one list, and so are their plans: some pin has a
+/// route, or none has. So words that led an agenda to where it stands tell no fault, nor that no pin has a route, and
+/// where nothing was answered neither is told.
 pub fn words_come_to_one<T: Setter>()
     ensures faulty { (addresses words : List ℕ) (one other : List RawCodec) (codec codec' : ℕ)
         (fault fault' : WalkFault)
         → AreFaulty addresses words one codec fault → AreFaulty addresses words other codec' fault'
         → (one ≡ other) × (codec ≡ codec') × (fault ≡ fault') }
+    ensures under_way { (addresses words : List ℕ) (one other : List RawCodec) (dialogue dialogue' : Dialogue)
+        → WalkAfter addresses words one dialogue → IsSome (question dialogue)
+        → WalkAfter addresses words other dialogue' → IsSome (question dialogue')
+        → (one ≡ other) × (dialogue ≡ dialogue') }
     ensures faulty_or_under_way { (addresses words : List ℕ) (one other : List RawCodec) (codec : ℕ)
         (fault : WalkFault) (dialogue : Dialogue)
         → AreFaulty addresses words one codec fault → WalkAfter addresses words other dialogue
@@ -143,9 +150,24 @@ pub fn words_come_to_one<T: Setter>()
     ensures unrouted { (setter : T) (format : Format) (addresses words : List ℕ) (one other : List RawCodec)
         (plans plans' : List Plan) → AreUnrouted (T.means setter format TAG) addresses words one plans
         → AreUnrouted (T.means setter format TAG) addresses words other plans' → (one ≡ other) × (plans ≡ plans') }
+    ensures routed { (setter : T) (format : Format) (addresses words : List ℕ) (one other : List RawCodec)
+        (plans plans' : List Plan) (verbs verbs' : ℕ) → AreRouted (T.means setter format TAG) addresses words one plans
+        verbs
+        → AreRouted (T.means setter format TAG) addresses words other plans' verbs'
+        → (one ≡ other) × (plans ≡ plans') × (verbs ≡ verbs') }
     ensures unrouted_or_routed { (setter : T) (format : Format) (addresses words : List ℕ) (one other : List RawCodec)
         (plans plans' : List Plan) (verbs : ℕ) → AreUnrouted (T.means setter format TAG) addresses words one plans
         → AreRouted (T.means setter format TAG) addresses words other plans' verbs → ⊥ }
+    ensures led_or_faulty { (setter : T) (format : Format) (words : List ℕ) (agenda : Agenda) (graphs : List RawCodec)
+        (codec : ℕ) (fault : WalkFault) → WasAnswered (T.means setter format TAG) words agenda
+        → AreFaulty agenda.addresses.items words graphs codec fault → ⊥ }
+    ensures led_or_unrouted { (setter : T) (format : Format) (words : List ℕ) (agenda : Agenda)
+        (graphs : List RawCodec) (plans : List Plan) → WasAnswered (T.means setter format TAG) words agenda
+        → AreUnrouted (T.means setter format TAG) agenda.addresses.items words graphs plans → ⊥ }
+    ensures none_or_faulty { (addresses : List ℕ) (graphs : List RawCodec) (codec : ℕ) (fault : WalkFault)
+        → AreFaulty addresses [] graphs codec fault → ⊥ }
+    ensures none_or_unrouted { (setter : T) (format : Format) (addresses : List ℕ) (graphs : List RawCodec)
+        (plans : List Plan) → AreUnrouted (T.means setter format TAG) addresses [] graphs plans → ⊥ }
 {
     outcomes_are_one();
 }
