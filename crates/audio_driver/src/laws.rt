@@ -1,11 +1,16 @@
 //! A law of drivers, the contract of a function that does nothing.
 ghost use Rattle.std.specs.Prelude.{◌≡◌, ℕ, List, [], Bool, true, false, Option};
+ghost use Rattle.codec_graph.specs.declared.raw.RawCodec.{RawCodec};
+ghost use Rattle.codec_walk.specs.declared.fault.WalkFault.{WalkFault};
+ghost use Rattle.route_planner.specs.declared.routes.Plan.{Plan};
+ghost use Rattle.driver_agenda.specs.AnswerWords.{AreFaulty, AreUnrouted};
 ghost use Rattle.hda_world.specs.Tellings.{Telling};
 ghost use Rattle.period_writer.specs.declared.geometry.Geometry.{Geometry};
 ghost use Rattle.period_writer.specs.Writers.{WriterState};
 ghost use Rattle.driver_progress.specs.declared.phase.Phase.TheVariants as phases;
 ghost use Rattle.driver_bring_up.specs.Commanding.{answer_in};
 ghost use Rattle.driver_bring_up.specs.AnsweredWords.{with_answer, WereAnsweredIn, WereAnswered};
+ghost use Rattle.driver_bring_up.specs.AnsweredWords.{EndsFaulty, EndsUnrouted};
 ghost use Rattle.driver_bring_up.specs.declared.bringing.BringUp.{BringUp};
 ghost use Rattle.audio_driver.specs.declared.driver.closing.Closed.{Closed};
 ghost use Rattle.audio_driver.specs.States.{plays_now, phase_of};
@@ -15,13 +20,15 @@ ghost use Rattle.audio_driver.specs.Closing.{Closes};
 ghost use Rattle.audio_driver.specs.Calls.{LeadsBy, FailsBy};
 ghost use Rattle.audio_driver.specs.Drivers.{DriverState, IsDriver};
 
-use driver_bring_up::{TAG, bring_ups_are_answered};
+use driver_bring_up::{TAG, bring_ups_are_answered, ends_are_exact};
 use route_setup::Setter;
 
 /// On every platform, also where what is answered is a lie: no word was answered when a driver is opened, its calls and
 /// its last call are led by the words as those of its bring-up are, and once it plays none is answered any more. So
 /// `Malformed` names the codec whose words have this fault, and what is left of a closed driver are the graphs that the
-/// words told, and the plans of these, also where it played.
+/// words told, and the plans of these, also where it played. And it is exact, of a driver and of what is left of it:
+/// words that tell a fault of a codec lead to `Malformed` with both, words that leave no pin a route to
+/// `NothingRouted`, or memory was wanting, and they lead to `Failed`.
 pub fn drivers_are_answered<T: Setter>()
     ensures opened { (setter : T) (geometry : Geometry) (most : ℕ) (bring_up : BringUp) (writer : WriterState)
         → IsOpened geometry most bring_up writer
@@ -63,6 +70,32 @@ pub fn drivers_are_answered<T: Setter>()
         → WereAnswered (T.means driver.setter driver.bring_up.agenda.format TAG) words driver.bring_up
         → WereAnsweredIn (T.means driver.setter driver.bring_up.agenda.format TAG) words driver.bring_up.agenda
         (phase_of driver.bring_up driver.writer) }
+    ensures faulty { (words : List ℕ) (driver : DriverState T) (graphs : List RawCodec) (codec : ℕ) (fault : WalkFault)
+        → IsDriver driver.bring_up driver.writer driver.pool driver.play driver.runs driver.calls
+        → WereAnswered (T.means driver.setter driver.bring_up.agenda.format TAG) words driver.bring_up
+        → AreFaulty driver.bring_up.agenda.addresses.items words graphs codec fault
+        → EndsFaulty codec fault graphs driver.bring_up.agenda (phase_of driver.bring_up driver.writer) }
+    ensures unrouted { (words : List ℕ) (driver : DriverState T) (graphs : List RawCodec) (plans : List Plan)
+        → IsDriver driver.bring_up driver.writer driver.pool driver.play driver.runs driver.calls
+        → WereAnswered (T.means driver.setter driver.bring_up.agenda.format TAG) words driver.bring_up
+        → AreUnrouted (T.means driver.setter driver.bring_up.agenda.format TAG) driver.bring_up.agenda.addresses.items
+        words graphs plans
+        → EndsUnrouted graphs plans driver.bring_up.agenda (phase_of driver.bring_up driver.writer) }
+    ensures closed_faulty { (setter : T) (words supply : List ℕ) (play : Bool) (bring_up : BringUp)
+        (writer : WriterState) (closed : Closed) (before after : Option Telling)
+        (closes : Closes (T.means setter bring_up.agenda.format TAG) play bring_up writer supply closed before after)
+        (graphs : List RawCodec) (codec : ℕ) (fault : WalkFault)
+        → WereAnswered (T.means setter bring_up.agenda.format TAG) words closes.ended
+        → AreFaulty closes.ended.agenda.addresses.items words graphs codec fault
+        → EndsFaulty codec fault graphs closes.ended.agenda closed.phase }
+    ensures closed_unrouted { (setter : T) (words supply : List ℕ) (play : Bool) (bring_up : BringUp)
+        (writer : WriterState) (closed : Closed) (before after : Option Telling)
+        (closes : Closes (T.means setter bring_up.agenda.format TAG) play bring_up writer supply closed before after)
+        (graphs : List RawCodec) (plans : List Plan)
+        → WereAnswered (T.means setter bring_up.agenda.format TAG) words closes.ended
+        → AreUnrouted (T.means setter bring_up.agenda.format TAG) closes.ended.agenda.addresses.items words graphs plans
+        → EndsUnrouted graphs plans closes.ended.agenda closed.phase }
 {
     bring_ups_are_answered::<T>();
+    ends_are_exact::<T>();
 }

@@ -2,6 +2,7 @@ pub mod Callers
 pub mod Settles
 pub mod Leading
 pub mod AnsweredWords
+pub mod Exact
 pub mod Asks
 pub mod Still
 pub mod Staying

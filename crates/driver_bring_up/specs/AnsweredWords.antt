@@ -1,6 +1,9 @@
 -- The words that codecs answered to a bring-up until now, and what they came to: on every platform, also where what is
 -- answered is a lie. This project's own.
 use Rattle.std.specs.Prelude.{◌≡◌, ◌⊎◌, ℕ, List, [], ◌∷◌, ◌++◌, Option, Some, None}
+use Rattle.codec_graph.specs.declared.raw.RawCodec.{RawCodec}
+use Rattle.route_planner.specs.declared.routes.Plan.{Plan}
+use Rattle.codec_walk.specs.declared.fault.WalkFault.{WalkFault}
 use Rattle.route_setup.specs.Means.{Means}
 use Rattle.driver_agenda.specs.declared.agenda.Agenda.{Agenda}
 use Rattle.driver_agenda.specs.AnswerWords.{WasAnswered, AreFaulty, AreUnrouted, AreLeft}
@@ -21,11 +24,11 @@ pub record IsUnasked (words : List ℕ) (agenda : Agenda) : Type 0 where
   pub graphs : agenda.graphs.items ≡ []
   pub plans : agenda.plans.items ≡ []
 
--- The words led to this phase, with the graphs and plans of this agenda. From `Walking` to `Ready`, while sound plays and
--- once it is over, also where a command had no answer, they led the agenda to where it stands. `Malformed`: those of
--- this codec have this fault, and those of the codecs before it told the graphs; there are no plans. `NothingRouted`:
--- those of all codecs told the graphs, and no plan of them has a route. `Failed`: the first of them told the graphs, and
--- there are no plans, or all codecs told theirs and the plans are those of the graphs.
+-- The words led to this phase, with the graphs and plans of this agenda. From `Ready` on, while sound plays and once it
+-- is over, they are those of the walks over all codecs and of their verbs. `Malformed`: those of this codec have this
+-- fault, and those of the codecs before it told the graphs; there are no plans. `NothingRouted`: those of all codecs
+-- told the graphs, and no plan of them has a route. `Failed`: the first of them told the graphs, and there are no
+-- plans, or all codecs told theirs and the plans are those of the graphs.
 abbrev pub WereAnsweredIn : Means → (words : List ℕ) → Agenda → Phase → Type 0
 WereAnsweredIn means words agenda Reset = IsUnasked words agenda
 WereAnsweredIn means words agenda Settling = IsUnasked words agenda
@@ -45,3 +48,15 @@ WereAnsweredIn means words agenda Failed = IsUnasked words agenda ⊎ AreLeft me
 -- the words that were answered to a bring-up until now are these
 pub record WereAnswered (means : Means) (words : List ℕ) (bring_up : BringUp) : Type 0 where
   pub is : WereAnsweredIn means words bring_up.agenda bring_up.phase
+
+-- ---- where words lead that end what is to be done
+
+-- words that tell this fault of this codec, behind these graphs, lead just there, or memory was wanting
+abbrev pub EndsFaulty : (codec : ℕ) → WalkFault → (graphs : List RawCodec) → Agenda → Phase → Type 0
+EndsFaulty codec fault graphs agenda phase =
+    ((phase ≡ Malformed codec fault) × (agenda.graphs.items ≡ graphs)) ⊎ (phase ≡ Failed)
+
+-- and so do words that tell these graphs of all codecs, where no pin of these plans has a route
+abbrev pub EndsUnrouted : (graphs : List RawCodec) → (plans : List Plan) → Agenda → Phase → Type 0
+EndsUnrouted graphs plans agenda phase =
+    ((phase ≡ NothingRouted) × (agenda.graphs.items ≡ graphs) × (agenda.plans.items ≡ plans)) ⊎ (phase ≡ Failed)

@@ -10,7 +10,7 @@ ghost use Rattle.stream_format.specs.declared.format.Format.{Format};
 ghost use Rattle.codec_walk.specs.declared.fault.WalkFault.{WalkFault};
 ghost use Rattle.route_planner.specs.declared.routes.Plan.{Plan};
 ghost use Rattle.driver_agenda.specs.Agendas.{TellsFault};
-ghost use Rattle.driver_agenda.specs.AnswerWords.{AnswersNoRoute};
+ghost use Rattle.driver_agenda.specs.AnswerWords.{AnswersNoRoute, AreFaulty, AreUnrouted};
 ghost use Rattle.driver_agenda.specs.Following.{Follows};
 ghost use Rattle.driver_agenda.specs.declared.agenda.Agenda.{Agenda};
 ghost use Rattle.driver_progress.specs.declared.phase.Phase.{Phase};
@@ -23,7 +23,8 @@ ghost use Rattle.hda_world.specs.Events.{Event};
 ghost use Rattle.hda_world.specs.Tellings.{Telling};
 ghost use Rattle.driver_progress.specs.Commands.{ask_accesses};
 ghost use Rattle.driver_progress.specs.Shutting.{shut_accesses};
-ghost use Rattle.driver_bring_up.specs.AnsweredWords.{with_answer, WereAnswered};
+ghost use Rattle.driver_bring_up.specs.AnsweredWords.{with_answer, WereAnsweredIn, WereAnswered};
+ghost use Rattle.driver_bring_up.specs.AnsweredWords.{EndsFaulty, EndsUnrouted};
 ghost use Rattle.driver_bring_up.specs.Calls.{Leads, Ends};
 ghost use Rattle.driver_bring_up.specs.Failing.{Fails};
 ghost use Rattle.driver_bring_up.specs.declared.bringing.BringUp.{BringUp};
@@ -32,7 +33,7 @@ ghost use Rattle.driver_bring_up.specs.Commanding.{LedTo, poll_by, leaves_free, 
 ghost use Rattle.driver_bring_up.specs.Commanding.{IsLastLook, state_with, run_of, answer_in};
 
 use crate::answers::TAG;
-use driver_agenda::{agendas_ask_in_order, answers_come_to_one};
+use driver_agenda::{agendas_ask_in_order, answers_come_to_one, words_come_to_one};
 use route_setup::Setter;
 
 /// The accesses of a look for an answer and of the submission after it are those that are expected of a call, and where
@@ -103,7 +104,10 @@ pub fn bring_ups_are_answered<T: Setter>()
 {}
 
 /// Where an answer leads is exact: to `Malformed` where it tells a fault, with this fault and the codec that was asked;
-/// to `NothingRouted` where it tells the last graph, and no plan of the graphs has a route; and else on.
+/// to `NothingRouted` where it tells the last graph, and no plan of the graphs has a route; and else on. So it is with
+/// all words that were answered until now: where they tell a fault of a codec the phase is `Malformed` with both, and
+/// where they tell the graphs of all codecs, and no pin of their plans has a route, it is `NothingRouted`; or memory
+/// was wanting, and it is `Failed`.
 pub fn ends_are_exact<T: Setter>()
     ensures malformed { (setter : T) (format : Format) (answer : ℕ) (old new : Agenda) (phase : Phase)
         (fault : WalkFault) → LeadsOn (T.means setter format TAG) answer old new phase
@@ -114,6 +118,26 @@ pub fn ends_are_exact<T: Setter>()
         → EndsBy (T.means setter format TAG) answer old new phase
         → AnswersNoRoute (T.means setter format TAG) old.walk answer old.addresses.items old.graphs.items plans
         → phase ≡ phases.NothingRouted }
+    ensures faulty { (setter : T) (format : Format) (words : List ℕ) (agenda : Agenda) (phase : Phase)
+        (graphs : List RawCodec) (codec : ℕ) (fault : WalkFault)
+        → WereAnsweredIn (T.means setter format TAG) words agenda phase
+        → AreFaulty agenda.addresses.items words graphs codec fault → EndsFaulty codec fault graphs agenda phase }
+    ensures unrouted { (setter : T) (format : Format) (words : List ℕ) (agenda : Agenda) (phase : Phase)
+        (graphs : List RawCodec) (plans : List Plan)
+        → WereAnsweredIn (T.means setter format TAG) words agenda phase
+        → AreUnrouted (T.means setter format TAG) agenda.addresses.items words graphs plans
+        → EndsUnrouted graphs plans agenda phase }
+    ensures bring_up_faulty { (setter : T) (format : Format) (words : List ℕ) (bring_up : BringUp)
+        (graphs : List RawCodec) (codec : ℕ) (fault : WalkFault)
+        → WereAnswered (T.means setter format TAG) words bring_up
+        → AreFaulty bring_up.agenda.addresses.items words graphs codec fault
+        → EndsFaulty codec fault graphs bring_up.agenda bring_up.phase }
+    ensures bring_up_unrouted { (setter : T) (format : Format) (words : List ℕ) (bring_up : BringUp)
+        (graphs : List RawCodec) (plans : List Plan)
+        → WereAnswered (T.means setter format TAG) words bring_up
+        → AreUnrouted (T.means setter format TAG) bring_up.agenda.addresses.items words graphs plans
+        → EndsUnrouted graphs plans bring_up.agenda bring_up.phase }
 {
     answers_come_to_one::<T>();
+    words_come_to_one::<T>();
 }

@@ -10,7 +10,7 @@ use Rattle.driver_agenda.specs.AnswerWords.{WasAnswered}
 use Rattle.driver_bring_up.specs.declared.bringing.BringUp.{BringUp}
 use Rattle.driver_bring_up.specs.declared.answers.TheConstants.{TAG}
 use Rattle.driver_bring_up.specs.AnsweredWords.{WereAnsweredIn, WereAnswered}
-use Rattle.audio_driver.specs.States.{played_as, phase_if}
+use Rattle.audio_driver.specs.States.{played_as, phase_if, phase_of}
 use Rattle.audio_driver.proofs.Kept.{plays_ready}
 use Rattle.audio_driver.proofs.laws.drivers_are_answered.Goals as goal
 
@@ -70,3 +70,23 @@ pub returns-clause-phase : goal.returns-clause-phase
 returns-clause-phase g c = λ words driver is stands.
     played_in (g.T.Setter.means driver.setter driver.bring_up.agenda.format TAG) words driver.bring_up.agenda driver.bring_up.phase driver.writer.course.started driver.writer.course.ran
     (λ started. plays_ready driver.play driver.bring_up (is.begun started)) stands.is
+
+pub returns-clause-faulty : goal.returns-clause-faulty
+returns-clause-faulty g c = λ words driver graphs codec fault is stands faulty.
+    c.ends_are_exact.ensures.faulty driver.setter driver.bring_up.agenda.format words driver.bring_up.agenda (phase_of driver.bring_up driver.writer) graphs codec fault
+    (returns-clause-phase g c words driver is stands) faulty
+
+pub returns-clause-unrouted : goal.returns-clause-unrouted
+returns-clause-unrouted g c = λ words driver graphs plans is stands unrouted.
+    c.ends_are_exact.ensures.unrouted driver.setter driver.bring_up.agenda.format words driver.bring_up.agenda (phase_of driver.bring_up driver.writer) graphs plans
+    (returns-clause-phase g c words driver is stands) unrouted
+
+pub returns-clause-closed_faulty : goal.returns-clause-closed_faulty
+returns-clause-closed_faulty g c = λ setter words supply play bring_up writer closed before after closes graphs codec fault stands faulty.
+    let (kept_graphs, kept_plans, answered) = returns-clause-closed g c setter words supply play bring_up writer closed before after closes stands in
+    c.ends_are_exact.ensures.faulty setter bring_up.agenda.format words closes.ended.agenda closed.phase graphs codec fault answered faulty
+
+pub returns-clause-closed_unrouted : goal.returns-clause-closed_unrouted
+returns-clause-closed_unrouted g c = λ setter words supply play bring_up writer closed before after closes graphs plans stands unrouted.
+    let (kept_graphs, kept_plans, answered) = returns-clause-closed g c setter words supply play bring_up writer closed before after closes stands in
+    c.ends_are_exact.ensures.unrouted setter bring_up.agenda.format words closes.ended.agenda closed.phase graphs plans answered unrouted
