@@ -36,6 +36,7 @@ pub struct Agenda {
     pub ghost under_way: { ForSome walk (λ walk. WalkGoesOn addresses.items (length graphs.items) walk) },
     pub ghost fresh: { ForSome walk (λ _. answered ≡ 0) },
     pub ghost unplanned: { ForSome walk (λ _. plans.items ≡ []) },
+    pub ghost verbless: { ForSome walk (λ _. verbs.items ≡ []) },
     pub ghost of_them: { All (λ graph. graph.address ≤ 14) graphs.items } by { Prim.hlevel props },
     pub ghost in_range: { All IsInRange verbs.items } by { Prim.hlevel props },
     pub ghost within: { answered ≤ length verbs.items },

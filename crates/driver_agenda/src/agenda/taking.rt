@@ -1,6 +1,6 @@
 //! What comes next on an agenda, and where an answer leads.
 ghost use Rattle.std.specs.Prelude.{◌≡◌, ◌≤◌, ◌<◌, ℕ, [], None, Some, All, length, slice_index, IfOk, IfSome, IsSome};
-ghost use Rattle.std.specs.Prelude.{OnOk};
+ghost use Rattle.std.specs.Prelude.{OnOk, OnErr};
 ghost use Rattle.std.specs.Option.{is_some};
 ghost use Rattle.verb_codes.specs.Verbs.{IsInRange};
 ghost use Rattle.codec_graph.specs.declared.raw.RawCodec.{RawCodec};
@@ -100,12 +100,16 @@ impl Agenda {
 
     /// Begins the walk over the next codec.
     fn begin_walk(&mut self) -> Result<(), AllocError>
+        requires none { self.old.walk ≡ None }
         requires left { length self.old.graphs.items < length self.old.addresses.items }
         requires fresh { self.old.answered ≡ 0 }
         requires unplanned { self.old.plans.items ≡ [] }
+        requires verbless { self.old.verbs.items ≡ [] }
         ensures begins { OnOk result (spec.BeginsWalk self.old.addresses.items self.old.graphs.items self.new) }
         ensures graphs { self.new.graphs ≡ self.old.graphs }
         ensures plans { self.new.plans ≡ self.old.plans }
+        ensures walkless { OnErr result (self.new.walk ≡ None) }
+        ensures verbless { OnErr result (self.new.verbs.items ≡ []) }
         ensures addresses { self.new.addresses ≡ self.old.addresses }
         ensures format { self.new.format ≡ self.old.format }
     {
@@ -122,6 +126,7 @@ impl Agenda {
     /// `Malformed` exactly where a codec's answers, all of them now, are not those of a well-formed graph.
     /// `NothingRouted` exactly where this was the last walk's last answer and no plan of the graphs has a route. Or
     /// want of memory. After an error no command comes. The graphs and plans that were made stay.
+    #[tactic(auto, using(crate::proofs::Leading::nothing_next))]
     pub fn take<T: Setter>(&mut self, setter: &T, answer: u32) -> Result<(), AgendaFault>
         requires { IsSome (spec.next_of self.old.walk self.old.verbs.items self.old.answered) }
         ensures leads { OnOk result (spec.LedBy (T.means setter.now self.old.format TAG) self.old.walk answer self.old
@@ -136,6 +141,7 @@ impl Agenda {
             self.old.addresses.items self.old.graphs.items self.new }
         ensures wanting { result ≡ Err AgendaFault.OutOfMemory
             → words.WasLeft (T.means setter.now self.old.format TAG) self.old.walk answer self.old self.new }
+        ensures over { OnErr result (spec.next_of self.new.walk self.new.verbs.items self.new.answered ≡ None) }
         ensures addresses { self.new.addresses ≡ self.old.addresses }
         ensures format { self.new.format ≡ self.old.format }
     {
@@ -162,6 +168,7 @@ impl Agenda {
         requires under_way { WalkGoesOn self.old.addresses.items (length self.old.graphs.items) walk }
         requires fresh { self.old.answered ≡ 0 }
         requires unplanned { self.old.plans.items ≡ [] }
+        requires verbless { self.old.verbs.items ≡ [] }
         ensures leads { OnOk result (spec.LedByDialogue (T.means setter.now self.old.format TAG)
             (answered (remaining walk) answer)
             self.old.addresses.items self.old.graphs.items self.new) }
@@ -176,6 +183,8 @@ impl Agenda {
         ensures wanting { result ≡ Err AgendaFault.OutOfMemory
             → words.WasLeftBy (T.means setter.now self.old.format TAG) (answered (remaining walk) answer) self.old
             self.new }
+        ensures walkless { OnErr result (self.new.walk ≡ None) }
+        ensures verbless { OnErr result (self.new.verbs.items ≡ []) }
         ensures addresses { self.new.addresses ≡ self.old.addresses }
         ensures format { self.new.format ≡ self.old.format }
     {
@@ -199,6 +208,7 @@ impl Agenda {
             (remaining walk) }
         requires fresh { self.old.answered ≡ 0 }
         requires unplanned { self.old.plans.items ≡ [] }
+        requires verbless { self.old.verbs.items ≡ [] }
         ensures leads { OnOk result (spec.LedByDialogue (T.means setter.now self.old.format TAG) (remaining walk)
             self.old.addresses.items self.old.graphs.items self.new) }
         ensures malformed { (codec : ℕ) (fault : WalkFault) → result ≡ Err (AgendaFault.Malformed codec fault)
@@ -211,6 +221,8 @@ impl Agenda {
             self.old.addresses.items self.old.graphs.items self.new }
         ensures wanting { result ≡ Err AgendaFault.OutOfMemory
             → words.WasLeftBy (T.means setter.now self.old.format TAG) (remaining walk) self.old self.new }
+        ensures walkless { OnErr result (self.new.walk ≡ None) }
+        ensures verbless { OnErr result (self.new.verbs.items ≡ []) }
         ensures addresses { self.new.addresses ≡ self.old.addresses }
         ensures format { self.new.format ≡ self.old.format }
     {
@@ -228,6 +240,7 @@ impl Agenda {
         requires none { self.old.walk ≡ None }
         requires fresh { self.old.answered ≡ 0 }
         requires unplanned { self.old.plans.items ≡ [] }
+        requires verbless { self.old.verbs.items ≡ [] }
         ensures leads { OnOk result (spec.GoesOn (T.means setter.now self.old.format TAG) self.old.addresses.items
             self.old.graphs.items self.new) }
         ensures malformed { (codec : ℕ) (fault : WalkFault) → result ≡ Err (AgendaFault.Malformed codec fault) → ⊥ }
@@ -237,6 +250,8 @@ impl Agenda {
         ensures wanting { result ≡ Err AgendaFault.OutOfMemory
             → words.HasPlansLast (T.means setter.now self.old.format TAG) self.new }
         ensures graphs { self.new.graphs ≡ self.old.graphs }
+        ensures walkless { OnErr result (self.new.walk ≡ None) }
+        ensures verbless { OnErr result (self.new.verbs.items ≡ []) }
         ensures addresses { self.new.addresses ≡ self.old.addresses }
         ensures format { self.new.format ≡ self.old.format }
     {
@@ -254,6 +269,7 @@ impl Agenda {
         requires none { self.old.walk ≡ None }
         requires fresh { self.old.answered ≡ 0 }
         requires unplanned { self.old.plans.items ≡ [] }
+        requires verbless { self.old.verbs.items ≡ [] }
         ensures begins { OnOk result (spec.BeginsVerbs (T.means setter.now self.old.format TAG) self.old.graphs.items
             self.new) }
         ensures malformed { (codec : ℕ) (fault : WalkFault) → result ≡ Err (AgendaFault.Malformed codec fault) → ⊥ }
@@ -262,6 +278,8 @@ impl Agenda {
         ensures wanting { result ≡ Err AgendaFault.OutOfMemory
             → words.HasPlansOrNone (T.means setter.now self.old.format TAG) self.new }
         ensures graphs { self.new.graphs ≡ self.old.graphs }
+        ensures walkless { OnErr result (self.new.walk ≡ None) }
+        ensures verbless { OnErr result (self.new.verbs.items ≡ []) }
         ensures addresses { self.new.addresses ≡ self.old.addresses }
         ensures format { self.new.format ≡ self.old.format }
     {
