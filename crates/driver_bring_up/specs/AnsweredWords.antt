@@ -24,11 +24,11 @@ pub record IsUnasked (words : List ℕ) (agenda : Agenda) : Type 0 where
   pub graphs : agenda.graphs.items ≡ []
   pub plans : agenda.plans.items ≡ []
 
--- The words led to this phase, with the graphs and plans of this agenda. From `Ready` on, while sound plays and once it
--- is over, they are those of the walks over all codecs and of their verbs. `Malformed`: those of this codec have this
--- fault, and those of the codecs before it told the graphs; there are no plans. `NothingRouted`: those of all codecs
--- told the graphs, and no plan of them has a route. `Failed`: the first of them told the graphs, and there are no
--- plans, or all codecs told theirs and the plans are those of the graphs.
+-- The words led to this phase, with the graphs and plans of this agenda. From `Walking` to `Ready`, while sound plays
+-- and once it is over, and also where a command had no answer, they led the agenda to where it stands. `Malformed`:
+-- those of this codec have this fault, and those of the codecs before it told the graphs; there are no plans.
+-- `NothingRouted`: those of all codecs told the graphs, and no plan of them has a route. `Failed`: the first of them
+-- told the graphs, and there are no plans, or all codecs told theirs and the plans are those of the graphs.
 abbrev pub WereAnsweredIn : Means → (words : List ℕ) → Agenda → Phase → Type 0
 WereAnsweredIn means words agenda Reset = IsUnasked words agenda
 WereAnsweredIn means words agenda Settling = IsUnasked words agenda
