@@ -283,10 +283,10 @@ one_routed means law addresses words graphs graphs' plans plans' verbs verbs' fi
     let (same, before_same) = one_whole addresses first.before second.before first.rest second.rest graphs graphs' first.walked second.walked (sym first.split ∙ second.split) in
     let long : length first.before + length first.rest ≡ length second.before + length second.rest =
     sym (length-append first.before first.rest) ∙ ap length (sym first.split ∙ second.split) ∙ length-append second.before second.rest in
-    let front : length first.before ≡ length second.before = ap length before_same in
+    let firsts : length first.before ≡ length second.before = ap length before_same in
     let count = first.count in
     let count' = second.count in
-    let alike : verbs ≡ verbs' = omega (arith, long, front, count, count') in
+    let alike : verbs ≡ verbs' = omega (arith, long, firsts, count, count') in
     (same, plans_alike means law graphs' plans plans' (subst (λ (graphs : List RawCodec). ArePlansBy means.IsPlanBy graphs plans) same first.plans_are) second.plans_are, alike)
 
 -- walks that go on are behind the same graphs, and have the same still to come
@@ -305,13 +305,13 @@ one_under_way addresses words graphs graphs' dialogue dialogue' is asks is' asks
 
 -- ---- where nothing was answered
 
-none_front : (front back : List ℕ) → [] ≡ front ++ back → front ≡ []
-none_front [] back is = refl
-none_front (word ∷ front) back is = cc
+none_front : (words more : List ℕ) → [] ≡ words ++ more → words ≡ []
+none_front [] more is = refl
+none_front (word ∷ words) more is = cc
 
-none_back : (front back : List ℕ) → [] ≡ front ++ back → back ≡ []
-none_back [] back is = sym is
-none_back (word ∷ front) back is = cc
+none_back : (words more : List ℕ) → [] ≡ words ++ more → more ≡ []
+none_back [] more is = sym is
+none_back (word ∷ words) more is = cc
 
 -- a walk tells nothing before its first answer
 tells_first : (address : ℕ) (words : List ℕ) (codec : RawCodec) → words ≡ [] → after (walk address) words ≡ Told codec → ⊥
