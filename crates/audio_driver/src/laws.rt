@@ -3,7 +3,7 @@ ghost use Rattle.std.specs.Prelude.{◌≡◌, ℕ, List, [], Bool, true, false,
 ghost use Rattle.codec_graph.specs.declared.raw.RawCodec.{RawCodec};
 ghost use Rattle.codec_walk.specs.declared.fault.WalkFault.{WalkFault};
 ghost use Rattle.route_planner.specs.declared.routes.Plan.{Plan};
-ghost use Rattle.driver_agenda.specs.AnswerWords.{AreFaulty, AreUnrouted};
+ghost use Rattle.driver_agenda.specs.AnswerWords.{AreFaulty, AreUnrouted, AreRouted};
 ghost use Rattle.hda_world.specs.Tellings.{Telling};
 ghost use Rattle.period_writer.specs.declared.geometry.Geometry.{Geometry};
 ghost use Rattle.period_writer.specs.Writers.{WriterState};
@@ -65,6 +65,13 @@ pub fn drivers_are_answered<T: Setter>()
         → WereAnswered (T.means setter bring_up.agenda.format TAG) words closes.ended
         → (closed.graphs ≡ closes.ended.agenda.graphs) × (closed.plans ≡ closes.ended.agenda.plans)
         × WereAnsweredIn (T.means setter bring_up.agenda.format TAG) words closes.ended.agenda closed.phase }
+    ensures closed_played { (setter : T) (words supply : List ℕ) (play : Bool) (bring_up : BringUp)
+        (writer : WriterState) (closed : Closed) (before after : Option Telling)
+        (closes : Closes (T.means setter bring_up.agenda.format TAG) play bring_up writer supply closed before after)
+        → WereAnswered (T.means setter bring_up.agenda.format TAG) words closes.ended
+        → closes.tally.course.started ≡ true
+        → AreRouted (T.means setter bring_up.agenda.format TAG) closes.ended.agenda.addresses.items words
+        closed.graphs.items closed.plans.items closes.ended.agenda.answered }
     ensures phase { (words : List ℕ) (driver : DriverState T)
         → IsDriver driver.bring_up driver.writer driver.pool driver.play driver.runs driver.calls
         → WereAnswered (T.means driver.setter driver.bring_up.agenda.format TAG) words driver.bring_up

@@ -10,18 +10,19 @@ use Rattle.hda_world.specs.Events.{Event}
 use Rattle.hda_world.specs.Tellings.{Telling}
 use Rattle.command_engine.specs.declared.answers.Outstanding.{Outstanding}
 use Rattle.driver_agenda.specs.declared.agenda.Agenda.{Agenda}
-use Rattle.driver_agenda.specs.Agendas.{BeginsWalk, LedBy, TellsFault}
-use Rattle.driver_agenda.specs.AnswerWords.{WasAnswered, AreFaulty, AreUnrouted, AnswersNoRoute, WasLeft, AreLeft}
+use Rattle.codec_walk.specs.declared.walk.Walk.{Walk}
+use Rattle.driver_agenda.specs.Agendas.{next_of, BeginsWalk, LedBy, TellsFault}
+use Rattle.driver_agenda.specs.AnswerWords.{WasAnsweredBy, WasAnswered, AreFaulty, AreUnrouted, AreRouted, AnswersNoRoute, WasLeft, AreLeft}
 use Rattle.driver_agenda.proofs.Callers.{begins_answered, led_answered, faulty_answered, unrouted_answered, faulty_unplanned, left_answered, no_route_answered}
 use Rattle.driver_progress.specs.declared.phase.Phase.{Phase}
 use Rattle.driver_progress.specs.declared.phase.Phase.TheVariants.{Reset, Settling, Walking, SettingUp, Ready, Playing, Drained, NothingRouted, Unanswered, Late, Malformed, Failed}
-use Rattle.driver_progress.specs.Phases.{is_asking}
+use Rattle.driver_progress.specs.Phases.{is_asking, is_ready, goes_on}
 use Rattle.driver_bring_up.specs.declared.bringing.BringUp.{BringUp}
-use Rattle.driver_bring_up.specs.Standing.{LeadsOn, EndsBy}
+use Rattle.driver_bring_up.specs.Standing.{next_on, phase_at, phase_of, LeadsOn, EndsBy}
 use Rattle.command_engine.specs.Polling.{found_by}
 use Rattle.driver_progress.specs.Commands.{ask_accesses}
 use Rattle.driver_progress.specs.Settling.{settle_accesses}
-use Rattle.driver_progress.proofs.Callers.{settle_unread}
+use Rattle.driver_progress.proofs.Callers.{settle_unread, ready_is}
 use Rattle.std.specs.Option.{is_some}
 use Rattle.driver_bring_up.specs.Commanding.{answer_in, entries_in}
 use Rattle.driver_bring_up.specs.Failing.{FailsToWalk, FailsToTake, Fails}
@@ -208,6 +209,30 @@ fails_answered means irq words old new before after fails failed stands = record
         subst (λ (answer : Option ℕ). WereAnsweredIn means (with_answer words answer) new.agenda Failed) (sym (look_found means old new fails.made take))
         (inr (take_failed means words old.agenda new.agenda (found_by old.engine.rings take.finds.reads) take.finds.found
         (asking_answered means words old.agenda old.phase take.asking stands.is) take.finds.addresses take.finds.left))
+
+-- ---- once all codecs are set up
+
+walking_ready : Walking ≡ Ready → ⊥
+walking_ready is = cc
+
+-- while a walk is under way it asks
+no_walk : (agenda : Agenda) (walks : Option Walk) → agenda.walk ≡ walks → phase_of agenda ≡ Ready → walks ≡ None
+no_walk agenda None is ready = refl
+no_walk agenda (Some under_way) is ready =
+    let asks : is_some (next_on agenda) ≡ true =
+    ap (λ (walk : Option Walk). is_some (next_of walk agenda.verbs.items agenda.answered)) is ∙ (agenda.under_way under_way is).asks in
+    let walking : phase_of agenda ≡ Walking =
+    ap (λ (asks : Bool). phase_at asks (is_some agenda.walk)) asks ∙ ap (λ (walk : Option Walk). phase_at true (is_some walk)) is in
+    absurd (walking_ready (sym walking ∙ ready))
+
+-- so the words are those of the walks over all codecs, and of verbs
+pub ready_answered : (means : Means) (words : List ℕ) (bring_up : BringUp) → is_ready bring_up.phase ≡ true → WereAnswered means words bring_up
+    → AreRouted means bring_up.agenda.addresses.items words bring_up.agenda.graphs.items bring_up.agenda.plans.items bring_up.agenda.answered
+ready_answered means words bring_up ready stands =
+    let is : bring_up.phase ≡ Ready = ready_is bring_up.phase ready in
+    let set_up : phase_of bring_up.agenda ≡ Ready = sym (bring_up.led (ap goes_on is)) ∙ is in
+    let answered : WasAnswered means words bring_up.agenda = subst (WereAnsweredIn means words bring_up.agenda) is stands.is in
+    subst (WasAnsweredBy means words bring_up.agenda) (no_walk bring_up.agenda bring_up.agenda.walk refl set_up) answered.is
 
 -- ---- an answer comes to one thing at most
 

@@ -10,12 +10,12 @@ ghost use Rattle.stream_format.specs.declared.format.Format.{Format};
 ghost use Rattle.codec_walk.specs.declared.fault.WalkFault.{WalkFault};
 ghost use Rattle.route_planner.specs.declared.routes.Plan.{Plan};
 ghost use Rattle.driver_agenda.specs.Agendas.{TellsFault};
-ghost use Rattle.driver_agenda.specs.AnswerWords.{AnswersNoRoute, AreFaulty, AreUnrouted};
+ghost use Rattle.driver_agenda.specs.AnswerWords.{AnswersNoRoute, AreFaulty, AreUnrouted, AreRouted};
 ghost use Rattle.driver_agenda.specs.Following.{Follows};
 ghost use Rattle.driver_agenda.specs.declared.agenda.Agenda.{Agenda};
 ghost use Rattle.driver_progress.specs.declared.phase.Phase.{Phase};
 ghost use Rattle.driver_progress.specs.Tasks.{Task, IsTaskFor};
-ghost use Rattle.driver_progress.specs.Phases.{is_asking};
+ghost use Rattle.driver_progress.specs.Phases.{is_asking, is_ready};
 ghost use Rattle.driver_progress.specs.Requests.{requests_of};
 ghost use Rattle.driver_progress.specs.States.{State};
 ghost use Rattle.driver_progress.specs.declared.phase.Phase.TheVariants as phases;
@@ -84,7 +84,8 @@ pub fn agendas_agree<T: Setter>()
 /// On every platform, also where what is answered is a lie: the words that were answered until now lead to the phase,
 /// and each call leads them on by the answer that it read, if it read one. So `Malformed` names the codec whose words
 /// have this fault, and the graphs of those before it; at `NothingRouted` all codecs told the graphs, of which no plan
-/// has a route; and where memory was wanting the graphs are those that the first words told.
+/// has a route; and where memory was wanting the graphs are those that the first words told. In the phase `Ready` they
+/// are those of the walks over all codecs and then of verbs, and graphs and plans are those that the walks told.
 pub fn bring_ups_are_answered<T: Setter>()
     ensures begins { (setter : T) (format : Format) (bring_up : BringUp) → bring_up.phase ≡ phases.Reset
         → bring_up.agenda.graphs.items ≡ [] → bring_up.agenda.plans.items ≡ []
@@ -101,6 +102,10 @@ pub fn bring_ups_are_answered<T: Setter>()
         (before after : Option Telling) (fails : Fails (T.means setter format TAG) irq old new before after)
         → new.phase ≡ phases.Failed → WereAnswered (T.means setter format TAG) words old
         → WereAnswered (T.means setter format TAG) (with_answer words (answer_in old.engine.rings fails.made)) new }
+    ensures routed { (setter : T) (format : Format) (words : List ℕ) (bring_up : BringUp)
+        → is_ready bring_up.phase ≡ true → WereAnswered (T.means setter format TAG) words bring_up
+        → AreRouted (T.means setter format TAG) bring_up.agenda.addresses.items words bring_up.agenda.graphs.items
+        bring_up.agenda.plans.items bring_up.agenda.answered }
 {}
 
 /// Where an answer leads is exact: to `Malformed` where it tells a fault, with this fault and the codec that was asked;

@@ -1,4 +1,6 @@
-use Rattle.std.proofs.Common.{◌≡◌, ℕ, List, Bool, true, false, refl, sym, subst}
+use Rattle.std.proofs.Common.{◌≡◌, ℕ, List, Bool, true, false, refl, sym, ap, subst}
+use Rattle.codec_graph.specs.declared.raw.RawCodec.{RawCodec}
+use Rattle.route_planner.specs.declared.routes.Plan.{Plan}
 use Rattle.route_setup.specs.Means.{Means}
 use Rattle.period_writer.specs.declared.course.Ran.{Ran}
 use Rattle.period_writer.specs.declared.course.Ran.TheVariants as ran
@@ -6,7 +8,7 @@ use Rattle.driver_progress.specs.declared.phase.Phase.{Phase}
 use Rattle.driver_progress.specs.Phases.{is_ready}
 use Rattle.driver_progress.proofs.Callers.{ready_is}
 use Rattle.driver_agenda.specs.declared.agenda.Agenda.{Agenda}
-use Rattle.driver_agenda.specs.AnswerWords.{WasAnswered}
+use Rattle.driver_agenda.specs.AnswerWords.{WasAnswered, AreRouted}
 use Rattle.driver_bring_up.specs.declared.bringing.BringUp.{BringUp}
 use Rattle.driver_bring_up.specs.declared.answers.TheConstants.{TAG}
 use Rattle.driver_bring_up.specs.AnsweredWords.{WereAnsweredIn, WereAnswered}
@@ -90,3 +92,11 @@ pub returns-clause-closed_unrouted : goal.returns-clause-closed_unrouted
 returns-clause-closed_unrouted g c = λ setter words supply play bring_up writer closed before after closes graphs plans stands unrouted.
     let (kept_graphs, kept_plans, answered) = returns-clause-closed g c setter words supply play bring_up writer closed before after closes stands in
     c.ends_are_exact.ensures.unrouted setter bring_up.agenda.format words closes.ended.agenda closed.phase graphs plans answered unrouted
+
+pub returns-clause-closed_played : goal.returns-clause-closed_played
+returns-clause-closed_played g c = λ setter words supply play bring_up writer closed before after closes stands started.
+    let means = g.T.Setter.means setter bring_up.agenda.format TAG in
+    let ended = closes.ended.agenda in
+    let is = c.bring_ups_are_answered.ensures.routed setter bring_up.agenda.format words closes.ended (closes.ready started) stands in
+    subst (λ (graphs : List RawCodec). AreRouted means ended.addresses.items words graphs closed.plans.items ended.answered) (sym (ap (λ all. all.items) closes.graphs))
+    (subst (λ (plans : List Plan). AreRouted means ended.addresses.items words ended.graphs.items plans ended.answered) (sym (ap (λ all. all.items) closes.plans)) is)
