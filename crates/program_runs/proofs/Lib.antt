@@ -2,6 +2,7 @@ pub mod Events
 pub mod LinkFrames
 pub mod Called
 pub mod Feeds
+pub mod FedRings
 pub mod Sound
 pub mod Goes
 pub mod Closes

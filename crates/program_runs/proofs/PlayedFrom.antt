@@ -30,7 +30,7 @@ use Rattle.sound_report.specs.declared.played.Played.{Played}
 use Rattle.program_runs.specs.Feeding.{Shelves, Streams, IsFed, IsLeftAfter, HasCause, IsAccount, IsCutAt, AreFramesRead, Took, sound_bytes}
 use Rattle.program_runs.specs.Reading.{frames_read, IsLineOf}
 use Rattle.program_runs.specs.Plays.{IsSoundRead, IsReadUpTo, IsCutUnder, most_of_frames}
-use Rattle.program_runs.proofs.Feeds.{first_supply, fed_first, ring_whole}
+use Rattle.program_runs.proofs.FedRings.{first_supply, fed_first, ring_whole}
 use Rattle.program_runs.proofs.Sound.{later_of, may_later, ends_later, sound_length, sound_told, read_less}
 
 -- where a play reads its sound

@@ -29,7 +29,7 @@ use Rattle.program_runs.specs.Feeding.{Shelves, Streams, IsFed}
 use Rattle.program_runs.specs.FrameCounts.{written_by}
 use Rattle.program_runs.specs.Going.{HasDriven, IsDriven, parts_with, stand_of}
 use Rattle.program_runs.specs.Plays.{played_task, sound_with}
-use Rattle.program_runs.proofs.Feeds.{first_supply}
+use Rattle.program_runs.proofs.FedRings.{first_supply}
 use Rattle.program_runs.proofs.Goes.{Keeps}
 use Rattle.program_runs.proofs.Gone.{CanGo, Gone, gone, used_in_runs}
 use Rattle.program_runs.proofs.Played.{playing_ends, written_few}

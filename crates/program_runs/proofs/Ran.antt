@@ -28,7 +28,8 @@ use Rattle.rig.specs.Stretches.{IsStretchFrom}
 use Rattle.program_runs.specs.Feeding.{Shelves, IsFed, IsFedSo, Took}
 use Rattle.program_runs.specs.Going.{Goes, Ran, RanLine, Player, Stand, IsFedFrom, sounded, parts_of, stand_of}
 use Rattle.program_runs.proofs.Goes.{FollowBoth, goes_none, goes_both}
-use Rattle.program_runs.proofs.Feeds.{fed_on, took_line}
+use Rattle.program_runs.proofs.Feeds.{fed_on}
+use Rattle.program_runs.proofs.FedRings.{took_line}
 
 -- nothing was taken
 pub took_none : (told : Shelves) (supply : Supplied) → Took [] told supply supply

@@ -17,8 +17,19 @@ use test_cases::number_of;
 /// The bytes of the ring of the drivers here.
 const RING_BYTES: u32 = 768;
 
-/// What the device does after a call that asks the codec 0 something.
-const ANSWER: [Step; 3] = [Step::Corb, Step::Answer(0), Step::Rirb];
+/// What the device does after a call that asks one of the codecs 0 and 2 something.
+const ANSWER: [Step; 4] = [Step::Corb, Step::Answer(0), Step::Answer(2), Step::Rirb];
+
+/// How a driver is called while its commands are answered.
+#[derive(Clone, Copy)]
+pub enum Served {
+    /// By runs, the last of them after the last answer.
+    ByRuns,
+    /// By calls for interrupts, the last of them after the last answer.
+    ByInterrupts,
+    /// By runs, the last of them before the last answer, so that the last call of all finds it.
+    UpToTheEnd,
+}
 
 /// The device makes some steps.
 fn make(liar: &mut Liar, steps: &[Step]) -> Result<(), AllocError>
@@ -50,8 +61,48 @@ fn call(liar: &mut Liar, driver: &mut Driver<Analog>) -> Result<(), AllocError>
     Ok(())
 }
 
-/// The reset, so many calls after each of which an answer comes, and one call more.
-fn serve(liar: &mut Liar, driver: &mut Driver<Analog>, turns: u32) -> Result<(), AllocError>
+/// A call for an interrupt, where one is left.
+fn interrupt(liar: &mut Liar, driver: &mut Driver<Analog>) -> Result<(), AllocError>
+    requires between { (setting_of (rig_of liar.old)).in_run ≡ false }
+    requires silent { driver.old.play ≡ false }
+    requires ring { ring_size driver.old.writer ≡ 768 }
+    ensures between { OnOk result ((setting_of (rig_of liar.new)).in_run ≡ false) }
+    ensures silent { driver.new.play ≡ false }
+    ensures ring { ring_size driver.new.writer ≡ 768 }
+{
+    if !driver.has_call_left() {
+        return Ok(());
+    }
+    liar.rig()
+        .begin(&[], ROOM_ACCESSES, RING_BYTES + ROOM_BYTES)?;
+    let _phase = driver.irq(liar, 0)?;
+    liar.rig().end();
+    Ok(())
+}
+
+/// A call that looks for an answer.
+fn look(liar: &mut Liar, driver: &mut Driver<Analog>, served: Served) -> Result<(), AllocError>
+    requires between { (setting_of (rig_of liar.old)).in_run ≡ false }
+    requires silent { driver.old.play ≡ false }
+    requires ring { ring_size driver.old.writer ≡ 768 }
+    ensures between { OnOk result ((setting_of (rig_of liar.new)).in_run ≡ false) }
+    ensures silent { driver.new.play ≡ false }
+    ensures ring { ring_size driver.new.writer ≡ 768 }
+{
+    match served {
+        Served::ByInterrupts => interrupt(liar, driver),
+        Served::ByRuns | Served::UpToTheEnd => call(liar, driver),
+    }
+}
+
+/// The reset, and so many calls after each of which an answer comes; one call more, where the last answer isn't left to
+/// the last call of all.
+fn serve(
+    liar: &mut Liar,
+    driver: &mut Driver<Analog>,
+    turns: u32,
+    served: Served,
+) -> Result<(), AllocError>
     requires between { (setting_of (rig_of liar.old)).in_run ≡ false }
     requires silent { driver.old.play ≡ false }
     requires ring { ring_size driver.old.writer ≡ 768 }
@@ -63,10 +114,13 @@ fn serve(liar: &mut Liar, driver: &mut Driver<Analog>, turns: u32) -> Result<(),
     make(liar, &[Step::Link(25)])?;
     call(liar, driver)?;
     for _turn in 0..turns {
-        call(liar, driver)?;
+        look(liar, driver, served)?;
         make(liar, &ANSWER)?;
     }
-    call(liar, driver)
+    match served {
+        Served::UpToTheEnd => Ok(()),
+        Served::ByRuns | Served::ByInterrupts => look(liar, driver, served),
+    }
 }
 
 /// The last call.
@@ -94,12 +148,13 @@ fn closed_after(
     liar: &mut Liar,
     mut driver: Driver<Analog>,
     turns: u32,
+    served: Served,
 ) -> Result<Closed, AllocError>
     requires between { (setting_of (rig_of liar.old)).in_run ≡ false }
     requires silent { driver.play ≡ false }
     requires ring { ring_size driver.writer ≡ 768 }
 {
-    match serve(liar, &mut driver, turns) {
+    match serve(liar, &mut driver, turns, served) {
         Ok(()) => close(liar, driver),
         Err(failed) => {
             let _pool = driver.abandon();
@@ -134,12 +189,13 @@ fn closed_over(
     machine: Machine,
     lies: Vec<(u32, u32)>,
     turns: u32,
+    served: Served,
 ) -> Result<Option<Closed>, AllocError>
     requires { IsSound machine }
 {
     let mut liar = Liar::new(rig_of_machine(alloc, machine)?, lies);
     match silent_driver(alloc)? {
-        Some(driver) => Ok(Some(closed_after(&mut liar, driver, turns)?)),
+        Some(driver) => Ok(Some(closed_after(&mut liar, driver, turns, served)?)),
         None => Ok(None),
     }
 }
@@ -158,7 +214,7 @@ fn shown(alloc: Global, closed: &Closed) -> Result<String, AllocError> {
 
 /// How a driver ends over the machine of a codec file, after so many turns, where these lies are told of what it reads
 /// of RIRB.
-pub fn tell(alloc: Global, words: &[Vec<u8>]) -> Result<String, AllocError> {
+pub fn tell(alloc: Global, words: &[Vec<u8>], served: Served) -> Result<String, AllocError> {
     let [file, turns, lies @ ..] = words else {
         return format!(in alloc; "no codec");
     };
@@ -166,7 +222,7 @@ pub fn tell(alloc: Global, words: &[Vec<u8>]) -> Result<String, AllocError> {
         return format!(in alloc; "refused");
     };
     let lies = read_lies(alloc, lies)?;
-    match closed_over(alloc, machine, lies, number_of(turns))? {
+    match closed_over(alloc, machine, lies, number_of(turns), served)? {
         Some(closed) => shown(alloc, &closed),
         None => format!(in alloc; "not opened"),
     }

@@ -14,6 +14,7 @@ mod walks;
 mod wide_walks;
 
 use hda_outside::{Fault, FileShelf, OutSink};
+use liars::Served;
 use std::alloc::{AllocError, Global};
 use std::process::ExitCode;
 use test_cases::{Cases, run_cases, text_of};
@@ -59,7 +60,9 @@ impl Cases for Calls {
             "start" => engine::tell_start(alloc, rest),
             "open" => engine::tell_open(alloc, rest),
             "driver" => drivers::tell(alloc, rest),
-            "lied" => liars::tell(alloc, rest),
+            "lied" => liars::tell(alloc, rest, Served::ByRuns),
+            "lied_at_interrupts" => liars::tell(alloc, rest, Served::ByInterrupts),
+            "lied_at_the_end" => liars::tell(alloc, rest, Served::UpToTheEnd),
             "poll" => engine::tell_poll(alloc, rest),
             "standing" => engine::tell_standing(alloc, rest),
             _ => format!(in alloc; "no call"),

@@ -6,7 +6,7 @@ use Rattle.laws_driver.specs.Keeping.{Calls}
 use Rattle.period_writer.specs.Writers.{measures_of}
 use Rattle.period_writer.proofs.Callers.{ring_some}
 use Rattle.program_runs.specs.Going.{parts_of, sounded}
-use Rattle.program_runs.proofs.Feeds.{suffices_up}
+use Rattle.program_runs.proofs.FedRings.{suffices_up}
 use Rattle.program_runs.proofs.Called.{called}
 use Rattle.program_runs.proofs.calls.call.Goals as goal
 

@@ -1,6 +1,7 @@
 use Rattle.program_runs.specs.Feeding.{shelves_of}
 use Rattle.period_writer.specs.Writers.{measures_of}
-use Rattle.program_runs.proofs.Feeds.{fed_noted, ok_any, took_filled}
+use Rattle.program_runs.proofs.Feeds.{fed_noted}
+use Rattle.program_runs.proofs.FedRings.{ok_any, took_filled}
 use Rattle.program_runs.proofs.feeding.feed.Goals as goal
 
 pub returns-clause-fed : goal.returns-clause-fed

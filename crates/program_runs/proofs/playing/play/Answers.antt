@@ -24,7 +24,7 @@ use Rattle.program_runs.specs.Going.{parts_with}
 use Rattle.program_runs.specs.Hearing.{lists_heard}
 use Rattle.program_runs.specs.Plays.{play_fault, played_task, sound_with}
 use Rattle.program_runs.proofs.Counting.{few_lines}
-use Rattle.program_runs.proofs.Feeds.{first_supply, ring_whole}
+use Rattle.program_runs.proofs.FedRings.{first_supply, ring_whole}
 use Rattle.program_runs.proofs.Gone.{opened_can_go}
 use Rattle.program_runs.proofs.Listed.{lists_are}
 use Rattle.program_runs.proofs.LineRecorded.{RunLaws, ring_some}

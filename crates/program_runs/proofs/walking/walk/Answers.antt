@@ -19,7 +19,7 @@ use Rattle.program_runs.specs.Events.{told_in}
 use Rattle.program_runs.specs.Going.{parts_with}
 use Rattle.program_runs.specs.Walks.{walk_format, walked_task}
 use Rattle.program_runs.proofs.Counting.{few_lines}
-use Rattle.program_runs.proofs.Feeds.{nothing_told, given_nothing, may_held, ends_held}
+use Rattle.program_runs.proofs.FedRings.{nothing_told, given_nothing, may_held, ends_held}
 use Rattle.program_runs.proofs.Gone.{CanGo, Gone, gone, opened_can_go}
 use Rattle.program_runs.proofs.Walked.{driven, none_recorded, walk_ends}
 use Rattle.program_runs.proofs.walking.walk.Goals as goal
