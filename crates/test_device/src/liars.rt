@@ -25,7 +25,7 @@ const ANSWER: [Step; 4] = [Step::Corb, Step::Answer(0), Step::Answer(2), Step::R
 pub enum Served {
     /// By runs, the last of them after the last answer.
     ByRuns,
-    /// By calls for interrupts, the last of them after the last answer.
+    /// By calls for interrupts, the last of them after the last answer. The first command is asked by a run before them.
     ByInterrupts,
     /// By runs, the last of them before the last answer, so that the last call of all finds it.
     UpToTheEnd,
@@ -95,8 +95,26 @@ fn look(liar: &mut Liar, driver: &mut Driver<Analog>, served: Served) -> Result<
     }
 }
 
-/// The reset, and so many calls after each of which an answer comes; one call more, where the last answer isn't left to
-/// the last call of all.
+/// The reset, the time in which codecs announce themselves, and the run that ends it.
+fn bring_up(liar: &mut Liar, driver: &mut Driver<Analog>, served: Served) -> Result<(), AllocError>
+    requires between { (setting_of (rig_of liar.old)).in_run ≡ false }
+    requires silent { driver.old.play ≡ false }
+    requires ring { ring_size driver.old.writer ≡ 768 }
+    ensures between { OnOk result ((setting_of (rig_of liar.new)).in_run ≡ false) }
+    ensures silent { driver.new.play ≡ false }
+    ensures ring { ring_size driver.new.writer ≡ 768 }
+{
+    call(liar, driver)?;
+    make(liar, &[Step::Link(25)])?;
+    call(liar, driver)?;
+    match served {
+        Served::ByInterrupts => call(liar, driver),
+        Served::ByRuns | Served::UpToTheEnd => Ok(()),
+    }
+}
+
+/// The bring-up, and so many calls after each of which an answer comes; one call more, where the last answer isn't left
+/// to the last call of all.
 fn serve(
     liar: &mut Liar,
     driver: &mut Driver<Analog>,
@@ -110,9 +128,7 @@ fn serve(
     ensures silent { driver.new.play ≡ false }
     ensures ring { ring_size driver.new.writer ≡ 768 }
 {
-    call(liar, driver)?;
-    make(liar, &[Step::Link(25)])?;
-    call(liar, driver)?;
+    bring_up(liar, driver, served)?;
     for _turn in 0..turns {
         look(liar, driver, served)?;
         make(liar, &ANSWER)?;
