@@ -19,7 +19,8 @@ use Rattle.hda_world.proofs.Callers.{kept_steps, steps_leave, access_leaves}
 use Rattle.driver_progress.specs.Beginning.{KeepsTime}
 use Rattle.rig.specs.Stretches.{steps_in, all_steps_in, woven}
 use Rattle.rig.specs.Follows.{AreAccesses}
-use Rattle.rig.proofs.Callers.{step_frames_bounded, event_frames, event_frames_bounded, access_frames}
+use Rattle.rig.specs.LinkFrames.{event_frames}
+use Rattle.rig.proofs.Callers.{step_frames_bounded, event_frames_bounded, access_frames}
 use Rattle.driver_progress.proofs.Callers.{keeps_time}
 use Rattle.laws_serving.specs.Rounds.{frames_of_steps}
 use Rattle.laws_serving.proofs.Requests.{IsAccess}

@@ -29,7 +29,7 @@ use Rattle.driver_progress.specs.Requests.{Request, Gets, Puts, Fetches, Stores,
 use Rattle.driver_progress.specs.Expected.{fetches, polls}
 use Rattle.rig.specs.Stretches.{is_access, accesses_of}
 use Rattle.rig.specs.Follows.{AreAccesses}
-use Rattle.rig.proofs.Callers.{event_frames}
+use Rattle.rig.specs.LinkFrames.{event_frames}
 use Rattle.laws_serving.proofs.Callers.{IsAccess, events_count}
 use Rattle.laws_serving.proofs.Full.{IsWhole, whole_add}
 use Rattle.laws_serving.proofs.Moments.{split_body, IsNoStop, runs_at, by_accesses}

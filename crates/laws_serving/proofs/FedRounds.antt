@@ -30,7 +30,7 @@ use Rattle.driver_progress.specs.Expected.{stops as asked_stops}
 use Rattle.driver_progress.specs.Next.{led, closed, phase_played, tally_next}
 use Rattle.driver_progress.specs.Progress.{Trail, seen_in}
 use Rattle.rig.specs.Stretches.{accesses_of, stretch}
-use Rattle.rig.proofs.Callers.{event_frames}
+use Rattle.rig.specs.LinkFrames.{event_frames}
 use Rattle.period_writer.proofs.Callers.{position_there}
 use Rattle.laws_serving.proofs.Callers.{IsTimed, call_frames, steps_count, timed_steps, frames_so, none_asked, within_call, accesses_are, trail_made, leads_so, plainly_led, RanRound, rest_events, alone_is, stretch_is, ends_there, IsLeft, IsNext, next_round, last_round, line_in, state_over, world_after, HasPlayedOn, later_run, last_run, ArePrompt, prompt_later, PlaysOn, later_in_time}
 use Rattle.laws_serving.proofs.Full.{IsWhole, AreWhole, IsFull, BeginsLate, le_cases, next_full, full_high, drained_high}

@@ -19,28 +19,17 @@ use Rattle.period_writer.specs.Outcomes.{HasNotWrapped}
 use Rattle.laws_stream.specs.Lives.{Along}
 use Rattle.rig.specs.Stretches.{is_access, steps_in, all_steps_in, woven, stretch}
 use Rattle.rig.specs.Follows.{Piece, AreAccesses, laid_out, FollowItems, Follows}
-use Rattle.rig.proofs.Callers.{event_frames as frames_over, event_frames_bounded, access_frames as none_over}
-use Rattle.program_runs.specs.LinkFrames.{event_frames, frames_in, IsShort}
+use Rattle.rig.specs.LinkFrames.{event_frames, frames_in}
+use Rattle.rig.proofs.Callers.{event_frames_bounded, access_frames}
+use Rattle.program_runs.specs.LinkFrames.{IsShort}
 
 -- ---- events count no more than their frames
-
-same_frames : (event : Event) → frames_over event ≡ event_frames event
-same_frames (Stepped step) = refl
-same_frames Begin = refl
-same_frames End = refl
-same_frames (Read at width value) = refl
-same_frames (Write at width value) = refl
-same_frames (DmaRead at bytes) = refl
-same_frames (DmaWrite at bytes) = refl
-
-event_counts : (world : World) (event : Event) → (happens world event).frames ≤ world.frames + event_frames event
-event_counts world event = subst (λ (frames : ℕ). (happens world event).frames ≤ world.frames + frames) (same_frames event) (event_frames_bounded world event)
 
 pub events_count : (events : List Event) (world : World) → (after events world).frames ≤ world.frames + frames_in events
 events_count [] world = omega arith
 events_count (event ∷ events) world =
     let rest = events_count events (happens world event) in
-    let one = event_counts world event in
+    let one = event_frames_bounded world event in
     let all = sum_by-cons event_frames event events in
     omega (arith, rest, one, all)
 
@@ -53,7 +42,7 @@ frames_both first second = sum_by-append event_frames first second
 along_few : (events : List Event) (world : World) → world.frames + frames_in events ≤ most_frames → Along HasNotWrapped events world
 along_few [] world few = omega (arith, few)
 along_few (event ∷ events) world few =
-    let one = event_counts world event in
+    let one = event_frames_bounded world event in
     let all = sum_by-cons event_frames event events in
     (omega (arith, few), along_few events (happens world event) (omega (arith, few, one, all)))
 
@@ -74,9 +63,6 @@ never_wrapped old new events went short =
     along_few events (world_of old) (omega (arith, few, short, start, all))
 
 -- ---- the frames of a schedule
-
-access_frames : (event : Event) → is_access event ≡ true → event_frames event ≡ 0
-access_frames event is = sym (same_frames event) ∙ none_over event is
 
 steps_frames : (steps : List Step) → frames_in (map Stepped steps) ≡ sum_by step_frames steps
 steps_frames [] = refl

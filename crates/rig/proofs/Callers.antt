@@ -12,8 +12,6 @@ pub use Rattle.rig.proofs.Candidates.{candidate_known}
 pub use Rattle.rig.proofs.Weaving.{groups_none}
 -- a step lets no more link frames pass than its own
 pub use Rattle.rig.proofs.LinkFrames.{step_frames_bounded}
--- the link frames of an event
-pub use Rattle.rig.proofs.LinkFrames.{event_frames}
 -- no more pass over an event
 pub use Rattle.rig.proofs.LinkFrames.{event_frames_bounded}
 -- and none over an access

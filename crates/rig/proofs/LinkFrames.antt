@@ -12,6 +12,7 @@ use Rattle.hda_world.specs.Worlds.{World, codec_at, output_of}
 use Rattle.hda_world.specs.Steps.{address_of, is_busy, handed, handed_next, sent_first, waiting_of as waiting_of, lost, passed, output_framed, frame_step, times, output_fetched, after_step}
 use Rattle.hda_world.specs.Events.{Event, Stepped, Begin, End, Read, Write, DmaRead, DmaWrite, happens, reset_if, counted_anew_if, registers_written}
 use Rattle.rig.specs.Stretches.{is_access}
+use Rattle.rig.specs.LinkFrames.{event_frames}
 
 level : (n : ℕ) → n ≤ n + 0
 level n = omega arith
@@ -46,16 +47,6 @@ step_frames_bounded (step.Fetch stream most) world = if_frames _ (output_fetched
 step_frames_bounded (step.Link frames) world = times_frames frames world
 step_frames_bounded (step.Plug codec nid) world = level world.frames
 step_frames_bounded (step.Unplug codec nid) world = level world.frames
-
--- the link frames of an event
-abbrev pub event_frames : Event → ℕ
-event_frames (Stepped step) = step_frames step
-event_frames Begin = 0
-event_frames End = 0
-event_frames (Read at width value) = 0
-event_frames (Write at width value) = 0
-event_frames (DmaRead at bytes) = 0
-event_frames (DmaWrite at bytes) = 0
 
 reset_frames : (resets : Bool) (world : World) → (reset_if resets world).frames ≤ world.frames
 reset_frames true world = omega arith

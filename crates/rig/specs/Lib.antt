@@ -1,6 +1,7 @@
 pub mod Replays
 pub mod Stretches
 pub mod Follows
+pub mod LinkFrames
 pub mod Rigs
 pub mod Lies
 pub mod Liars
