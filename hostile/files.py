@@ -1,5 +1,9 @@
 """The files that the script `run` tries: those that are good, and bad ones with the end that each has to have."""
+import collections
 import struct
+
+# A last line that a run must not have.
+Not = collections.namedtuple("Not", "line")
 
 CODEC = """
 [[codec]]
@@ -95,14 +99,22 @@ def codec_limits():
     top("fifo = 9223372036854775807", 5, "codec refused: OutOfRange fifo at top")
     top("fifo = 9223372036854775808", 5, "codec refused: Toml")
     top("fifo = 1e3", 5, "codec refused: WrongType fifo at top")
-    top("corb = 3", 5, "codec refused: OutOfRange corb at top")
-    top("rirb = 257", 5, "codec refused: OutOfRange rirb at top")
+    for key in ("corb", "rirb"):
+        for entries in (2, 16, 256):
+            top(f"{key} = {entries}", 0, route)
+        for entries in (-1, 0, 1, 3, 15, 17, 255, 257):
+            top(f"{key} = {entries}", 5, f"codec refused: OutOfRange {key} at top")
     for old, new, status, last in [
         ("address = 0", "address = 14", 0, "route 14 14 pair 0 via 14.0 0c.0 02"),
         ("address = 0", "address = 15", 5, "codec refused: OutOfRange address at codec 0"),
         ("address = 0", "address = -1", 5, "codec refused: OutOfRange address at codec 0"),
         ("0x10EC0889", "4294967295", 0, route),
         ("0x10EC0889", "4294967296", 5, "codec refused: OutOfRange vendor at codec 0"),
+        ("0x10EC0889", "-1", 5, "codec refused: OutOfRange vendor at codec 0"),
+        ("0x00000001", "4294967295", None, Not("codec refused: OutOfRange caps at codec 0 node 0")),
+        ("0x00000001", "4294967296", 5, "codec refused: OutOfRange caps at codec 0 node 0"),
+        ("0x00000001", "-1", 5, "codec refused: OutOfRange caps at codec 0 node 0"),
+        ("[0x02, 0x0B]", "[-1]", 5, "codec refused: OutOfRange list at codec 0 node 1"),
         ("nid = 0x02", "nid = 0", 5, "codec refused: OutOfRange nid at codec 0 node 0"),
         ("nid = 0x02", "nid = 128", 5, "codec refused: OutOfRange nid at codec 0 node 0"),
         ("nid = 0x02", "nid = 0x0C", 5, "codec refused: Doubled nid at codec 0 node 1"),
@@ -184,10 +196,11 @@ def key_limits(route):
         cases.append(("route", text, status, last))
 
     def tried(text, key, place, most, least):
+        refused = f"OutOfRange {key} at {place}"
         for number in (most, least):
-            routed(text(f"{key} = {number}\n"), None, None)
+            routed(text(f"{key} = {number}\n"), None, Not(f"codec refused: {refused}"))
         for number in (most + 1, least - 1):
-            routed(text(f"{key} = {number}\n"), 5, f"codec refused: OutOfRange {key} at {place}")
+            routed(text(f"{key} = {number}\n"), 5, f"codec refused: {refused}")
 
     for key, most, least in CODEC_KEYS:
         tried(lambda line: CODEC.replace("address = 0\n", "address = 0\n" + line), key, "codec 0", most, least)
