@@ -130,13 +130,13 @@ def codec_limits():
     routed("[[codec]]\n" * 20_000, 5, "codec refused: OutOfRange codec at top")
     # tables in one another, as headers, inline tables and dotted names, and arrays: as deep as the TOML reader takes
     # them, deeper, and as deep as a file can have them
-    for depth, fault in ((79, "MissingKey codec at top"), (81, "Toml"), (1_000, "Toml"), (43_689, "Toml")):
+    for depth, fault in ((80, "MissingKey codec at top"), (81, "Toml"), (1_000, "Toml"), (43_689, "Toml")):
         refused = f"codec refused: {fault}"
         routed("[" + ".".join(["a"] * depth) + "]\n", 5, refused)
         routed("x = " + "{a = " * depth + "1" + "}" * depth + "\n", 5, refused)
         routed("x = " + "[" * depth + "]" * depth + "\n", 5, refused)
-        routed("a." * depth + "a = 1\n", 5, refused)
-    for headers, fault in ((80, "MissingKey codec at top"), (500, "Toml")):
+        routed("a." * (depth - 1) + "a = 1\n", 5, refused)
+    for headers, fault in ((81, "MissingKey codec at top"), (82, "Toml"), (500, "Toml")):
         routed("".join("[" + ".".join(["a"] * n) + "]\n" for n in range(1, headers)), 5, f"codec refused: {fault}")
     lines += key_limits(route)
     routed(b"\xff", 5, "codec refused: Toml")
