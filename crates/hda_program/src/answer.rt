@@ -16,9 +16,9 @@ use program_words::{Request, WordsFault, read_words};
 use sound_report::Played;
 use std::alloc::{AllocError, Global};
 
-/// What a command comes to.
+/// What a command comes to, before anything is written. This project's own.
 #[derive(Drop)]
-pub(crate) enum Answer {
+pub enum Answer {
     /// A text, and no run of the driver.
     Message(Message),
     /// A run of the driver, whose report is the text.

@@ -18,11 +18,12 @@ use program_runs::{walk, walk_format};
 use schedule_reader::Schedule;
 use std::alloc::{AllocError, Global};
 
-/// What `walk` answers for the codec file and the schedule of these names.
+/// What `walk` answers for the codec file and the schedule of these names, before anything is written: a message, or the
+/// run.
 ///
 /// # Errors
 /// Want of memory.
-pub(crate) fn answer_walk<S: Shelf>(
+pub fn answer_walk<S: Shelf>(
     alloc: Global,
     shelf: &mut S,
     codec: &str,

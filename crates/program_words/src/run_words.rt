@@ -1,0 +1,30 @@
+//! Words that ask for a run of the driver without a command's name.
+ghost use Rattle.std.specs.Prelude.{◌≡◌, ◌<◌, IfOk, Some, None, Err, drop, length, map, string_bytes};
+ghost use Rattle.program_words.specs.Asked.{asked_by, IsInRange};
+ghost use Rattle.program_words.specs.RunWords.{run_of};
+
+use crate::line::read_line;
+use crate::request::{Request, WordsFault, play_of, walk_of};
+use crate::table::{PLAY, WALK};
+use std::alloc::Global;
+
+/// Reads the program's name and the words after it, which are those that stand after `play` or after `walk`: three
+/// operands play a sound, two walk over the codecs.
+///
+/// # Errors
+/// [`WordsFault::NoCommand`] where the words are those of neither, and want of memory.
+pub fn read_run<'a>(alloc: Global, words: &'a [String]) -> Result<Request<'a>, WordsFault>
+    requires named { 0 < length words.now }
+    ensures asked { IfOk result (λ request. run_of (drop 1 (map string_bytes words.now)) ≡ Some (asked_by request)) }
+    ensures ranges { IfOk result IsInRange }
+    ensures no_run { result ≡ Err WordsFault.NoCommand → run_of (drop 1 (map string_bytes words.now)) ≡ None }
+{
+    match read_line(alloc, &PLAY, words) {
+        Ok(line) => Ok(play_of(&line)),
+        Err(WordsFault::NoCommand) => {
+            let line = read_line(alloc, &WALK, words)?;
+            Ok(walk_of(&line))
+        }
+        Err(WordsFault::OutOfMemory) => Err(WordsFault::OutOfMemory),
+    }
+}

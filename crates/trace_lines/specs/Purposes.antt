@@ -1,0 +1,84 @@
+-- What a piece of memory that the driver reads or writes is: an entry of CORB, of RIRB or of the output stream's list of
+-- buffers, a part of one of its periods, or none of these. Where they lie is said by the journal: rings and list where
+-- the first write to their base register puts them (High Definition Audio 1.0a, 3.3.18, 3.3.25 and 3.3.42), the periods
+-- by the list's entries (3.6.3). That rings count as of 256 entries and the list as of 256 is this project's own.
+use Rattle.std.specs.Prelude.{ℕ, ◌+◌, ◌-◌, ◌*◌, ◌/◌, ◌%◌, ◌==◌, ◌&&◌, Bool, List, [], ◌∷◌, slice_get, find, nat_le}
+use Rattle.std.specs.Prelude.{nat_lt, Option, Some, None, if◌then◌else◌}
+use Rattle.std.specs.List.{flat_map}
+use Rattle.hda_registers.specs.declared.places.TheConstants.{CORBLBASE, RIRBLBASE}
+use Rattle.hda_world.specs.Events.{Event, Stepped, Begin, End, Read, Write, DmaRead, DmaWrite}
+use Rattle.period_writer.specs.declared.registers.TheConstants.{LIST_ADDRESS}
+use Rattle.world_rings.specs.declared.entries.TheConstants.{COMMAND_BYTES, RESPONSE_BYTES}
+use Rattle.world_streams.specs.declared.buffers.TheConstants.{BUFFER_ENTRY_BYTES}
+use Rattle.trace_lines.specs.declared.purposes.Bases.{Bases}
+use Rattle.trace_lines.specs.declared.purposes.Listed.{Listed}
+use Rattle.trace_lines.specs.declared.purposes.Purpose.{Purpose}
+use Rattle.trace_lines.specs.declared.purposes.Purpose.TheVariants as purpose
+
+-- ---- where rings and list lie
+
+-- the value that an event writes to the register at this place, if it does
+abbrev pub value_put : ℕ → Event → List ℕ
+value_put register (Stepped step) = []
+value_put register Begin = []
+value_put register End = []
+value_put register (Read at width value) = []
+value_put register (Write at width value) = if at == register then value ∷ [] else []
+value_put register (DmaRead at bytes) = []
+value_put register (DmaWrite at bytes) = []
+
+-- the first value that some events write to it
+abbrev pub first_put : ℕ → List Event → Option ℕ
+first_put register events = slice_get (flat_map (value_put register) events) 0
+
+abbrev pub bases_in : List Event → Bases
+bases_in events = record {
+  corb = first_put CORBLBASE events;
+  rirb = first_put RIRBLBASE events;
+  list = first_put LIST_ADDRESS events;
+}
+
+-- ---- what a piece is
+
+-- how many entries CORB, RIRB and the list have at most
+abbrev pub most_entries : ℕ
+most_entries = 256
+
+-- a piece of so many bytes is the entry of this number, of entries of this size from a base on
+abbrev pub entry_from : (base size at len : ℕ) → Option ℕ
+entry_from base size at len =
+    if nat_le base at && (nat_lt (at - base) (size * most_entries) && ((at - base) % size == 0 && len == size))
+    then Some ((at - base) / size) else None
+
+abbrev pub entry_at : Option ℕ → (size at len : ℕ) → Option ℕ
+entry_at None size at len = None
+entry_at (Some base) size at len = entry_from base size at len
+
+-- a piece lies in the buffer of an entry
+abbrev pub holds : (at len : ℕ) → Listed → Bool
+holds at len listed =
+    nat_le listed.buffer.address at && nat_le (at + len) (listed.buffer.address + listed.buffer.bytes)
+
+-- the part of a period: its number, and where the piece begins in it
+abbrev pub period_of : ℕ → Option Listed → Purpose
+period_of at (Some listed) = purpose.Period listed.index (at - listed.buffer.address)
+period_of at None = purpose.Other
+
+-- an entry of the list, or else a part of the first buffer that holds it, of those whose entries were written
+abbrev pub buffer_purpose : Option ℕ → List Listed → (at len : ℕ) → Purpose
+buffer_purpose (Some number) buffers at len = purpose.Buffer number
+buffer_purpose None buffers at len = period_of at (find (holds at len) buffers)
+
+abbrev pub response_purpose : Option ℕ → Purpose → Purpose
+response_purpose (Some number) other = purpose.Response number
+response_purpose None other = other
+
+abbrev pub command_purpose : Option ℕ → Purpose → Purpose
+command_purpose (Some number) other = purpose.Command number
+command_purpose None other = other
+
+abbrev pub purpose_of : Bases → List Listed → (at len : ℕ) → Purpose
+purpose_of bases buffers at len =
+    command_purpose (entry_at bases.corb COMMAND_BYTES at len)
+    (response_purpose (entry_at bases.rirb RESPONSE_BYTES at len)
+    (buffer_purpose (entry_at bases.list BUFFER_ENTRY_BYTES at len) buffers at len))
