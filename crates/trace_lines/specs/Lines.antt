@@ -3,6 +3,7 @@ use Rattle.std.specs.Prelude.{ℕ, Bool, true, false, List, [], ◌∷◌, ◌++
 use Rattle.std.specs.Prelude.{Option, Some, None, if◌then◌else◌}
 use Rattle.std.specs.Int.{to_be_bytes, w32, w64}
 use Rattle.hex.specs.Hex.{encode_lower}
+use Rattle.hda_registers.specs.declared.shapes.Width.{Width}
 use Rattle.hda_world.specs.Events.{Event, Stepped, Begin, End, Read, Write, DmaRead, DmaWrite}
 use Rattle.world_rings.specs.Memory.{word_at}
 use Rattle.world_rings.specs.declared.response.Response.{Response}
@@ -74,30 +75,41 @@ buffer_text buffer =
     encode_lower (to_be_bytes w64 buffer.address) ++ codes " " ++ decimal buffer.bytes
     ++ (if buffer.interrupts then codes " IOC" else [])
 
+-- a number behind a word, and a space
+abbrev pub numbered : List ℕ → ℕ → List ℕ
+numbered word number = word ++ decimal number ++ codes " "
+
 -- a piece by what it is
 abbrev pub piece_text : Situation → Purpose → (at : ℕ) → (bytes : List ℕ) → List ℕ
 piece_text situation (purpose.Command number) at bytes =
-    codes "CORB " ++ decimal number ++ codes " " ++ order_text (word_at bytes 0)
+    numbered (codes "CORB ") number ++ order_text (word_at bytes 0)
 piece_text situation (purpose.Response number) at bytes =
-    codes "RIRB " ++ decimal number ++ codes " " ++ response_text situation (response_in bytes)
+    numbered (codes "RIRB ") number ++ response_text situation (response_in bytes)
 piece_text situation (purpose.Buffer number) at bytes =
-    codes "BDL " ++ decimal number ++ codes " " ++ buffer_text (buffer_of bytes 0 0)
+    numbered (codes "BDL ") number ++ buffer_text (buffer_of bytes 0 0)
 piece_text situation (purpose.Period number place) at bytes =
-    codes "period " ++ decimal number ++ codes " " ++ decimal place ++ codes " " ++ bytes_text bytes
+    numbered (codes "period ") number ++ decimal place ++ codes " " ++ bytes_text bytes
 piece_text situation purpose.Other at bytes = word_text at ++ codes " " ++ bytes_text bytes
 
 -- ---- an entry
 
+-- an access to a register behind its letter
+abbrev pub access_line : List ℕ → (at : ℕ) → Width → (value : ℕ) → List ℕ
+access_line letter at width value = letter ++ access_text at width value ++ newline
+
+-- a piece of memory behind its letters
+abbrev pub memory_line : List ℕ → Bases → List Listed → Situation → (at : ℕ) → (bytes : List ℕ) → List ℕ
+memory_line letters bases buffers situation at bytes =
+    letters ++ piece_text situation (purpose_of bases buffers at (length bytes)) at bytes ++ newline
+
 abbrev pub line_of : Bases → Option PlayFault → List Listed → Situation → Event → List ℕ
 line_of bases end buffers situation (Stepped step) = step_text step ++ newline
-line_of bases end buffers situation Begin = codes "begin" ++ newline
+line_of bases end buffers situation Begin = codes "begin\n"
 line_of bases end buffers situation End = codes "end " ++ phase_word (phase_after end situation) ++ newline
-line_of bases end buffers situation (Read at width value) = codes "R" ++ access_text at width value ++ newline
-line_of bases end buffers situation (Write at width value) = codes "W" ++ access_text at width value ++ newline
-line_of bases end buffers situation (DmaRead at bytes) =
-    codes "DR " ++ piece_text situation (purpose_of bases buffers at (length bytes)) at bytes ++ newline
-line_of bases end buffers situation (DmaWrite at bytes) =
-    codes "DW " ++ piece_text situation (purpose_of bases buffers at (length bytes)) at bytes ++ newline
+line_of bases end buffers situation (Read at width value) = access_line (codes "R") at width value
+line_of bases end buffers situation (Write at width value) = access_line (codes "W") at width value
+line_of bases end buffers situation (DmaRead at bytes) = memory_line (codes "DR ") bases buffers situation at bytes
+line_of bases end buffers situation (DmaWrite at bytes) = memory_line (codes "DW ") bases buffers situation at bytes
 
 -- ---- a journal
 

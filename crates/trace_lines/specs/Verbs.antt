@@ -1,6 +1,6 @@
 -- Commands of codecs in words: the names of the verbs (High Definition Audio 1.0a, 7.3.3) and of the parameters
 -- (7.3.4). The forms of the text are this project's own.
-use Rattle.std.specs.Prelude.{ℕ, Bool, true, false, List, [], ◌++◌, Option, Some, None, codes, decimal}
+use Rattle.std.specs.Prelude.{ℕ, List, [], ◌++◌, Option, Some, None, codes, decimal}
 use Rattle.std.specs.Int.{to_be_bytes, w16, w32}
 use Rattle.hex.specs.Hex.{encode_lower}
 use Rattle.verb_codes.specs.declared.parameters.Parameter.{Parameter}
@@ -83,20 +83,6 @@ verb_text (SetFormat format) = with_half (codes "set Converter Format") format
 -- 7.3.3.7
 verb_text (GetAmp side) = with_half (codes "get Amplifier Gain/Mute") side
 verb_text (SetAmp setting) = with_half (codes "set Amplifier Gain/Mute") setting
-
--- whether a verb sets something
-abbrev pub is_set_verb : Verb → Bool
-is_set_verb (SetSelect place) = true
-is_set_verb (SetPower state) = true
-is_set_verb (SetStream stream) = true
-is_set_verb (SetPin control) = true
-is_set_verb (SetUnsol control) = true
-is_set_verb (SetEapd control) = true
-is_set_verb (SetDigital control) = true
-is_set_verb (SetDefault place byte) = true
-is_set_verb (SetFormat format) = true
-is_set_verb (SetAmp setting) = true
-is_set_verb verb = false
 
 -- a command: the codec, the node and the verb (7.3)
 abbrev pub command_text : Option Command → List ℕ

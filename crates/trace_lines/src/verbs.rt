@@ -1,5 +1,5 @@
 //! Commands of codecs in words (HDA 1.0a, 7.3.3 and 7.3.4).
-ghost use Rattle.std.specs.Prelude.{◌≡◌, ◌++◌, OnOk, Some, true};
+ghost use Rattle.std.specs.Prelude.{◌≡◌, ◌++◌, OnOk, Some};
 ghost use Rattle.trace_lines.specs.Verbs as text;
 
 use crate::words::{push_byte, push_half, push_whole_word};
@@ -63,45 +63,34 @@ fn push_default(out: &mut Vec<u8>, place: u8, byte: u8) -> Result<(), AllocError
     push_byte(out, byte)
 }
 
-/// A verb that asks, with its argument.
-fn push_get(out: &mut Vec<u8>, verb: Verb) -> Result<(), AllocError>
+/// A verb with its argument.
+fn push_verb(out: &mut Vec<u8>, verb: Verb) -> Result<(), AllocError>
     ensures { OnOk result (out.new.items ≡ out.old.items ++ text.verb_text verb) }
 {
     match verb {
         Verb::GetParam(number) => push_parameter(out, number),
         Verb::GetSelect => push_word(out, "get Connection Select Control"),
+        Verb::SetSelect(place) => push_with_byte(out, "set Connection Select Control", place),
         Verb::GetList(place) => push_with_byte(out, "get Connection List Entry", place),
         Verb::GetPower => push_word(out, "get Power State"),
+        Verb::SetPower(state) => push_with_byte(out, "set Power State", state),
         Verb::GetStream => push_word(out, "get Converter Stream, Channel"),
+        Verb::SetStream(stream) => push_with_byte(out, "set Converter Stream, Channel", stream),
         Verb::GetPin => push_word(out, "get Pin Widget Control"),
+        Verb::SetPin(control) => push_with_byte(out, "set Pin Widget Control", control),
         Verb::GetUnsol => push_word(out, "get Unsolicited Response"),
+        Verb::SetUnsol(control) => push_with_byte(out, "set Unsolicited Response", control),
         Verb::GetSense => push_word(out, "get Pin Sense"),
         Verb::GetEapd => push_word(out, "get EAPD/BTL Enable"),
-        Verb::GetDigital => push_word(out, "get Digital Converter Control"),
-        Verb::GetDefault => push_word(out, "get Configuration Default"),
-        Verb::GetFormat => push_word(out, "get Converter Format"),
-        Verb::GetAmp(side) => push_with_half(out, "get Amplifier Gain/Mute", side),
-        setting => push_set(out, setting),
-    }
-}
-
-/// A verb that sets something, with its argument; one that asks is none.
-fn push_set(out: &mut Vec<u8>, verb: Verb) -> Result<(), AllocError>
-    requires { text.is_set_verb verb ≡ true }
-    ensures { OnOk result (out.new.items ≡ out.old.items ++ text.verb_text verb) }
-{
-    match verb {
-        Verb::SetSelect(place) => push_with_byte(out, "set Connection Select Control", place),
-        Verb::SetPower(state) => push_with_byte(out, "set Power State", state),
-        Verb::SetStream(stream) => push_with_byte(out, "set Converter Stream, Channel", stream),
-        Verb::SetPin(control) => push_with_byte(out, "set Pin Widget Control", control),
-        Verb::SetUnsol(control) => push_with_byte(out, "set Unsolicited Response", control),
         Verb::SetEapd(control) => push_with_byte(out, "set EAPD/BTL Enable", control),
+        Verb::GetDigital => push_word(out, "get Digital Converter Control"),
         Verb::SetDigital(control) => push_with_byte(out, "set Digital Converter Control", control),
+        Verb::GetDefault => push_word(out, "get Configuration Default"),
         Verb::SetDefault(place, byte) => push_default(out, place, byte),
+        Verb::GetFormat => push_word(out, "get Converter Format"),
         Verb::SetFormat(format) => push_with_half(out, "set Converter Format", format),
+        Verb::GetAmp(side) => push_with_half(out, "get Amplifier Gain/Mute", side),
         Verb::SetAmp(setting) => push_with_half(out, "set Amplifier Gain/Mute", setting),
-        _ => unreachable!(),
     }
 }
 
@@ -114,7 +103,7 @@ fn push_command(out: &mut Vec<u8>, command: &Command) -> Result<(), AllocError>
     push_word(out, " node ")?;
     push_byte(out, command.nid)?;
     push_word(out, " ")?;
-    push_get(out, command.verb)
+    push_verb(out, command.verb)
 }
 
 /// Appends the word of a command, and what it reads as.
