@@ -54,11 +54,11 @@ pub(crate) fn answer_words<S: Shelf>(
     }
 }
 
-/// What the program answers to a request.
+/// What the program answers to a request, before anything is written: a message, or a run of the driver.
 ///
 /// # Errors
 /// Want of memory.
-fn answer_request<S: Shelf>(
+pub fn answer_request<S: Shelf>(
     alloc: Global,
     shelf: &mut S,
     request: Request<'_>,

@@ -16,10 +16,8 @@ mod schedule;
 mod walk;
 mod wav;
 
-pub use answer::Answer;
+pub use answer::{Answer, answer_request};
 pub use files::play_files;
 pub use message::Message;
-pub use play::answer_play;
 pub use run::{Ended, hda_main, status_of, write_text, written_status};
 pub use sound_report::Status;
-pub use walk::answer_walk;

@@ -25,12 +25,11 @@ use schedule_reader::Schedule;
 use std::alloc::{AllocError, Global};
 use wav_reader::WavHead;
 
-/// What `play` answers for the files of these names and a ring of 2 to 32 periods of 1 to 128 units, each of 384 bytes,
-/// before anything is written: a message, or the run.
+/// What `play` answers for the files of these names and a ring of so many periods of so many units.
 ///
 /// # Errors
 /// Want of memory.
-pub fn answer_play<S: Shelf>(
+pub(crate) fn answer_play<S: Shelf>(
     alloc: Global,
     shelf: &mut S,
     codec: &str,

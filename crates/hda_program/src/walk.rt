@@ -18,12 +18,11 @@ use program_runs::{walk, walk_format};
 use schedule_reader::Schedule;
 use std::alloc::{AllocError, Global};
 
-/// What `walk` answers for the codec file and the schedule of these names, before anything is written: a message, or the
-/// run.
+/// What `walk` answers for the codec file and the schedule of these names.
 ///
 /// # Errors
 /// Want of memory.
-pub fn answer_walk<S: Shelf>(
+pub(crate) fn answer_walk<S: Shelf>(
     alloc: Global,
     shelf: &mut S,
     codec: &str,

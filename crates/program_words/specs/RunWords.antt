@@ -1,9 +1,13 @@
--- What words without a command's name ask, where a run of the driver is meant. This project's own.
-use Rattle.std.specs.Prelude.{ℕ, List, ◌∷◌, Option, codes}
-use Rattle.std.specs.Option.{option_or}
+-- Words without a command's name, where a run of the driver is meant. This project's own.
+use Rattle.std.specs.Prelude.{ℕ, List, ◌∷◌, Option, Some, None, codes}
 use Rattle.program_words.specs.Asked.{Asked, request_of}
 
--- what `play` before the words asks, or else what `walk` before them does. `play` has three operands and `walk` two, so
--- no words are those of both
-abbrev pub run_of : List (List ℕ) → Option Asked
-run_of words = option_or (request_of (codes "play" ∷ words)) (request_of (codes "walk" ∷ words))
+-- behind `play` where they are a line of it, and else behind `walk`
+abbrev pub words_behind : Option Asked → List (List ℕ) → List (List ℕ)
+words_behind (Some asked) words = codes "play" ∷ words
+words_behind None words = codes "walk" ∷ words
+
+-- the same words with a command's name before them. `play` has three operands and `walk` two, so no words are a line of
+-- both
+abbrev pub run_words : List (List ℕ) → List (List ℕ)
+run_words words = words_behind (request_of (codes "play" ∷ words)) words

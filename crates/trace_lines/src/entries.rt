@@ -96,7 +96,7 @@ impl Reader {
             self.bases,
             self.buffers.as_slice(),
             piece.at,
-            piece.bytes.len() as u32,
+            piece.bytes.len() as u64,
         )
     }
 

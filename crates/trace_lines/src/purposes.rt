@@ -76,7 +76,7 @@ pub(crate) fn bases_in(entries: &[Entry]) -> Bases
 }
 
 /// The number of the entry that a piece of so many bytes is, of entries of this size from a base on.
-fn entry_from(base: u32, size: u32, at: u32, len: u32) -> Option<u32>
+fn entry_from(base: u32, size: u32, at: u32, len: u64) -> Option<u32>
     requires some { 1 ≤ size }
     requires small { size ≤ 16 }
     ensures { result ≡ spec.entry_from base size at len }
@@ -85,7 +85,7 @@ fn entry_from(base: u32, size: u32, at: u32, len: u32) -> Option<u32>
         return None;
     }
     let place = at - base;
-    if place < size * MOST_ENTRIES && place % size == 0 && len == size {
+    if place < size * MOST_ENTRIES && place % size == 0 && len == u64::from(size) {
         Some(place / size)
     } else {
         None
@@ -93,7 +93,7 @@ fn entry_from(base: u32, size: u32, at: u32, len: u32) -> Option<u32>
 }
 
 /// The same where the base is known.
-fn entry_at(base: Option<u32>, size: u32, at: u32, len: u32) -> Option<u32>
+fn entry_at(base: Option<u32>, size: u32, at: u32, len: u64) -> Option<u32>
     requires some { 1 ≤ size }
     requires small { size ≤ 16 }
     ensures { result ≡ spec.entry_at base size at len }
@@ -105,16 +105,17 @@ fn entry_at(base: Option<u32>, size: u32, at: u32, len: u32) -> Option<u32>
 }
 
 /// Whether a piece lies in the buffer of an entry.
-fn holds(listed: &Listed, at: u32, len: u32) -> bool
+fn holds(listed: &Listed, at: u32, len: u64) -> bool
     ensures { result ≡ spec.holds at len listed.now }
 {
-    let buffer = listed.buffer;
+    let address = listed.buffer.address;
+    let bytes = u64::from(listed.buffer.bytes);
     let at = u64::from(at);
-    buffer.address <= at && at + u64::from(len) - buffer.address <= u64::from(buffer.bytes)
+    address <= at && at - address <= bytes && len <= bytes - (at - address)
 }
 
 /// The first buffer that holds a piece.
-fn buffer_with(buffers: &[Listed], at: u32, len: u32) -> Option<Listed>
+fn buffer_with(buffers: &[Listed], at: u32, len: u64) -> Option<Listed>
     ensures { result ≡ find (spec.holds at len) buffers.now }
 {
     for listed in buffers {
@@ -126,7 +127,7 @@ fn buffer_with(buffers: &[Listed], at: u32, len: u32) -> Option<Listed>
 }
 
 /// The part of a period that a piece is.
-fn period_of(buffers: &[Listed], at: u32, len: u32) -> Purpose
+fn period_of(buffers: &[Listed], at: u32, len: u64) -> Purpose
     ensures { result ≡ spec.period_of at (find (spec.holds at len) buffers.now) }
 {
     match buffer_with(buffers, at, len) {
@@ -139,7 +140,7 @@ fn period_of(buffers: &[Listed], at: u32, len: u32) -> Purpose
 }
 
 /// What a piece of so many bytes at an address is, where these entries of the list of buffers were written.
-pub(crate) fn purpose_of(bases: Bases, buffers: &[Listed], at: u32, len: u32) -> Purpose
+pub(crate) fn purpose_of(bases: Bases, buffers: &[Listed], at: u32, len: u64) -> Purpose
     ensures { result ≡ spec.purpose_of bases buffers.now at len }
 {
     if let Some(number) = entry_at(bases.corb, COMMAND_BYTES as u32, at, len) {
