@@ -1,13 +1,14 @@
 -- What a piece of memory that the driver reads or writes is: an entry of CORB, of RIRB or of the output stream's list of
 -- buffers, a part of one of its periods, or none of these. Where they lie is said by the journal: rings and list where
--- the first write to their base register puts them (High Definition Audio 1.0a, 3.3.18, 3.3.25 and 3.3.42), the periods
--- by the list's entries (3.6.3). That rings count as of 256 entries and the list as of 256 is this project's own.
+-- the first write to their base register puts them (High Definition Audio 1.0a, 3.3.18, 3.3.25 and 3.3.42), the list up
+-- to the entry that the first write to LVI names (3.3.39), the periods by the list's entries (3.6.3). That a ring counts
+-- as one of 256 entries is this project's own.
 use Rattle.std.specs.Prelude.{ℕ, ◌+◌, ◌-◌, ◌*◌, ◌/◌, ◌%◌, ◌==◌, ◌&&◌, Bool, List, [], ◌∷◌, slice_get, find, nat_le}
 use Rattle.std.specs.Prelude.{nat_lt, Option, Some, None, if◌then◌else◌}
 use Rattle.std.specs.List.{flat_map}
 use Rattle.hda_registers.specs.declared.places.TheConstants.{CORBLBASE, RIRBLBASE}
 use Rattle.hda_world.specs.Events.{Event, Stepped, Begin, End, Read, Write, DmaRead, DmaWrite}
-use Rattle.period_writer.specs.declared.registers.TheConstants.{LIST_ADDRESS}
+use Rattle.period_writer.specs.declared.registers.TheConstants.{LAST_INDEX, LIST_ADDRESS}
 use Rattle.world_rings.specs.declared.entries.TheConstants.{COMMAND_BYTES, RESPONSE_BYTES}
 use Rattle.world_streams.specs.declared.buffers.TheConstants.{BUFFER_ENTRY_BYTES}
 use Rattle.trace_lines.specs.declared.purposes.Bases.{Bases}
@@ -36,23 +37,28 @@ bases_in events = record {
   corb = first_put CORBLBASE events;
   rirb = first_put RIRBLBASE events;
   list = first_put LIST_ADDRESS events;
+  last = first_put LAST_INDEX events;
 }
 
 -- ---- what a piece is
 
--- how many entries CORB, RIRB and the list have at most
-abbrev pub most_entries : ℕ
-most_entries = 256
+-- how many entries CORB and RIRB have at most (3.3.24 and 3.3.31), and how many the list has
+abbrev pub ring_entries : ℕ
+ring_entries = 256
 
--- a piece of so many bytes is the entry of this number, of entries of this size from a base on
-abbrev pub entry_from : (base size at len : ℕ) → Option ℕ
-entry_from base size at len =
-    if nat_le base at && (nat_lt (at - base) (size * most_entries) && ((at - base) % size == 0 && len == size))
+abbrev pub list_entries : Option ℕ → ℕ
+list_entries None = 0
+list_entries (Some last) = last + 1
+
+-- a piece of so many bytes is the entry of this number, of so many entries of this size from a base on
+abbrev pub entry_from : (base size entries at len : ℕ) → Option ℕ
+entry_from base size entries at len =
+    if nat_le base at && (nat_lt (at - base) (size * entries) && ((at - base) % size == 0 && len == size))
     then Some ((at - base) / size) else None
 
-abbrev pub entry_at : Option ℕ → (size at len : ℕ) → Option ℕ
-entry_at None size at len = None
-entry_at (Some base) size at len = entry_from base size at len
+abbrev pub entry_at : Option ℕ → (size entries at len : ℕ) → Option ℕ
+entry_at None size entries at len = None
+entry_at (Some base) size entries at len = entry_from base size entries at len
 
 -- a piece lies in the buffer of an entry
 abbrev pub holds : (at len : ℕ) → Listed → Bool
@@ -79,6 +85,6 @@ command_purpose None other = other
 
 abbrev pub purpose_of : Bases → List Listed → (at len : ℕ) → Purpose
 purpose_of bases buffers at len =
-    command_purpose (entry_at bases.corb COMMAND_BYTES at len)
-    (response_purpose (entry_at bases.rirb RESPONSE_BYTES at len)
-    (buffer_purpose (entry_at bases.list BUFFER_ENTRY_BYTES at len) buffers at len))
+    command_purpose (entry_at bases.corb COMMAND_BYTES ring_entries at len)
+    (response_purpose (entry_at bases.rirb RESPONSE_BYTES ring_entries at len)
+    (buffer_purpose (entry_at bases.list BUFFER_ENTRY_BYTES (list_entries bases.last) at len) buffers at len))

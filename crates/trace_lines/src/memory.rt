@@ -55,11 +55,7 @@ fn push_answered(out: &mut Vec<u8>, waits: Option<Outstanding>) -> Result<(), Al
 }
 
 /// What a response is.
-fn push_kind(
-    out: &mut Vec<u8>,
-    situation: &Situation,
-    response: Response,
-) -> Result<(), AllocError>
+fn push_kind(out: &mut Vec<u8>, situation: &Situation, response: Response) -> Result<(), AllocError>
     ensures { OnOk result (out.new.items ≡ out.old.items ++ text.response_kind situation.now response) }
 {
     if response.unsolicited {

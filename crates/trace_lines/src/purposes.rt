@@ -1,17 +1,17 @@
 //! What a piece of memory is that the driver reads or writes.
-ghost use Rattle.std.specs.Prelude.{◌≡◌, ◌≤◌, ℕ, List, find, map};
+ghost use Rattle.std.specs.Prelude.{◌≡◌, ◌≤◌, ◌^◌, ℕ, List, find, map};
 ghost use Rattle.hda_world.specs.declared.entry.MemoryPiece.{MemoryPiece};
 ghost use Rattle.hda_world.specs.Journals.{event_of};
 ghost use Rattle.trace_lines.specs.declared.purposes.Listed.{Listed};
 ghost use Rattle.trace_lines.specs.Purposes as spec;
 
-use hda_registers::places::{CORBLBASE, OUTPUT_DESCRIPTOR, RIRBLBASE, SDBDPL};
+use hda_registers::places::{CORBLBASE, OUTPUT_DESCRIPTOR, RIRBLBASE, SDBDPL, SDLVI};
 use hda_world::Entry;
 use world_rings::{COMMAND_BYTES, RESPONSE_BYTES};
 use world_streams::{BUFFER_ENTRY_BYTES, Buffer};
 
-/// How many entries CORB, RIRB and the list of buffers have at most.
-const MOST_ENTRIES: u32 = 256;
+/// How many entries CORB and RIRB have at most (HDA 1.0a, 3.3.24 and 3.3.31).
+const RING_ENTRIES: u64 = 256;
 
 /// Where CORB, RIRB and the output stream's list of buffers lie, where a journal says so.
 #[derive(Clone, Copy)]
@@ -22,6 +22,8 @@ pub(crate) struct Bases {
     pub rirb: Option<u32>,
     /// To the output stream's BDPL.
     pub list: Option<u32>,
+    /// The first value that is written to its LVI: the number of the list's last entry.
+    pub last: Option<u32>,
 }
 
 /// An entry of the list of buffers that was written.
@@ -72,20 +74,33 @@ pub(crate) fn bases_in(entries: &[Entry]) -> Bases
         corb: first_put(entries, CORBLBASE),
         rirb: first_put(entries, RIRBLBASE),
         list: first_put(entries, OUTPUT_DESCRIPTOR + SDBDPL),
+        last: first_put(entries, OUTPUT_DESCRIPTOR + SDLVI),
     }
 }
 
-/// The number of the entry that a piece of so many bytes is, of entries of this size from a base on.
-fn entry_from(base: u32, size: u32, at: u32, len: u64) -> Option<u32>
+/// How many entries the list of buffers has.
+fn list_entries(last: Option<u32>) -> u64
+    ensures { result ≡ spec.list_entries last }
+{
+    match last {
+        Some(last) => u64::from(last) + 1,
+        None => 0,
+    }
+}
+
+/// The number of the entry that a piece of so many bytes is, of so many entries of this size from a base on.
+fn entry_from(base: u32, size: u32, entries: u64, at: u32, len: u64) -> Option<u32>
     requires some { 1 ≤ size }
     requires small { size ≤ 16 }
-    ensures { result ≡ spec.entry_from base size at len }
+    requires few { entries ≤ 2 ^ 32 }
+    ensures { result ≡ spec.entry_from base size entries at len }
 {
     if at < base {
         return None;
     }
     let place = at - base;
-    if place < size * MOST_ENTRIES && place % size == 0 && len == u64::from(size) {
+    let end = u64::from(size) * entries;
+    if u64::from(place) < end && place % size == 0 && len == u64::from(size) {
         Some(place / size)
     } else {
         None
@@ -93,13 +108,14 @@ fn entry_from(base: u32, size: u32, at: u32, len: u64) -> Option<u32>
 }
 
 /// The same where the base is known.
-fn entry_at(base: Option<u32>, size: u32, at: u32, len: u64) -> Option<u32>
+fn entry_at(base: Option<u32>, size: u32, entries: u64, at: u32, len: u64) -> Option<u32>
     requires some { 1 ≤ size }
     requires small { size ≤ 16 }
-    ensures { result ≡ spec.entry_at base size at len }
+    requires few { entries ≤ 2 ^ 32 }
+    ensures { result ≡ spec.entry_at base size entries at len }
 {
     match base {
-        Some(base) => entry_from(base, size, at, len),
+        Some(base) => entry_from(base, size, entries, at, len),
         None => None,
     }
 }
@@ -143,13 +159,14 @@ fn period_of(buffers: &[Listed], at: u32, len: u64) -> Purpose
 pub(crate) fn purpose_of(bases: Bases, buffers: &[Listed], at: u32, len: u64) -> Purpose
     ensures { result ≡ spec.purpose_of bases buffers.now at len }
 {
-    if let Some(number) = entry_at(bases.corb, COMMAND_BYTES as u32, at, len) {
+    if let Some(number) = entry_at(bases.corb, COMMAND_BYTES as u32, RING_ENTRIES, at, len) {
         return Purpose::Command(number);
     }
-    if let Some(number) = entry_at(bases.rirb, RESPONSE_BYTES as u32, at, len) {
+    if let Some(number) = entry_at(bases.rirb, RESPONSE_BYTES as u32, RING_ENTRIES, at, len) {
         return Purpose::Response(number);
     }
-    if let Some(number) = entry_at(bases.list, BUFFER_ENTRY_BYTES, at, len) {
+    let entries = list_entries(bases.last);
+    if let Some(number) = entry_at(bases.list, BUFFER_ENTRY_BYTES, entries, at, len) {
         return Purpose::Buffer(number);
     }
     period_of(buffers, at, len)

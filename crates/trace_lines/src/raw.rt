@@ -63,11 +63,7 @@ fn push_register_line(
 }
 
 /// An access to memory.
-fn push_memory_line(
-    out: &mut Vec<u8>,
-    letters: &str,
-    piece: Noted<'_>,
-) -> Result<(), AllocError>
+fn push_memory_line(out: &mut Vec<u8>, letters: &str, piece: Noted<'_>) -> Result<(), AllocError>
     ensures { OnOk result (out.new.items ≡ out.old.items ++ text.memory_line letters.now piece.at piece.bytes.now) }
 {
     push_front(out, letters)?;

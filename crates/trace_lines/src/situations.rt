@@ -175,7 +175,8 @@ impl Situation {
     {
         match purpose {
             Purpose::Command(_) => self.sent(word_from(bytes, 0)),
-            Purpose::Response(_) | Purpose::Buffer(_) | Purpose::Period(..) | Purpose::Other => self,
+            Purpose::Response(_) | Purpose::Buffer(_) | Purpose::Period(..) | Purpose::Other =>
+                self,
         }
     }
 

@@ -49,11 +49,7 @@ fn write_lines<K: Sink>(
 }
 
 /// Writes its lines of JSON.
-fn write_raw_lines<K: Sink>(
-    out: &mut K,
-    page: &mut Vec<u8>,
-    journal: &Journal,
-) -> Result<(), Fault>
+fn write_raw_lines<K: Sink>(out: &mut K, page: &mut Vec<u8>, journal: &Journal) -> Result<(), Fault>
     ensures text { Writes result (K.taken out.old) (K.taken out.new) (page.old.items
         ++ flat_map raw_line (events_of journal.now)) page.new.items }
     ensures pieces { K.longest out.new ≤ max (K.longest out.old) 4096 }

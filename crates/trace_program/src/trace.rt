@@ -1,5 +1,5 @@
 //! The program over any shelf and sink.
-ghost use Rattle.std.specs.Prelude.{◌≡◌, ◌≤◌, ℕ, List, drop, map, string_bytes, IfSome};
+ghost use Rattle.std.specs.Prelude.{◌≡◌, ◌≤◌, ℕ, List, drop, map, string_bytes, IfSome, Some};
 ghost use Rattle.hda_outside.specs.Counts.{Rose};
 ghost use Rattle.sound_report.specs.Statuses.{number_of};
 ghost use Rattle.hda_program.specs.Answers.{HasWritten};
@@ -92,10 +92,21 @@ fn write_answer<K: Sink>(alloc: Global, out: &mut K, form: Form, answer: Answer)
             status: write_text(alloc, out, message.text.as_bytes(), message.status).number(),
             play: None,
         },
-        Answer::Run(played) | Answer::Made(_, played) => Ended {
-            status: write_run(alloc, out, form, &played).number(),
-            play: Some(played),
-        },
+        Answer::Run(played) => end_run(alloc, out, form, played),
+        Answer::Made(_, played) => end_run(alloc, out, form, played),
+    }
+}
+
+/// Ends with a run, whose journal it writes.
+fn end_run<K: Sink>(alloc: Global, out: &mut K, form: Form, played: Played) -> Ended
+    ensures written { HasWritten (K.taken out.old) (K.taken out.new) (Rose (K.faults out.old) (K.faults out.new))
+        (run_meant played (trace_text form played)) result.status }
+    ensures play { result.play ≡ Some played }
+    ensures later { K.faults out.old ≤ K.faults out.new }
+{
+    Ended {
+        status: write_run(alloc, out, form, &played).number(),
+        play: Some(played),
     }
 }
 
