@@ -6,6 +6,8 @@ use Rattle.hex.specs.Hex.{encode_lower}
 use Rattle.hda_registers.specs.declared.shapes.Width.{Width}
 use Rattle.hda_registers.specs.Access.{bytes_of}
 use Rattle.world_steps.specs.declared.Step.{Step}
+use Rattle.hda_world.specs.declared.entry.Entry.{Entry}
+use Rattle.hda_world.specs.Journals.{JournalState, event_of}
 use Rattle.hda_world.specs.Events.{Event, Stepped, Begin, End, Read, Write, DmaRead, DmaWrite}
 use Rattle.trace_lines.specs.Steps.{step_text}
 
@@ -54,3 +56,7 @@ raw_line (DmaWrite at bytes) = memory_line (codes "DW") at bytes
 
 abbrev pub raw_lines : List Event → List ℕ
 raw_lines events = flat_map raw_line events
+
+-- the line of an entry of a journal, before it is read as an event
+abbrev pub raw_entry : JournalState → Entry → List ℕ
+raw_entry journal entry = raw_line (event_of journal.pieces journal.bytes entry)

@@ -133,14 +133,17 @@ phase_stopped (Some (fault.FramesLeft written heard of)) = phase.Playing
 phase_stopped (Some (fault.CommandsLeft sent of)) = phase.Playing
 phase_stopped (Some (fault.Unanswered codec command issued noticed)) = phase.Playing
 
+abbrev pub phase_if : Bool → Phase → Phase → Phase
+phase_if seen first other = if seen then first else other
+
 -- the phase after a call that ends so, of a run that ended for this fault. One that is over stays
 abbrev pub phase_in : Option PlayFault → Situation → Phase → Phase
-phase_in end situation phase.Reset = if situation.call.woken then phase.Settling else phase.Reset
-phase_in end situation phase.Settling = if situation.call.started then phase.Walking else phase.Settling
+phase_in end situation phase.Reset = phase_if situation.call.woken phase.Settling phase.Reset
+phase_in end situation phase.Settling = phase_if situation.call.started phase.Walking phase.Settling
 phase_in end situation phase.Walking = after_asking situation
 phase_in end situation phase.SettingUp = after_asking situation
-phase_in end situation phase.Ready = if situation.call.ran then phase.Playing else phase.Ready
-phase_in end situation phase.Playing = if situation.call.stopped then phase_stopped end else phase.Playing
+phase_in end situation phase.Ready = phase_if situation.call.ran phase.Playing phase.Ready
+phase_in end situation phase.Playing = phase_if situation.call.stopped (phase_stopped end) phase.Playing
 phase_in end situation phase.Drained = phase.Drained
 phase_in end situation phase.NothingRouted = phase.NothingRouted
 phase_in end situation (phase.Unanswered codec command issued noticed) =

@@ -1,7 +1,7 @@
 //! The table of the registers' named bits (HDA 1.0a, 3.3).
-ghost use Rattle.std.specs.Prelude.{◌≡◌, ◌≤◌, ◌<◌, ◌++◌, OnOk, map};
+ghost use Rattle.std.specs.Prelude.{◌≡◌, ◌≤◌, ◌++◌, OnOk};
 ghost use Rattle.std.specs.List.{flat_map};
-ghost use Rattle.trace_lines.specs.Names.{bit_of};
+ghost use Rattle.trace_lines.specs.Names.{bit_of, row_text};
 ghost use Rattle.trace_lines.specs.Registers.{bit_text, global_bits, is_set, stream_bits};
 
 use hda_registers::places;
@@ -72,6 +72,24 @@ fn is_set(row: &BitName, at: u16, bytes: u16, value: u32) -> bool
     first <= place && place < end && has_bit(value, place - first)
 }
 
+/// Appends the name of a bit where it is set in an access.
+fn push_bit(
+    out: &mut Vec<u8>,
+    row: &BitName,
+    at: u16,
+    bytes: u16,
+    value: u32,
+) -> Result<(), AllocError>
+    requires { bytes ≤ 4 }
+    ensures { OnOk result (out.new.items ≡ out.old.items ++ bit_text at bytes value (bit_of row.now)) }
+{
+    if !is_set(row, at, bytes, value) {
+        return Ok(());
+    }
+    push_word(out, " ")?;
+    push_word(out, row.2)
+}
+
 /// Appends the names of the bits of these rows that are set in an access.
 fn push_set(
     out: &mut Vec<u8>,
@@ -81,13 +99,10 @@ fn push_set(
     value: u32,
 ) -> Result<(), AllocError>
     requires { bytes ≤ 4 }
-    ensures { OnOk result (out.new.items ≡ out.old.items ++ flat_map (bit_text at bytes value) (map bit_of rows.now)) }
+    ensures { OnOk result (out.new.items ≡ out.old.items ++ flat_map (row_text at bytes value) rows.now) }
 {
     for row in rows {
-        if is_set(row, at, bytes, value) {
-            push_word(out, " ")?;
-            push_word(out, row.2)?;
-        }
+        push_bit(out, row, at, bytes, value)?;
     }
     Ok(())
 }

@@ -76,17 +76,24 @@ fn phase_stopped(end: Option<PlayFault>) -> Phase
     }
 }
 
+/// The first of two phases where something was seen, and else the second.
+fn phase_if(seen: bool, first: Phase, other: Phase) -> Phase
+    ensures { result ≡ spec.phase_if seen first other }
+{
+    if seen { first } else { other }
+}
+
 /// The phase after a call that ends so.
 pub(crate) fn phase_after(end: Option<PlayFault>, situation: &Situation) -> Phase
     ensures { result ≡ spec.phase_after end situation.now }
 {
     match situation.phase {
-        Phase::Reset if situation.call.woken => Phase::Settling,
-        Phase::Settling if situation.call.started => Phase::Walking,
+        Phase::Reset => phase_if(situation.call.woken, Phase::Settling, Phase::Reset),
+        Phase::Settling => phase_if(situation.call.started, Phase::Walking, Phase::Settling),
         Phase::Walking | Phase::SettingUp => after_asking(situation),
-        Phase::Ready if situation.call.ran => Phase::Playing,
-        Phase::Playing if situation.call.stopped => phase_stopped(end),
-        other => other,
+        Phase::Ready => phase_if(situation.call.ran, Phase::Playing, Phase::Ready),
+        Phase::Playing => phase_if(situation.call.stopped, phase_stopped(end), Phase::Playing),
+        over => over,
     }
 }
 

@@ -6,7 +6,7 @@ ghost use Rattle.hda_outside.specs.Sink.{taken_with, TookFront};
 ghost use Rattle.hda_world.specs.JournalEvents.{events_of};
 ghost use Rattle.sound_report.specs.Pages.{Writes};
 ghost use Rattle.trace_lines.specs.Lines.{lines_from};
-ghost use Rattle.trace_lines.specs.Raw.{raw_line};
+ghost use Rattle.trace_lines.specs.Raw.{raw_entry};
 ghost use Rattle.trace_lines.specs.Traces as text;
 
 use crate::entries::Reader;
@@ -51,7 +51,7 @@ fn write_lines<K: Sink>(
 /// Writes its lines of JSON.
 fn write_raw_lines<K: Sink>(out: &mut K, page: &mut Vec<u8>, journal: &Journal) -> Result<(), Fault>
     ensures text { Writes result (K.taken out.old) (K.taken out.new) (page.old.items
-        ++ flat_map raw_line (events_of journal.now)) page.new.items }
+        ++ flat_map (raw_entry journal.now) journal.now.entries) page.new.items }
     ensures pieces { K.longest out.new ≤ max (K.longest out.old) 4096 }
     ensures later { K.faults out.old ≤ K.faults out.new }
     ensures failed { result ≡ Err Fault.Failed → Rose (K.faults out.old) (K.faults out.new) }
