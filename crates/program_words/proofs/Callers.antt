@@ -35,3 +35,6 @@ hertz-same a b e = sym (rate_again a) ∙ (ap rate_with e ∙ rate_again b)
 -- two sample sizes of the same bits are one
 pub bits_of-same : (a b : Bits) → bits_of a ≡ bits_of b → a ≡ b
 bits_of-same a b e = sym (bits_again a) ∙ (ap bits_with e ∙ bits_again b)
+
+-- words behind `play` or `walk` ask for no made run
+pub use Rattle.program_words.proofs.RunLemmas.{run_is_no_make}

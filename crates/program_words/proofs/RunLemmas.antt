@@ -1,7 +1,7 @@
 -- Lines of `play` and of `walk` as what words ask.
 use Rattle.std.proofs.Common.{◌≡◌, ◌∙◌, ℕ, List, ◌∷◌, Option, Some, None, ap, codes, refl, subst, sym}
 use Rattle.std.specs.Prelude.{option_and_then}
-use Rattle.program_words.specs.Asked.{Asked, asked_of, request_of}
+use Rattle.program_words.specs.Asked.{Asked, asked_of, make, request_of}
 use Rattle.program_words.specs.Commands.{play_grammar, walk_grammar}
 use Rattle.program_words.specs.Lines.{CommandLine, command_line_of}
 use Rattle.program_words.specs.RunWords.{run_words, words_behind}
@@ -39,3 +39,19 @@ pub run_none : (words : List (List ℕ)) → command_line_of play_grammar words 
 run_none words none no_walk =
     behind_none words (asked_play words ∙ ap (λ (o : Option CommandLine). option_and_then (asked_of Play) o) none)
     ∙ asked_walk words ∙ ap (λ (o : Option CommandLine). option_and_then (asked_of Walk) o) no_walk
+
+-- words behind `play` or `walk` are those of no other command
+play_no_make : (line : Option CommandLine) (number : ℕ) → option_and_then (asked_of Play) line ≡ Some (make number) → ⊥
+play_no_make None number e = let bad : None ≡ Some (make number) = e in cc
+play_no_make (Some line) number e = cc
+
+walk_no_make : (line : Option CommandLine) (number : ℕ) → option_and_then (asked_of Walk) line ≡ Some (make number) → ⊥
+walk_no_make None number e = let bad : None ≡ Some (make number) = e in cc
+walk_no_make (Some line) number e = cc
+
+behind_no_make : (words : List (List ℕ)) (played : Option Asked) (number : ℕ) → request_of (words_behind played words) ≡ Some (make number) → ⊥
+behind_no_make words (Some asked) number e = play_no_make (command_line_of play_grammar words) number (sym (asked_play words) ∙ e)
+behind_no_make words None number e = walk_no_make (command_line_of walk_grammar words) number (sym (asked_walk words) ∙ e)
+
+pub run_is_no_make : (words : List (List ℕ)) (number : ℕ) → request_of (run_words words) ≡ Some (make number) → ⊥
+run_is_no_make words number e = behind_no_make words (request_of (codes "play" ∷ words)) number e

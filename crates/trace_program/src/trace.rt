@@ -1,9 +1,9 @@
 //! The program over any shelf and sink.
-ghost use Rattle.std.specs.Prelude.{◌≡◌, ◌≤◌, ℕ, List, drop, map, string_bytes, IfSome, Some};
+ghost use Rattle.std.specs.Prelude.{◌≡◌, ◌≤◌, ◌⊎◌, ℕ, List, drop, map, string_bytes, IfSome, Some, None};
 ghost use Rattle.hda_outside.specs.Counts.{Rose};
 ghost use Rattle.sound_report.specs.Statuses.{number_of};
-ghost use Rattle.hda_program.specs.Answers.{HasWritten};
-ghost use Rattle.hda_program.specs.Asks.{AsksForItsFiles};
+ghost use Rattle.hda_program.specs.Answers.{HasEnded, HasWritten};
+ghost use Rattle.hda_program.specs.Asks.{AsksForItsFiles, IsNoCommand};
 ghost use Rattle.hda_program.specs.Files.{EmptiedUnder, FailedUnder, GivenAtMost, UnaskedUnder};
 ghost use Rattle.hda_program.specs.Meanings.{answer_meant, run_meant};
 ghost use Rattle.hda_program.specs.Promises.{KeepsPromise};
@@ -57,8 +57,15 @@ pub fn trace_main<S: Shelf, K: Sink>(
         (drop 1 (map string_bytes words.now)))
         (K.taken out.old) (K.taken out.new) (Rose (K.faults out.old) (K.faults out.new)) result.status) }
 
-    // The sink's fault alone is told as such.
-    ensures unwritten { result.status ≡ number_of Status.SinkFailed → Rose (K.faults out.old) (K.faults out.new) }
+    // But for the text it ends as `hda_play` does with the same words over a sink that tells nothing: each status has its
+    // cause, and what is good is not refused.
+    ensures ends_so { IsNoCommand (played_words (drop 1 (map string_bytes words.now)))
+        ⊎ HasEnded (S.told shelf.old) (FailedUnder (S.faults shelf.old) (S.faults shelf.new))
+        (EmptiedUnder (S.empties shelf.old) (S.empties shelf.new))
+        (UnaskedUnder (S.asked shelf.old) (S.asked shelf.new))
+        (GivenAtMost (S.given shelf.old) (S.given shelf.new))
+        (played_words (drop 1 (map string_bytes words.now))) None None (Rose (K.faults out.old) (K.faults out.new))
+        result.play result.status }
 
     // The shelf is asked under the names of the words alone.
     ensures asked { AsksForItsFiles (played_words (drop 1 (map string_bytes words.now))) (S.asked shelf.old)

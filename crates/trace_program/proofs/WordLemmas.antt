@@ -1,0 +1,17 @@
+-- The words before the operands.
+use Rattle.std.proofs.Common.{◌≡◌, ℕ, Bool, true, false, List, [], ◌∷◌, drop, map, ap, refl, true≢false, sym}
+use Rattle.std.specs.Prelude.{if◌then◌else◌}
+use Rattle.std.specs.Str.{bytes_eq}
+use Rattle.trace_program.specs.Words.{is_raw, operands_of, raw_word}
+
+-- where the first word asks for lines of JSON the operands stand behind it
+pub operands_raw : {X : Type 0} (text : X → List ℕ) (words : List X) → is_raw (drop 1 (map text words)) ≡ true → drop 1 (map text (drop 1 words)) ≡ operands_of (drop 1 (map text words))
+operands_raw text [] raw = absurd (true≢false (sym raw))
+operands_raw text (name ∷ []) raw = absurd (true≢false (sym raw))
+operands_raw text (name ∷ (word ∷ rest)) raw = rw raw refl
+
+-- and else behind the program's name
+pub operands_plain : {X : Type 0} (text : X → List ℕ) (words : List X) → is_raw (drop 1 (map text words)) ≡ false → drop 1 (map text words) ≡ operands_of (drop 1 (map text words))
+operands_plain text [] raw = refl
+operands_plain text (name ∷ []) raw = refl
+operands_plain text (name ∷ (word ∷ rest)) raw = rw raw refl
