@@ -1,7 +1,7 @@
 -- Where a driver stands between two entries of its journal, as the entries before show it: the phase that its calls led
 -- to, the commands that it sent, and what it saw in the call that is open. This project's own, over the registers of
 -- High Definition Audio 1.0a, 3.3, and the verbs of 7.3.3.
-use Rattle.std.specs.Prelude.{ℕ, ◌+◌, ◌-◌, ◌==◌, ◌&&◌, ◌||◌, Bool, true, false, not, List, [], ◌∷◌, ◌++◌, length, nat_le}
+use Rattle.std.specs.Prelude.{ℕ, ◌+◌, ◌-◌, ◌==◌, ◌&&◌, ◌||◌, Bool, true, false, not, List, [], ◌∷◌, length, nat_le}
 use Rattle.std.specs.Prelude.{Option, Some, None, unwrap_or, if◌then◌else◌}
 use Rattle.std.specs.Option.{option_or}
 use Rattle.verb_codes.specs.Words.{bits_of, has_bit}

@@ -1,6 +1,5 @@
 //! Accesses to registers in words (HDA 1.0a, 3.3).
-ghost use Rattle.std.specs.Prelude.{◌≡◌, ◌≤◌, ◌-◌, ◌++◌, OnOk, option_map, drop, [], codes, decimal};
-ghost use Rattle.hda_registers.specs.Access.{bytes_of};
+ghost use Rattle.std.specs.Prelude.{◌≡◌, ◌≤◌, ◌-◌, ◌++◌, OnOk, option_map};
 ghost use Rattle.trace_lines.specs.Names.{register_of};
 ghost use Rattle.trace_lines.specs.Registers as text;
 

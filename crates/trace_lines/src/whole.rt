@@ -1,5 +1,5 @@
 //! The whole text of a journal.
-ghost use Rattle.std.specs.Prelude.{◌≡◌, ◌≤◌, max, ◌++◌, [], map, OnOk, OnErr};
+ghost use Rattle.std.specs.Prelude.{◌≡◌, ◌≤◌, max, ◌++◌, OnOk, OnErr};
 ghost use Rattle.std.specs.List.{flat_map};
 ghost use Rattle.hda_outside.specs.Counts.{Rose};
 ghost use Rattle.hda_outside.specs.Sink.{taken_with, TookFront};

@@ -1,5 +1,5 @@
 //! Numbers as hexadecimal digits. Each call here appends to a text.
-ghost use Rattle.std.specs.Prelude.{◌≡◌, ◌++◌, ◌∷◌, [], OnOk};
+ghost use Rattle.std.specs.Prelude.{◌≡◌, ◌++◌, OnOk};
 ghost use Rattle.std.specs.Int.{to_be_bytes, w16, w64};
 ghost use Rattle.hex.specs.Hex.{encode_lower};
 ghost use Rattle.sound_report.specs.PlanLines.{nid_text};

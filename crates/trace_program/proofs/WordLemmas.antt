@@ -1,8 +1,6 @@
 -- The words before the operands.
-use Rattle.std.proofs.Common.{◌≡◌, ℕ, Bool, true, false, List, [], ◌∷◌, drop, map, ap, refl, true≢false, sym}
-use Rattle.std.specs.Prelude.{if◌then◌else◌}
-use Rattle.std.specs.Str.{bytes_eq}
-use Rattle.trace_program.specs.Words.{is_raw, operands_of, raw_word}
+use Rattle.std.proofs.Common.{◌≡◌, ℕ, true, false, List, [], ◌∷◌, drop, map, refl, true≢false, sym}
+use Rattle.trace_program.specs.Words.{is_raw, operands_of}
 
 -- where the first word asks for lines of JSON the operands stand behind it
 pub operands_raw : {X : Type 0} (text : X → List ℕ) (words : List X) → is_raw (drop 1 (map text words)) ≡ true → drop 1 (map text (drop 1 words)) ≡ operands_of (drop 1 (map text words))

@@ -1,10 +1,8 @@
-use Rattle.std.proofs.Common.{◌≡◌, ◌++◌, [], List, ℕ, ap, map, subst, sym}
-use Rattle.std.specs.List.{flat_map}
+use Rattle.std.proofs.Common.{◌≡◌, ◌++◌, [], List, ℕ, subst}
 use Rattle.hda_world.specs.JournalEvents.{events_of}
 use Rattle.sound_report.specs.Pages.{Writes}
 use Rattle.trace_lines.specs.Lines.{lines_from}
 use Rattle.trace_lines.specs.Purposes.{bases_in}
-use Rattle.trace_lines.specs.Raw.{raw_entry, raw_lines}
 use Rattle.trace_lines.specs.Situations.{situation_opened}
 use Rattle.trace_lines.specs.declared.purposes.Bases.{Bases}
 use Rattle.trace_lines.proofs.LineLemmas.{raw_lines_of}
