@@ -1,8 +1,7 @@
 //! The entries of a journal, one after another.
-ghost use Rattle.std.specs.Prelude.{◌≡◌, ◌++◌, OnOk, length};
-ghost use Rattle.hda_world.specs.Journals.{bytes_of, event_of, piece_at};
+ghost use Rattle.std.specs.Prelude.{◌≡◌, ◌++◌, OnOk};
+ghost use Rattle.hda_world.specs.Journals.{bytes_of, piece_at};
 ghost use Rattle.trace_lines.specs.Lines as text;
-ghost use Rattle.trace_lines.specs.Situations as spec;
 
 use crate::memory::{buffer_in, push_piece};
 use crate::phases::{phase_after, phase_word};

@@ -1,5 +1,6 @@
 //! Accesses to registers in words (HDA 1.0a, 3.3).
 ghost use Rattle.std.specs.Prelude.{◌≡◌, ◌≤◌, ◌-◌, ◌++◌, OnOk, option_map};
+ghost use Rattle.hda_registers.specs.Access.{bytes_of};
 ghost use Rattle.trace_lines.specs.Names.{register_of};
 ghost use Rattle.trace_lines.specs.Registers as text;
 
@@ -42,12 +43,24 @@ fn push_register(out: &mut Vec<u8>, at: u16) -> Result<(), AllocError>
     }
 }
 
+/// How many bytes an access of this width has.
+fn bytes_in(width: Width) -> u16
+    ensures value { result ≡ bytes_of width }
+    ensures few { result ≤ 4 }
+{
+    match width {
+        Width::One => 1,
+        Width::Two => 2,
+        Width::Four => 4,
+    }
+}
+
 /// A value in as many digits as an access of this width has.
 fn push_value(out: &mut Vec<u8>, width: Width, value: u32) -> Result<(), AllocError>
     ensures { OnOk result (out.new.items ≡ out.old.items ++ text.value_text width value) }
 {
     let bytes = value.to_be_bytes();
-    let first = 4 - usize::from(width.bytes());
+    let first = 4 - usize::from(bytes_in(width));
     push_hex(out, &bytes[first..])
 }
 
@@ -89,11 +102,12 @@ pub(crate) fn push_access(
 ) -> Result<(), AllocError>
     ensures { OnOk result (out.new.items ≡ out.old.items ++ text.access_text at width value) }
 {
-    push_number(out, width.bytes().into())?;
+    let bytes = bytes_in(width);
+    push_number(out, bytes.into())?;
     push_word(out, " ")?;
     push_register(out, at)?;
     push_word(out, " ")?;
     push_value(out, width, value)?;
     push_ticks(out, at, value)?;
-    push_bits(out, at, width.bytes(), value)
+    push_bits(out, at, bytes, value)
 }

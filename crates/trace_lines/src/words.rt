@@ -9,7 +9,6 @@ use sound_report::push_hex;
 use std::alloc::AllocError;
 
 /// A byte: two digits.
-#[tactic(auto, unfolding(sound_report::specs::PlanLines::nid_text))]
 pub(crate) fn push_byte(out: &mut Vec<u8>, byte: u8) -> Result<(), AllocError>
     ensures { OnOk result (out.new.items ≡ out.old.items ++ nid_text byte) }
 {
