@@ -29,17 +29,17 @@ lines_of bases end buffers situation journal entries = lines_from bases end buff
 lines_next : (bases : Bases) (end : Option PlayFault) (buffers : List Listed) (situation : Situation) (journal : JournalState) (entries : List Entry) (i : ℕ) (d : Entry)
     → i < length entries
     → lines_of bases end buffers situation journal (drop i entries)
-        ≡ line_of bases end buffers situation (event_at journal (get_or entries i d))
-        ++ lines_of bases end (buffers ++ listed_in bases buffers (event_at journal (get_or entries i d)))
-        (after_entry bases end buffers situation (event_at journal (get_or entries i d))) journal (drop (i + 1) entries)
+    ≡ line_of bases end buffers situation (event_at journal (get_or entries i d))
+    ++ lines_of bases end (buffers ++ listed_in bases buffers (event_at journal (get_or entries i d)))
+    (after_entry bases end buffers situation (event_at journal (get_or entries i d))) journal (drop (i + 1) entries)
 lines_next bases end buffers situation journal entries i d within = rw (add-one, drop-cons entries i d) refl
 
 -- the same for an entry under a name of its own, where the buffers and the situation after it have theirs
-pub pub lines_left : (bases : Bases) (end : Option PlayFault) (buffers buffers' : List Listed) (situation situation' : Situation) (journal : JournalState) (entries : List Entry)
+pub lines_left : (bases : Bases) (end : Option PlayFault) (buffers buffers' : List Listed) (situation situation' : Situation) (journal : JournalState) (entries : List Entry)
     (i : ℕ) (entry : Entry) → i < length entries → entry ≡ get_or entries i entry
     → buffers' ≡ buffers ++ listed_in bases buffers (event_at journal entry) → situation' ≡ after_entry bases end buffers situation (event_at journal entry)
     → lines_of bases end buffers situation journal (drop i entries)
-        ≡ line_of bases end buffers situation (event_at journal entry) ++ lines_of bases end buffers' situation' journal (drop (i + 1) entries)
+    ≡ line_of bases end buffers situation (event_at journal entry) ++ lines_of bases end buffers' situation' journal (drop (i + 1) entries)
 lines_left bases end buffers buffers' situation situation' journal entries i entry within is listed after =
     lines_next bases end buffers situation journal entries i entry within
     ∙ (ap (λ (e : Entry). line_of bases end buffers situation (event_at journal e)

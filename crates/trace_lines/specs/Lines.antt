@@ -65,9 +65,12 @@ response_kind situation response =
     if response.unsolicited then codes " unsolicited"
     else (if is_answer situation response then command_answered situation.waits else [])
 
+-- a response and who sent it
+abbrev pub answer_text : Response → List ℕ
+answer_text response = word_text response.answer ++ codes " codec " ++ decimal response.codec
+
 abbrev pub response_text : Situation → Response → List ℕ
-response_text situation response =
-    word_text response.answer ++ codes " codec " ++ decimal response.codec ++ response_kind situation response
+response_text situation response = answer_text response ++ response_kind situation response
 
 -- an entry of the list of buffers: the address, the bytes, and whether IOC is set (3.6.3)
 abbrev pub buffer_text : Buffer → List ℕ
@@ -79,6 +82,10 @@ buffer_text buffer =
 abbrev pub numbered : List ℕ → ℕ → List ℕ
 numbered word number = word ++ decimal number ++ codes " "
 
+-- a place of a period
+abbrev pub place_text : (number place : ℕ) → List ℕ
+place_text number place = numbered (codes "period ") number ++ decimal place ++ codes " "
+
 -- a piece by what it is
 abbrev pub piece_text : Situation → Purpose → (at : ℕ) → (bytes : List ℕ) → List ℕ
 piece_text situation (purpose.Command number) at bytes =
@@ -88,7 +95,7 @@ piece_text situation (purpose.Response number) at bytes =
 piece_text situation (purpose.Buffer number) at bytes =
     numbered (codes "BDL ") number ++ buffer_text (buffer_of bytes 0 0)
 piece_text situation (purpose.Period number place) at bytes =
-    numbered (codes "period ") number ++ decimal place ++ codes " " ++ bytes_text bytes
+    place_text number place ++ bytes_text bytes
 piece_text situation purpose.Other at bytes = word_text at ++ codes " " ++ bytes_text bytes
 
 -- ---- an entry

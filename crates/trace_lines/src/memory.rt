@@ -67,6 +67,15 @@ fn push_kind(out: &mut Vec<u8>, situation: &Situation, response: Response) -> Re
     }
 }
 
+/// A response and who sent it.
+fn push_answer(out: &mut Vec<u8>, response: Response) -> Result<(), AllocError>
+    ensures { OnOk result (out.new.items ≡ out.old.items ++ text.answer_text response) }
+{
+    push_whole_word(out, response.answer)?;
+    push_word(out, " codec ")?;
+    push_number(out, response.codec.into())
+}
+
 /// An entry of RIRB.
 fn push_response(
     out: &mut Vec<u8>,
@@ -75,9 +84,7 @@ fn push_response(
 ) -> Result<(), AllocError>
     ensures { OnOk result (out.new.items ≡ out.old.items ++ text.response_text situation.now response) }
 {
-    push_whole_word(out, response.answer)?;
-    push_word(out, " codec ")?;
-    push_number(out, response.codec.into())?;
+    push_answer(out, response)?;
     push_kind(out, situation, response)
 }
 
@@ -100,6 +107,15 @@ fn push_numbered(out: &mut Vec<u8>, word: &str, number: u32) -> Result<(), Alloc
 {
     push_word(out, word)?;
     push_number(out, number.into())?;
+    push_word(out, " ")
+}
+
+/// A place of a period.
+fn push_place(out: &mut Vec<u8>, number: u32, place: u64) -> Result<(), AllocError>
+    ensures { OnOk result (out.new.items ≡ out.old.items ++ text.place_text number place) }
+{
+    push_numbered(out, "period ", number)?;
+    push_number(out, place)?;
     push_word(out, " ")
 }
 
@@ -130,9 +146,7 @@ pub(crate) fn push_piece(
             push_buffer(out, buffer_in(bytes))
         }
         Purpose::Period(number, place) => {
-            push_numbered(out, "period ", number)?;
-            push_number(out, place)?;
-            push_word(out, " ")?;
+            push_place(out, number, place)?;
             push_bytes(out, bytes)
         }
         Purpose::Other => {
