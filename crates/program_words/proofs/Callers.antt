@@ -1,4 +1,6 @@
--- What proofs of the layers above cite: rates and sample sizes of the same number are one.
+-- What proofs of the layers above cite: rates and sample sizes of the same number are one, and words behind `play` or
+-- `walk` ask for no made run.
+pub use Rattle.program_words.proofs.RunLemmas.{run_is_no_make}
 use Rattle.std.proofs.Common.{◌≡◌, ◌∙◌, ℕ, refl, sym, ap}
 use Rattle.std.specs.Prelude.{◌==◌, if◌then◌else◌}
 use Rattle.stream_format.specs.declared.format.Rate.{Rate}
@@ -35,6 +37,3 @@ hertz-same a b e = sym (rate_again a) ∙ (ap rate_with e ∙ rate_again b)
 -- two sample sizes of the same bits are one
 pub bits_of-same : (a b : Bits) → bits_of a ≡ bits_of b → a ≡ b
 bits_of-same a b e = sym (bits_again a) ∙ (ap bits_with e ∙ bits_again b)
-
--- words behind `play` or `walk` ask for no made run
-pub use Rattle.program_words.proofs.RunLemmas.{run_is_no_make}
