@@ -1,6 +1,6 @@
 /* Replays the lines of JSON that `hda_trace --raw` writes: takes each step, makes each access, and compares what a read
- * gives with what stands in its line. Usage: replay CODEC_FILE TRACE. Ends with 0 where all lines agree, and else with 1
- * at the first that does not, which it prints. */
+ * gives with what stands in its line. Usage: replay CODEC_FILE TRACE. Ends with 0 where all lines agree, and else with
+ * 1 at the first that does not, which it prints. */
 #include "hda.h"
 #include <stdlib.h>
 #include <string.h>

@@ -1,2 +1,3 @@
+mod PutLemmas
 mod PieceLemmas
 mod LineLemmas

@@ -3,9 +3,9 @@
 -- the first write to their base register puts them (High Definition Audio 1.0a, 3.3.18, 3.3.25 and 3.3.42), the list up
 -- to the entry that the first write to LVI names (3.3.39), the periods by the list's entries (3.6.3). That a ring counts
 -- as one of 256 entries is this project's own.
-use Rattle.std.specs.Prelude.{ℕ, ◌+◌, ◌-◌, ◌*◌, ◌/◌, ◌%◌, ◌==◌, ◌&&◌, Bool, List, [], ◌∷◌, slice_get, find, nat_le}
+use Rattle.std.specs.Prelude.{ℕ, ◌+◌, ◌-◌, ◌*◌, ◌/◌, ◌%◌, ◌==◌, ◌&&◌, Bool, List, [], ◌∷◌, find, nat_le}
 use Rattle.std.specs.Prelude.{nat_lt, Option, Some, None, if◌then◌else◌}
-use Rattle.std.specs.List.{flat_map}
+use Rattle.std.specs.Option.{option_or}
 use Rattle.hda_registers.specs.declared.places.TheConstants.{CORBLBASE, RIRBLBASE}
 use Rattle.hda_world.specs.Events.{Event, Stepped, Begin, End, Read, Write, DmaRead, DmaWrite}
 use Rattle.period_writer.specs.declared.registers.TheConstants.{LAST_INDEX, LIST_ADDRESS}
@@ -19,18 +19,19 @@ use Rattle.trace_lines.specs.declared.purposes.Purpose.TheVariants as purpose
 -- ---- where rings and list lie
 
 -- the value that an event writes to the register at this place, if it does
-abbrev pub value_put : ℕ → Event → List ℕ
-value_put register (Stepped step) = []
-value_put register Begin = []
-value_put register End = []
-value_put register (Read at width value) = []
-value_put register (Write at width value) = if at == register then value ∷ [] else []
-value_put register (DmaRead at bytes) = []
-value_put register (DmaWrite at bytes) = []
+abbrev pub value_put : ℕ → Event → Option ℕ
+value_put register (Stepped step) = None
+value_put register Begin = None
+value_put register End = None
+value_put register (Read at width value) = None
+value_put register (Write at width value) = if at == register then Some value else None
+value_put register (DmaRead at bytes) = None
+value_put register (DmaWrite at bytes) = None
 
 -- the first value that some events write to it
 abbrev pub first_put : ℕ → List Event → Option ℕ
-first_put register events = slice_get (flat_map (value_put register) events) 0
+first_put register [] = None
+first_put register (event ∷ events) = option_or (value_put register event) (first_put register events)
 
 abbrev pub bases_in : List Event → Bases
 bases_in events = record {

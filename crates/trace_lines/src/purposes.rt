@@ -50,16 +50,25 @@ pub(crate) enum Purpose {
     Other,
 }
 
+/// The value that an entry writes to a register, if it does.
+fn value_put(entry: &Entry, register: u16) -> Option<u32>
+    ensures { (pieces : List MemoryPiece) (bytes : List ℕ)
+        → result ≡ spec.value_put register (event_of pieces bytes entry.now) }
+{
+    match *entry {
+        Entry::Write { at, value, .. } if at == register => Some(value),
+        _ => None,
+    }
+}
+
 /// The first value that is written to a register.
 fn first_put(entries: &[Entry], register: u16) -> Option<u32>
     ensures { (pieces : List MemoryPiece) (bytes : List ℕ)
         → result ≡ spec.first_put register (map (event_of pieces bytes) entries.now) }
 {
     for entry in entries {
-        if let Entry::Write { at, value, .. } = *entry {
-            if at == register {
-                return Some(value);
-            }
+        if let Some(value) = value_put(entry, register) {
+            return Some(value);
         }
     }
     None
