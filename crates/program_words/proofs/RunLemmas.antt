@@ -1,5 +1,5 @@
 -- Lines of `play` and of `walk` as what words ask.
-use Rattle.std.proofs.Common.{◌≡◌, ◌∙◌, ℕ, List, ◌∷◌, Option, Some, None, ap, codes, refl, subst, sym}
+use Rattle.std.proofs.Common.{◌≡◌, ◌∙◌, ℕ, List, [], ◌∷◌, Option, Some, None, ap, codes, refl, sym}
 use Rattle.std.specs.Prelude.{option_and_then}
 use Rattle.program_words.specs.Asked.{Asked, asked_of, make, request_of}
 use Rattle.program_words.specs.Commands.{play_grammar, walk_grammar}
@@ -27,18 +27,28 @@ pub run_plays : (words : List (List ℕ)) (line : CommandLine) (asked : Asked) �
 run_plays words line asked is plays =
     behind_some words asked (asked_play words ∙ ap (λ (o : Option CommandLine). option_and_then (asked_of Play) o) is ∙ plays)
 
--- no line of `play`, and one of `walk`
-pub run_walks : (words : List (List ℕ)) (line : CommandLine) (asked : Asked) → command_line_of play_grammar words ≡ None → command_line_of walk_grammar words ≡ Some line
-    → asked_of Walk line ≡ Some asked → request_of (run_words words) ≡ Some asked
-run_walks words line asked none is walks =
-    behind_none words (asked_play words ∙ ap (λ (o : Option CommandLine). option_and_then (asked_of Play) o) none)
-    ∙ asked_walk words ∙ ap (λ (o : Option CommandLine). option_and_then (asked_of Walk) o) is ∙ walks
+-- no line of `play`, and what is asked behind `walk`
+pub run_walks : (words : List (List ℕ)) (asked : Asked) → command_line_of play_grammar words ≡ None → request_of (codes "walk" ∷ words) ≡ Some asked
+    → request_of (run_words words) ≡ Some asked
+run_walks words asked none walks =
+    behind_none words (asked_play words ∙ ap (λ (o : Option CommandLine). option_and_then (asked_of Play) o) none) ∙ walks
 
 -- neither
-pub run_none : (words : List (List ℕ)) → command_line_of play_grammar words ≡ None → command_line_of walk_grammar words ≡ None → request_of (run_words words) ≡ None
+pub run_none : (words : List (List ℕ)) → command_line_of play_grammar words ≡ None → request_of (codes "walk" ∷ words) ≡ None → request_of (run_words words) ≡ None
 run_none words none no_walk =
-    behind_none words (asked_play words ∙ ap (λ (o : Option CommandLine). option_and_then (asked_of Play) o) none)
-    ∙ asked_walk words ∙ ap (λ (o : Option CommandLine). option_and_then (asked_of Walk) o) no_walk
+    behind_none words (asked_play words ∙ ap (λ (o : Option CommandLine). option_and_then (asked_of Play) o) none) ∙ no_walk
+
+-- a line of `walk`, and none
+pub walk_asks : (words : List (List ℕ)) (line : CommandLine) (asked : Asked) → command_line_of walk_grammar words ≡ Some line → asked_of Walk line ≡ Some asked
+    → request_of (codes "walk" ∷ words) ≡ Some asked
+walk_asks words line asked is walks = asked_walk words ∙ (ap (λ (o : Option CommandLine). option_and_then (asked_of Walk) o) is ∙ walks)
+
+pub walk_none : (words : List (List ℕ)) → command_line_of walk_grammar words ≡ None → request_of (codes "walk" ∷ words) ≡ None
+walk_none words none = asked_walk words ∙ ap (λ (o : Option CommandLine). option_and_then (asked_of Walk) o) none
+
+-- no words ask for no run
+pub nothing_asked : request_of (run_words []) ≡ None
+nothing_asked = refl
 
 -- words behind `play` or `walk` are those of no other command
 play_no_make : (line : Option CommandLine) (number : ℕ) → option_and_then (asked_of Play) line ≡ Some (make number) → ⊥

@@ -1,9 +1,9 @@
 //! The whole text of a journal.
-ghost use Rattle.std.specs.Prelude.{◌≡◌, ◌≤◌, max, ◌++◌, OnOk, OnErr};
+ghost use Rattle.std.specs.Prelude.{◌≡◌, ◌≤◌, max, ◌++◌, map, OnOk, OnErr};
 ghost use Rattle.std.specs.List.{flat_map};
 ghost use Rattle.hda_outside.specs.Counts.{Rose};
 ghost use Rattle.hda_outside.specs.Sink.{taken_with, TookFront};
-ghost use Rattle.hda_world.specs.JournalEvents.{events_of};
+ghost use Rattle.hda_world.specs.Journals.{event_of};
 ghost use Rattle.sound_report.specs.Pages.{Writes};
 ghost use Rattle.trace_lines.specs.Lines.{lines_from};
 ghost use Rattle.trace_lines.specs.Raw.{raw_entry};
@@ -14,7 +14,7 @@ use crate::purposes::bases_in;
 use crate::raw::push_raw_line;
 use crate::situations::Situation;
 use hda_outside::{Fault, Sink, write_all};
-use hda_world::Journal;
+use hda_world::{Entry, Journal};
 use sound_report::{PAGE_LEN, Played, turn};
 use std::alloc::Global;
 
@@ -27,20 +27,22 @@ pub enum Form {
     Raw,
 }
 
-/// Writes the lines of a journal, page by page, but for what stands on the page at the end.
+/// Writes the lines of entries of a journal, page by page, but for what stands on the page at the end.
 fn write_lines<K: Sink>(
     out: &mut K,
     page: &mut Vec<u8>,
     reader: &mut Reader,
     journal: &Journal,
+    entries: &[Entry],
 ) -> Result<(), Fault>
     ensures text { Writes result (K.taken out.old) (K.taken out.new) (page.old.items ++ lines_from reader.old.bases
-        reader.old.end reader.old.buffers.items reader.old.situation (events_of journal.now)) page.new.items }
+        reader.old.end reader.old.buffers.items reader.old.situation
+        (map (event_of journal.now.pieces journal.now.bytes) entries.now)) page.new.items }
     ensures pieces { K.longest out.new ≤ max (K.longest out.old) 4096 }
     ensures later { K.faults out.old ≤ K.faults out.new }
     ensures failed { result ≡ Err Fault.Failed → Rose (K.faults out.old) (K.faults out.new) }
 {
-    for entry in journal.entries() {
+    for entry in entries {
         reader.push_line(page, journal, entry)?;
         reader.pass(journal, entry)?;
         turn(out, page)?;
@@ -48,7 +50,7 @@ fn write_lines<K: Sink>(
     Ok(())
 }
 
-/// Writes its lines of JSON.
+/// Writes their lines of JSON.
 fn write_raw_lines<K: Sink>(out: &mut K, page: &mut Vec<u8>, journal: &Journal) -> Result<(), Fault>
     ensures text { Writes result (K.taken out.old) (K.taken out.new) (page.old.items
         ++ flat_map (raw_entry journal.now) journal.now.entries) page.new.items }
@@ -56,7 +58,7 @@ fn write_raw_lines<K: Sink>(out: &mut K, page: &mut Vec<u8>, journal: &Journal) 
     ensures later { K.faults out.old ≤ K.faults out.new }
     ensures failed { result ≡ Err Fault.Failed → Rose (K.faults out.old) (K.faults out.new) }
 {
-    for entry in journal.entries() {
+    for entry in entries {
         push_raw_line(page, journal, entry)?;
         turn(out, page)?;
     }
@@ -77,17 +79,18 @@ fn write_form<K: Sink>(
     ensures later { K.faults out.old ≤ K.faults out.new }
     ensures failed { result ≡ Err Fault.Failed → Rose (K.faults out.old) (K.faults out.new) }
 {
+    let entries = played.journal.entries();
     match form {
         Form::Lines => {
             let mut reader = Reader {
-                bases: bases_in(played.journal.entries()),
+                bases: bases_in(entries),
                 end: played.fault,
                 buffers: Vec::new(alloc),
                 situation: Situation::opened(played.commands),
             };
-            write_lines(out, page, &mut reader, &played.journal)
+            write_lines(out, page, &mut reader, &played.journal, entries)
         }
-        Form::Raw => write_raw_lines(out, page, &played.journal),
+        Form::Raw => write_raw_lines(out, page, &played.journal, entries),
     }
 }
 

@@ -16,7 +16,7 @@ returns-in_err-turn-clause-text g c =
     let reader = c.loop-entry.reader in
     let after = c.in_ok-pass.new.self in
     no_sink c.from_residual-in_err-turn.result _ c.loop-entry.page.items _ _ _ c.from_residual-in_err-turn.ensures.0 c.loop-entry.invariant.text
-    (lines_left reader.bases reader.end reader.buffers.items after.buffers.items reader.situation after.situation c.args.journal.now c.entries.result.now
+    (lines_left reader.bases reader.end reader.buffers.items after.buffers.items reader.situation after.situation c.args.journal.now c.args.entries.now
     c.loop-entry.entry-index c.entry-item.result c.loop-entry-test.true c.entry-item.is c.in_ok-pass.ensures.buffers c.in_ok-pass.ensures.situation)
     c.in_ok-push_line.ensures c.in_err-turn.ensures.text
 
@@ -28,7 +28,7 @@ loop-entry-preserved g c =
     record {
       text =
           line_more c.loop-entry.page.items _ _ _ c.loop-entry.invariant.text
-          (lines_left reader.bases reader.end reader.buffers.items after.buffers.items reader.situation after.situation c.args.journal.now c.entries.result.now
+          (lines_left reader.bases reader.end reader.buffers.items after.buffers.items reader.situation after.situation c.args.journal.now c.args.entries.now
           c.loop-entry.entry-index c.entry-item.result c.loop-entry-test.true c.entry-item.is c.in_ok-pass.ensures.buffers c.in_ok-pass.ensures.situation)
           c.in_ok-push_line.ensures c.in_ok-turn.ensures.text;
       bases = search rules;
