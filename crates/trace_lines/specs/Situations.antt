@@ -57,20 +57,17 @@ after_put at value call = record call {
 
 -- ---- commands
 
--- before the first entry of a run that takes so many commands
-abbrev pub situation_opened : ℕ → Situation
-situation_opened commands =
-    record { phase = phase.Reset; left = commands; setting = false; waits = None; call = call_opened }
+-- before the first entry of a run that takes so many commands, of which so many are those of the walks
+abbrev pub situation_opened : (commands walks : ℕ) → Situation
+situation_opened commands walks =
+    record { phase = phase.Reset; left = commands; unwalked = walks; setting = false; waits = None; call = call_opened }
 
--- a verb that sets something, and does not ask: bit 19 of its command is 0 (7.3.3)
-abbrev pub sets : ℕ → Bool
-sets word = not (has_bit word 19)
-
--- a command was written to CORB, at the clock that the call read first
+-- a command was written to CORB, at the clock that the call read first: one of the walks, or else one that sets up
 abbrev pub sent : ℕ → Situation → Situation
 sent word situation = record situation {
   left = situation.left - 1;
-  setting = situation.setting || sets word;
+  unwalked = situation.unwalked - 1;
+  setting = situation.unwalked == 0;
   waits = Some (record { codec = bits_of word 28 4; word = word; issued = unwrap_or situation.call.clock 0 });
   call = record situation.call { asked = true };
 }
@@ -103,13 +100,14 @@ after_load purpose.Other bytes situation = situation
 
 -- ---- the phase after a call
 
--- while commands are sent: the codecs are set up from the first command on that sets something
-abbrev pub phase_asking : (setting : Bool) → Phase
-phase_asking setting = if setting then phase.SettingUp else phase.Walking
+-- while commands are sent: the codecs are set up once all of the walks were answered
+abbrev pub phase_asking : (walked : Bool) → Phase
+phase_asking walked = if walked then phase.SettingUp else phase.Walking
 
 -- after an answer: all is set up where no command is left
 abbrev pub phase_answered : Situation → Phase
-phase_answered situation = if situation.left == 0 then phase.Ready else phase_asking situation.setting
+phase_answered situation =
+    if situation.left == 0 then phase.Ready else phase_asking (situation.unwalked == 0)
 
 -- a command that waits is given up 1,000 link frames after its clock
 abbrev pub overdue : Option Outstanding → (clock : Option ℕ) → Phase → Phase

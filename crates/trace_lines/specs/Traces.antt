@@ -11,14 +11,14 @@ use Rattle.trace_lines.specs.Purposes.{bases_in}
 use Rattle.trace_lines.specs.Raw.{raw_lines}
 use Rattle.trace_lines.specs.Situations.{situation_opened}
 
--- the text of a journal, of a run that takes so many commands and ended for this fault
-abbrev pub journal_lines : (commands : ℕ) → Option PlayFault → List Event → List ℕ
-journal_lines commands end events = lines_from (bases_in events) end [] (situation_opened commands) events
+-- the text of a journal, of a run that takes so many commands, so many of them for the walks, and ended for this fault
+abbrev pub journal_lines : (commands walks : ℕ) → Option PlayFault → List Event → List ℕ
+journal_lines commands walks end events = lines_from (bases_in events) end [] (situation_opened commands walks) events
 
-abbrev pub text_by : Form → (commands : ℕ) → Option PlayFault → List Event → List ℕ
-text_by form.Lines commands end events = journal_lines commands end events
-text_by form.Raw commands end events = raw_lines events
+abbrev pub text_by : Form → (commands walks : ℕ) → Option PlayFault → List Event → List ℕ
+text_by form.Lines commands walks end events = journal_lines commands walks end events
+text_by form.Raw commands walks end events = raw_lines events
 
--- the text of a run's journal in a form
-abbrev pub trace_text : Form → Played → List ℕ
-trace_text form played = text_by form played.commands played.fault (events_of played.journal)
+-- the text of a run's journal in a form, where so many of its commands are those of the walks
+abbrev pub trace_text : Form → (walks : ℕ) → Played → List ℕ
+trace_text form walks played = text_by form played.commands walks played.fault (events_of played.journal)

@@ -8,11 +8,11 @@ use command_engine::{ANSWER_LIMIT, Outstanding};
 use driver_progress::Phase;
 use sound_report::PlayFault;
 
-/// While commands are sent.
-fn phase_asking(setting: bool) -> Phase
-    ensures { result ≡ spec.phase_asking setting }
+/// While commands are sent: whether all of the walks were answered says which.
+fn phase_asking(walked: bool) -> Phase
+    ensures { result ≡ spec.phase_asking walked }
 {
-    if setting {
+    if walked {
         Phase::SettingUp
     } else {
         Phase::Walking
@@ -26,7 +26,7 @@ fn phase_answered(situation: &Situation) -> Phase
     if situation.left == 0 {
         Phase::Ready
     } else {
-        phase_asking(situation.setting)
+        phase_asking(situation.unwalked == 0)
     }
 }
 

@@ -38,7 +38,9 @@ pub(crate) struct Situation {
     pub phase: Phase,
     /// How many commands are left to send.
     pub left: u32,
-    /// Whether one was sent that sets something.
+    /// How many commands of the walks are left to send.
+    pub unwalked: u128,
+    /// Whether the one that was sent last is none of them.
     pub setting: bool,
     /// The command that waits for its answer.
     pub waits: Option<Outstanding>,
@@ -109,13 +111,14 @@ impl Situation {
     ghost use Rattle.std.specs.Prelude.{◌≡◌};
     ghost use Rattle.trace_lines.specs.Situations as spec;
 
-    /// Before the first entry of a run that takes so many commands.
-    pub(crate) fn opened(commands: u32) -> Situation
-        ensures { result ≡ spec.situation_opened commands }
+    /// Before the first entry of a run that takes so many commands, of which so many are those of the walks.
+    pub(crate) fn opened(commands: u32, walks: u128) -> Situation
+        ensures { result ≡ spec.situation_opened commands walks }
     {
         Situation {
             phase: Phase::Reset,
             left: commands,
+            unwalked: walks,
             setting: false,
             waits: None,
             call: Call::opened(),
@@ -128,7 +131,8 @@ impl Situation {
     {
         Situation {
             left: self.left.saturating_sub(1),
-            setting: self.setting || !has_bit(word, 19),
+            unwalked: self.unwalked.saturating_sub(1),
+            setting: self.unwalked == 0,
             waits: Some(Outstanding {
                 codec: bits_of(word, 28, 4) as u8,
                 word,

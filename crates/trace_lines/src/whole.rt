@@ -71,9 +71,10 @@ fn write_form<K: Sink>(
     out: &mut K,
     page: &mut Vec<u8>,
     form: Form,
+    walks: u128,
     played: &Played,
 ) -> Result<(), Fault>
-    ensures text { Writes result (K.taken out.old) (K.taken out.new) (page.old.items ++ text.trace_text form played.now)
+    ensures text { Writes result (K.taken out.old) (K.taken out.new) (page.old.items ++ text.trace_text form walks played.now)
         page.new.items }
     ensures pieces { K.longest out.new ≤ max (K.longest out.old) 4096 }
     ensures later { K.faults out.old ≤ K.faults out.new }
@@ -86,7 +87,7 @@ fn write_form<K: Sink>(
                 bases: bases_in(entries),
                 end: played.fault,
                 buffers: Vec::new(alloc),
-                situation: Situation::opened(played.commands),
+                situation: Situation::opened(played.commands, walks),
             };
             write_lines(out, page, &mut reader, &played.journal, entries)
         }
@@ -94,7 +95,8 @@ fn write_form<K: Sink>(
     }
 }
 
-/// Writes the journal of a run as a text, an entry a line. Each line ends in a line feed. The text goes out in pages of
+/// Writes the journal of a run as a text, an entry a line, where so many of its commands are those of the walks over the
+/// codecs. Each line ends in a line feed. The text goes out in pages of
 /// 61,440 bytes and up to a line more, so that its length takes no memory. This project's own.
 ///
 /// # Errors
@@ -103,16 +105,17 @@ pub fn write_trace<K: Sink>(
     alloc: Global,
     out: &mut K,
     form: Form,
+    walks: u128,
     played: &Played,
 ) -> Result<(), Fault>
-    ensures all { OnOk result (K.taken out.new ≡ taken_with (K.taken out.old) (text.trace_text form played.now)) }
-    ensures front { OnErr result (TookFront (K.taken out.old) (K.taken out.new) (text.trace_text form played.now)) }
+    ensures all { OnOk result (K.taken out.new ≡ taken_with (K.taken out.old) (text.trace_text form walks played.now)) }
+    ensures front { OnErr result (TookFront (K.taken out.old) (K.taken out.new) (text.trace_text form walks played.now)) }
     ensures pieces { K.longest out.new ≤ max (K.longest out.old) 4096 }
     ensures later { K.faults out.old ≤ K.faults out.new }
     ensures failed { result ≡ Err Fault.Failed → Rose (K.faults out.old) (K.faults out.new) }
 {
     let mut page = Vec::new(alloc);
     page.reserve(PAGE_LEN)?;
-    write_form(alloc, out, &mut page, form, played)?;
+    write_form(alloc, out, &mut page, form, walks, played)?;
     write_all(alloc, out, page.as_slice())
 }

@@ -12,8 +12,7 @@ use Rattle.hda_program.specs.Meanings.{Meant, run_meant}
 use Rattle.hda_program.specs.Promises.{HasRun, HasWalkedOrPlayed, KeepsPromise}
 use Rattle.hda_program.proofs.Callers.{WordsCase, ran, said, cases}
 use Rattle.trace_lines.specs.declared.whole.Form.{Form}
-use Rattle.trace_lines.specs.Traces.{trace_text}
-use Rattle.trace_program.specs.Traced.{HasEndedTrace, IsAnswered, IsRunTraced, IsTraced, traced, traced_run}
+use Rattle.trace_program.specs.Traced.{HasEndedTrace, IsAnswered, IsRunTraced, IsTraced, trace_of, traced, traced_run}
 use Rattle.trace_program.specs.Words.{form_of, operands_of, played_words}
 
 -- ---- one meaning
@@ -99,10 +98,10 @@ module _ (told : Option Files) (failed emptied unasked : List ℕ → Type 0) (g
       no_run_kept play (given ∙ (ap (λ (m : Meant). m.play) traced_is ∙ ap (λ (m : Meant). (traced (form_of words) m).play) e))
   run_kept answer (ran played text run e) meant traced_is given written =
       let form = form_of words in
-      let is : meant ≡ run_meant played (trace_text form played) = traced_is ∙ ap (λ (m : Meant). traced form m) e in
+      let is : meant ≡ run_meant played (trace_of form played) = traced_is ∙ ap (λ (m : Meant). traced form m) e in
       let kept : KeepsPromise (IsRunTraced told failed emptied gave words) before after sink_failed status played =
       record {
-        run_text = trace_text form played;
+        run_text = trace_of form played;
         run = record { run = walked_or_played told failed emptied unasked gave words played text run; text_is = refl };
         text = subst (λ (m : Meant). HasWritten before after sink_failed m status) is written;
       } in

@@ -9,6 +9,7 @@ use Rattle.hda_program.specs.Answers.{HasEndedWith, IsMeant}
 use Rattle.hda_program.specs.Asks.{IsNoCommand}
 use Rattle.hda_program.specs.Meanings.{Meant, run_meant, telling}
 use Rattle.hda_program.specs.Promises.{HasWalkedOrPlayed}
+use Rattle.program_runs.specs.WalkTotals.{walk_total}
 use Rattle.trace_lines.specs.declared.whole.Form.{Form}
 use Rattle.trace_lines.specs.Traces.{trace_text}
 use Rattle.trace_program.specs.Words.{form_of, played_words, usage_line}
@@ -21,10 +22,14 @@ IsAnswered told failed emptied unasked gave words meant =
     ⊎ ((asked : Asked) × (request_of (played_words words) ≡ Some asked)
     × IsMeant told failed emptied unasked gave (played_words words) meant)
 
+-- the text of a run's journal in a form: the commands of the walks are those over its machine's codecs
+abbrev pub trace_of : Form → Played → List ℕ
+trace_of form played = trace_text form (walk_total played.machine.codecs) played
+
 -- a run with its journal in a form in place of its report. Where there is no run the text stays
 abbrev pub traced_run : Form → Option Played → Meant → Meant
 traced_run form None meant = meant
-traced_run form (Some played) meant = run_meant played (trace_text form played)
+traced_run form (Some played) meant = run_meant played (trace_of form played)
 
 abbrev pub traced : Form → Meant → Meant
 traced form meant = traced_run form meant.play meant
@@ -48,4 +53,4 @@ HasEndedTrace told failed emptied unasked gave words before after sink_failed pl
 pub record IsRunTraced (told : Option Files) (failed emptied : List ℕ → Type 0) (gave : ℕ → Type 0)
     (words : List (List ℕ)) (played : Played) (text : List ℕ) : Type 0 where
   pub run : HasWalkedOrPlayed told failed emptied gave (played_words words) played
-  pub text_is : text ≡ trace_text (form_of words) played
+  pub text_is : text ≡ trace_of (form_of words) played

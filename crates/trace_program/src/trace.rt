@@ -7,13 +7,13 @@ ghost use Rattle.hda_program.specs.Asks.{AsksForItsFiles, IsNoCommand};
 ghost use Rattle.hda_program.specs.Files.{EmptiedUnder, FailedUnder, GivenAtMost, UnaskedUnder};
 ghost use Rattle.hda_program.specs.Meanings.{answer_meant, run_meant};
 ghost use Rattle.hda_program.specs.Promises.{KeepsPromise};
-ghost use Rattle.trace_lines.specs.Traces.{trace_text};
-ghost use Rattle.trace_program.specs.Traced.{HasEndedTrace, IsRunTraced, traced};
+ghost use Rattle.trace_program.specs.Traced.{HasEndedTrace, IsRunTraced, trace_of, traced};
 ghost use Rattle.trace_program.specs.Words.{form_of, played_words};
 
 use crate::answer::{answer_run, is_raw};
 use hda_outside::{Shelf, Sink};
 use hda_program::{Answer, Ended, Status, status_of, write_text, written_status};
+use program_runs::walk_total;
 use sound_report::Played;
 use std::alloc::Global;
 use trace_lines::{Form, write_trace};
@@ -107,7 +107,7 @@ fn write_answer<K: Sink>(alloc: Global, out: &mut K, form: Form, answer: Answer)
 /// Ends with a run, whose journal it writes.
 fn end_run<K: Sink>(alloc: Global, out: &mut K, form: Form, played: Played) -> Ended
     ensures written { HasWritten (K.taken out.old) (K.taken out.new) (Rose (K.faults out.old) (K.faults out.new))
-        (run_meant played (trace_text form played)) result.status }
+        (run_meant played (trace_of form played)) result.status }
     ensures play { result.play ≡ Some played }
     ensures later { K.faults out.old ≤ K.faults out.new }
 {
@@ -120,8 +120,12 @@ fn end_run<K: Sink>(alloc: Global, out: &mut K, form: Form, played: Played) -> E
 /// Writes the journal of a run, and gives the status of its end, or that of the fault.
 fn write_run<K: Sink>(alloc: Global, out: &mut K, form: Form, played: &Played) -> Status
     ensures written { HasWritten (K.taken out.old) (K.taken out.new) (Rose (K.faults out.old) (K.faults out.new))
-        (run_meant played.now (trace_text form played.now)) (number_of result) }
+        (run_meant played.now (trace_of form played.now)) (number_of result) }
     ensures later { K.faults out.old ≤ K.faults out.new }
 {
-    written_status(write_trace(alloc, out, form, played), status_of(played))
+    let walks = walk_total(played.machine.codecs.as_slice());
+    written_status(
+        write_trace(alloc, out, form, walks, played),
+        status_of(played),
+    )
 }

@@ -14,7 +14,7 @@ returns-in-Lines-clause-text g c =
     let journal = c.args.played.now.journal in
     let bases : c.bases_in.result ≡ bases_in (events_of journal) = rw c.entries.ensures at (c.bases_in.ensures journal.pieces journal.bytes) in
     let Written : Bases → Type 0 = λ found. Writes c.write_lines.result (g.K.Sink.taken c.args.out.now) (g.K.Sink.taken c.write_lines.new.out)
-    (c.args.page.now.items ++ lines_from found c.args.played.now.fault [] (situation_opened c.args.played.now.commands) (events_of journal)) c.write_lines.new.page.items in
+    (c.args.page.now.items ++ lines_from found c.args.played.now.fault [] (situation_opened c.args.played.now.commands c.args.walks) (events_of journal)) c.write_lines.new.page.items in
     subst Written bases (rw (c.opened.ensures, c.entries.ensures) at c.write_lines.ensures.text)
 
 -- the lines of the entries are those of the events
