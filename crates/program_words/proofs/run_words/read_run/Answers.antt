@@ -1,4 +1,4 @@
-use Rattle.std.proofs.Common.{drop, map, refl, rules, string_bytes}
+use Rattle.std.proofs.Common.{drop, map, refl, string_bytes}
 use Rattle.std.proofs.lemmas.Result.{IfOk-weaker}
 use Rattle.program_words.specs.Asked.{asked_by}
 use Rattle.program_words.specs.Seen.{line_seen}
@@ -18,10 +18,10 @@ returns-in-Ok-clause-asked c =
     run_plays (drop 1 (map string_bytes c.args.words.now)) (line_seen c.in-Ok.line) (asked_by c.play_of.result) c.in-Ok.ensures.ok c.play_of.ensures.asked
 
 -- or one of `walk`
-pub returns-in-NoCommand-clause-asked : goal.returns-in-NoCommand-clause-asked
-returns-in-NoCommand-clause-asked c =
-    IfOk-weaker c.read_walk.result _ _ (λ request asks. run_walks (drop 1 (map string_bytes c.args.words.now)) (asked_by request) (c.in-NoCommand.ensures.err (search rules)) asks) c.read_walk.ensures.asked
+pub returns-in-Err-NoCommand-clause-asked : goal.returns-in-Err-NoCommand-clause-asked
+returns-in-Err-NoCommand-clause-asked c =
+    IfOk-weaker c.read_walk.result _ _ (λ request asks. run_walks (drop 1 (map string_bytes c.args.words.now)) (asked_by request) (c.in-Err-NoCommand.ensures.err c.in-Err-NoCommand.is) asks) c.read_walk.ensures.asked
 
-pub returns-in-NoCommand-clause-no_run : goal.returns-in-NoCommand-clause-no_run
-returns-in-NoCommand-clause-no_run c = λ e.
-    run_none (drop 1 (map string_bytes c.args.words.now)) (c.in-NoCommand.ensures.err (search rules)) (c.read_walk.ensures.no_walk e)
+pub returns-in-Err-NoCommand-clause-no_run : goal.returns-in-Err-NoCommand-clause-no_run
+returns-in-Err-NoCommand-clause-no_run c = λ e.
+    run_none (drop 1 (map string_bytes c.args.words.now)) (c.in-Err-NoCommand.ensures.err c.in-Err-NoCommand.is) (c.read_walk.ensures.no_walk e)

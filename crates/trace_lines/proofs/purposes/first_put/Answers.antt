@@ -1,4 +1,4 @@
-use Rattle.std.proofs.Common.{◌∙◌, sym}
+use Rattle.std.proofs.Common.{◌∙◌, rules, sym}
 use Rattle.hda_world.specs.Journals.{event_of}
 use Rattle.trace_lines.proofs.PutLemmas.{put_here, put_later}
 use Rattle.trace_lines.proofs.purposes.first_put.Goals as goal
@@ -13,4 +13,4 @@ pub loop-entry-preserved : goal.loop-entry-preserved
 loop-entry-preserved c = λ pieces bytes.
     c.loop-entry.invariant pieces bytes
     ∙ put_later c.args.register (event_of pieces bytes) c.args.entries.now c.loop-entry.entry-index c.entry-item.result c.value_put.result c.loop-entry-test.true c.entry-item.is
-    (c.value_put.ensures pieces bytes) c.in-None.is
+    (c.value_put.ensures pieces bytes) (search rules)

@@ -1,8 +1,9 @@
-use Rattle.std.proofs.Common.{◌≡◌, ◌∙◌, ◌+◌, ◌≤◌, ℕ, List, drop, map, string_bytes, inr, ap, sym}
+use Rattle.std.proofs.Common.{◌≡◌, ◌∙◌, ◌+◌, ◌≤◌, ℕ, List, [], drop, map, string_bytes, inl, inr, ap, rules, sym}
 use Rattle.std.proofs.lemmas.Result.{IfOk-weaker}
 use Rattle.hda_outside.specs.Counts.{Rose}
 use Rattle.program_words.specs.Asked.{asked_by, request_of}
 use Rattle.program_words.specs.RunWords.{run_words}
+use Rattle.program_words.proofs.Callers.{nothing_asked}
 use Rattle.hda_program.specs.Answers.{RequestAnswers}
 use Rattle.hda_program.specs.Meanings.{answer_meant}
 use Rattle.hda_program.proofs.Callers.{other_name, request_meant}
@@ -27,6 +28,18 @@ returns-in-Ok-clause-meant g c =
       asked ∙ c.in-Ok.ensures.asked,
       request_meant told failed emptied unasked gave (played_words words) c.in-Ok.request (answer_meant answer) (asked ∙ c.in-Ok.ensures.asked) h,
     )) c.answer_request.ensures.answers
+
+-- words for no run: there are none, or they are those of neither command
+pub returns-then-is_empty-clause-meant : goal.returns-then-is_empty-clause-meant
+returns-then-is_empty-clause-meant g c =
+    let empty : drop 1 (map string_bytes c.operand_words.result.now) ≡ [] = search rules in
+    let none = ap (λ (w : List (List ℕ)). request_of (run_words w)) (sym c.operand_words.ensures ∙ empty) ∙ nothing_asked in
+    IfOk-weaker c.words_refused.result _ _ (λ answer e. inl (none, e)) c.words_refused.ensures
+
+pub returns-in-Err-NoCommand-clause-meant : goal.returns-in-Err-NoCommand-clause-meant
+returns-in-Err-NoCommand-clause-meant g c =
+    let none = ap (λ (w : List (List ℕ)). request_of (run_words w)) (sym c.operand_words.ensures) ∙ c.in-Err-NoCommand.ensures.no_run c.in-Err-NoCommand.is in
+    IfOk-weaker c.words_refused-2.result _ _ (λ answer e. inl (none, e)) c.words_refused-2.ensures
 
 pub returns-in-Ok-clause-asked : goal.returns-in-Ok-clause-asked
 returns-in-Ok-clause-asked g c = λ name other.
