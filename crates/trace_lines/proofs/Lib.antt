@@ -1,3 +1,4 @@
+mod NameLemmas
 mod PutLemmas
 mod PieceLemmas
 mod LineLemmas
