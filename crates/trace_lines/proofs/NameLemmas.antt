@@ -1,5 +1,5 @@
 -- The row of a register in a table, as the definition's register.
-use Rattle.std.proofs.Common.{◌≡◌, ◌∙◌, ◌==◌, ℕ, Bool, true, false, List, [], ◌∷◌, find, map, Option, Some, None, refl, ap}
+use Rattle.std.proofs.Common.{◌≡◌, ◌==◌, ℕ, Bool, true, false, List, [], ◌∷◌, find, map, Option, Some, refl}
 use Rattle.std.specs.Prelude.{if◌then◌else◌, option_map}
 use Rattle.trace_lines.specs.declared.names.RegisterName.{RegisterName}
 use Rattle.trace_lines.specs.Names.{register_of}
