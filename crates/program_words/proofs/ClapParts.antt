@@ -6,11 +6,11 @@ use Rattle.std.specs.Str.{bytes_eq}
 use Rattle.std.proofs.lemmas.Slice.Eq.{bytes_eq-Decides}
 use Rattle.clap.specs.Lexer.{long_of, short_of}
 use Rattle.clap.specs.Kinds.{Kinds, or_else}
-use Rattle.clap.specs.Walk.{Held, Row, Rule, Waiting, after_step, arg_by_long, idle, next, plain_word, positional, reacted, settled, settled_rows, to_positional, trailing, used_by_id, value, walked, is_pending, pushed}
+use Rattle.clap.specs.Walk.{Held, Row, Rule, Step, Waiting, Walk, after_step, arg_by_id, arg_by_index, arg_by_long, idle, next, plain_word, positional, reacted, settled, settled_rows, to_positional, trailing, used_by_id, value, walked, is_pending, pushed}
 use Rattle.clap.specs.Walk as walk
 use Rattle.clap.specs.Faults.{long_fault, positional_fault, settle_fault, stray_fault, turn_fault, use_fault, walk_fault}
 use Rattle.clap.specs.declared.error.kind.ErrorKind.TheVariants as kind
-use Rattle.program_words.specs.Words.{Word, given, operand, has_single, is_among, part_met, parts_from, single_at, with_part, word_of}
+use Rattle.program_words.specs.Words.{Part, Word, given, operand, has_single, is_among, part_met, parts_from, single_at, with_part, word_of}
 use Rattle.program_words.specs.Words as words
 use Rattle.program_words.specs.ClapCommand.{operands_id}
 use Rattle.program_words.proofs.ClapRules.{HasRules, built_operand, built_option, built_shape}

@@ -5,7 +5,7 @@ use Rattle.std.specs.Option.{option_map_or}
 use Rattle.std.specs.Str.{bytes_eq}
 use Rattle.clap.specs.Lexer.{long_of, short_of}
 use Rattle.clap.specs.Kinds.{Kinds, or_else}
-use Rattle.clap.specs.Walk.{Held, Row, Rule, Step, Waiting, Walk, after_flag, after_step, arg_by_long, idle, long_met, long_or_other, plain_word, positional, settled, settled_rows, short_or_plain, subcommand_met, subcommand_or_other, trailing, walked, with_values, word_met}
+use Rattle.clap.specs.Walk.{Held, Outcome, Row, Rule, Step, Waiting, Walk, after_flag, after_step, arg_by_id, arg_by_index, arg_by_long, done, idle, long_met, long_or_other, long_word, next, option_word, plain_word, positional, positional_held, pushed, reacted, settled, settled_rows, short_or_plain, subcommand_met, subcommand_or_other, takes_several, to_positional, trailing, used_by_id, value, waits, walked, with_values, word_met, is_pending}
 use Rattle.clap.specs.Walk as walk
 use Rattle.clap.specs.Faults.{bundle_fault, flag_word_fault, long_fault, other_fault, settle_fault, step_fault, turn_fault, walk_fault, word_fault}
 use Rattle.clap.specs.declared.builder.value_parser.Reading.TheVariants.{AsWritten}
