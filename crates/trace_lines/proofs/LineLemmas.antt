@@ -34,17 +34,15 @@ lines_next : (bases : Bases) (end : Option PlayFault) (buffers : List Listed) (s
     (after_entry bases end buffers situation (event_at journal (get_or entries i d))) journal (drop (i + 1) entries)
 lines_next bases end buffers situation journal entries i d within = rw (add-one, drop-cons entries i d) refl
 
--- the same for an entry under a name of its own, where the buffers and the situation after it have theirs
+-- the same where the buffers and the situation after it have names of their own
 pub lines_left : (bases : Bases) (end : Option PlayFault) (buffers buffers' : List Listed) (situation situation' : Situation) (journal : JournalState) (entries : List Entry)
-    (i : ℕ) (entry : Entry) → i < length entries → entry ≡ get_or entries i entry
-    → buffers' ≡ buffers ++ listed_in bases buffers (event_at journal entry) → situation' ≡ after_entry bases end buffers situation (event_at journal entry)
+    (i : ℕ) (d : Entry) → i < length entries
+    → buffers' ≡ buffers ++ listed_in bases buffers (event_at journal (get_or entries i d)) → situation' ≡ after_entry bases end buffers situation (event_at journal (get_or entries i d))
     → lines_of bases end buffers situation journal (drop i entries)
-    ≡ line_of bases end buffers situation (event_at journal entry) ++ lines_of bases end buffers' situation' journal (drop (i + 1) entries)
-lines_left bases end buffers buffers' situation situation' journal entries i entry within is listed after =
-    lines_next bases end buffers situation journal entries i entry within
-    ∙ (ap (λ (e : Entry). line_of bases end buffers situation (event_at journal e)
-    ++ lines_of bases end (buffers ++ listed_in bases buffers (event_at journal e)) (after_entry bases end buffers situation (event_at journal e)) journal (drop (i + 1) entries)) (sym is)
-    ∙ ap₂ (λ (b : List Listed) (s : Situation). line_of bases end buffers situation (event_at journal entry) ++ lines_of bases end b s journal (drop (i + 1) entries)) (sym listed) (sym after))
+    ≡ line_of bases end buffers situation (event_at journal (get_or entries i d)) ++ lines_of bases end buffers' situation' journal (drop (i + 1) entries)
+lines_left bases end buffers buffers' situation situation' journal entries i d within listed after =
+    lines_next bases end buffers situation journal entries i d within
+    ∙ ap₂ (λ (b : List Listed) (s : Situation). line_of bases end buffers situation (event_at journal (get_or entries i d)) ++ lines_of bases end b s journal (drop (i + 1) entries)) (sym listed) (sym after)
 
 -- the lines of JSON of entries are those of their events
 pub raw_lines_of : (journal : JournalState) (entries : List Entry) → flat_map (raw_entry journal) entries ≡ raw_lines (map (event_at journal) entries)

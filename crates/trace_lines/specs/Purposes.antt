@@ -77,12 +77,12 @@ buffer_purpose (Some number) buffers at len = purpose.Buffer number
 buffer_purpose None buffers at len = period_of at (find (holds at len) buffers)
 
 abbrev pub response_purpose : Option ℕ → Purpose → Purpose
-response_purpose (Some number) other = purpose.Response number
-response_purpose None other = other
+response_purpose (Some number) rest = purpose.Response number
+response_purpose None rest = rest
 
 abbrev pub command_purpose : Option ℕ → Purpose → Purpose
-command_purpose (Some number) other = purpose.Command number
-command_purpose None other = other
+command_purpose (Some number) rest = purpose.Command number
+command_purpose None rest = rest
 
 abbrev pub purpose_of : Bases → List Listed → (at len : ℕ) → Purpose
 purpose_of bases buffers at len =

@@ -89,7 +89,7 @@ impl Reader {
 
     /// What a piece is.
     fn purpose_of(&self, piece: Noted<'_>) -> Purpose
-        ensures { result ≡ purposes.purpose_of self.now.bases self.now.buffers.items piece.at (length piece.bytes.now) }
+        ensures { result ≡ purposes.purpose_of self.now.bases self.now.buffers.items piece.entry.at (length piece.entry.bytes.now) }
     {
         purpose_of(
             self.bases,
@@ -107,7 +107,7 @@ impl Reader {
         piece: Noted<'_>,
     ) -> Result<(), AllocError>
         ensures { OnOk result (out.new.items ≡ out.old.items ++ text.memory_line letters.now self.now.bases
-            self.now.buffers.items self.now.situation piece.at piece.bytes.now) }
+            self.now.buffers.items self.now.situation piece.entry.at piece.entry.bytes.now) }
     {
         push_word(out, letters)?;
         push_piece(
@@ -158,10 +158,10 @@ impl Reader {
     /// What a piece that was written leaves.
     fn store(&mut self, piece: Noted<'_>) -> Result<(), AllocError>
         ensures situation { OnOk result (self.new.situation ≡ spec.after_store (purposes.purpose_of self.old.bases
-            self.old.buffers.items piece.at (length piece.bytes.now)) piece.bytes.now self.old.situation) }
+            self.old.buffers.items piece.entry.at (length piece.entry.bytes.now)) piece.entry.bytes.now self.old.situation) }
         ensures buffers { OnOk result (self.new.buffers.items ≡ self.old.buffers.items
-            ++ spec.listed_by (purposes.purpose_of self.old.bases self.old.buffers.items piece.at
-            (length piece.bytes.now)) piece.bytes.now) }
+            ++ spec.listed_by (purposes.purpose_of self.old.bases self.old.buffers.items piece.entry.at
+            (length piece.entry.bytes.now)) piece.entry.bytes.now) }
         ensures bases { self.new.bases ≡ self.old.bases }
         ensures end { self.new.end ≡ self.old.end }
     {

@@ -1,5 +1,5 @@
 //! The table of the registers' mnemonics (HDA 1.0a, 3.3).
-ghost use Rattle.std.specs.Prelude.{◌≡◌, find, option_map};
+ghost use Rattle.std.specs.Prelude.{◌≡◌, ◌==◌, find, option_map};
 ghost use Rattle.trace_lines.specs.declared.names.RegisterName.{RegisterName};
 ghost use Rattle.trace_lines.specs.Names.{register_of};
 ghost use Rattle.trace_lines.specs.Registers.{global_registers, register_at, stream_registers};

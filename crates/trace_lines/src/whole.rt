@@ -51,9 +51,14 @@ fn write_lines<K: Sink>(
 }
 
 /// Writes their lines of JSON.
-fn write_raw_lines<K: Sink>(out: &mut K, page: &mut Vec<u8>, journal: &Journal) -> Result<(), Fault>
+fn write_raw_lines<K: Sink>(
+    out: &mut K,
+    page: &mut Vec<u8>,
+    journal: &Journal,
+    entries: &[Entry],
+) -> Result<(), Fault>
     ensures text { Writes result (K.taken out.old) (K.taken out.new) (page.old.items
-        ++ flat_map (raw_entry journal.now) journal.now.entries) page.new.items }
+        ++ flat_map (raw_entry journal.now) entries.now) page.new.items }
     ensures pieces { K.longest out.new ≤ max (K.longest out.old) 4096 }
     ensures later { K.faults out.old ≤ K.faults out.new }
     ensures failed { result ≡ Err Fault.Failed → Rose (K.faults out.old) (K.faults out.new) }

@@ -14,23 +14,24 @@ returns-in_err-pass-clause-text g c = no_memory c.from_residual-in_err-pass.resu
 pub returns-in_err-turn-clause-text : goal.returns-in_err-turn-clause-text
 returns-in_err-turn-clause-text g c =
     let reader = c.loop-entry.reader in
-    let after = c.in_ok-pass.new.self in
+    let after = c.pass.new.self in
     no_sink c.from_residual-in_err-turn.result _ c.loop-entry.page.items _ _ _ c.from_residual-in_err-turn.ensures.0 c.loop-entry.invariant.text
     (lines_left reader.bases reader.end reader.buffers.items after.buffers.items reader.situation after.situation c.args.journal.now c.args.entries.now
-    c.loop-entry.entry-index c.entry-item.result c.loop-entry-test.true c.entry-item.is c.in_ok-pass.ensures.buffers c.in_ok-pass.ensures.situation)
+    c.loop-entry.entry-index _ c.loop-entry-test.true c.in_ok-pass.ensures.buffers c.in_ok-pass.ensures.situation)
     c.in_ok-push_line.ensures c.in_err-turn.ensures.text
 
 -- one entry more
 pub loop-entry-preserved : goal.loop-entry-preserved
 loop-entry-preserved g c =
     let reader = c.loop-entry.reader in
-    let after = c.in_ok-pass.new.self in
+    let after = c.pass.new.self in
     record {
       text =
-          line_more c.loop-entry.page.items _ _ _ c.loop-entry.invariant.text
+          rw (c.in_ok-pass.ensures.bases, c.in_ok-pass.ensures.end)
+          (line_more c.loop-entry.page.items _ _ _ c.loop-entry.invariant.text
           (lines_left reader.bases reader.end reader.buffers.items after.buffers.items reader.situation after.situation c.args.journal.now c.args.entries.now
-          c.loop-entry.entry-index c.entry-item.result c.loop-entry-test.true c.entry-item.is c.in_ok-pass.ensures.buffers c.in_ok-pass.ensures.situation)
-          c.in_ok-push_line.ensures c.in_ok-turn.ensures.text;
+          c.loop-entry.entry-index _ c.loop-entry-test.true c.in_ok-pass.ensures.buffers c.in_ok-pass.ensures.situation)
+          c.in_ok-push_line.ensures c.in_ok-turn.ensures.text);
       bases = search rules;
       end = search rules;
       pieces = search rules;
