@@ -20,8 +20,8 @@ returns-in-Ok-clause-asked c =
 -- or one of `walk`
 pub returns-in-Err-NoCommand-clause-asked : goal.returns-in-Err-NoCommand-clause-asked
 returns-in-Err-NoCommand-clause-asked c =
-    IfOk-weaker c.read_walk.result _ _ (λ request asks. run_walks (drop 1 (map string_bytes c.args.words.now)) (asked_by request) (c.in-Err-NoCommand.ensures.err c.in-Err-NoCommand.is) asks) c.read_walk.ensures.asked
+    IfOk-weaker c.read_walk.result _ _ (λ request asks. run_walks (drop 1 (map string_bytes c.args.words.now)) (asked_by request) (c.in-Err-NoCommand.ensures.err (rw c.in-Err-NoCommand.field-0-is)) asks) c.read_walk.ensures.asked
 
 pub returns-in-Err-NoCommand-clause-no_run : goal.returns-in-Err-NoCommand-clause-no_run
 returns-in-Err-NoCommand-clause-no_run c = λ e.
-    run_none (drop 1 (map string_bytes c.args.words.now)) (c.in-Err-NoCommand.ensures.err c.in-Err-NoCommand.is) (c.read_walk.ensures.no_walk e)
+    run_none (drop 1 (map string_bytes c.args.words.now)) (c.in-Err-NoCommand.ensures.err (rw c.in-Err-NoCommand.field-0-is)) (c.read_walk.ensures.no_walk e)

@@ -11,8 +11,8 @@ read_line-requires c = record { apart = refl; named = c.requires.named }
 pub walk_of-requires : goal.walk_of-requires
 walk_of-requires c = walk_line (drop 1 (map string_bytes c.args.words.now)) (line_seen c.in_ok-line.line) c.in_ok-line.ensures.ok
 
-pub returns-in_ok-line-clause-asked : goal.returns-in_ok-line-clause-asked
-returns-in_ok-line-clause-asked c =
+pub returns-clause-asked : goal.returns-clause-asked
+returns-clause-asked c =
     walk_asks (drop 1 (map string_bytes c.args.words.now)) (line_seen c.in_ok-line.line) (asked_by c.walk_of.result) c.in_ok-line.ensures.ok c.walk_of.ensures
 
 pub returns-in_err-line-clause-no_walk : goal.returns-in_err-line-clause-no_walk
