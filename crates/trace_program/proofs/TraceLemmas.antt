@@ -86,7 +86,7 @@ module _ (told : Option Files) (failed emptied unasked : List ℕ → Type 0) (g
 
   -- ---- the promise
 
-  Kept : Option Played → Type 0
+  abbrev Kept : Option Played → Type 0
   Kept given = IfSome given (KeepsPromise (IsRunTraced told failed emptied gave words) before after sink_failed status)
 
   no_run_kept : (given : Option Played) → given ≡ None → Kept given

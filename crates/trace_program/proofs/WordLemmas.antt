@@ -1,5 +1,5 @@
 -- The words before the operands.
-use Rattle.std.proofs.Common.{◌≡◌, ℕ, true, false, List, [], ◌∷◌, drop, map, refl, true≢false, sym}
+use Rattle.std.proofs.Common.{◌≡◌, ℕ, true, false, List, [], ◌∷◌, drop, length, map, refl, true≢false, sym, arith}
 use Rattle.trace_program.specs.Words.{is_raw, operands_of}
 
 -- where the first word asks for lines of JSON the operands stand behind it
@@ -13,3 +13,8 @@ pub operands_plain : {X : Type 0} (text : X → List ℕ) (words : List X) → i
 operands_plain text [] raw = refl
 operands_plain text (name ∷ []) raw = refl
 operands_plain text (name ∷ (word ∷ rest)) raw = rw raw refl
+
+-- where there are no words, there are none behind the program's name
+pub no_words : {X : Type 0} (text : X → List ℕ) (words : List X) → length words ≡ 0 → drop 1 (map text words) ≡ []
+no_words text [] none = refl
+no_words text (word ∷ rest) none = absurd (omega (arith, none))

@@ -12,7 +12,7 @@ returns-in-Ok-clause-ended g c =
       meant = traced (form_of (drop 1 (map string_bytes c.args.words.now))) (answer_meant c.in-Ok.answer);
       is = record { answer = answer_meant c.in-Ok.answer; answered = c.in-Ok.ensures.meant; is = refl };
       given = c.write_answer.ensures.play ∙ traced_play _ (answer_meant c.in-Ok.answer);
-      written = rw c.form_of.ensures at c.write_answer.ensures.written;
+      written = rw c.form_of-form.ensures at c.write_answer.ensures.written;
     }))
 
 pub returns-in-Ok-clause-promise : goal.returns-in-Ok-clause-promise
@@ -24,7 +24,7 @@ returns-in-Ok-clause-promise g c = promise_kept (g.S.Shelf.told c.args.shelf.now
       meant = traced (form_of (drop 1 (map string_bytes c.args.words.now))) (answer_meant c.in-Ok.answer);
       is = record { answer = answer_meant c.in-Ok.answer; answered = c.in-Ok.ensures.meant; is = refl };
       given = c.write_answer.ensures.play ∙ traced_play _ (answer_meant c.in-Ok.answer);
-      written = rw c.form_of.ensures at c.write_answer.ensures.written;
+      written = rw c.form_of-form.ensures at c.write_answer.ensures.written;
     }))
 
 pub returns-in-Ok-clause-ends_so : goal.returns-in-Ok-clause-ends_so
@@ -36,7 +36,7 @@ returns-in-Ok-clause-ends_so g c = ended_so (g.S.Shelf.told c.args.shelf.now) (�
       meant = traced (form_of (drop 1 (map string_bytes c.args.words.now))) (answer_meant c.in-Ok.answer);
       is = record { answer = answer_meant c.in-Ok.answer; answered = c.in-Ok.ensures.meant; is = refl };
       given = c.write_answer.ensures.play ∙ traced_play _ (answer_meant c.in-Ok.answer);
-      written = rw c.form_of.ensures at c.write_answer.ensures.written;
+      written = rw c.form_of-form.ensures at c.write_answer.ensures.written;
     }))
 
 pub returns-in-Err-clause-ends_so : goal.returns-in-Err-clause-ends_so
