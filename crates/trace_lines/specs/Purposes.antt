@@ -1,8 +1,8 @@
--- What a piece of memory that the driver reads or writes is: an entry of CORB, of RIRB or of the output stream's list of
--- buffers, a part of one of its periods, or none of these. Where they lie is said by the journal: rings and list where
--- the first write to their base register puts them (High Definition Audio 1.0a, 3.3.18, 3.3.25 and 3.3.42), the list up
--- to the entry that the first write to LVI names (3.3.39), the periods by the list's entries (3.6.3). That a ring counts
--- as one of 256 entries is this project's own.
+-- What a piece of memory that the driver reads or writes is: an entry of CORB, of RIRB or of the output stream's list
+-- of buffers, a part of one of its periods, or none of these. Where they lie is said by the journal: rings and list
+-- where the first write to their base register puts them (High Definition Audio 1.0a, 3.3.18, 3.3.25 and 3.3.42), the
+-- list up to the entry that the first write to LVI names (3.3.39), the periods by the list's entries (3.6.3). That a
+-- ring counts as one of 256 entries is this project's own.
 use Rattle.std.specs.Prelude.{ℕ, ◌+◌, ◌-◌, ◌*◌, ◌/◌, ◌%◌, ◌==◌, ◌&&◌, Bool, List, [], ◌∷◌, find, nat_le}
 use Rattle.std.specs.Prelude.{nat_lt, Option, Some, None, if◌then◌else◌}
 use Rattle.std.specs.Option.{option_or}

@@ -11,7 +11,8 @@ use Rattle.hda_registers.specs.declared.shapes.Width.{Width}
 use Rattle.hda_registers.specs.declared.places.TheConstants.{GCAP, VMIN, VMAJ, OUTPAY, INPAY, GCTL, WAKEEN, STATESTS}
 use Rattle.hda_registers.specs.declared.places.TheConstants.{INTCTL, INTSTS, WALCLK, CORBLBASE, CORBWP, CORBRP, CORBCTL}
 use Rattle.hda_registers.specs.declared.places.TheConstants.{CORBSIZE, RIRBLBASE, RIRBWP, RINTCNT, RIRBCTL, RIRBSTS}
-use Rattle.hda_registers.specs.declared.places.TheConstants.{RIRBSIZE, INPUT_DESCRIPTOR, OUTPUT_DESCRIPTOR, SDCTL, SDSTS}
+use Rattle.hda_registers.specs.declared.places.TheConstants.{RIRBSIZE, INPUT_DESCRIPTOR, OUTPUT_DESCRIPTOR, SDCTL}
+use Rattle.hda_registers.specs.declared.places.TheConstants.{SDSTS}
 use Rattle.hda_registers.specs.declared.places.TheConstants.{SDLPIB, SDCBL, SDLVI, SDFIFOS, SDFMT, SDBDPL}
 use Rattle.hda_registers.specs.Access.{bytes_of}
 

@@ -89,7 +89,8 @@ impl Reader {
 
     /// What a piece is.
     fn purpose_of(&self, piece: Noted<'_>) -> Purpose
-        ensures { result ≡ purposes.purpose_of self.now.bases self.now.buffers.items piece.entry.at (length piece.entry.bytes.now) }
+        ensures { result ≡ purposes.purpose_of self.now.bases self.now.buffers.items piece.entry.at
+            (length piece.entry.bytes.now) }
     {
         purpose_of(
             self.bases,
@@ -158,7 +159,8 @@ impl Reader {
     /// What a piece that was written leaves.
     fn store(&mut self, piece: Noted<'_>) -> Result<(), AllocError>
         ensures situation { OnOk result (self.new.situation ≡ spec.after_store (purposes.purpose_of self.old.bases
-            self.old.buffers.items piece.entry.at (length piece.entry.bytes.now)) piece.entry.bytes.now self.old.situation) }
+            self.old.buffers.items piece.entry.at (length piece.entry.bytes.now)) piece.entry.bytes.now
+            self.old.situation) }
         ensures buffers { OnOk result (self.new.buffers.items ≡ self.old.buffers.items
             ++ spec.listed_by (purposes.purpose_of self.old.bases self.old.buffers.items piece.entry.at
             (length piece.entry.bytes.now)) piece.entry.bytes.now) }

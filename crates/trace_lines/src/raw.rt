@@ -64,7 +64,8 @@ fn push_register_line(
 
 /// An access to memory.
 fn push_memory_line(out: &mut Vec<u8>, letters: &str, piece: Noted<'_>) -> Result<(), AllocError>
-    ensures { OnOk result (out.new.items ≡ out.old.items ++ text.memory_line letters.now piece.entry.at piece.entry.bytes.now) }
+    ensures { OnOk result (out.new.items ≡ out.old.items ++ text.memory_line letters.now piece.entry.at
+        piece.entry.bytes.now) }
 {
     push_front(out, letters)?;
     push_item(out, piece.at.into())?;

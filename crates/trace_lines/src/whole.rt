@@ -79,7 +79,8 @@ fn write_form<K: Sink>(
     walks: u128,
     played: &Played,
 ) -> Result<(), Fault>
-    ensures text { Writes result (K.taken out.old) (K.taken out.new) (page.old.items ++ text.trace_text form walks played.now)
+    ensures text { Writes result (K.taken out.old) (K.taken out.new)
+        (page.old.items ++ text.trace_text form walks played.now)
         page.new.items }
     ensures pieces { K.longest out.new ≤ max (K.longest out.old) 4096 }
     ensures later { K.faults out.old ≤ K.faults out.new }
@@ -100,9 +101,9 @@ fn write_form<K: Sink>(
     }
 }
 
-/// Writes the journal of a run as a text, an entry a line, where so many of its commands are those of the walks over the
-/// codecs. Each line ends in a line feed. The text goes out in pages of
-/// 61,440 bytes and up to a line more, so that its length takes no memory. This project's own.
+/// Writes the journal of a run as a text, an entry a line, where so many of its commands are those of the walks over
+/// the codecs. Each line ends in a line feed. The text goes out in pages of 61,440 bytes and up to a line more, so that
+/// its length takes no memory. This project's own.
 ///
 /// # Errors
 /// The sink's fault, or want of memory. The sink then took the first of the text's bytes, maybe none.
@@ -114,7 +115,8 @@ pub fn write_trace<K: Sink>(
     played: &Played,
 ) -> Result<(), Fault>
     ensures all { OnOk result (K.taken out.new ≡ taken_with (K.taken out.old) (text.trace_text form walks played.now)) }
-    ensures front { OnErr result (TookFront (K.taken out.old) (K.taken out.new) (text.trace_text form walks played.now)) }
+    ensures front { OnErr result (TookFront (K.taken out.old) (K.taken out.new)
+        (text.trace_text form walks played.now)) }
     ensures pieces { K.longest out.new ≤ max (K.longest out.old) 4096 }
     ensures later { K.faults out.old ≤ K.faults out.new }
     ensures failed { result ≡ Err Fault.Failed → Rose (K.faults out.old) (K.faults out.new) }

@@ -48,8 +48,9 @@ abbrev pub HasEndedTrace : Option Files → (failed emptied unasked : List ℕ �
 HasEndedTrace told failed emptied unasked gave words before after sink_failed play status =
     HasEndedWith (IsTraced told failed emptied unasked gave words) before after sink_failed play status
 
--- the run is the walk or the play that `hda_play` makes of the same words: its journal is one history, with the progress,
--- the open routes and the sound that are promised there. The text is this journal in the form for which the words ask
+-- the run is the walk or the play that `hda_play` makes of the same words: its journal is one history, with the
+-- progress, the open routes and the sound that are promised there. The text is this journal in the form for which the
+-- words ask
 pub record IsRunTraced (told : Option Files) (failed emptied : List ℕ → Type 0) (gave : ℕ → Type 0)
     (words : List (List ℕ)) (played : Played) (text : List ℕ) : Type 0 where
   pub run : HasWalkedOrPlayed told failed emptied gave (played_words words) played

@@ -57,8 +57,8 @@ pub fn trace_main<S: Shelf, K: Sink>(
         (drop 1 (map string_bytes words.now)))
         (K.taken out.old) (K.taken out.new) (Rose (K.faults out.old) (K.faults out.new)) result.status) }
 
-    // But for the text it ends as `hda_play` does with the same words over a sink that tells nothing: each status has its
-    // cause, and what is good is not refused.
+    // But for the text it ends as `hda_play` does with the same words over a sink that tells nothing: each status has
+    // its cause, and what is good is not refused.
     ensures ends_so { IsNoCommand (played_words (drop 1 (map string_bytes words.now)))
         ⊎ HasEnded (S.told shelf.old) (FailedUnder (S.faults shelf.old) (S.faults shelf.new))
         (EmptiedUnder (S.empties shelf.old) (S.empties shelf.new))
