@@ -15,3 +15,4 @@ mod MadePlan
 mod MadeRounds
 mod MadeHoles
 mod MadeWhole
+pub mod Callers

@@ -16,9 +16,9 @@ use program_words::{Request, WordsFault, read_words};
 use sound_report::Played;
 use std::alloc::{AllocError, Global};
 
-/// What a command comes to.
+/// What a command comes to, before anything is written. This project's own.
 #[derive(Drop)]
-pub(crate) enum Answer {
+pub enum Answer {
     /// A text, and no run of the driver.
     Message(Message),
     /// A run of the driver, whose report is the text.
@@ -54,11 +54,11 @@ pub(crate) fn answer_words<S: Shelf>(
     }
 }
 
-/// What the program answers to a request.
+/// What the program answers to a request, before anything is written: a message, or a run of the driver.
 ///
 /// # Errors
 /// Want of memory.
-fn answer_request<S: Shelf>(
+pub fn answer_request<S: Shelf>(
     alloc: Global,
     shelf: &mut S,
     request: Request<'_>,

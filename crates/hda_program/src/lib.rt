@@ -16,6 +16,8 @@ mod schedule;
 mod walk;
 mod wav;
 
+pub use answer::{Answer, answer_request};
 pub use files::play_files;
-pub use run::{Ended, hda_main};
+pub use message::Message;
+pub use run::{Ended, hda_main, status_of, write_text, written_status};
 pub use sound_report::Status;

@@ -12,9 +12,9 @@ use std::alloc::{AllocError, Global};
 const USAGE: &str =
     "usage: hda_play route CODEC [--rate R] [--channels C] [--bits B] | walk CODEC SCHEDULE | play CODEC WAV SCHEDULE [--periods K] [--period M] | make N\n";
 
-/// A text, and the status with which the program ends that writes it.
+/// A text, and the status with which the program ends that writes it. This project's own.
 #[derive(Drop)]
-pub(crate) struct Message {
+pub struct Message {
     /// The status of the program's end, where the text is written whole.
     pub status: Status,
     /// All that is written.

@@ -208,7 +208,7 @@ pub(crate) fn write_answer<K: Sink>(alloc: Global, out: &mut K, answer: Answer) 
 }
 
 /// Writes a text, and gives its status, or that of the fault.
-fn write_text<K: Sink>(alloc: Global, out: &mut K, text: &[u8], status: Status) -> Status
+pub fn write_text<K: Sink>(alloc: Global, out: &mut K, text: &[u8], status: Status) -> Status
     ensures written { HasWritten (K.taken out.old) (K.taken out.new) (Rose (K.faults out.old) (K.faults out.new))
         (telling status text.now) (number_of result) }
     ensures later { K.faults out.old ≤ K.faults out.new }
@@ -239,7 +239,7 @@ fn write_made<K: Sink>(alloc: Global, out: &mut K, number: u16, played: &Played)
 }
 
 /// The status of a text that was written so: its own, or that of the fault.
-fn written_status(written: Result<(), Fault>, status: Status) -> Status
+pub fn written_status(written: Result<(), Fault>, status: Status) -> Status
     ensures { result ≡ written_status written status }
 {
     match written {
@@ -250,7 +250,7 @@ fn written_status(written: Result<(), Fault>, status: Status) -> Status
 }
 
 /// The status of a run: how the reading of its sound was cut comes first.
-fn status_of(played: &Played) -> Status
+pub fn status_of(played: &Played) -> Status
     ensures { result ≡ status_of played.now }
 {
     match played.cut {

@@ -9,6 +9,7 @@ pub mod Walks
 pub mod FrameCounts
 pub mod Hearing
 pub mod Plays
+pub mod WalkTotals
 -- what private functions promise one another
 pub mod Feeding
 pub mod Reading

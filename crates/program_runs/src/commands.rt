@@ -7,6 +7,7 @@ ghost use Rattle.codec_walk.specs.Words.{applies, node_words, words_for};
 ghost use Rattle.driver_bring_up.specs.Addresses.{most_codecs};
 ghost use Rattle.route_planner.specs.Plans.{IsPlan};
 ghost use Rattle.laws_start.specs.Tasks.{HavePlans, commands_of, verbs_by};
+ghost use Rattle.program_runs.specs.WalkTotals.{walk_total};
 
 use codec_graph::{Graph, RawNode};
 use codec_walk::counts_the_commands;
@@ -38,6 +39,18 @@ pub fn command_count(
         count += codec_count(alloc, &codecs[index].graph, &plans[index], format)?;
     }
     Ok(count)
+}
+
+/// How many commands the walks over these codecs have: those that ask what the codecs are, before any sets one up. This
+/// project's own.
+pub fn walk_total(codecs: &[CodecFile]) -> u128
+    ensures { result ≡ walk_total codecs.now }
+{
+    let mut count = 0u128;
+    for codec in codecs {
+        count += u128::from(walk_count(&codec.graph));
+    }
+    count
 }
 
 /// How many commands of a walk go to the codec's root and its audio function group.

@@ -17,6 +17,7 @@ mod playing;
 mod served_laws;
 mod walking;
 
+pub use commands::walk_total;
 pub use made_lines::made_line;
 pub use made_playing::play_made;
 pub use playing::play;

@@ -1,4 +1,6 @@
--- What proofs of the layers above cite: rates and sample sizes of the same number are one.
+-- What proofs of the layers above cite: rates and sample sizes of the same number are one, and words behind `play` or
+-- `walk` ask for no made run, and for none where there are none.
+pub use Rattle.program_words.proofs.RunLemmas.{nothing_asked, run_is_no_make}
 use Rattle.std.proofs.Common.{◌≡◌, ◌∙◌, ℕ, refl, sym, ap}
 use Rattle.std.specs.Prelude.{◌==◌, if◌then◌else◌}
 use Rattle.stream_format.specs.declared.format.Rate.{Rate}

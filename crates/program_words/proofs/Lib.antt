@@ -8,4 +8,5 @@ mod RowLemmas
 mod NumberLemmas
 mod NumberRows
 mod LineLemmas
+mod RunLemmas
 pub mod Callers

@@ -6,3 +6,4 @@ pub mod Lines
 pub mod ClapCommand
 pub mod Seen
 pub mod Asked
+pub mod RunWords

@@ -8,6 +8,8 @@ mod arguments;
 mod line;
 mod numbers;
 mod request;
+mod run_words;
 mod table;
 
 pub use request::{Request, WordsFault, read_words};
+pub use run_words::read_run;

@@ -131,7 +131,7 @@ fn route_of<'a>(line: &Line<'a>) -> Request<'a>
 }
 
 /// What a line of `walk` asks.
-fn walk_of<'a>(line: &Line<'a>) -> Request<'a>
+pub(crate) fn walk_of<'a>(line: &Line<'a>) -> Request<'a>
     requires { IsLineOf walk_grammar (line_seen line.now) }
     ensures { asked_of CommandName.Walk (line_seen line.now) ≡ Some (asked_by result) }
 {
@@ -142,7 +142,7 @@ fn walk_of<'a>(line: &Line<'a>) -> Request<'a>
 }
 
 /// What a line of `play` asks.
-fn play_of<'a>(line: &Line<'a>) -> Request<'a>
+pub(crate) fn play_of<'a>(line: &Line<'a>) -> Request<'a>
     requires { IsLineOf play_grammar (line_seen line.now) }
     ensures asked { asked_of CommandName.Play (line_seen line.now) ≡ Some (asked_by result) }
     ensures ranges { IsInRange result }

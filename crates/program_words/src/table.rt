@@ -74,7 +74,8 @@ const ROUTE: CommandRow = CommandRow {
     options: &ROUTE_OPTIONS,
 };
 
-const WALK: CommandRow = CommandRow {
+/// `walk CODEC SCHEDULE`
+pub(crate) const WALK: CommandRow = CommandRow {
     command: CommandName::Walk,
     name: "walk",
     operands: 2,
@@ -94,7 +95,8 @@ const PLAY_OPTIONS: [OptionRow; 2] = [
     },
 ];
 
-const PLAY: CommandRow = CommandRow {
+/// `play CODEC WAV SCHEDULE [--periods K] [--period M]`
+pub(crate) const PLAY: CommandRow = CommandRow {
     command: CommandName::Play,
     name: "play",
     operands: 3,

@@ -2,3 +2,4 @@ mod PageLemmas
 mod PlanParts
 mod SoundLines
 mod HeardText
+pub mod Callers

@@ -13,6 +13,8 @@ mod played;
 mod status;
 mod whole;
 
+pub use pages::{PAGE_LEN, turn};
+pub use pieces::{push_hex, push_number, push_word};
 pub use plans::{push_nid, push_plans};
 pub use played::{CutLine, PlayFault, Played};
 pub use status::Status;

@@ -10,7 +10,7 @@ use std::io::Write;
 ///
 /// # Errors
 /// Want of memory.
-pub(crate) fn push_word(out: &mut Vec<u8>, word: &str) -> Result<(), AllocError>
+pub fn push_word(out: &mut Vec<u8>, word: &str) -> Result<(), AllocError>
     ensures { OnOk result (out.new.items ≡ out.old.items ++ word.now) }
 {
     out.extend_from_slice(word.as_bytes())
@@ -20,7 +20,7 @@ pub(crate) fn push_word(out: &mut Vec<u8>, word: &str) -> Result<(), AllocError>
 ///
 /// # Errors
 /// Want of memory.
-pub(crate) fn push_number(out: &mut Vec<u8>, n: u64) -> Result<(), AllocError>
+pub fn push_number(out: &mut Vec<u8>, n: u64) -> Result<(), AllocError>
     ensures { OnOk result (out.new.items ≡ out.old.items ++ decimal n) }
 {
     write!(out, "{n}").map_err(|_| AllocError)
@@ -30,7 +30,7 @@ pub(crate) fn push_number(out: &mut Vec<u8>, n: u64) -> Result<(), AllocError>
 ///
 /// # Errors
 /// Want of memory.
-pub(crate) fn push_hex(out: &mut Vec<u8>, bytes: &[u8]) -> Result<(), AllocError>
+pub fn push_hex(out: &mut Vec<u8>, bytes: &[u8]) -> Result<(), AllocError>
     ensures { OnOk result (out.new.items ≡ out.old.items ++ encode_lower bytes.now) }
 {
     let start = out.len();

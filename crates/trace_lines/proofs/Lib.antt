@@ -1,0 +1,5 @@
+mod NameLemmas
+mod PutLemmas
+mod RawLemmas
+mod PieceLemmas
+mod LineLemmas

@@ -1,0 +1,7 @@
+use Rattle.trace_lines.specs.Registers.{stream_bits}
+use Rattle.trace_lines.proofs.bits.push_stream_bits.Goals as goal
+
+-- the rows are the definition's, one by one
+pub returns : goal.returns
+unfolding stream_bits
+returns c = rw c.as_slice.ensures at c.push_set.ensures

@@ -1,0 +1,8 @@
+use Rattle.trace_lines.specs.Registers.{stream_registers}
+use Rattle.trace_lines.proofs.NameLemmas.{row_in}
+use Rattle.trace_lines.proofs.names.stream_register.Goals as goal
+
+-- the rows are the definition's, one by one
+pub returns : goal.returns
+unfolding stream_registers
+returns c = row_in c.args.at c.as_slice.result.now c.row_at.result c.as_slice.ensures c.row_at.ensures

@@ -1,0 +1,9 @@
+pub mod Registers
+pub mod Names
+pub mod Steps
+pub mod Verbs
+pub mod Purposes
+pub mod Situations
+pub mod Lines
+pub mod Raw
+pub mod Traces
