@@ -17,17 +17,6 @@ pub struct Slot {
 impl Slot {
     ghost use Rattle.std.specs.Prelude.{◌≡◌, IfSome, None, Some, is_some};
 
-    /// A place that holds none.
-    #[cfg(test)]
-    pub(crate) fn empty(alloc: Global) -> Slot
-        ensures { result.held.device ≡ None }
-    {
-        Slot {
-            is_open: false,
-            held: Handle::empty(alloc),
-        }
-    }
-
     /// Takes the device model out.
     pub(crate) fn take(&mut self, alloc: Global) -> Option<Box<DeviceModel, Global>>
         ensures some { is_some result ≡ is_some self.old.held.device }
