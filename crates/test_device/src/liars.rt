@@ -25,7 +25,8 @@ const ANSWER: [Step; 4] = [Step::Corb, Step::Answer(0), Step::Answer(2), Step::R
 pub enum Served {
     /// By runs, the last of them after the last answer.
     ByRuns,
-    /// By calls for interrupts, the last of them after the last answer. The first command is asked by a run before them.
+    /// By calls for interrupts, the last of them after the last answer. The first command is asked by a run before
+    /// them.
     ByInterrupts,
     /// By runs, the last of them before the last answer, so that the last call of all finds it.
     UpToTheEnd,
