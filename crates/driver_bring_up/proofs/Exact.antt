@@ -1,5 +1,5 @@
 -- Words that tell a fault, or that no pin has a route, lead just there.
-use Rattle.std.proofs.Common.{◌≡◌, ℕ, List, [], ◌∷◌, ◌++◌, inl, inr, refl, sym, ap, subst, ◌∙◌, append-nil}
+use Rattle.std.proofs.Common.{◌≡◌, ℕ, List, [], ◌++◌, inl, inr, refl, sym, ap, subst, ◌∙◌, append-nil}
 use Rattle.codec_graph.specs.declared.raw.RawCodec.{RawCodec}
 use Rattle.codec_walk.specs.declared.fault.WalkFault.{WalkFault}
 use Rattle.route_planner.specs.declared.routes.Plan.{Plan}

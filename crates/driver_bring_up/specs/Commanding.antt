@@ -121,7 +121,7 @@ LeavesOf means polls.Waiting old new = ⊥
 LeavesOf means (polls.Unanswered issued noticed) old new = ⊥
 
 -- a look that found an answer which memory was wanting to take: RIRB was read and what was told unasked counted, and
--- nothing else was done. The graphs and plans that were made stay
+-- nothing else was done. The graphs of the walks before stay
 pub record FindsAnswer (means : Means) (rirb : ℕ) (rings : RingPlaces) (jacks : Jacks) (old : Agenda)
     (rings' : RingPlaces) (jacks' : Jacks) (new : Agenda) (made : List Event) : Type 0 where
   pub clock : ℕ

@@ -32,7 +32,7 @@ pub struct Answer {
 ///
 /// # Errors
 /// Want of memory, where an answer was found. The look was made then, and what was told unasked is counted; the graphs
-/// and plans that were made stay.
+/// of the walks before stay.
 pub fn look_for_answer<P: Platform, T: Setter>(
     platform: &mut P,
     engine: &mut Engine,

@@ -28,7 +28,7 @@ pub(crate) fn phase_of(agenda: &Agenda) -> Phase
 /// Takes the answer to the command that comes next, and gives the phase that it leads to.
 ///
 /// # Errors
-/// Want of memory. The graphs and plans that were made stay.
+/// Want of memory. The graphs of the walks before stay.
 pub(crate) fn take_answer<T: Setter>(
     agenda: &mut Agenda,
     setter: &T,

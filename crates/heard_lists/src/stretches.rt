@@ -156,8 +156,8 @@ fn push_sound(
     }
 }
 
-/// Appends the samples of a pair of channels of so many blocks. Where they keep their size, their bytes are taken as they
-/// stand in the blocks.
+/// Appends the samples of a pair of channels of so many blocks. Where they keep their size, their bytes are taken as
+/// they stand in the blocks.
 fn push_pair(
     sound: &mut Vec<u8>,
     bits: Bits,

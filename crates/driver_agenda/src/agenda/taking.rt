@@ -125,7 +125,8 @@ impl Agenda {
     /// # Errors
     /// `Malformed` exactly where a codec's answers, all of them now, are not those of a well-formed graph.
     /// `NothingRouted` exactly where this was the last walk's last answer and no plan of the graphs has a route. Or
-    /// want of memory. After an error no command comes. The graphs and plans that were made stay.
+    /// want of memory: the graph that this answer told, and the plans, may then be kept or not. The graphs of the
+    /// walks before stay. After an error no command comes.
     #[tactic(auto, using(crate::proofs::Leading::nothing_next))]
     pub fn take<T: Setter>(&mut self, setter: &T, answer: u32) -> Result<(), AgendaFault>
         requires { IsSome (spec.next_of self.old.walk self.old.verbs.items self.old.answered) }
